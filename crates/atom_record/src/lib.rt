@@ -1,0 +1,10 @@
+//! Atoms, their values, and the keys that metrics make of them.
+#![tactic(auto)]
+
+mod atom;
+mod log;
+mod value;
+
+pub use atom::{Atom, AtomField};
+pub use log::{LogFrame, PullOutcome};
+pub use value::{Bytes, DimKey, Leaf, MetricKey, Slice, Value};
