@@ -1,0 +1,5 @@
+pub mod Linked
+pub mod Keys
+pub mod History
+pub mod Counts
+pub mod Report
