@@ -2,7 +2,7 @@
 use Rattle.std.specs.Prelude.{ℕ, zero, suc, ℤ, Bool, true, false, ◌==◌, List, [], ◌∷◌, map}
 use Rattle.atom_record.specs.declared.atom.Atom.{Atom}
 use Rattle.atom_record.specs.declared.log.LogFrame.{LogFrame}
-use Rattle.atom_record.specs.declared.log.LogFrame.TheVariants.{Tick, AtomAt, Pull}
+use Rattle.atom_record.specs.declared.log.LogFrame.TheVariants.{AtomAt, Pull}
 use Rattle.bucket_meaning.specs.Ends.{Moment}
 use Rattle.instance_meaning.specs.Linked.{Matcher, Simple, Linked}
 

@@ -3,3 +3,4 @@ pub mod Keys
 pub mod History
 pub mod Counts
 pub mod Report
+pub mod Spelling

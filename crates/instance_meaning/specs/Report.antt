@@ -1,6 +1,5 @@
 -- The report of a history, as a tree.
-use Rattle.std.specs.Prelude.{ℕ, ℤ, pos, ◌+◌, ◌-◌, ◌^◌, min, Bool, List, [], ◌∷◌, ◌++◌, map, filter, Option, Some, None, if◌then◌else◌}
-use Rattle.std.specs.List.{flat_map}
+use Rattle.std.specs.Prelude.{ℕ, ℤ, pos, ◌+◌, ◌-◌, ◌^◌, min, Bool, List, [], ◌∷◌, ◌++◌, map, filter, Option, Some, None}
 use Rattle.atom_record.specs.declared.value.Value.{Value}
 use Rattle.atom_record.specs.declared.value.Leaf.{Leaf}
 use Rattle.atom_record.specs.declared.value.Leaf.TheVariants.{Missing, One, Many}
@@ -8,7 +7,7 @@ use Rattle.atom_record.specs.declared.value.Slice.{Slice}
 use Rattle.atom_record.specs.declared.value.MetricKey.{MetricKey}
 use Rattle.bucket_meaning.specs.Guard.{firsts}
 use Rattle.bucket_meaning.specs.Kept.{Taken}
-use Rattle.instance_meaning.specs.Linked.{Metric, Linked}
+use Rattle.instance_meaning.specs.Linked.{Metric}
 use Rattle.instance_meaning.specs.Keys.{same_key}
 use Rattle.instance_meaning.specs.History.{What, Logged, Reported, Step, History}
 use Rattle.instance_meaning.specs.Counts.{Row, shown_of}
