@@ -1,5 +1,5 @@
 -- What an installed configuration has seen: one step for each later frame of the log, and for each report of it.
-use Rattle.std.specs.Prelude.{ℕ, zero, suc, ℤ, Bool, true, false, ◌==◌, List, [], ◌∷◌, map}
+use Rattle.std.specs.Prelude.{ℕ, zero, suc, ℤ, Bool, true, false, ◌==◌, List, [], ◌∷◌, ◌++◌, map}
 use Rattle.atom_record.specs.declared.atom.Atom.{Atom}
 use Rattle.atom_record.specs.declared.log.LogFrame.{LogFrame}
 use Rattle.atom_record.specs.declared.log.LogFrame.TheVariants.{AtomAt, Pull}
@@ -24,6 +24,10 @@ pub record History : Type 0 where
   pub base : ℕ
   pub linked : Linked
   pub steps : List Step
+
+-- a history with more steps
+abbrev pub with_steps : History → List Step → History
+with_steps history more = record history { steps = history.steps ++ more }
 
 -- a matcher holds for an atom
 abbrev pub matches : Atom → Matcher → Bool
