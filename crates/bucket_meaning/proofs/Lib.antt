@@ -1,1 +1,4 @@
 mod Worked
+pub mod GuardLemmas
+pub mod MarksLemmas
+pub mod KeptLemmas
