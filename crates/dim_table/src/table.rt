@@ -119,6 +119,8 @@ impl<K: Exact + Hash + Drop, V: Drop> Guarded<K, V> {
         ensures value { result ≡ lookup (K.eq key.now) self.old.rows }
         ensures rows { self.new ≡ without K.eq self.old key.now }
     {
+        // `len` says that the keys are distinct, so that a key's first row is its only one.
+        let _len = self.rows.len();
         self.rows.shift_remove(key)
     }
 
