@@ -1,5 +1,5 @@
 -- What a clock stands for: its base, its size, and the frames and cuts that it was told of.
-use Rattle.std.specs.Prelude.{◌≡◌, ℕ, suc, ◌+◌, ◌*◌, ◌<◌, Bool, true, false, List, [], ◌∷◌, ◌++◌, Option, Some, None}
+use Rattle.std.specs.Prelude.{◌≡◌, ℕ, suc, ◌+◌, ◌*◌, ◌<◌, true, false, List, [], ◌∷◌, ◌++◌, Option, Some, None}
 use Rattle.std.specs.List.{list_any}
 use Rattle.bucket_meaning.specs.Given.{given}
 use Rattle.bucket_meaning.specs.Ends.{Moment, crosses, ends_from, ends_at}

@@ -53,7 +53,12 @@ impl Clock {
     {
         let is_sized = base < 1 << 63 && size >= 1 && size <= LONGEST_BUCKET;
         let is_full_end = is_sized && base < next_end && (next_end - base) % size == 0;
-        if is_full_end && base <= start && start <= next_end && next_end - start <= size && start < 1 << 63 {
+        if is_full_end
+            && base <= start
+            && start <= next_end
+            && next_end - start <= size
+            && start < 1 << 63
+        {
             Some(Clock {
                 base,
                 size,
@@ -136,5 +141,9 @@ fn reach_of(time: u64, is_pull: bool) -> u64
     ensures within { result ≤ time }
     ensures crosses { (end : ℕ) → 0 < end → crosses (record { at = time; is_pull = is_pull }) end ≡ nat_le end result }
 {
-    if is_pull { time.saturating_sub(1) } else { time }
+    if is_pull {
+        time.saturating_sub(1)
+    } else {
+        time
+    }
 }
