@@ -8,17 +8,17 @@ use Rattle.bucket_meaning.specs.Ends.{Moment, crosses, ends_from, ends_at}
 use Rattle.bucket_meaning.proofs.GivenLemmas.{given-push}
 use Rattle.bucket_meaning.proofs.EndsLemmas.{any_crosses-behind, ends_at-next}
 use Rattle.bucket_clock.specs.Sound.{Times, IsSound}
-use Rattle.bucket_clock.specs.Clock.{Told, Frame, Cut, moments, boundaries_at, boundaries, last_time, IsNextEnd, ClockStandsFor, TakesCall}
+use Rattle.bucket_clock.specs.Clock.{Told, Saw, Cut, moments, boundaries_at, boundaries, last_time, IsNextEnd, ClockStandsFor, TakesCall}
 
 -- one more frame, and one more cut, among the calls
-pub moments-frame : (told : List Told) (moment : Moment) → moments (told ++ Frame moment ∷ []) ≡ moments told ++ moment ∷ []
+pub moments-frame : (told : List Told) (moment : Moment) → moments (told ++ Saw moment ∷ []) ≡ moments told ++ moment ∷ []
 moments-frame [] moment = refl
-moments-frame (Frame first ∷ told) moment = ap (λ l. first ∷ l) (moments-frame told moment)
+moments-frame (Saw first ∷ told) moment = ap (λ l. first ∷ l) (moments-frame told moment)
 moments-frame (Cut at ∷ told) moment = moments-frame told moment
 
 pub moments-cut : (told : List Told) (at : ℕ) → moments (told ++ Cut at ∷ []) ≡ moments told
 moments-cut [] at = refl
-moments-cut (Frame first ∷ told) at = ap (λ l. first ∷ l) (moments-cut told at)
+moments-cut (Saw first ∷ told) at = ap (λ l. first ∷ l) (moments-cut told at)
 moments-cut (Cut first ∷ told) at = moments-cut told at
 
 -- the last of more times
@@ -95,7 +95,7 @@ module _ (clock : Times) (moment : Moment) (sized : 0 < clock.size) (in_bucket :
     not_reached end some lt = reaches end some ∙ lt-leb end reach lt
 
     -- a frame that doesn't reach the next full end crosses none
-    pub none_made : reach < clock.next_end → TakesCall clock clock (Frame moment) []
+    pub none_made : reach < clock.next_end → TakesCall clock clock (Saw moment) []
     none_made short told stands =
         let beyond : crosses moment clock.next_end ≡ false = not_reached clock.next_end some_end short in
         let no_more : crosses moment (clock.next_end + 0 * clock.size) ≡ false = subst (λ end. crosses moment end ≡ false) (omega arith) beyond in
@@ -104,14 +104,14 @@ module _ (clock : Times) (moment : Moment) (sized : 0 < clock.size) (in_bucket :
         next_end-push clock.base clock.size (moments told) moment clock.next_end clock.next_end 0 stands.next_end (omega arith) (λ i within. absurd (omega arith)) beyond in (
           made,
           record {
-            start = stands.start ∙ ap (last_time (last_time clock.base (boundaries clock.base clock.size told))) made ∙ sym (last_boundary-push clock.base clock.size told (Frame moment));
+            start = stands.start ∙ ap (last_time (last_time clock.base (boundaries clock.base clock.size told))) made ∙ sym (last_boundary-push clock.base clock.size told (Saw moment));
             next_end = subst (λ ms. IsNextEnd clock.base clock.size ms clock.next_end) (sym (moments-frame told moment)) next;
           },
         )
 
     -- a frame that reaches it crosses it, and one more for each full bucket between
     pub some_made : clock.next_end ≤ reach → let full = (reach - clock.next_end) / clock.size in let last = clock.next_end + full * clock.size in
-        TakesCall clock (record clock { start = last; next_end = last + clock.size }) (Frame moment) (ends_from clock.next_end clock.size (suc full))
+        TakesCall clock (record clock { start = last; next_end = last + clock.size }) (Saw moment) (ends_from clock.next_end clock.size (suc full))
     some_made long told stands =
         let full = (reach - clock.next_end) / clock.size in
         let last = clock.next_end + full * clock.size in
@@ -127,7 +127,7 @@ module _ (clock : Times) (moment : Moment) (sized : 0 < clock.size) (in_bucket :
         let before = last_time clock.base (boundaries clock.base clock.size told) in (
           made,
           record {
-            start = sym (last_time-ends before clock.next_end clock.size full) ∙ ap (last_time before) made ∙ sym (last_boundary-push clock.base clock.size told (Frame moment));
+            start = sym (last_time-ends before clock.next_end clock.size full) ∙ ap (last_time before) made ∙ sym (last_boundary-push clock.base clock.size told (Saw moment));
             next_end = subst (λ ms. IsNextEnd clock.base clock.size ms (last + clock.size)) (sym (moments-frame told moment)) next;
           },
         )

@@ -6,20 +6,20 @@ use Rattle.bucket_meaning.specs.Ends.{Moment, crosses, ends_from, ends_at}
 use Rattle.bucket_clock.specs.declared.crossings.Crossings.{Crossings}
 use Rattle.bucket_clock.specs.Sound.{Times}
 
--- One call of a clock: a frame of the log came, or a report cut the open part at a time.
+-- One call of a clock: it saw a frame of the log, or a report cut the open part at a time.
 pub data Told : Type 0 where
-  Frame : (moment : Moment) → Told
+  Saw : (moment : Moment) → Told
   Cut : (at : ℕ) → Told
 
 -- the frames among the calls
 abbrev pub moments : List Told → List Moment
 moments [] = []
-moments (Frame moment ∷ told) = moment ∷ moments told
+moments (Saw moment ∷ told) = moment ∷ moments told
 moments (Cut at ∷ told) = moments told
 
 -- the boundaries that a call makes, knowing the calls before it: the full ends that a frame crosses, or the cut
 abbrev pub boundaries_at : ℕ → ℕ → List Told → Told → List ℕ
-boundaries_at base size before (Frame moment) = ends_at base size (moments before) moment
+boundaries_at base size before (Saw moment) = ends_at base size (moments before) moment
 boundaries_at base size before (Cut at) = at ∷ []
 
 -- all boundaries, in order

@@ -2,7 +2,7 @@
 ghost use Rattle.std.specs.Prelude.{◌≡◌, ℕ, ◌+◌, ◌-◌, ◌*◌, ◌^◌, ◌<◌, ◌≤◌, ◌↔◌, [], ◌∷◌, nat_le, IfSome, IsSome};
 ghost use Rattle.bucket_meaning.specs.Ends.{crosses};
 ghost use Rattle.bucket_clock.specs.Sound.{IsSound};
-ghost use Rattle.bucket_clock.specs.Clock.{Frame, Cut, ends_of, Answers, ClockStandsFor, TakesCall};
+ghost use Rattle.bucket_clock.specs.Clock.{Saw, Cut, ends_of, Answers, ClockStandsFor, TakesCall};
 
 use crate::Crossings;
 use std::marker::Model;
@@ -75,7 +75,7 @@ impl Clock {
         requires not_before { self.old.start ≤ time }
         requires fits { time < 2 ^ 63 }
         ensures ends { Answers self.old (record { at = time; is_pull = is_pull }) result self.new }
-        ensures stands { TakesCall self.old self.new (Frame (record { at = time; is_pull = is_pull })) (ends_of result) }
+        ensures stands { TakesCall self.old self.new (Saw (record { at = time; is_pull = is_pull })) (ends_of result) }
     {
         let reach = reach_of(time, is_pull);
         if reach < self.next_end {
