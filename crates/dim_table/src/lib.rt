@@ -1,0 +1,11 @@
+//! Tables of so many keys at most, in the order in which the keys first came.
+#![tactic(auto)]
+
+mod answer;
+mod table;
+
+pub use answer::Admit;
+pub use table::Guarded;
+
+/// The most keys that a table may be asked to hold.
+pub const MOST_KEYS: usize = 3000;
