@@ -55,10 +55,7 @@ fn body_len(body: &ReplyBody) -> u64
         ReplyBody::Refused(refusal) => refusal_len(refusal),
         ReplyBody::ReportBytes(report) => size(report.as_slice()),
         ReplyBody::ClientFull(_) => 4,
-        ReplyBody::Installed
-        | ReplyBody::Replaced
-        | ReplyBody::Removed
-        | ReplyBody::NoConfig => 0,
+        ReplyBody::Installed | ReplyBody::Replaced | ReplyBody::Removed | ReplyBody::NoConfig => 0,
     }
 }
 
@@ -92,10 +89,9 @@ fn write_body<K: Sink>(body: &ReplyBody, out: &mut K) -> Result<(), WriteFailed>
         ReplyBody::Refused(refusal) => write_refusal(refusal, out),
         ReplyBody::ReportBytes(report) => out.put(report.as_slice()),
         ReplyBody::ClientFull(most) => out.put(&most.to_le_bytes()),
-        ReplyBody::Installed
-        | ReplyBody::Replaced
-        | ReplyBody::Removed
-        | ReplyBody::NoConfig => Ok(()),
+        ReplyBody::Installed | ReplyBody::Replaced | ReplyBody::Removed | ReplyBody::NoConfig => Ok(
+            (),
+        ),
     }
 }
 
@@ -138,3 +134,6 @@ fn write_path<K: Sink>(path: &[u32], out: &mut K) -> Result<(), WriteFailed>
     }
     Ok(())
 }
+
+#[cfg(test)]
+mod tests;
