@@ -3,6 +3,8 @@
 
 mod frame;
 mod reply;
+mod writing;
 
 pub use frame::{Frame, FrameError, SessionFault};
 pub use reply::{Refusal, Reply, ReplyBody};
+pub use writing::write_reply;
