@@ -1,0 +1,22 @@
+-- Lemmas on `specs/Causes.antt`, for callers: reads and puts one after another, and counts of faults.
+use Rattle.std.proofs.Common.{◌≡◌, ℕ, ◌≤◌, List, ◌++◌, Option, sym, ap, ◌∙◌, append_assoc, arith}
+pub use Rattle.std.proofs.KnownBytes.{Appends-nil, Appends-trans, Appends-kept, Consumes-nil, Consumes-trans, Consumes-kept, Keeps-refl, Keeps-trans}
+use Rattle.sd_io.specs.Causes.{Appends, AppendsFront, Rose}
+
+-- a whole piece was written, and then a front of the next
+pub front_behind : (a b c : Option (List ℕ)) (first second : List ℕ) → Appends a b first → AppendsFront b c second → AppendsFront a c (first ++ second)
+front_behind a b c first second whole front =
+    (first ++ front.0, (front.1.0, ap (λ l. first ++ l) front.1.1 ∙ sym (append_assoc first front.0 front.1.0)), Appends-trans a b c first front.0 whole front.2)
+
+-- a front of the first piece is a front of both together
+pub front_before : (a b : Option (List ℕ)) (first second : List ℕ) → AppendsFront a b first → AppendsFront a b (first ++ second)
+front_before a b first second front =
+    (front.0, (front.1.0 ++ second, ap (λ l. l ++ second) front.1.1 ∙ append_assoc front.0 front.1.0 second), front.2)
+
+-- a count that rose went on
+pub Rose-later : (before mid now : ℕ) → Rose before mid → mid ≤ now → Rose before now
+Rose-later before mid now rose later = omega arith
+
+-- a count that went on rose
+pub Rose-earlier : (before mid now : ℕ) → before ≤ mid → Rose mid now → Rose before now
+Rose-earlier before mid now later rose = omega arith
