@@ -1,3 +1,4 @@
 pub mod Frames
+pub mod Bodies
 pub mod Reading
 pub mod Replies

@@ -1,6 +1,7 @@
 //! The frames of a recorded session, read one by one, and the framed replies.
 #![tactic(auto)]
 
+mod body;
 mod frame;
 mod reply;
 
