@@ -2,7 +2,7 @@
 use Rattle.std.proofs.Common.{◌≡◌, ℕ, zero, suc, ◌+◌, ◌-◌, ◌^◌, ◌<◌, ◌≤◌, Bool, true, false, not, ◌||◌, ◌==◌, nat_lt, if◌then◌else◌, MatchBool, fold, List, [], ◌∷◌, ◌++◌, length, take, drop, Result, Ok, Err, refl, sym, ap, ap₂, ◌∙◌, subst, subst₂, arith}
 use Rattle.std.proofs.lemmas.Bool.Decides.{nat_tests}
 use Rattle.std.proofs.lemmas.List.{take-append-le, drop-append-le, length-append, length-drop}
-use Rattle.std.specs.Int.{w32, w64, from_le_bytes, cast_signed}
+use Rattle.std.specs.Int.{Width, byte_len, w32, w64, from_le_bytes, cast_signed}
 use Rattle.sd_base.specs.Reads.{◌>>=◌}
 use Rattle.atom_record.specs.declared.log.LogFrame.TheVariants.{AtomAt}
 use Rattle.session_frames.specs.declared.frame.Frame.{Frame}
@@ -287,3 +287,68 @@ pub whole_faultless : (clock : ℕ) (left : List ℕ) (frame : Frame) (rest : Li
 whole_faultless clock left frame rest e =
     let h = IsWhole-from_next clock left frame rest e in
     frame_good clock (take (size_at left) (drop 4 left)) frame h.reads
+
+-- Only the whole of a session can be too much: no frame by itself has that fault.
+abbrev IsNotTooMany : {A : Type 0} → Result A SessionFault → Type 0
+IsNotTooMany read = read ≡ Err TooManyFrames → ⊥
+
+bound_not_too_many : {A B : Type 0} (read : Result A SessionFault) (next : A → Result B SessionFault) → IsNotTooMany read → ((x : A) → IsNotTooMany (next x)) → IsNotTooMany (read >>= next)
+bound_not_too_many (Ok x) next first second = second x
+bound_not_too_many (Err fault) next first second = λ e. first (cc)
+
+number_not_too_many : (width : Width) (kind : ℕ) (bytes : List ℕ) → IsNotTooMany (number_at width (no_such kind) bytes)
+number_not_too_many width kind bytes = of_choice IsNotTooMany (nat_lt (length bytes) (byte_len width)) _ _ (λ e. cc) (λ e. cc)
+
+flag_not_too_many : (kind : ℕ) (bytes : List ℕ) → IsNotTooMany (flag_at (no_such kind) bytes)
+flag_not_too_many kind [] = λ e. cc
+flag_not_too_many kind (flag ∷ []) = of_choice IsNotTooMany (nat_lt flag 2) _ _ (λ e. cc) (λ e. cc)
+flag_not_too_many kind (flag ∷ more ∷ bytes) = λ e. cc
+
+atom_not_too_many : (bytes : List ℕ) → IsNotTooMany (atom_body bytes)
+unfolding atom_body
+atom_not_too_many bytes =
+    bound_not_too_many (number_at w64 (no_such 2) bytes) _ (number_not_too_many w64 2 bytes) (λ (at : ℕ × List ℕ).
+    bound_not_too_many (number_at w32 (no_such 2) at.1) _ (number_not_too_many w32 2 at.1) (λ (id : ℕ × List ℕ).
+    of_choice IsNotTooMany (not (length id.1 == 0) || (id.0 == 0 || not (nat_lt id.0 (2 ^ 31)))) _ _ (λ e. cc) (λ e. cc)))
+
+install_not_too_many : (bytes : List ℕ) → IsNotTooMany (install_body bytes)
+unfolding install_body
+install_not_too_many bytes =
+    bound_not_too_many (number_at w32 (no_such 16) bytes) _ (number_not_too_many w32 16 bytes) (λ (uid : ℕ × List ℕ).
+    bound_not_too_many (number_at w64 (no_such 16) uid.1) _ (number_not_too_many w64 16 uid.1) (λ (id : ℕ × List ℕ) e. cc))
+
+report_not_too_many : (bytes : List ℕ) → IsNotTooMany (report_body bytes)
+unfolding report_body
+report_not_too_many bytes =
+    bound_not_too_many (number_at w32 (no_such 18) bytes) _ (number_not_too_many w32 18 bytes) (λ (uid : ℕ × List ℕ).
+    bound_not_too_many (number_at w64 (no_such 18) uid.1) _ (number_not_too_many w64 18 uid.1) (λ (id : ℕ × List ℕ).
+    bound_not_too_many (flag_at (no_such 18) id.1) _ (flag_not_too_many 18 id.1) (λ flag e. cc)))
+
+body_not_too_many : (kind : ℕ) (body : List ℕ) → IsNotTooMany (body_of kind body)
+body_not_too_many kind body =
+    of_choice IsNotTooMany (kind == 2) (atom_body body) _ (atom_not_too_many body)
+    (of_choice IsNotTooMany (kind == 16) (install_body body) _ (install_not_too_many body)
+    (of_choice IsNotTooMany (kind == 18) (report_body body) (Err (no_such kind)) (report_not_too_many body) (λ e. cc)))
+
+timed_not_too_many : (clock kind : ℕ) (frame : Frame) → IsNotTooMany (timed clock kind frame)
+timed_not_too_many clock kind (Log frame) = of_choice IsNotTooMany (nat_lt (log_time frame) clock || not (nat_lt (log_time frame) hour)) _ _ (λ e. cc) (λ e. cc)
+timed_not_too_many clock kind (Install uid id config) = λ e. cc
+timed_not_too_many clock kind (Remove uid id) = λ e. cc
+timed_not_too_many clock kind (Report uid id cut) = λ e. cc
+
+frame_not_too_many : (clock : ℕ) (content : List ℕ) → IsNotTooMany (frame_of clock content)
+frame_not_too_many clock [] = λ e. cc
+frame_not_too_many clock (kind ∷ body) = bound_not_too_many (body_of kind body) (timed clock kind) (body_not_too_many kind body) (timed_not_too_many clock kind)
+
+followed_not_too_many : (rest : List ℕ) (read : Result Frame SessionFault) → IsNotTooMany read → followed_by rest read ≡ Broken TooManyFrames → ⊥
+followed_not_too_many rest (Ok frame) fine = λ e. cc
+followed_not_too_many rest (Err fault) fine = λ e. fine (cc)
+
+pub next_not_too_many : (clock : ℕ) (left : List ℕ) → next_frame clock left ≡ Broken TooManyFrames → ⊥
+next_not_too_many clock left =
+    let P : Next → Type 0 = λ next. next ≡ Broken TooManyFrames → ⊥ in
+    of_choice P (length left == 0) Ended _ (λ e. cc)
+    (of_choice P (nat_lt (length left) 4) (Broken Cut) _ (λ e. cc)
+    (of_choice P (size_at left == 0 || nat_lt most_body (size_at left)) (Broken (UnknownKind 0)) _ (λ e. cc)
+    (of_choice P (nat_lt (length (drop 4 left)) (size_at left)) (Broken Cut) _ (λ e. cc)
+    (followed_not_too_many (drop (size_at left) (drop 4 left)) (frame_of clock (take (size_at left) (drop 4 left))) (frame_not_too_many clock (take (size_at left) (drop 4 left)))))))

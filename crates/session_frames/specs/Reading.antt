@@ -67,3 +67,9 @@ pub record Refuses (old new : Option (List ℕ)) (before : Reading) (e : FrameEr
   pub taken : List ℕ
   pub consumes : Consumes old new taken
   pub cause : IsCause e before (before.pending ++ taken) new
+
+-- what a reader holds always: a place in the bytes that it has, and none before the first call
+pub record IsHeld (bytes : List ℕ) (at clock : ℕ) (ended : Bool) : Type 0 where
+  pub placed : at ≤ length bytes
+  pub within : length bytes ≤ most_input
+  pub first : ended ≡ false → (bytes ≡ []) × (at ≡ 0) × (clock ≡ 0)

@@ -16,6 +16,13 @@ const HOUR: u64 = 3_600_000_000_000;
 // The first id that an atom may not have.
 const ATOM_IDS: u32 = 1 << 31;
 
+// The kinds of frames.
+const ATOM: u8 = 2;
+
+const INSTALL: u8 = 16;
+
+const REPORT: u8 = 18;
+
 /// Why a frame wasn't read.
 #[derive(Debug, Drop)]
 pub enum BodyError {
@@ -73,10 +80,10 @@ fn u64_at(kind: u8, bytes: &[u8]) -> Result<(u64, &[u8]), BodyError>
 fn read_atom(alloc: Global, body: &[u8]) -> Result<Frame, BodyError>
     ensures { GivesBy fault_of (λ frame. frame) result (frames.atom_body body.now) }
 {
-    let (at, rest) = u64_at(2, body)?;
-    let (id, rest) = u32_at(2, rest)?;
-    if !rest.is_empty() || (id == 0 || !(id < ATOM_IDS)) {
-        return Err(no_such(2));
+    let (at, rest) = u64_at(ATOM, body)?;
+    let (id, rest) = u32_at(ATOM, rest)?;
+    if !rest.is_empty() || (id == 0 || id >= ATOM_IDS) {
+        return Err(no_such(ATOM));
     }
     let fields = Seq::new(alloc);
     Ok(Frame::Log(LogFrame::AtomAt {
@@ -89,8 +96,8 @@ fn read_atom(alloc: Global, body: &[u8]) -> Result<Frame, BodyError>
 fn read_install(alloc: Global, body: &[u8]) -> Result<Frame, BodyError>
     ensures { GivesBy fault_of (λ frame. frame) result (frames.install_body body.now) }
 {
-    let (uid, rest) = u32_at(16, body)?;
-    let (id, rest) = u64_at(16, rest)?;
+    let (uid, rest) = u32_at(INSTALL, body)?;
+    let (id, rest) = u64_at(INSTALL, rest)?;
     let config = Seq::from_slice(alloc, rest)?;
     Ok(Frame::Install {
         uid: uid.cast_signed(),
@@ -103,9 +110,9 @@ fn read_install(alloc: Global, body: &[u8]) -> Result<Frame, BodyError>
 fn read_report(body: &[u8]) -> Result<Frame, BodyError>
     ensures { GivesBy fault_of (λ frame. frame) result (frames.report_body body.now) }
 {
-    let (uid, rest) = u32_at(18, body)?;
-    let (id, rest) = u64_at(18, rest)?;
-    let include_current = flag(18, rest)?;
+    let (uid, rest) = u32_at(REPORT, body)?;
+    let (id, rest) = u64_at(REPORT, rest)?;
+    let include_current = flag(REPORT, rest)?;
     Ok(Frame::Report {
         uid: uid.cast_signed(),
         id: id.cast_signed(),
@@ -127,9 +134,9 @@ fn read_body(alloc: Global, kind: u8, body: &[u8]) -> Result<Frame, BodyError>
     ensures { GivesBy fault_of (λ frame. frame) result (frames.body_of kind body.now) }
 {
     match kind {
-        2 => read_atom(alloc, body),
-        16 => read_install(alloc, body),
-        18 => read_report(body),
+        ATOM => read_atom(alloc, body),
+        INSTALL => read_install(alloc, body),
+        REPORT => read_report(body),
         _ => Err(no_such(kind)),
     }
 }
@@ -150,7 +157,7 @@ fn timed(clock: u64, kind: u8, frame: Frame) -> Result<Frame, BodyError>
     match frame {
         Frame::Log(log) => {
             let at = log_time(&log);
-            if at < clock || !(at < HOUR) {
+            if at < clock || at >= HOUR {
                 return Err(no_such(kind));
             }
             Ok(Frame::Log(log))

@@ -3,7 +3,9 @@
 
 mod body;
 mod frame;
+mod reader;
 mod reply;
 
 pub use frame::{Frame, FrameError, SessionFault};
+pub use reader::FrameReader;
 pub use reply::{Refusal, Reply, ReplyBody};
