@@ -1,7 +1,7 @@
 -- Lemmas on `specs/Causes.antt`, for callers: reads and puts one after another, and counts of faults.
-use Rattle.std.proofs.Common.{◌≡◌, ℕ, ◌≤◌, List, ◌++◌, Option, sym, ap, ◌∙◌, append_assoc, arith}
+use Rattle.std.proofs.Common.{◌≡◌, ℕ, ◌≤◌, List, [], ◌++◌, length, take, Option, Some, None, sym, ap, ◌∙◌, append_assoc, length-append, arith}
 pub use Rattle.std.proofs.KnownBytes.{Appends-nil, Appends-trans, Appends-kept, Consumes-nil, Consumes-trans, Consumes-kept, Keeps-refl, Keeps-trans}
-use Rattle.sd_io.specs.Causes.{Appends, AppendsFront, Rose}
+use Rattle.sd_io.specs.Causes.{Appends, AppendsFront, Consumes, Rose}
 
 -- a whole piece was written, and then a front of the next
 pub front_behind : (a b c : Option (List ℕ)) (first second : List ℕ) → Appends a b first → AppendsFront b c second → AppendsFront a c (first ++ second)
@@ -20,3 +20,8 @@ Rose-later before mid now rose later = omega arith
 -- a count that went on rose
 pub Rose-earlier : (before mid now : ℕ) → before ≤ mid → Rose mid now → Rose before now
 Rose-earlier before mid now later rose = omega arith
+
+-- a source that tells that nothing is left gives nothing
+pub none-at_end : (new : Option (List ℕ)) (count : ℕ) (buffer : List ℕ) → count ≡ length (take count buffer) → Consumes (Some []) new (take count buffer) → count ≡ 0
+none-at_end None count buffer bound h = absurd h
+none-at_end (Some left) count buffer bound h = omega (arith, bound, ap length h, length-append (take count buffer) left)

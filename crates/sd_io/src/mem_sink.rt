@@ -62,9 +62,9 @@ impl Sink for MemSink {
         ensures front { (IsPutToFail self.old → ⊥)
             → self.new.written ≡ self.old.written ++ front_that_fits self.old piece.now }
         ensures counts { self.new ≡ record self.old {
-            written = self.new.written;
-            calls = count_up self.old.calls;
-            faults = (if is_err result then count_up self.old.faults else self.old.faults);
+          written = self.new.written;
+          calls = count_up self.old.calls;
+          faults = (if is_err result then count_up self.old.faults else self.old.faults);
         } }
 
         // What every sink ensures.

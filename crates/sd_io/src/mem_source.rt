@@ -57,9 +57,9 @@ impl Source for MemSource {
             (λ count. GivesNext self.old buf.old count self.new.left buf.new)
             (λ _. (self.new.left ≡ self.old.left) × (buf.new ≡ buf.old)) }
         ensures counts { self.new ≡ record self.old {
-            left = self.new.left;
-            calls = count_up self.old.calls;
-            faults = (if is_err result then count_up self.old.faults else self.old.faults);
+          left = self.new.left;
+          calls = count_up self.old.calls;
+          faults = (if is_err result then count_up self.old.faults else self.old.faults);
         } }
 
         // What every source ensures.

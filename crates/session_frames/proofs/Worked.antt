@@ -24,40 +24,45 @@ frames =
     ∷ Log (AtomAt 3 (record { id = 5; fields = [] })) ∷ Report (pos 10) (pos 7) true ∷ []
 
 least_session : Reads start (install ++ further) frames Clean
-unfolding atom_body install_body report_body
+unfolding next_frame atom_body install_body report_body
 least_session = (_, refl, (_, refl, (_, refl, (_, refl, refl))))
 
 -- a uid and an id below 0
 below_zero : next_frame 0 (14 ∷ 0 ∷ 0 ∷ 0 ∷ 18 ∷ 255 ∷ 255 ∷ 255 ∷ 255 ∷ 254 ∷ 255 ∷ 255 ∷ 255 ∷ 255 ∷ 255 ∷ 255 ∷ 255 ∷ 0 ∷ 9 ∷ []) ≡ Whole (Report (negsuc 0) (negsuc 1) false) (9 ∷ [])
-unfolding report_body
+unfolding next_frame report_body
 below_zero = refl
 
 cut_length : next_frame 0 (14 ∷ 0 ∷ 0 ∷ []) ≡ Broken Cut
+unfolding next_frame
 cut_length = refl
 
 cut_body : next_frame 0 (14 ∷ 0 ∷ 0 ∷ 0 ∷ 18 ∷ []) ≡ Broken Cut
+unfolding next_frame
 cut_body = refl
 
 no_length : next_frame 0 (0 ∷ 0 ∷ 0 ∷ 0 ∷ []) ≡ Broken (UnknownKind 0)
+unfolding next_frame
 no_length = refl
 
 long : next_frame 0 (1 ∷ 0 ∷ 16 ∷ 0 ∷ []) ≡ Broken (UnknownKind 0)
+unfolding next_frame
 long = refl
 
 kind_nine : next_frame 0 (1 ∷ 0 ∷ 0 ∷ 0 ∷ 9 ∷ []) ≡ Broken (UnknownKind 9)
+unfolding next_frame
 kind_nine = refl
 
 -- an atom of id 0, one behind the clock, one of an hour
 id_zero : next_frame 0 (13 ∷ 0 ∷ 0 ∷ 0 ∷ 2 ∷ 2 ∷ 0 ∷ 0 ∷ 0 ∷ 0 ∷ 0 ∷ 0 ∷ 0 ∷ 0 ∷ 0 ∷ 0 ∷ 0 ∷ []) ≡ Broken (UnknownKind 2)
-unfolding atom_body
+unfolding next_frame atom_body
 id_zero = refl
 
 backwards : next_frame 3 (13 ∷ 0 ∷ 0 ∷ 0 ∷ 2 ∷ 2 ∷ 0 ∷ 0 ∷ 0 ∷ 0 ∷ 0 ∷ 0 ∷ 0 ∷ 5 ∷ 0 ∷ 0 ∷ 0 ∷ []) ≡ Broken (UnknownKind 2)
-unfolding atom_body
+unfolding next_frame atom_body
 backwards = refl
 
 an_hour : next_frame 0 (13 ∷ 0 ∷ 0 ∷ 0 ∷ 2 ∷ 0 ∷ 160 ∷ 184 ∷ 48 ∷ 70 ∷ 3 ∷ 0 ∷ 0 ∷ 5 ∷ 0 ∷ 0 ∷ 0 ∷ []) ≡ Broken (UnknownKind 2)
-unfolding atom_body
+unfolding next_frame atom_body
 an_hour = refl
 
 -- replies without a body

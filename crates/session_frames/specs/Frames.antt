@@ -132,7 +132,7 @@ abbrev pub size_at : List ℕ → ℕ
 size_at left = from_le_bytes w32 (take 4 left)
 
 -- what stands next in what is left, where the clock stands at a time: judged in this order
-abbrev pub next_frame : ℕ → List ℕ → Next
+unfoldable pub next_frame : ℕ → List ℕ → Next
 next_frame clock left =
     if length left == 0 then Ended
     else if nat_lt (length left) 4 then Broken Cut
