@@ -58,6 +58,7 @@ told_by_tests len size most behind h1 h2 h3 h4 = (grind (arith, nat_tests), grin
 
 -- what is judged a frame stands whole in front
 pub IsWhole-from_next : (clock : ℕ) (left : List ℕ) (frame : Frame) (rest : List ℕ) → next_frame clock left ≡ Whole frame rest → IsWhole clock left frame rest
+unfolding next_frame
 IsWhole-from_next clock left frame rest e =
     let size = size_at left in
     let so : FoundSo (length left == 0) (nat_lt (length left) 4) (size == 0 || nat_lt most_body size) (nat_lt (length (drop 4 left)) size) (frame_of clock (take size (drop 4 left))) (drop size (drop 4 left)) frame rest =
@@ -67,6 +68,7 @@ IsWhole-from_next clock left frame rest e =
 
 -- what stands whole in front is judged a frame
 pub next-from_IsWhole : (clock : ℕ) (left : List ℕ) (frame : Frame) (rest : List ℕ) → IsWhole clock left frame rest → next_frame clock left ≡ Whole frame rest
+unfolding next_frame
 next-from_IsWhole clock left frame rest h =
     let size = size_at left in
     let told = told_by_tests (length left) size most_body (length (drop 4 left)) h.long h.some h.small h.here in
@@ -345,6 +347,7 @@ followed_not_too_many rest (Ok frame) fine = λ e. cc
 followed_not_too_many rest (Err fault) fine = λ e. fine (cc)
 
 pub next_not_too_many : (clock : ℕ) (left : List ℕ) → next_frame clock left ≡ Broken TooManyFrames → ⊥
+unfolding next_frame
 next_not_too_many clock left =
     let P : Next → Type 0 = λ next. next ≡ Broken TooManyFrames → ⊥ in
     of_choice P (length left == 0) Ended _ (λ e. cc)

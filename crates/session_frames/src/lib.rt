@@ -3,9 +3,11 @@
 
 mod body;
 mod frame;
+mod laws;
 mod reader;
 mod reply;
 
 pub use frame::{Frame, FrameError, SessionFault};
+pub use laws::bytes_have_one_reading;
 pub use reader::FrameReader;
 pub use reply::{Refusal, Reply, ReplyBody};

@@ -16,6 +16,7 @@ use std::marker::Model;
 const MOST_BODY: usize = 1 << 20;
 
 // What stands next in what is left: a frame and the bytes behind it, or nothing at the end.
+#[tactic(auto, unfolding(crate::specs::Frames::next_frame))]
 fn next_in(alloc: Global, clock: u64, left: &[u8]) -> Result<Option<(Frame, &[u8])>, BodyError>
     ensures { GivesNext (λ bytes. bytes.now) result (frames.next_frame clock left.now) }
 {
