@@ -11,3 +11,6 @@ pub use frame::{Frame, FrameError, SessionFault};
 pub use laws::bytes_have_one_reading;
 pub use reader::FrameReader;
 pub use reply::{Refusal, Reply, ReplyBody};
+
+#[cfg(test)]
+mod tests;
