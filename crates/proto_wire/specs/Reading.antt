@@ -1,8 +1,7 @@
 -- Reading from left to right: the field in front and what is behind it, or the first fault.
 -- `at` is where the record at fault begins; `end` is where the bytes end. Both count from the start of the whole
 -- configuration, so that bytes which reach to the end begin at `end` less their length.
-use Rattle.std.specs.Prelude.{◌≡◌, ℕ, zero, suc, ◌+◌, ◌-◌, ◌*◌, ◌/◌, ◌%◌, ◌^◌, List, [], ◌∷◌, length, take, drop, Bool, true, false, ◌&&◌, Option, None, Some, Result, Ok, Err, nat_lt, nat_le, ◌==◌, if◌then◌else◌}
-use Rattle.std.specs.List.{prefix_len}
+use Rattle.std.specs.Prelude.{◌≡◌, ℕ, zero, suc, ◌+◌, ◌-◌, ◌*◌, ◌/◌, ◌%◌, ◌^◌, List, [], ◌∷◌, length, take, drop, Bool, true, false, ◌&&◌, Option, None, Some, Result, Ok, Err, nat_lt, position, ◌==◌, if◌then◌else◌}
 use Rattle.std.specs.Int.{Width, w32, w64, from_le_bytes}
 use Rattle.sd_base.specs.Reads.{◌>>=◌}
 use Rattle.proto_wire.specs.declared.fault.WireFault.{WireFault}
@@ -26,16 +25,14 @@ abbrev pub groups_value : List ℕ → ℕ
 groups_value [] = 0
 groups_value (byte ∷ bytes) = byte % 128 + 128 * groups_value bytes
 
--- how many of the first ten bytes come before the first that hasn't its high bit set
-abbrev pub marked_len : List ℕ → ℕ
-marked_len bytes = prefix_len (λ byte. nat_le 128 byte) (take 10 bytes)
+-- the varint that ends with the byte at this place
+abbrev pub varint_to : ℕ → List ℕ → Option ℕ → Result (ℕ × List ℕ) WireFault
+varint_to at bytes (Some last) = Ok (groups_value (take (last + 1) bytes) % 2 ^ 64, drop (last + 1) bytes)
+varint_to at bytes None = Err (fault_at at (if nat_lt (length bytes) 10 then CUT else LONG_VARINT))
 
--- a varint, whose bits past the 64th are dropped
+-- A varint ends with the first byte whose high bit isn't set, one of the first ten. Bits past the 64th are dropped.
 unfoldable pub varint_at : ℕ → List ℕ → Result (ℕ × List ℕ) WireFault
-varint_at at bytes =
-    if marked_len bytes == 10 then Err (fault_at at LONG_VARINT)
-    else if marked_len bytes == length bytes then Err (fault_at at CUT)
-    else Ok (groups_value (take (marked_len bytes + 1) bytes) % 2 ^ 64, drop (marked_len bytes + 1) bytes)
+varint_at at bytes = varint_to at bytes (position (λ byte. nat_lt byte 128) (take 10 bytes))
 
 -- so many bytes
 unfoldable pub taken_at : ℕ → ℕ → List ℕ → Result (List ℕ × List ℕ) WireFault
