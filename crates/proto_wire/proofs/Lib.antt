@@ -5,3 +5,6 @@ pub mod VarintReading
 pub mod HeadReading
 pub mod FieldReading
 pub mod GroupReading
+pub mod GroupLoop
+pub mod GroupGiven
+pub mod RestReading

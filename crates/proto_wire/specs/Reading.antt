@@ -145,16 +145,15 @@ with_field field walk = record { fields = field ∷ walk.fields; fault = walk.fa
 abbrev pub stopped : Option WireFault → Walk
 stopped fault = record { fields = []; fault = fault }
 
+-- a field and the walk of what is behind it, or the fault
+abbrev pub walk_on : (Rest → Walk) → Result (FieldOf × Rest) WireFault → Walk
+walk_on behind (Ok field) = with_field field.0 (behind field.1)
+walk_on behind (Err fault) = stopped (Some fault)
+
 -- in at most so many turns
 unfoldable pub walk_in : ℕ → Rest → Walk
 walk_in zero rest = stopped None
-walk_in (suc turns) rest =
-    if length rest.bytes == 0 then stopped None
-    else walk_on (walk_in turns) (field_at rest)
-  where
-    walk_on : (Rest → Walk) → Result (FieldOf × Rest) WireFault → Walk
-    walk_on behind (Ok field) = with_field field.0 (behind field.1)
-    walk_on behind (Err fault) = stopped (Some fault)
+walk_in (suc turns) rest = if length rest.bytes == 0 then stopped None else walk_on (walk_in turns) (field_at rest)
 
 -- all fields of what is left
 unfoldable pub walk_from : Rest → Walk

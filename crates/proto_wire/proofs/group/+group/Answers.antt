@@ -4,7 +4,7 @@ use Rattle.std.specs.Prelude.{◌==◌}
 use Rattle.std.proofs.lemmas.Bool.{eqb-true, eqb-false}
 use Rattle.std.proofs.lemmas.Result.{err_from_is_err_and}
 use Rattle.proto_wire.specs.Fields.{seen}
-use Rattle.proto_wire.proofs.GroupReading as reading
+use Rattle.proto_wire.proofs.GroupLoop as reading
 use Rattle.proto_wire.proofs.group.+group.Goals as goal
 
 -- a list that isn't empty
