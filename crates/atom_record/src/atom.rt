@@ -1,6 +1,9 @@
 //! What is logged: an id and entries.
+ghost use Rattle.std.specs.Prelude.{◌≡◌, IfOk};
+
 use crate::Value;
-use sd_base::Seq;
+use sd_base::{Duplicate, Exact, Seq};
+use std::alloc::{AllocError, Global};
 
 /// One entry of an atom.
 #[derive(Debug, Drop, PartialEq, Eq)]
@@ -24,4 +27,48 @@ pub struct Atom {
     pub id: u32,
     /// The entries, in rising order of field, index and sub.
     pub fields: Seq<AtomField>,
+}
+
+impl Atom {
+    /// A copy, which equals its source.
+    pub fn clone_atom(&self, alloc: Global) -> Result<Atom, AllocError>
+        ensures { IfOk result (λ copy. copy ≡ self.now) }
+    {
+        self.duplicate(alloc)
+    }
+}
+
+impl Exact for AtomField {
+    ghost use Rattle.atom_record.specs.Equal.{atom_field_exact};
+
+    ghost exact = { atom_field_exact };
+}
+
+impl Exact for Atom {
+    ghost use Rattle.atom_record.specs.Equal.{atom_exact};
+
+    ghost exact = { atom_exact };
+}
+
+impl Duplicate for AtomField {
+    fn duplicate(&self, alloc: Global) -> Result<AtomField, AllocError> {
+        let value = self.value.duplicate(alloc)?;
+        Ok(AtomField {
+            field: self.field,
+            index: self.index,
+            sub: self.sub,
+            flags: self.flags,
+            value,
+        })
+    }
+}
+
+impl Duplicate for Atom {
+    fn duplicate(&self, alloc: Global) -> Result<Atom, AllocError> {
+        let fields = self.fields.duplicate(alloc)?;
+        Ok(Atom {
+            id: self.id,
+            fields,
+        })
+    }
 }

@@ -6,5 +6,5 @@ mod log;
 mod value;
 
 pub use atom::{Atom, AtomField};
-pub use log::{LogFrame, PullOutcome};
-pub use value::{Bytes, DimKey, Leaf, MetricKey, Slice, Value};
+pub use log::{LogFrame, PullOutcome, is_pulled};
+pub use value::{Bytes, CloneKey, DimKey, Leaf, MetricKey, Slice, Value};
