@@ -14,3 +14,6 @@ pub use fault::{
 pub use log::{LogFrame, PullOutcome, is_pulled};
 pub use parse::{MOST_BYTES, parse_atom};
 pub use value::{Bytes, CloneKey, DimKey, Leaf, MetricKey, Slice, Value};
+
+#[cfg(test)]
+mod tests;

@@ -1,9 +1,11 @@
 //! From the bytes of a payload to an atom.
-ghost use Rattle.std.specs.Prelude.{◌≡◌, []};
+ghost use Rattle.std.specs.Prelude.{◌≡◌, [], Ok, IfOk};
 ghost use Rattle.std.specs.Int.{w16, w32, w64};
 ghost use Rattle.std.specs.List.{list_any};
 ghost use Rattle.sd_base.specs.Reads.{GivesBy};
 ghost use Rattle.atom_record.specs.Flags.{is_exclusive};
+ghost use Rattle.atom_record.specs.Spelling.{payload_of};
+ghost use Rattle.atom_record.specs.Sound.{HasNoFault};
 ghost use Rattle.atom_record.specs.Reading.{reason_of, number_at, text_at, bool_at, kind_at, value_at, id_at, is_in_range, is_above, is_behind, is_state, may_have, entry_at, entries_at, atom_at};
 
 use crate::atom::{EXCLUSIVE, PRIMARY, RESET, has_flag, is_atom_id};
@@ -265,9 +267,8 @@ fn id_of(bytes: &[u8]) -> Result<(u32, &[u8]), AtomFault>
     Ok((id, rest))
 }
 
-/// The atom that a payload spells, or the reason that is met first.
 #[tactic(auto, unfolding(crate::specs::Reading::atom_at))]
-pub fn parse_atom(alloc: Global, bytes: &[u8]) -> Result<Atom, AtomFault>
+fn atom_of(alloc: Global, bytes: &[u8]) -> Result<Atom, AtomFault>
     ensures { GivesBy reason_of (λ atom. atom) result (atom_at bytes.now) }
 {
     if MOST_BYTES < bytes.len() {
@@ -276,4 +277,18 @@ pub fn parse_atom(alloc: Global, bytes: &[u8]) -> Result<Atom, AtomFault>
     let (id, rest) = id_of(bytes)?;
     let fields = entries_of(alloc, rest)?;
     Ok(Atom { id, fields })
+}
+
+/// The atom that a payload spells, or the reason that is met first.
+pub fn parse_atom(alloc: Global, bytes: &[u8]) -> Result<Atom, AtomFault>
+    ensures exact { GivesBy reason_of (λ atom. atom) result (atom_at bytes.now) }
+
+    // What is read has no fault and is spelled so.
+    ensures sound { IfOk result HasNoFault }
+    ensures spelled { IfOk result (λ atom. bytes.now ≡ payload_of atom) }
+
+    // What has no fault and is spelled so is read.
+    ensures only { (atom : Atom) → HasNoFault atom → bytes.now ≡ payload_of atom → GivesBy reason_of (λ atom. atom) result (Ok atom) }
+{
+    atom_of(alloc, bytes)
 }
