@@ -3,6 +3,8 @@
 
 mod answer;
 mod table;
+#[cfg(test)]
+mod tests;
 
 pub use answer::Admit;
 pub use table::Guarded;

@@ -11,7 +11,7 @@ returns-then-place-self-clause-answer g c =
     (record {
       absent = rw (← c.self.view_is) at absent;
       full = sym c.len-place.ensures.len ∙ c.if-place-self.true;
-      added = ap (λ n. record { rows = c.self.inside.rows.entries; bound = c.self.inside.bound; dropped = n }) c.saturating_add-self-inside.ensures;
+      added = ap (λ n. record { rows = c.self.inside.rows.entries; bound = c.self.inside.bound; dropped = n }) (omega arith);
     })
 
 pub returns-clause-answer : goal.returns-clause-answer
