@@ -109,7 +109,7 @@ stands_fresh config base history is linked none = record {
 }
 
 -- what arrives by a frame of the log
-abbrev step_of : LogFrame → List Bool → Step
+abbrev pub step_of : LogFrame → List Bool → Step
 step_of frame truths = record { at = log_time frame; what = Logged frame; truths = truths }
 
 -- the books behind a frame of the log: no end is crossed
@@ -155,7 +155,7 @@ stands_logged it history frame fine h =
     let early : log_time frame < 3600000000000 = fine.timely in
     let books = books_at it.config history.base history.steps in
     let one : OpenStandsFor (logged frame it) (books_from dropping books (arrivals_at (metric_of it.config) (step_of frame truths) ++ [])) =
-      subst (λ (linked : Linked). OpenStandsFor (logged frame it) (books_from dropping books (arrivals_at (metric_of it.config) (step_of frame (truths_of linked frame)) ++ []))) (sym h.configuration) (open_logged it books frame h.opened) in
+    subst (λ (linked : Linked). OpenStandsFor (logged frame it) (books_from dropping books (arrivals_at (metric_of it.config) (step_of frame (truths_of linked frame)) ++ []))) (sym h.configuration) (open_logged it books frame h.opened) in
     let two : OpenStandsFor (logged frame it) (books_at it.config history.base (history.steps ++ step_of frame truths ∷ [])) = same_open (logged frame it) _ _ one (books_logged it.config history.base history.steps frame truths early) in
     record {
       configuration = h.configuration ∙ ap (λ (config : CountConfig). linked_of config.atom_id config.metric_id) (sym kept.0);
@@ -165,7 +165,7 @@ stands_logged it history frame fine h =
     }
 
 -- a report step
-abbrev asked_step : Bool → ℕ → Step
+abbrev pub asked_step : Bool → ℕ → Step
 asked_step cut now = record { at = now; what = Reported cut; truths = [] }
 
 open_reported : (it : Instance) (books : Books (MetricKey × ℕ)) (cut : Bool) (now : ℕ) → OpenStandsFor it books
@@ -184,7 +184,7 @@ stands_reported it history cut now h =
     let kept = keeps_reported it cut now in
     let books = books_at it.config history.base history.steps in
     let one : OpenStandsFor (reported cut now it) (books_at it.config history.base (history.steps ++ asked_step cut now ∷ [])) =
-      same_open (reported cut now it) _ _ (open_reported it books cut now h.opened) (books_at-push it.config history.base history.steps (asked_step cut now)) in
+    same_open (reported cut now it) _ _ (open_reported it books cut now h.opened) (books_at-push it.config history.base history.steps (asked_step cut now)) in
     record {
       configuration = h.configuration ∙ ap (λ (config : CountConfig). linked_of config.atom_id config.metric_id) (sym kept.0);
       base = kept.1 ∙ h.base;
@@ -237,10 +237,10 @@ unfolding report_of
 shows it history cut now h =
     let n = length (books_at it.config history.base history.steps).came in
     let books : books_of dropping history.base (marks_of history.base (metric_of it.config) history.steps ++ cut_at cut now) ≡ books_from dropping (opened it.start n) (cut_at cut now) =
-      books-append dropping (record { start = history.base; came = []; closed = []; dropped = 0; missing = 0 }) (marks_of history.base (metric_of it.config) history.steps) (cut_at cut now)
-      ∙ ap (λ b. books_from dropping b (cut_at cut now)) (open_books it (books_at it.config history.base history.steps) h.opened) in
+    books-append dropping (record { start = history.base; came = []; closed = []; dropped = 0; missing = 0 }) (marks_of history.base (metric_of it.config) history.steps) (cut_at cut now)
+    ∙ ap (λ b. books_from dropping b (cut_at cut now)) (open_books it (books_at it.config history.base history.steps) h.opened) in
     let tree : tree_of it.config history.base (books_of dropping history.base (marks_of history.base (metric_of it.config) history.steps ++ cut_at cut now)) ≡ shown_with it it.base now (cond cut (closed_at now it) None) =
-      ap (tree_of it.config history.base) books ∙ cut_tree it history.base n cut now h.opened.count ∙ ap (λ base. shown_with it base now (cond cut (closed_at now it) None)) (sym h.base) in
+    ap (tree_of it.config history.base) books ∙ cut_tree it history.base n cut now h.opened.count ∙ ap (λ base. shown_with it base now (cond cut (closed_at now it) None)) (sym h.base) in
     let all : shown_trees history cut now history.linked ≡ shown_with it it.base now (cond cut (closed_at now it) None) ∷ [] =
-      ap (shown_trees history cut now) h.configuration ∙ ap (λ t. t ∷ []) tree in
+    ap (shown_trees history cut now) h.configuration ∙ ap (λ t. t ∷ []) tree in
     trees_alike history.uid history.id it.last (last_report history.base history.steps) now (shown_metric (shown_by cut now it) ∷ []) (shown_trees history cut now history.linked) h.last (sym all)

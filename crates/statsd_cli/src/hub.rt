@@ -1,5 +1,5 @@
 //! The hub: all live configurations of all clients, one frame at a time.
-ghost use Rattle.std.specs.Prelude.{◌≡◌, ℕ, List, [], ◌++◌, ◌∷◌, map, find, if◌then◌else◌, OnOk, IfOk, IfSome};
+ghost use Rattle.std.specs.Prelude.{◌≡◌, ℕ, List, [], ◌++◌, ◌∷◌, map, filter, not, find, if◌then◌else◌, OnOk, IfOk, IfSome};
 ghost use Rattle.std.specs.List.{position_from, list_any};
 ghost use Rattle.session_frames.specs.declared.frame.Frame.{Frame};
 ghost use Rattle.session_frames.specs.Frames.{log_time, IsFaultless, IsInTime};
@@ -88,7 +88,12 @@ impl Hub {
     }
 
     /// What was read of a configuration goes where the client's configuration of that id stands, or behind all.
-    fn install(&mut self, uid: i32, id: i64, read: Option<CountConfig>) -> Result<ReplyBody, AllocError>
+    fn install(
+        &mut self,
+        uid: i32,
+        id: i64,
+        read: Option<CountConfig>,
+    ) -> Result<ReplyBody, AllocError>
         ensures clock { OnOk result (self.new.clock ≡ self.old.clock) }
         ensures lives { IfOk result (Installs self.old.clock uid id read self.old.lives.items self.new.lives.items) }
         ensures path { IfOk result HasShortPath }
@@ -107,8 +112,8 @@ impl Hub {
         ensures lives { Removes uid id self.old.lives.items self.new.lives.items result }
         ensures path { HasShortPath result }
     {
-        let there = self.lives.iter().any(|live| live.is_at(uid, id));
-        self.lives.retain(|live| !live.is_at(uid, id));
+        let there = place_of(&self.lives, uid, id).is_some();
+        take_out(&mut self.lives, uid, id);
         remove_answer(there)
     }
 
@@ -160,6 +165,13 @@ fn place_of(lives: &[Live], uid: i32, id: i64) -> Option<usize>
     ensures { result ≡ position_from (is_at uid id) 0 lives.now }
 {
     lives.iter().position(|live| live.is_at(uid, id))
+}
+
+/// Takes a client's configuration of an id out.
+fn take_out(lives: &mut Vec<Live>, uid: i32, id: i64)
+    ensures { lives.new.items ≡ filter (λ live. not (is_at uid id live)) lives.old.items }
+{
+    lives.retain(|live| !live.is_at(uid, id));
 }
 
 /// Puts a configuration where its client's one of that id stands, or behind all, and says whether there was one.

@@ -82,7 +82,11 @@ impl Instance {
             base: self.base,
             last: self.last,
             at: now,
-            bucket: if include_current { self.closed_at(now) } else { None },
+            bucket: if include_current {
+                self.closed_at(now)
+            } else {
+                None
+            },
         };
         if include_current {
             self.start = now;
