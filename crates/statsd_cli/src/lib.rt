@@ -1,6 +1,8 @@
-//! The program behind the command line.
+//! The engine's top call: it replays a recorded session and answers each command.
 #![tactic(auto)]
 
+mod config;
+pub mod hub;
+mod instance;
 mod note;
-
-pub use note::{Note, write_note};
+mod report;
