@@ -1,12 +1,11 @@
 -- A field is read from behind its tag where one stands, and only there, if so is the inside of a group.
-use Rattle.std.proofs.Common.{◌≡◌, ℕ, zero, suc, ◌+◌, ◌-◌, ◌*◌, ◌^◌, ◌<◌, ◌≤◌, List, [], ◌∷◌, ◌++◌, length, take, drop, Result, Ok, Err, Bool, true, false, refl, sym, ap, ◌∙◌, arith, rules, subst, append_assoc}
-use Rattle.std.specs.Prelude.{nat_lt, ◌==◌, if◌then◌else◌}
+use Rattle.std.proofs.Common.{◌≡◌, ℕ, ◌-◌, List, [], ◌++◌, length, take, Result, Ok, false, refl, sym, ap, ◌∙◌, arith, subst, append_assoc}
+use Rattle.std.specs.Prelude.{nat_lt}
 use Rattle.std.specs.Result.{IfOk}
 use Rattle.std.specs.Int.{Width, w32, w64, from_le_bytes}
 use Rattle.std.proofs.lemmas.Bool.{ltb-false, le-ltb}
 use Rattle.std.proofs.lemmas.List.{take-append-drop, length-take-le, length-append}
 use Rattle.std.proofs.Math.Seq.{take-append_seam, drop-append_seam}
-use Rattle.sd_base.specs.Reads.{◌>>=◌}
 use Rattle.proto_wire.specs.declared.fault.WireFault.{WireFault}
 use Rattle.proto_wire.specs.declared.head.WireType.{WireType}
 use Rattle.proto_wire.specs.declared.head.WireType.TheVariants as wire
@@ -78,26 +77,71 @@ module _ (IsGroupOf : ℕ → List ℕ → List ℕ → Type 0) (inside : Inside
   unfolding field_with
   field_with-read groups end at number wire.Varint bytes =
       IfOk-then (varint_at at bytes) _ (VarintRead bytes) _ (varint_at-read at bytes) (λ value read.
-      record { count = []; payload = read.front; parts = read.parts; number_is = refl; at_is = refl; payload_at_is = ap (λ l. end - length l) read.parts;
-        laid_out = refl; counted = refl; filled = read.varint })
+      record {
+        count = [];
+        payload = read.front;
+        parts = read.parts;
+        number_is = refl;
+        at_is = refl;
+        payload_at_is = ap (λ l. end - length l) read.parts;
+        laid_out = refl;
+        counted = refl;
+        filled = read.varint;
+      })
   field_with-read groups end at number wire.Fixed64 bytes =
       IfOk-then (fixed_at w64 at 8 bytes) _ (FixedRead w64 8 bytes) _ (fixed_at-read w64 at 8 bytes) (λ value read.
-      record { count = []; payload = read.front; parts = read.parts; number_is = refl; at_is = refl; payload_at_is = ap (λ l. end - length l) read.parts;
-        laid_out = refl; counted = refl; filled = (read.len, read.value) })
+      record {
+        count = [];
+        payload = read.front;
+        parts = read.parts;
+        number_is = refl;
+        at_is = refl;
+        payload_at_is = ap (λ l. end - length l) read.parts;
+        laid_out = refl;
+        counted = refl;
+        filled = (read.len, read.value);
+      })
   field_with-read groups end at number wire.Bytes bytes =
       IfOk-then (varint_at at bytes) _ (VarintRead bytes) _ (varint_at-read at bytes) (λ count read.
       IfOk-then (taken_at at count.0 count.1) _ (TakenRead count.0 count.1) _ (taken_at-read at count.0 count.1) (λ taken told.
-      record { count = read.front; payload = taken.0; parts = read.parts ∙ ap (λ l. read.front ++ l) told.parts; number_is = refl; at_is = refl;
-        payload_at_is = ap (λ l. end - length l) told.parts; laid_out = refl; counted = subst (IsVarint read.front) (sym told.len) read.varint; filled = refl }))
+      record {
+        count = read.front;
+        payload = taken.0;
+        parts = read.parts ∙ ap (λ l. read.front ++ l) told.parts;
+        number_is = refl;
+        at_is = refl;
+        payload_at_is = ap (λ l. end - length l) told.parts;
+        laid_out = refl;
+        counted = subst (IsVarint read.front) (sym told.len) read.varint;
+        filled = refl;
+      }))
   field_with-read groups end at number wire.GroupStart bytes =
       IfOk-then (inside number at bytes) _ (InsideRead IsGroupOf number bytes) _ (groups number at bytes) (λ ended read.
-      record { count = []; payload = read.payload; parts = read.parts; number_is = refl; at_is = refl; payload_at_is = ap (λ l. end - length l) read.parts;
-        laid_out = refl; counted = refl; filled = read.group })
+      record {
+        count = [];
+        payload = read.payload;
+        parts = read.parts;
+        number_is = refl;
+        at_is = refl;
+        payload_at_is = ap (λ l. end - length l) read.parts;
+        laid_out = refl;
+        counted = refl;
+        filled = read.group;
+      })
   field_with-read groups end at number wire.GroupEnd bytes = tt
   field_with-read groups end at number wire.Fixed32 bytes =
       IfOk-then (fixed_at w32 at 4 bytes) _ (FixedRead w32 4 bytes) _ (fixed_at-read w32 at 4 bytes) (λ value read.
-      record { count = []; payload = read.front; parts = read.parts; number_is = refl; at_is = refl; payload_at_is = ap (λ l. end - length l) read.parts;
-        laid_out = refl; counted = refl; filled = (read.len, read.value) })
+      record {
+        count = [];
+        payload = read.front;
+        parts = read.parts;
+        number_is = refl;
+        at_is = refl;
+        payload_at_is = ap (λ l. end - length l) read.parts;
+        laid_out = refl;
+        counted = refl;
+        filled = (read.len, read.value);
+      })
 
 -- a group is read as one, whatever is behind it
 pub record InsideGiven (inside : Inside) (number at : ℕ) (body payload behind : List ℕ) : Type 0 where
@@ -122,7 +166,7 @@ module _ (IsGroupOf : ℕ → List ℕ → List ℕ → Type 0) (inside : Inside
   pub field_with-only : GivesGroups IsGroupOf inside → (end at number : ℕ) (body : BodyOf) (count payload behind : List ℕ)
       → IsCount count body → IsPayload IsGroupOf number payload body
       → field_with inside end at number (wire_type_for body) (count ++ (payload ++ behind))
-        ≡ Ok (record { number = number; at = at; payload_at = end - length (payload ++ behind); body = body }, behind)
+      ≡ Ok (record { number = number; at = at; payload_at = end - length (payload ++ behind); body = body }, behind)
   unfolding field_with
   field_with-only groups end at number (Varint value) count payload behind counted filled =
       rw (counted, varint_at-only at value payload behind filled) refl

@@ -1,21 +1,12 @@
 -- The loop that reads a group: what is so while records are left.
-use Rattle.std.proofs.Common.{◌≡◌, ℕ, zero, suc, ◌+◌, ◌-◌, ◌*◌, ◌^◌, ◌<◌, ◌≤◌, List, [], ◌∷◌, ◌++◌, length, take, drop, Result, Ok, Err, Bool, true, false, refl, sym, ap, ◌∙◌, arith, rules, subst, append_assoc}
-use Rattle.std.specs.Prelude.{nat_lt, ◌==◌, ◌&&◌, if◌then◌else◌}
-use Rattle.std.specs.List.{AllByRecursion, concat}
-use Rattle.std.specs.Result.{IfOk}
-use Rattle.std.proofs.lemmas.Bool.{eqb-true, ne_eqb, eq-eqb, and_parts, false≢true}
-use Rattle.std.proofs.lemmas.Result.{IfOk-weaker}
-use Rattle.std.proofs.lemmas.List.{length-append}
-use Rattle.std.proofs.Math.Seq.{take-append_seam}
+use Rattle.std.proofs.Common.{◌≡◌, ℕ, ◌-◌, ◌<◌, List, length, Ok, Err, true, false, refl, sym, ◌∙◌}
+use Rattle.std.specs.Prelude.{if◌then◌else◌}
 use Rattle.sd_base.specs.Reads.{◌>>=◌}
 use Rattle.proto_wire.specs.declared.fault.WireFault.{WireFault}
-use Rattle.proto_wire.specs.declared.fault.TheConstants.{CUT, TOO_DEEP}
+use Rattle.proto_wire.specs.declared.fault.TheConstants.{CUT}
 use Rattle.proto_wire.specs.declared.head.Head.{Head}
-use Rattle.proto_wire.specs.declared.head.WireType.{WireType}
-use Rattle.proto_wire.specs.declared.head.WireType.TheVariants as wire
 use Rattle.proto_wire.specs.Fields.{FieldOf}
-use Rattle.proto_wire.specs.Reading.{fault_at, head_at, Inside, field_with, is_group_end, ends, until_end, group_at}
-use Rattle.proto_wire.proofs.HeadReading.{HeadRead, head_at-read, head_at-only}
+use Rattle.proto_wire.specs.Reading.{fault_at, head_at, field_with, ends, until_end, group_at}
 use Rattle.proto_wire.specs.Grammar.{IsGroup}
 use Rattle.proto_wire.proofs.GroupReading.{group_at-read, until_end-some, until_end-none, group_at-open}
 
@@ -27,9 +18,9 @@ module _ (end levels number at : ℕ) (bytes rest : List ℕ) (open_still : 0 < 
 
   step : 0 < length rest → until_end (group_at end (levels - 1)) end (length rest) number at rest
       ≡ (head_at (end - length rest) rest >>= λ head.
-        if ends number head.0 then Ok (rest, head.1)
-        else (field_with (group_at end (levels - 1)) end (end - length rest) head.0.number head.0.wire_type head.1 >>= λ field.
-          until_end (group_at end (levels - 1)) end (length field.1) number at field.1))
+      if ends number head.0 then Ok (rest, head.1)
+      else (field_with (group_at end (levels - 1)) end (end - length rest) head.0.number head.0.wire_type head.1 >>= λ field.
+      until_end (group_at end (levels - 1)) end (length field.1) number at field.1))
   step some = until_end-some (IsGroup (levels - 1)) (group_at end (levels - 1)) (group_at-read end (levels - 1)) end number at rest some
 
   pub bad_tag : (fault : WireFault) → 0 < length rest → head_at (end - length rest) rest ≡ Err fault → group_at end levels number at bytes ≡ Err fault
@@ -49,7 +40,7 @@ module _ (end levels number at : ℕ) (bytes rest : List ℕ) (open_still : 0 < 
       → until_end (group_at end (levels - 1)) end (length left) number at left ≡ until_end (group_at end (levels - 1)) end (length bytes) number at bytes
   leads_on head behind left field some head_is stays field_is =
       let next : until_end (group_at end (levels - 1)) end (length rest) number at rest ≡ until_end (group_at end (levels - 1)) end (length left) number at left =
-        step some ∙ rw (head_is, stays, field_is) refl in
+      step some ∙ rw (head_is, stays, field_is) refl in
       sym next ∙ leads
 
   pub cut : length rest ≡ 0 → group_at end levels number at bytes ≡ Err (fault_at at CUT)

@@ -1,6 +1,6 @@
 -- A group is read where one stands, and only there.
-use Rattle.std.proofs.Common.{◌≡◌, ℕ, zero, suc, ◌+◌, ◌-◌, ◌*◌, ◌^◌, ◌<◌, ◌≤◌, List, [], ◌∷◌, ◌++◌, length, take, drop, Result, Ok, Err, Bool, true, false, refl, sym, ap, ◌∙◌, arith, rules, subst, append_assoc}
-use Rattle.std.specs.Prelude.{nat_lt, ◌==◌, ◌&&◌, if◌then◌else◌}
+use Rattle.std.proofs.Common.{◌≡◌, ℕ, zero, suc, ◌-◌, ◌<◌, ◌≤◌, List, [], ◌∷◌, ◌++◌, length, take, Result, Ok, Err, true, false, refl, sym, ap, ◌∙◌, arith, subst, append_assoc}
+use Rattle.std.specs.Prelude.{◌==◌, if◌then◌else◌}
 use Rattle.std.specs.List.{AllByRecursion, concat}
 use Rattle.std.specs.Result.{IfOk}
 use Rattle.std.proofs.lemmas.Bool.{eqb-true, ne_eqb, eq-eqb, and_parts, false≢true}
@@ -15,9 +15,9 @@ use Rattle.proto_wire.specs.declared.head.WireType.{WireType}
 use Rattle.proto_wire.specs.declared.head.WireType.TheVariants as wire
 use Rattle.proto_wire.specs.Fields.{FieldOf}
 use Rattle.proto_wire.specs.Reading.{fault_at, head_at, Inside, field_with, is_group_end, ends, until_end, group_at}
-use Rattle.proto_wire.specs.Grammar.{IsTag, IsRecord, IsClosed, IsGroup}
+use Rattle.proto_wire.specs.Grammar.{IsTag, IsRecord, IsGroup}
 use Rattle.proto_wire.proofs.Results.{IfOk-then, of-if, then-agree, if-agree}
-use Rattle.proto_wire.proofs.HeadReading.{HeadRead, head_at-read, head_at-only}
+use Rattle.proto_wire.proofs.HeadReading.{HeadRead, head_at-read}
 use Rattle.proto_wire.proofs.FieldReading.{InsideRead, ReadsGroups, FieldRead, field_with-read}
 
 -- records stand in front, then the group's end, and this is behind it
@@ -57,10 +57,20 @@ module _ (IsGroupOf : ℕ → List ℕ → List ℕ → Type 0) (inside : Inside
         records = piece ∷ others.records;
         last = others.last;
         parts = tag.parts ∙ ap (λ l. tag.tag ++ l) (body.parts ∙ ap (λ l. body.count ++ (body.payload ++ l)) others.parts)
-          ∙ regroup tag.tag body.count body.payload (concat others.records) read.0;
+            ∙ regroup tag.tag body.count body.payload (concat others.records) read.0;
         end_parts = others.end_parts;
-        each = (record { number = head.0.number; body = field.0.body; tag = tag.tag; count = body.count; payload = body.payload; parts = refl;
-          laid_out = record { tagged = subst (IsTag tag.tag head.0.number) (sym body.laid_out) tag.tagged; counted = body.counted; filled = body.filled } }, others.each);
+        each = (
+          record {
+            number = head.0.number;
+            body = field.0.body;
+            tag = tag.tag;
+            count = body.count;
+            payload = body.payload;
+            parts = refl;
+            laid_out = record { tagged = subst (IsTag tag.tag head.0.number) (sym body.laid_out) tag.tagged; counted = body.counted; filled = body.filled };
+          },
+          others.each,
+        );
         ended = others.ended;
       }
 
@@ -74,12 +84,12 @@ module _ (IsGroupOf : ℕ → List ℕ → List ℕ → Type 0) (inside : Inside
       of-if P (length bytes == 0) _ _ (λ _. tt) (λ _.
       IfOk-then (head_at here bytes) _ (HeadRead bytes) (EndRead IsGroupOf number bytes) (head_at-read here bytes) (λ head tag.
       of-if P (ends number head.0) _ _
-        (λ closes. record { records = []; last = tag.tag; parts = refl; end_parts = tag.parts; each = tt; ended = end_tag tag.tag number head.0 closes tag.tagged })
-        (λ _. IfOk-then (field_with inside end here head.0.number head.0.wire_type head.1) _
-          (FieldRead IsGroupOf end here head.0.number head.0.wire_type head.1) (EndRead IsGroupOf number bytes)
-          (field_with-read IsGroupOf inside groups end here head.0.number head.0.wire_type head.1) (λ field body.
-          IfOk-weaker (until_end inside end turns number at field.1) (EndRead IsGroupOf number field.1) (EndRead IsGroupOf number bytes)
-            (λ read others. one_more number here bytes head field read tag body others) (until_end-read turns number at field.1)))))
+      (λ closes. record { records = []; last = tag.tag; parts = refl; end_parts = tag.parts; each = tt; ended = end_tag tag.tag number head.0 closes tag.tagged })
+      (λ _. IfOk-then (field_with inside end here head.0.number head.0.wire_type head.1) _
+      (FieldRead IsGroupOf end here head.0.number head.0.wire_type head.1) (EndRead IsGroupOf number bytes)
+      (field_with-read IsGroupOf inside groups end here head.0.number head.0.wire_type head.1) (λ field body.
+      IfOk-weaker (until_end inside end turns number at field.1) (EndRead IsGroupOf number field.1) (EndRead IsGroupOf number bytes)
+      (λ read others. one_more number here bytes head field read tag body others) (until_end-read turns number at field.1)))))
 
 -- what stands before the end of a list
 before : (front behind bytes : List ℕ) → bytes ≡ front ++ behind → take (length bytes - length behind) bytes ≡ front
@@ -93,28 +103,35 @@ unfolding group_at
 group_at-read end zero number at bytes = tt
 group_at-read end (suc levels) number at bytes =
     IfOk-weaker (until_end (group_at end levels) end (length bytes) number at bytes) (EndRead (IsGroup levels) number bytes) (InsideRead (IsGroup (suc levels)) number bytes)
-      (λ read told.
-        let inside_is : take (length bytes - length read.0) bytes ≡ concat told.records = before (concat told.records) read.0 bytes told.parts in
-        record {
-          payload = concat told.records ++ told.last;
-          parts = told.parts ∙ ap (λ l. concat told.records ++ l) told.end_parts ∙ sym (append_assoc (concat told.records) told.last read.1);
-          group = record {
-            records = told.records;
-            last = told.last;
-            joined = inside_is;
-            parts = ap (λ l. l ++ told.last) (sym inside_is);
-            each = told.each;
-            ended = told.ended;
-          };
-        })
-      (until_end-read (IsGroup levels) (group_at end levels) (group_at-read end levels) end (length bytes) number at bytes)
+    (λ read told.
+    let inside_is : take (length bytes - length read.0) bytes ≡ concat told.records = before (concat told.records) read.0 bytes told.parts in
+    record {
+      payload = concat told.records ++ told.last;
+      parts = told.parts ∙ ap (λ l. concat told.records ++ l) told.end_parts ∙ sym (append_assoc (concat told.records) told.last read.1);
+      group = record {
+        records = told.records;
+        last = told.last;
+        joined = inside_is;
+        parts = ap (λ l. l ++ told.last) (sym inside_is);
+        each = told.each;
+        ended = told.ended;
+      };
+    })
+    (until_end-read (IsGroup levels) (group_at end levels) (group_at-read end levels) end (length bytes) number at bytes)
 
 -- a field leaves less than there was before its tag
 pub field-shorter : (IsGroupOf : ℕ → List ℕ → List ℕ → Type 0) (end at number : ℕ) (wire_type : WireType) (bytes : List ℕ) (head : Head × List ℕ) (field : FieldOf × List ℕ)
     → HeadRead bytes head → FieldRead IsGroupOf end at number wire_type head.1 field → length field.1 < length bytes
 field-shorter IsGroupOf end at number wire_type bytes head field tag body =
-    omega (arith, tag.tagged.spelled.some, ap length tag.parts, length-append tag.tag head.1, ap length body.parts,
-      length-append body.count (body.payload ++ field.1), length-append body.payload field.1)
+    omega (
+      arith,
+      tag.tagged.spelled.some,
+      ap length tag.parts,
+      length-append tag.tag head.1,
+      ap length body.parts,
+      length-append body.count (body.payload ++ field.1),
+      length-append body.payload field.1,
+    )
 
 module _ (IsGroupOf : ℕ → List ℕ → List ℕ → Type 0) (inside : Inside) (groups : ReadsGroups IsGroupOf inside) (end : ℕ) where
   -- turns enough are turns enough
@@ -132,16 +149,16 @@ module _ (IsGroupOf : ℕ → List ℕ → List ℕ → Type 0) (inside : Inside
       then-agree (head_at here bytes) _ _ (HeadRead bytes) (head_at-read here bytes) (λ head tag.
       if-agree (ends number head.0) _ _ _ _ (λ _. refl) (λ _.
       then-agree (field_with inside end here head.0.number head.0.wire_type head.1) _ _ (FieldRead IsGroupOf end here head.0.number head.0.wire_type head.1)
-        (field_with-read IsGroupOf inside groups end here head.0.number head.0.wire_type head.1) (λ field body.
-        let less : length field.1 < length bytes = field-shorter IsGroupOf end here head.0.number head.0.wire_type bytes head field tag body in
-        until_end_turns turns others number at field.1 (omega arith) (omega arith)))))
+      (field_with-read IsGroupOf inside groups end here head.0.number head.0.wire_type head.1) (λ field body.
+      let less : length field.1 < length bytes = field-shorter IsGroupOf end here head.0.number head.0.wire_type bytes head field tag body in
+      until_end_turns turns others number at field.1 (omega arith) (omega arith)))))
 
   in_turns : (turns number at : ℕ) (bytes : List ℕ) → length bytes ≡ suc turns
       → until_end inside end (suc turns) number at bytes
-        ≡ (head_at (end - length bytes) bytes >>= λ head.
-          if ends number head.0 then Ok (bytes, head.1)
-          else (field_with inside end (end - length bytes) head.0.number head.0.wire_type head.1 >>= λ field.
-            until_end inside end (length field.1) number at field.1))
+      ≡ (head_at (end - length bytes) bytes >>= λ head.
+      if ends number head.0 then Ok (bytes, head.1)
+      else (field_with inside end (end - length bytes) head.0.number head.0.wire_type head.1 >>= λ field.
+      until_end inside end (length field.1) number at field.1))
   unfolding until_end
   in_turns turns number at bytes len =
       let here : ℕ = end - length bytes in
@@ -149,17 +166,17 @@ module _ (IsGroupOf : ℕ → List ℕ → List ℕ → Type 0) (inside : Inside
       rw some (then-agree (head_at here bytes) _ _ (HeadRead bytes) (head_at-read here bytes) (λ head tag.
       if-agree (ends number head.0) _ _ _ _ (λ _. refl) (λ _.
       then-agree (field_with inside end here head.0.number head.0.wire_type head.1) _ _ (FieldRead IsGroupOf end here head.0.number head.0.wire_type head.1)
-        (field_with-read IsGroupOf inside groups end here head.0.number head.0.wire_type head.1) (λ field body.
-        let less : length field.1 < length bytes = field-shorter IsGroupOf end here head.0.number head.0.wire_type bytes head field tag body in
-        until_end_turns turns (length field.1) number at field.1 (omega arith) (omega arith)))))
+      (field_with-read IsGroupOf inside groups end here head.0.number head.0.wire_type head.1) (λ field body.
+      let less : length field.1 < length bytes = field-shorter IsGroupOf end here head.0.number head.0.wire_type bytes head field tag body in
+      until_end_turns turns (length field.1) number at field.1 (omega arith) (omega arith)))))
 
   -- one turn, where bytes are left
   pub until_end-some : (number at : ℕ) (bytes : List ℕ) → 0 < length bytes
       → until_end inside end (length bytes) number at bytes
-        ≡ (head_at (end - length bytes) bytes >>= λ head.
-          if ends number head.0 then Ok (bytes, head.1)
-          else (field_with inside end (end - length bytes) head.0.number head.0.wire_type head.1 >>= λ field.
-            until_end inside end (length field.1) number at field.1))
+      ≡ (head_at (end - length bytes) bytes >>= λ head.
+      if ends number head.0 then Ok (bytes, head.1)
+      else (field_with inside end (end - length bytes) head.0.number head.0.wire_type head.1 >>= λ field.
+      until_end inside end (length field.1) number at field.1))
   until_end-some number at bytes some =
       let len : length bytes ≡ suc (length bytes - 1) = omega arith in
       ap (λ n. until_end inside end n number at bytes) len ∙ in_turns (length bytes - 1) number at bytes len

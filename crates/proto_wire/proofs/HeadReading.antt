@@ -1,14 +1,13 @@
 -- A tag is read where one stands, and only there.
-use Rattle.std.proofs.Common.{◌≡◌, ℕ, zero, suc, ◌+◌, ◌-◌, ◌*◌, ◌/◌, ◌%◌, ◌^◌, ◌<◌, ◌≤◌, List, [], ◌∷◌, ◌++◌, length, Option, None, Some, Result, Ok, Err, Bool, true, false, refl, sym, ap, ◌∙◌, arith, rules, subst, lit<}
-use Rattle.std.specs.Prelude.{nat_lt, ◌==◌, if◌then◌else◌, IfSome}
+use Rattle.std.proofs.Common.{◌≡◌, ℕ, ◌+◌, ◌-◌, ◌*◌, ◌/◌, ◌%◌, ◌^◌, ◌<◌, ◌≤◌, List, ◌++◌, Option, None, Some, Result, Ok, false, refl, arith, subst, lit<}
+use Rattle.std.specs.Prelude.{nat_lt, ◌==◌, IfSome}
 use Rattle.std.specs.Result.{IfOk}
-use Rattle.std.proofs.lemmas.Bool.{ltb-true, ltb-false, lt-ltb, le-ltb, eqb-true, eqb-false, ne_eqb}
-use Rattle.sd_base.specs.Reads.{◌>>=◌}
+use Rattle.std.proofs.lemmas.Bool.{ltb-false, le-ltb, eqb-true, eqb-false, ne_eqb}
 use Rattle.proto_wire.specs.declared.fault.WireFault.{WireFault}
 use Rattle.proto_wire.specs.declared.head.Head.{Head}
 use Rattle.proto_wire.specs.declared.head.WireType.{WireType}
 use Rattle.proto_wire.specs.declared.head.WireType.TheVariants as wire
-use Rattle.proto_wire.specs.Reading.{fault_at, varint_at, wire_type_of, head_with, head_of, head_at}
+use Rattle.proto_wire.specs.Reading.{varint_at, wire_type_of, head_with, head_of, head_at}
 use Rattle.proto_wire.specs.Grammar.{IsVarint, code_of, IsTag}
 use Rattle.proto_wire.proofs.Results.{IfOk-then, of-if}
 use Rattle.proto_wire.proofs.VarintReading.{VarintRead, varint_at-read, varint_at-only}
@@ -45,9 +44,9 @@ unfolding head_of
 head_of-read at tag =
     of-if (λ (r : Result Head WireFault). IfOk r (TagOf tag)) (nat_lt (2 ^ 32 - 1) tag) _ _ (λ _. tt) (λ small.
     of-if (λ (r : Result Head WireFault). IfOk r (TagOf tag)) (tag / 8 == 0) _ _ (λ _. tt) (λ named.
-      let some : tag / 8 ≡ 0 → ⊥ = eqb-false (tag / 8) 0 named in
-      let below : tag ≤ 2 ^ 32 - 1 = ltb-false (2 ^ 32 - 1) tag small in
-      head_with-read at tag (wire_type_of (tag % 8)) (wire_type_of-code (tag % 8)) (omega (arith, some)) (omega (arith, below))))
+    let some : tag / 8 ≡ 0 → ⊥ = eqb-false (tag / 8) 0 named in
+    let below : tag ≤ 2 ^ 32 - 1 = ltb-false (2 ^ 32 - 1) tag small in
+    head_with-read at tag (wire_type_of (tag % 8)) (wire_type_of-code (tag % 8)) (omega (arith, some)) (omega (arith, below))))
 
 -- what is read is a tag
 pub head_at-read : (at : ℕ) (bytes : List ℕ) → IfOk (head_at at bytes) (HeadRead bytes)

@@ -8,3 +8,5 @@ pub mod GroupReading
 pub mod GroupLoop
 pub mod GroupGiven
 pub mod RestReading
+pub mod WrittenReading
+pub mod NextLaws

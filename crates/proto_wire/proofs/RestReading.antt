@@ -1,9 +1,8 @@
 -- The field in front of what is left is read where one stands, and only there; and a walk goes from field to field.
-use Rattle.std.proofs.Common.{◌≡◌, ℕ, zero, suc, ◌+◌, ◌-◌, ◌*◌, ◌^◌, ◌<◌, ◌≤◌, List, [], ◌∷◌, ◌++◌, length, Option, None, Some, Result, Ok, Err, Bool, true, false, refl, sym, ap, ◌∙◌, arith, rules, subst, append_assoc}
-use Rattle.std.specs.Prelude.{◌==◌, if◌then◌else◌}
+use Rattle.std.proofs.Common.{◌≡◌, ℕ, zero, suc, ◌+◌, ◌-◌, ◌<◌, ◌≤◌, List, ◌++◌, length, None, Result, Ok, Err, true, false, refl, sym, ap, ◌∙◌, arith, subst}
+use Rattle.std.specs.Prelude.{◌==◌}
 use Rattle.std.specs.Result.{IfOk}
-use Rattle.std.proofs.lemmas.Bool.{eqb-true, ne_eqb, eq-eqb}
-use Rattle.std.proofs.lemmas.Result.{IfOk-at_ok}
+use Rattle.std.proofs.lemmas.Bool.{ne_eqb, eq-eqb}
 use Rattle.std.proofs.lemmas.List.{length-append}
 use Rattle.proto_wire.specs.declared.fault.WireFault.{WireFault}
 use Rattle.proto_wire.specs.declared.head.Head.{Head}
@@ -22,7 +21,7 @@ starts : (rest : Rest) (head : Head × List ℕ) (field : FieldOf × List ℕ) �
     → StartsWith rest field.0 (record { bytes = field.1; at = rest.at + length rest.bytes - length field.1; depth = rest.depth })
 starts rest head field tag body =
     let long : length rest.bytes ≡ length tag.tag + (length body.count + (length body.payload + length field.1)) =
-      omega (arith, ap length tag.parts, length-append tag.tag head.1, ap length body.parts, length-append body.count (body.payload ++ field.1), length-append body.payload field.1) in
+    omega (arith, ap length tag.parts, length-append tag.tag head.1, ap length body.parts, length-append body.count (body.payload ++ field.1), length-append body.payload field.1) in
     let at_is : rest.at + length rest.bytes - length field.1 ≡ rest.at + length tag.tag + length body.count + length body.payload = omega arith in
     record {
       tag = tag.tag;
@@ -46,23 +45,23 @@ field_at-read rest =
     let end : ℕ = rest.at + length rest.bytes in
     IfOk-then (head_at rest.at rest.bytes) _ (HeadRead rest.bytes) (λ read. StartsWith rest read.0 read.1) (head_at-read rest.at rest.bytes) (λ head tag.
     IfOk-then (field_with (group_at end (100 - rest.depth)) end rest.at head.0.number head.0.wire_type head.1) _
-      (FieldRead (IsGroup (100 - rest.depth)) end rest.at head.0.number head.0.wire_type head.1) (λ read. StartsWith rest read.0 read.1)
-      (field_with-read (IsGroup (100 - rest.depth)) (group_at end (100 - rest.depth)) (group_at-read end (100 - rest.depth)) end rest.at head.0.number head.0.wire_type head.1)
-      (λ field body. starts rest head field tag body))
+    (FieldRead (IsGroup (100 - rest.depth)) end rest.at head.0.number head.0.wire_type head.1) (λ read. StartsWith rest read.0 read.1)
+    (field_with-read (IsGroup (100 - rest.depth)) (group_at end (100 - rest.depth)) (group_at-read end (100 - rest.depth)) end rest.at head.0.number head.0.wire_type head.1)
+    (λ field body. starts rest head field tag body))
 
 -- a field laid out so is read so
 laid_out-read : (at depth number : ℕ) (body : BodyOf) (tag count payload left : List ℕ) → IsLaidOut (IsGroup (100 - depth)) number body tag count payload
     → (bytes : List ℕ) → bytes ≡ tag ++ (count ++ (payload ++ left))
     → (payload_at next : ℕ) → payload_at ≡ at + length tag + length count → next ≡ at + length tag + length count + length payload
     → field_at (record { bytes = bytes; at = at; depth = depth })
-      ≡ Ok (record { number = number; at = at; payload_at = payload_at; body = body }, record { bytes = left; at = next; depth = depth })
+    ≡ Ok (record { number = number; at = at; payload_at = payload_at; body = body }, record { bytes = left; at = next; depth = depth })
 unfolding field_at
 laid_out-read at depth number body tag count payload left laid_out bytes parts payload_at next payload_at_is next_is =
     let end : ℕ = at + length bytes in
     let long : length bytes ≡ length tag + (length count + (length payload + length left)) =
-      omega (arith, ap length parts, length-append tag (count ++ (payload ++ left)), length-append count (payload ++ left), length-append payload left) in
+    omega (arith, ap length parts, length-append tag (count ++ (payload ++ left)), length-append count (payload ++ left), length-append payload left) in
     let head_is : head_at at bytes ≡ Ok (record { number = number; wire_type = wire_type_for body }, count ++ (payload ++ left)) =
-      ap (λ l. head_at at l) parts ∙ head_at-only at number (wire_type_for body) tag (count ++ (payload ++ left)) laid_out.tagged in
+    ap (λ l. head_at at l) parts ∙ head_at-only at number (wire_type_for body) tag (count ++ (payload ++ left)) laid_out.tagged in
     let field_is = field_with-only (IsGroup (100 - depth)) (group_at end (100 - depth)) (group_at-only end (100 - depth)) end at number body count payload left laid_out.counted laid_out.filled in
     let payload_place : end - length (payload ++ left) ≡ payload_at = omega (arith, length-append payload left) in
     let next_place : end - length left ≡ next = omega arith in
@@ -72,17 +71,23 @@ laid_out-read at depth number body tag count payload left laid_out bytes parts p
 pub field_at-only : (rest : Rest) (field : FieldOf) (new : Rest) → StartsWith rest field new → field_at rest ≡ Ok (field, new)
 field_at-only rest field new stands =
     let read = laid_out-read rest.at rest.depth field.number field.body stands.tag stands.count stands.payload new.bytes stands.laid_out rest.bytes stands.parts
-      field.payload_at (rest.at + length stands.tag + length stands.count + length stands.payload) stands.payload_at refl in
+    field.payload_at (rest.at + length stands.tag + length stands.count + length stands.payload) stands.payload_at refl in
     read
     ∙ ap (λ (n : ℕ). let it : FieldOf = record { number = field.number; at = n; payload_at = field.payload_at; body = field.body } in
-        let left : Rest = record { bytes = new.bytes; at = rest.at + length stands.tag + length stands.count + length stands.payload; depth = rest.depth } in
-        let both : Result (FieldOf × Rest) WireFault = Ok (it, left) in both) (sym stands.at)
+    let left : Rest = record { bytes = new.bytes; at = rest.at + length stands.tag + length stands.count + length stands.payload; depth = rest.depth } in
+    let both : Result (FieldOf × Rest) WireFault = Ok (it, left) in both) (sym stands.at)
     ∙ ap (λ (left : Rest). let both : Result (FieldOf × Rest) WireFault = Ok (field, left) in both) (sym stands.moved)
 
 pub shorter : (rest : Rest) (field : FieldOf) (new : Rest) → StartsWith rest field new → length new.bytes < length rest.bytes
 shorter rest field new stands =
-    omega (arith, stands.laid_out.tagged.spelled.some, ap length stands.parts, length-append stands.tag (stands.count ++ (stands.payload ++ new.bytes)),
-      length-append stands.count (stands.payload ++ new.bytes), length-append stands.payload new.bytes)
+    omega (
+      arith,
+      stands.laid_out.tagged.spelled.some,
+      ap length stands.parts,
+      length-append stands.tag (stands.count ++ (stands.payload ++ new.bytes)),
+      length-append stands.count (stands.payload ++ new.bytes),
+      length-append stands.payload new.bytes,
+    )
 
 inside-short : (levels number : ℕ) (payload : List ℕ) (body : BodyOf) → IsPayload (IsGroup levels) number payload body → length (inside_of body) ≤ length payload
 inside-short levels number payload (Varint value) filled = omega arith
@@ -96,8 +101,15 @@ inside-short levels number payload (Fixed32 value) filled = omega arith
 pub within : (rest : Rest) (field : FieldOf) (new : Rest) → StartsWith rest field new → field.payload_at + length (inside_of field.body) ≤ rest.at + length rest.bytes
 within rest field new stands =
     let short = inside-short (100 - rest.depth) field.number stands.payload field.body stands.laid_out.filled in
-    omega (arith, short, stands.payload_at, ap length stands.parts, length-append stands.tag (stands.count ++ (stands.payload ++ new.bytes)),
-      length-append stands.count (stands.payload ++ new.bytes), length-append stands.payload new.bytes)
+    omega (
+      arith,
+      short,
+      stands.payload_at,
+      ap length stands.parts,
+      length-append stands.tag (stands.count ++ (stands.payload ++ new.bytes)),
+      length-append stands.count (stands.payload ++ new.bytes),
+      length-append stands.payload new.bytes,
+    )
 
 walk_on-agree : (read : Result (FieldOf × Rest) WireFault) (behind other : Rest → Walk) (P : FieldOf × Rest → Type 0) → IfOk read P
     → ((field : FieldOf × Rest) → P field → behind field.1 ≡ other field.1) → walk_on behind read ≡ walk_on other read

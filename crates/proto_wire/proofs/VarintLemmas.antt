@@ -5,10 +5,10 @@ use Rattle.std.proofs.lemmas.Bool.{cases_lt}
 use Rattle.proto_wire.specs.Spelling.{varint, varint_in}
 
 -- one byte of a spelling, by whether it is the last
-in-last : (turns n : ℕ) → n < 128 → varint_in (suc turns) n ≡ n ∷ []
+pub in-last : (turns n : ℕ) → n < 128 → varint_in (suc turns) n ≡ n ∷ []
 in-last turns n small = search rules
 
-in-step : (turns n : ℕ) → 128 ≤ n → varint_in (suc turns) n ≡ (n % 128 + 128) ∷ varint_in turns (n / 128)
+pub in-step : (turns n : ℕ) → 128 ≤ n → varint_in (suc turns) n ≡ (n % 128 + 128) ∷ varint_in turns (n / 128)
 in-step turns n large = search rules
 
 -- a number below 128 is its own spelling

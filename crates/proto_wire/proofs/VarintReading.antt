@@ -1,5 +1,5 @@
 -- A varint is read where one stands, and only there.
-use Rattle.std.proofs.Common.{◌≡◌, ℕ, zero, suc, ◌+◌, ◌-◌, ◌*◌, ◌/◌, ◌%◌, ◌^◌, ◌<◌, ◌≤◌, List, [], ◌∷◌, ◌++◌, length, take, drop, get_or, Option, None, Some, Result, Ok, Err, true, false, refl, sym, ap, ◌∙◌, arith, rules, subst, min}
+use Rattle.std.proofs.Common.{◌≡◌, ℕ, ◌+◌, ◌-◌, ◌%◌, ◌^◌, ◌<◌, List, ◌++◌, length, take, drop, get_or, Option, None, Some, Ok, refl, sym, ◌∙◌, arith, min}
 use Rattle.std.specs.Prelude.{nat_lt, position}
 use Rattle.std.specs.List.{position_or_len}
 use Rattle.std.proofs.lemmas.List.Sums.{position_or_len_is}
@@ -8,7 +8,6 @@ use Rattle.std.proofs.lemmas.Bool.{ltb-true, ltb-false, lt-ltb, le-ltb}
 use Rattle.std.proofs.lemmas.List.{take-append-drop, get_or-take, length-take-le, length-take, length-append, get_or_append_left}
 use Rattle.std.proofs.Math.Seq.{take-append_seam, drop-append_seam}
 use Rattle.std.proofs.lemmas.List.Quantifiers.{position-Some}
-use Rattle.std.proofs.lemmas.Grind.{common_steps}
 use Rattle.proto_wire.specs.Reading.{varint_at, varint_to, groups_value}
 use Rattle.proto_wire.specs.Grammar.{IsVarint}
 
@@ -27,7 +26,7 @@ to_last bytes last found =
     let len : length (take (last + 1) bytes) ≡ last + 1 = length-take-le (last + 1) bytes (omega arith) in
     let last_is : length (take (last + 1) bytes) - 1 ≡ last = omega arith in
     let front_is : (k : ℕ) → k < last + 1 → get_or (take (last + 1) bytes) k 0 ≡ get_or (take 10 bytes) k 0 =
-      λ k below. get_or-take (last + 1) bytes k 0 below ∙ sym (get_or-take 10 bytes k 0 (omega arith)) in
+    λ k below. get_or-take (last + 1) bytes k 0 below ∙ sym (get_or-take 10 bytes k 0 (omega arith)) in
     record {
       front = take (last + 1) bytes;
       parts = sym (take-append-drop (last + 1) bytes);
@@ -60,13 +59,10 @@ varint_at-only at value front behind varint =
     let long : length bytes ≡ length front + length behind = length-append front behind in
     let inside : last < length (take 10 bytes) = omega (arith, varint.short) in
     let in_front : (k : ℕ) → k < length front → get_or (take 10 bytes) k 0 ≡ get_or front k 0 =
-      λ k below. get_or-take 10 bytes k 0 (omega (arith, varint.short)) ∙ get_or_append_left front behind 0 k below in
+    λ k below. get_or-take 10 bytes k 0 (omega (arith, varint.short)) ∙ get_or_append_left front behind 0 k below in
     let place : position_or_len (λ byte. nat_lt byte 128) (take 10 bytes) ≡ last =
-      position_or_len_is (λ byte. nat_lt byte 128) (take 10 bytes) last 0 (omega arith)
-        (λ k below. rw (in_front k (omega arith)) (le-ltb _ _ (varint.marked k (omega arith))))
-        (λ _. rw (in_front last (omega arith)) (lt-ltb _ _ varint.ended)) in
+    position_or_len_is (λ byte. nat_lt byte 128) (take 10 bytes) last 0 (omega arith)
+    (λ k below. rw (in_front k (omega arith)) (le-ltb _ _ (varint.marked k (omega arith))))
+    (λ _. rw (in_front last (omega arith)) (lt-ltb _ _ varint.ended)) in
     let found : position (λ byte. nat_lt byte 128) (take 10 bytes) ≡ Some last = rw place (rw (lt-ltb last (length (take 10 bytes)) inside) refl) in
-    rw found (ap (λ n. Ok (groups_value (take n bytes) % 2 ^ 64, drop n bytes)) last_is
-      ∙ ap (λ taken. Ok (groups_value taken % 2 ^ 64, drop (length front) bytes)) (take-append_seam front behind)
-      ∙ ap (λ left. Ok (groups_value front % 2 ^ 64, left)) (drop-append_seam front behind)
-      ∙ ap (λ n. Ok (n, behind)) (sym varint.holds))
+    rw found (rw (last_is, take-append_seam front behind, drop-append_seam front behind, ← varint.holds) refl)

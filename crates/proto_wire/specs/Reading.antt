@@ -10,7 +10,7 @@ use Rattle.proto_wire.specs.declared.head.Head.{Head}
 use Rattle.proto_wire.specs.declared.head.WireType.{WireType}
 use Rattle.proto_wire.specs.declared.head.WireType.TheVariants as wire
 use Rattle.proto_wire.specs.declared.field.Field.{Field}
-use Rattle.proto_wire.specs.Fields.{BodyOf, Varint, Fixed64, Bytes, Group, Fixed32, FieldOf, Rest, inside_of, seen}
+use Rattle.proto_wire.specs.Fields.{Varint, Fixed64, Bytes, Group, Fixed32, FieldOf, Rest, inside_of, seen}
 
 abbrev pub fault_at : ℕ → ℕ → WireFault
 fault_at at cause = record { offset = at; cause = cause }
@@ -120,13 +120,17 @@ unfoldable pub group_at : ℕ → ℕ → Inside
 group_at end zero number at bytes = Err (fault_at at TOO_DEEP)
 group_at end (suc levels) number at bytes = until_end (group_at end levels) end (length bytes) number at bytes
 
+-- what is left where these bytes are
+abbrev pub behind_of : Rest → List ℕ → Rest
+behind_of rest bytes = record { bytes = bytes; at = rest.at + length rest.bytes - length bytes; depth = rest.depth }
+
 -- the field in front, and what is left behind it
 unfoldable pub field_at : Rest → Result (FieldOf × Rest) WireFault
 field_at rest =
     let end = rest.at + length rest.bytes in
     head_at rest.at rest.bytes >>= λ head.
     field_with (group_at end (100 - rest.depth)) end rest.at head.0.number head.0.wire_type head.1 >>= λ field.
-    Ok (field.0, record { bytes = field.1; at = end - length field.1; depth = rest.depth })
+    Ok (field.0, behind_of rest field.1)
 
 -- the records inside a field of a message so deep
 unfoldable pub inside_at : ℕ → FieldOf → Result Rest WireFault

@@ -1,7 +1,7 @@
 //! A reader of the records of a message, in one pass and without a copy.
 ghost use Rattle.std.specs.Prelude.{◌≡◌, ◌+◌, ◌<◌, ◌≤◌, ◌^◌, ◌↔◌, ◌++◌, ℕ, List, [], length, Ok, None, IfOk, IfErr, IfSome, IsTrue};
 ghost use Rattle.proto_wire.specs.Fields.{FieldOf, Rest, seen, has_inside, IsWithin};
-ghost use Rattle.proto_wire.specs.Reading.{field_at, inside_at, walk_from, walk_by};
+ghost use Rattle.proto_wire.specs.Reading.{Gives, field_at, behind_of, inside_at, walk_from, walk_by};
 ghost use Rattle.proto_wire.specs.Grammar.{StartsWith, GaveField, Written, spelling, IsWritable, GaveBack, NoField};
 
 use crate::fault::{TOO_DEEP, WireFault};
@@ -69,13 +69,12 @@ impl<'a> Records<'a> {
         if self.bytes.is_empty() {
             return Ok(None);
         }
-        let at = self.end - self.bytes.len() as u32;
-        let (head, behind) = next_head(at, self.bytes)?;
-        let (field, behind) = field_of(head, at, behind, self.end, MAX_DEPTH - self.depth)?;
+        let (field, behind) = self.first()?;
         self.bytes = behind;
         Ok(Some(field))
     }
 
+    #[tactic(auto, unfolding(crate::specs::Reading::inside_at))]
     /// The records inside a field that this reader gave, one level deeper.
     pub fn enter(&self, f: &Field<'a>) -> Result<Records<'a>, WireFault>
         requires inside { IsTrue (has_inside (seen f.now).body) }
@@ -96,5 +95,15 @@ impl<'a> Records<'a> {
             )),
             Body::Varint(_) | Body::Fixed64(_) | Body::Fixed32(_) => unreachable!(),
         }
+    }
+
+    #[tactic(auto, unfolding(crate::specs::Reading::field_at))]
+    /// The field in front, and what is behind it.
+    fn first(&self) -> Result<(Field<'a>, &'a [u8]), WireFault>
+        ensures { Gives (λ x. (seen x.0, behind_of self.now x.1.now)) result (field_at self.now) }
+    {
+        let at = self.end - self.bytes.len() as u32;
+        let (head, behind) = next_head(at, self.bytes)?;
+        field_of(head, at, behind, self.end, MAX_DEPTH - self.depth)
     }
 }
