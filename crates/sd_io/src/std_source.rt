@@ -4,6 +4,7 @@ ghost use Rattle.sd_io.specs.Causes.{ReadsAtMost, ReadConsumes, HasCause, count_
 
 use crate::{ReadFailed, Source};
 use std::io::Read;
+use std::marker::Model;
 
 /// Reads from a reader of std, by one call of its `read` for each call. Every error, an interruption too, is a fault.
 #[derive(Debug, Drop)]
@@ -12,17 +13,25 @@ pub struct StdSource<R> {
     faults: u64,
 }
 
+impl<R> Model for StdSource<R> {
+    ghost use Rattle.sd_io.specs.Streams.{Counted};
+
+    ghost Value = { Counted R };
+
+    ghost view = { λ s. record { stream = s.inner; faults = s.faults } };
+}
+
 impl<R: Read> StdSource<R> {
     /// A source that has counted no fault.
     pub fn new(inner: R) -> StdSource<R>
-        ensures { result ≡ record { inner = inner; faults = 0 } }
+        ensures { result ≡ record { stream = inner; faults = 0 } }
     {
         StdSource { inner, faults: 0 }
     }
 }
 
 impl<R: Read> Source for StdSource<R> {
-    ghost left = { λ s. R.remaining s.inner };
+    ghost left = { λ s. R.remaining s.stream };
 
     ghost faults = { λ s. s.faults };
 
@@ -31,7 +40,7 @@ impl<R: Read> Source for StdSource<R> {
 
         // What every source ensures.
         ensures bound { ReadsAtMost result buf.new }
-        ensures bytes { ReadConsumes (R.remaining self.old.inner) (R.remaining self.new.inner) result buf.new }
+        ensures bytes { ReadConsumes (R.remaining self.old.stream) (R.remaining self.new.stream) result buf.new }
         ensures cause { HasCause self.old.faults self.new.faults result }
     {
         match self.inner.read(buf) {
