@@ -1,0 +1,6 @@
+pub mod EntriesLoop
+pub mod EntryLaws
+pub mod PartLaws
+pub mod PayloadLaws
+pub mod PlaceLaws
+pub mod ValueLaws

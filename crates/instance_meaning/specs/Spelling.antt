@@ -48,9 +48,13 @@ row_bytes row =
     flat_map (λ bucket. bytes_field 3 (bucket_bytes bucket)) row.buckets
     ++ (flat_map (λ leaf. bytes_field 4 (leaf_bytes leaf)) row.leaves ++ flat_map (λ slice. bytes_field 6 (slice_bytes slice)) row.slices)
 
+-- the rows of a metric with numbers
+abbrev pub rows_bytes : List NumTree → List ℕ
+rows_bytes rows = flat_map (λ row. bytes_field 1 (row_bytes row)) rows
+
 -- the rows of a metric, in a field by their kind, which is there even if it is empty
 abbrev pub body_bytes : MetricBody → List ℕ
-body_bytes (Counts rows) = bytes_field 5 (flat_map (λ row. bytes_field 1 (row_bytes row)) rows)
+body_bytes (Counts rows) = bytes_field 5 (rows_bytes rows)
 
 abbrev pub metric_bytes : MetricTree → List ℕ
 metric_bytes metric =

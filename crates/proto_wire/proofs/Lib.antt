@@ -1,2 +1,10 @@
 pub mod Words
 pub mod VarintLemmas
+pub mod Results
+pub mod VarintReading
+pub mod HeadReading
+pub mod FieldReading
+pub mod GroupReading
+pub mod GroupLoop
+pub mod GroupGiven
+pub mod RestReading

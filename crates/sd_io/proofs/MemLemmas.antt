@@ -1,6 +1,6 @@
 -- What sources and sinks over memory do, in the words of all sources and sinks.
-use Rattle.std.proofs.Common.{◌≡◌, ℕ, ◌+◌, ◌-◌, ◌<◌, ◌≤◌, min, Some, List, [], ◌++◌, length, take, drop, refl, sym, ap, ◌∙◌, append-nil, arith}
-use Rattle.std.proofs.lemmas.List.{take-append-le, take-append-drop, take-take, length-take, length-drop}
+use Rattle.std.proofs.Common.{◌≡◌, ℕ, ◌<◌, ◌≤◌, Some, List, [], ◌++◌, length, take, drop, refl, sym, ap, ◌∙◌, append-nil, arith}
+use Rattle.std.proofs.lemmas.List.{take-append-le, take-append-drop, take-take, length-take}
 use Rattle.std.proofs.Math.ListN.{drop_of_length-le}
 use Rattle.sd_io.specs.Causes.{AppendsFront}
 use Rattle.sd_io.specs.MemSource.{SourceContents, GivesNext}

@@ -1,5 +1,5 @@
 -- What a contract sees of a `MemSink`, and of a call that isn't to fail.
-use Rattle.std.specs.Prelude.{ℕ, ◌-◌, ◌+◌, ◌<◌, ◌⊎◌, List, length, take, Contains}
+use Rattle.std.specs.Prelude.{ℕ, ◌-◌, ◌+◌, ◌<◌, List, length, take, Contains}
 
 pub record SinkContents : Type 0 where
   -- the bytes that were written

@@ -1,6 +1,9 @@
 -- The live configurations and their histories behind one more own frame.
 use Rattle.std.proofs.Common.{◌≡◌, ℕ, suc, ◌+◌, ◌<◌, ◌≤◌, ℤ, Bool, true, false, not, cond, List, [], ◌∷◌, ◌++◌, length, take, drop, filter, Result, Ok, Err, refl, sym, ap, subst, ◌∙◌, append_assoc, arith}
+use Rattle.std.specs.Prelude.{◌||◌}
+use Rattle.std.specs.List.{list_any}
 use Rattle.std.specs.Ordering.{int_eq}
+use Rattle.std.specs.Cmp.{signed_Decides}
 use Rattle.std.proofs.lemmas.List.{append-nil, take-append-drop, take-append-le, drop-append-le, take_at, take_all, drop_all, length-append}
 use Rattle.sd_base.specs.Given.{given_after}
 use Rattle.sd_base.proofs.GivenLemmas.{given_after-push}
@@ -99,3 +102,76 @@ history_of-new client frames frame config here =
     let steps : given_after step (take (suc config.place) (frames ++ frame ∷ [])) (drop (suc config.place) (frames ++ frame ∷ [])) ≡ [] = rw none refl in
     let base : clock_of (take config.place (frames ++ frame ∷ [])) ≡ clock_of frames = ap clock_of before in
     cc
+
+-- two numbers that are equal may be told apart from either side
+pub int_eq_sym : (x y : ℤ) → int_eq x y ≡ int_eq y x
+int_eq_sym x y = by_case (int_eq x y) refl where
+  by_case : (same : Bool) → int_eq x y ≡ same → same ≡ int_eq y x
+  by_case true e = sym ((signed_Decides y x).1 (sym ((signed_Decides x y).0 e)))
+  by_case false e = other (int_eq y x) refl where
+    other : (turned : Bool) → int_eq y x ≡ turned → false ≡ turned
+    other true t = sym e ∙ (signed_Decides x y).1 (sym ((signed_Decides y x).0 t))
+    other false t = refl
+
+-- one of these has the id
+abbrev pub has_config : ℤ → List Installed → Bool
+has_config id configs = list_any (λ (config : Installed). int_eq config.id id) configs
+
+-- no two of these have one id
+abbrev pub AreDistinct : List Installed → Type 0
+AreDistinct [] = Unit {0}
+AreDistinct (config ∷ configs) = (has_config config.id configs ≡ false) × AreDistinct configs
+
+has_config-with_config : (id : ℤ) (new : Installed) (configs : List Installed) → has_config id (with_config new configs) ≡ (has_config id configs || int_eq new.id id)
+has_config-with_config id new [] = grind arith
+has_config-with_config id new (old ∷ others) = by_case (int_eq old.id new.id) refl (has_config-with_config id new others) where
+  by_case : (same : Bool) → int_eq old.id new.id ≡ same → has_config id (with_config new others) ≡ (has_config id others || int_eq new.id id)
+      → has_config id (cond same (new ∷ others) (old ∷ with_config new others)) ≡ (has_config id (old ∷ others) || int_eq new.id id)
+  by_case true e rest = let one : int_eq old.id id ≡ int_eq new.id id = ap (λ n. int_eq n id) ((signed_Decides old.id new.id).0 e) in grind arith
+  by_case false e rest = grind arith
+
+AreDistinct-with_config : (new : Installed) (configs : List Installed) → AreDistinct configs → AreDistinct (with_config new configs)
+AreDistinct-with_config new [] distinct = (refl, tt)
+AreDistinct-with_config new (old ∷ others) distinct = by_case (int_eq old.id new.id) refl (AreDistinct-with_config new others distinct.1) where
+  by_case : (same : Bool) → int_eq old.id new.id ≡ same → AreDistinct (with_config new others) → AreDistinct (cond same (new ∷ others) (old ∷ with_config new others))
+  by_case true e rest = (ap (λ id. has_config id others) (sym ((signed_Decides old.id new.id).0 e)) ∙ distinct.0, distinct.1)
+  by_case false e rest =
+      let apart : int_eq new.id old.id ≡ false = int_eq_sym new.id old.id ∙ e in
+      let head : has_config old.id (with_config new others) ≡ false = has_config-with_config old.id new others ∙ ap (λ b. b || int_eq new.id old.id) distinct.0 ∙ apart in
+      (head, rest)
+
+kept_if : (stays : Bool) (id : ℤ) (config : Installed) (others rest : List Installed) → has_config id (config ∷ others) ≡ false → has_config id rest ≡ false → has_config id (cond stays (config ∷ rest) rest) ≡ false
+kept_if true id config others rest none tail = grind arith
+kept_if false id config others rest none tail = tail
+
+has_config-without : (id gone : ℤ) (configs : List Installed) → has_config id configs ≡ false → has_config id (without_id gone configs) ≡ false
+has_config-without id gone [] none = none
+has_config-without id gone (config ∷ others) none =
+    let tail : has_config id others ≡ false = grind arith in
+    kept_if (not (int_eq config.id gone)) id config others (without_id gone others) none (has_config-without id gone others tail)
+
+AreDistinct-without_id : (gone : ℤ) (configs : List Installed) → AreDistinct configs → AreDistinct (without_id gone configs)
+AreDistinct-without_id gone [] distinct = tt
+AreDistinct-without_id gone (config ∷ others) distinct = by_case (not (int_eq config.id gone)) (AreDistinct-without_id gone others distinct.1) where
+  by_case : (stays : Bool) → AreDistinct (without_id gone others) → AreDistinct (cond stays (config ∷ without_id gone others) (without_id gone others))
+  by_case true rest = (has_config-without config.id gone others distinct.0, rest)
+  by_case false rest = rest
+
+AreDistinct-installed : (place : ℕ) (id : ℤ) (found : Result Linked Refusal) (configs : List Installed) → AreDistinct configs → AreDistinct (installed place id found configs)
+AreDistinct-installed place id (Ok linked) configs distinct = AreDistinct-with_config (record { id = id; linked = linked; place = place }) configs distinct
+AreDistinct-installed place id (Err refusal) configs distinct = distinct
+
+AreDistinct-behind : (before : List Frame) (frame : Frame) (configs : List Installed) → AreDistinct configs → AreDistinct (live_behind before frame configs)
+AreDistinct-behind before (Log frame) configs distinct = distinct
+AreDistinct-behind before (Install uid id config) configs distinct = AreDistinct-installed (length before) id (config_of config) configs distinct
+AreDistinct-behind before (Remove uid id) configs distinct = AreDistinct-without_id id configs distinct
+AreDistinct-behind before (Report uid id include_current) configs distinct = distinct
+
+AreDistinct-live_from : (before : List Frame) (configs : List Installed) (frames : List Frame) → AreDistinct configs → AreDistinct (live_from before configs frames)
+AreDistinct-live_from before configs [] distinct = distinct
+AreDistinct-live_from before configs (frame ∷ frames) distinct =
+    AreDistinct-live_from (before ++ frame ∷ []) (live_behind before frame configs) frames (AreDistinct-behind before frame configs distinct)
+
+-- no two live configurations of a client have one id
+pub live_distinct : (frames : List Frame) → AreDistinct (live frames)
+live_distinct frames = AreDistinct-live_from [] [] frames tt
