@@ -1,5 +1,5 @@
 -- Laws of the frames of a byte string: any bytes are read in one way, and more bytes behind whole frames change none of them.
-use Rattle.std.proofs.Common.{◌≡◌, ℕ, zero, suc, ◌+◌, ◌-◌, ◌^◌, ◌<◌, ◌≤◌, Bool, true, false, not, ◌||◌, ◌==◌, nat_lt, if◌then◌else◌, MatchBool, fold, List, [], ◌∷◌, ◌++◌, length, take, drop, Result, Ok, Err, refl, sym, ap, ap₂, ◌∙◌, subst, subst₂, arith}
+use Rattle.std.proofs.Common.{◌≡◌, ◌↔◌, IsTrue, ℕ, zero, suc, ◌+◌, ◌-◌, ◌^◌, ◌<◌, ◌≤◌, Bool, true, false, not, ◌||◌, ◌==◌, nat_lt, if◌then◌else◌, MatchBool, fold, List, [], ◌∷◌, ◌++◌, length, take, drop, Result, Ok, Err, refl, sym, ap, ap₂, ◌∙◌, subst, subst₂, arith}
 use Rattle.std.proofs.lemmas.Bool.Decides.{nat_tests}
 use Rattle.std.proofs.lemmas.List.{take-append-le, drop-append-le, length-append, length-drop}
 use Rattle.std.specs.Int.{Width, byte_len, w32, w64, from_le_bytes, cast_signed}
@@ -204,6 +204,30 @@ one_by false bytes frames others end other h k = one_reading start bytes frames 
 pub one_frames : (bytes : List ℕ) (frames others : List Frame) (end other : End) → frames_of bytes frames end → frames_of bytes others other → (frames ≡ others) × (end ≡ other)
 one_frames bytes frames others end other h k = one_by (is_too_much bytes) bytes frames others end other h k
 
+-- what is read of a session that isn't too long are its frames and its end
+read_within : (too_much : Bool) (bytes : List ℕ) (frames : List Frame) (end : End) → too_much ≡ false
+    → Reads start bytes frames end ↔ MatchBool too_much ((frames ≡ []) × (end ≡ Bad most_input TooManyFrames)) (Reads start bytes frames end)
+read_within true bytes frames end e = absurd (cc)
+read_within false bytes frames end e = (λ h. h, λ h. h)
+
+is_within : (bytes : List ℕ) → length bytes ≤ most_input → is_too_much bytes ≡ false
+is_within bytes within = grind (arith, nat_tests)
+
+pub frames_of-Reads : (bytes : List ℕ) (frames : List Frame) (end : End) → length bytes ≤ most_input → Reads start bytes frames end → frames_of bytes frames end
+frames_of-Reads bytes frames end within reads = (read_within (is_too_much bytes) bytes frames end (is_within bytes within)).0 reads
+
+pub Reads-frames_of : (bytes : List ℕ) (frames : List Frame) (end : End) → length bytes ≤ most_input → frames_of bytes frames end → Reads start bytes frames end
+Reads-frames_of bytes frames end within reads = (read_within (is_too_much bytes) bytes frames end (is_within bytes within)).1 reads
+
+-- a session that is too long has no frames
+none_of_too_much : (too_much : Bool) (bytes : List ℕ) (frames : List Frame) (end : End) → IsTrue too_much → frames ≡ [] → end ≡ Bad most_input TooManyFrames
+    → MatchBool too_much ((frames ≡ []) × (end ≡ Bad most_input TooManyFrames)) (Reads start bytes frames end)
+none_of_too_much true bytes frames end h none last = (none, last)
+none_of_too_much false bytes frames end h none last = absurd (cc)
+
+pub frames_of-too_much : (bytes : List ℕ) → IsTrue (is_too_much bytes) → frames_of bytes [] (Bad most_input TooManyFrames)
+frames_of-too_much bytes h = none_of_too_much (is_too_much bytes) bytes [] (Bad most_input TooManyFrames) h refl refl
+
 -- what one reading gives on to the next, where both are good
 bound : {A B F : Type 0} (read : Result A F) (next : A → Result B F) (good : B) → (read >>= next) ≡ Ok good → (x : A) × (read ≡ Ok x) × (next x ≡ Ok good)
 bound (Ok x) next good e = (x, refl, e)
@@ -355,3 +379,28 @@ next_not_too_many clock left =
     (of_choice P (size_at left == 0 || nat_lt most_body (size_at left)) (Broken (UnknownKind 0)) _ (λ e. cc)
     (of_choice P (nat_lt (length (drop 4 left)) (size_at left)) (Broken Cut) _ (λ e. cc)
     (followed_not_too_many (drop (size_at left) (drop 4 left)) (frame_of clock (take (size_at left) (drop 4 left))) (frame_not_too_many clock (take (size_at left) (drop 4 left)))))))
+
+-- A choice that is its first branch, and not its second, was decided for it.
+first_branch : (test : Bool) (x y z : Next) → (y ≡ z → ⊥) → (if test then x else y) ≡ z → test ≡ true
+first_branch true x y z differs e = refl
+first_branch false x y z differs e = absurd (differs e)
+
+followed_not_ended : (rest : List ℕ) (read : Result Frame SessionFault) → followed_by rest read ≡ Ended → ⊥
+followed_not_ended rest (Ok frame) e = cc
+followed_not_ended rest (Err fault) e = cc
+
+none_of_no_length : (left : List ℕ) → (length left == 0) ≡ true → left ≡ []
+none_of_no_length [] e = refl
+none_of_no_length (x ∷ left) e = absurd (grind (arith, nat_tests))
+
+-- The end stands next only where nothing is left.
+pub next_ended : (clock : ℕ) (left : List ℕ) → next_frame clock left ≡ Ended → left ≡ []
+unfolding next_frame
+next_ended clock left e =
+    let P : Next → Type 0 = λ next. next ≡ Ended → ⊥ in
+    none_of_no_length left (first_branch (length left == 0) Ended _ Ended
+    (of_choice P (nat_lt (length left) 4) (Broken Cut) _ (λ f. cc)
+    (of_choice P (size_at left == 0 || nat_lt most_body (size_at left)) (Broken (UnknownKind 0)) _ (λ f. cc)
+    (of_choice P (nat_lt (length (drop 4 left)) (size_at left)) (Broken Cut) _ (λ f. cc)
+    (followed_not_ended (drop (size_at left) (drop 4 left)) (frame_of clock (take (size_at left) (drop 4 left)))))))
+    e)

@@ -1,5 +1,5 @@
 -- What a reader of frames needs: how far it came with its source, the place behind a frame, and a call in its two steps.
-use Rattle.std.proofs.Common.{◌≡◌, ℕ, ◌+◌, ◌-◌, ◌<◌, ◌≤◌, Bool, IsTrue, List, ◌++◌, length, take, drop, Option, Some, None, Result, Ok, Err, IfOk, IfErr, IfSome, nat_lt, refl, sym, ap, ap₂, ◌∙◌, subst₂, arith}
+use Rattle.std.proofs.Common.{◌≡◌, ℕ, ◌+◌, ◌-◌, ◌<◌, ◌≤◌, Bool, IsTrue, List, ◌++◌, length, take, drop, Option, Some, None, Result, Ok, Err, IfOk, IfErr, IfSome, IfNone, nat_lt, refl, sym, ap, ap₂, ◌∙◌, subst, subst₂, arith}
 use Rattle.std.proofs.lemmas.Bool.Decides.{nat_tests}
 use Rattle.std.proofs.lemmas.List.{length-drop, drop-drop, take_rest}
 use Rattle.std.specs.Io.KnownBytes.{Consumes}
@@ -9,9 +9,9 @@ use Rattle.session_frames.specs.declared.frame.FrameError.TheVariants.{Session, 
 use Rattle.session_frames.specs.declared.frame.SessionFault.{SessionFault}
 use Rattle.session_frames.specs.declared.frame.SessionFault.TheVariants.{Cut, TooLong, BadLength, UnknownKind, BadBody, BadAtom, TimeBackwards, TooManyFrames}
 use Rattle.session_frames.specs.Frames.{most_input, clock_behind, size_at, next_frame, Next, Whole, Place, past, IsFaultless, IsInTime}
-use Rattle.session_frames.specs.Reading.{Reading, unread, Gives, Refuses, HasFault, IsFaultNext, IsWithin}
+use Rattle.session_frames.specs.Reading.{Reading, IsDone, unread, Gives, Refuses, HasFault, IsFaultNext, IsWithin}
 use Rattle.session_frames.specs.Bodies.{Fills, Judges}
-use Rattle.session_frames.proofs.FrameLaws.{IsWhole-from_next, whole_takes, whole_faultless, next_not_too_many}
+use Rattle.session_frames.proofs.FrameLaws.{IsWhole-from_next, whole_takes, whole_faultless, next_not_too_many, next_ended}
 
 -- so much of a source was read
 pub record IsReadSo (old new : Option (List ℕ)) (before now : ℕ) (bytes piece : List ℕ) : Type 0 where
@@ -132,3 +132,17 @@ found_good filled after (Some frame) judges = whole_faultless filled.place.clock
 pub judged_good : (filled : Reading) (answer : Result (Reading × Option Frame) FrameError) → Judges filled answer → IfOk answer (λ r. IfSome r.1 (λ f. IsFaultless f × IsInTime filled.place.clock f))
 judged_good filled (Ok answer) judges = found_good filled answer.0 answer.1 judges
 judged_good filled (Err e) judges = tt
+
+found_end : (before filled after : Reading) (frame : Option Frame) → filled.place ≡ before.place → IsTrue filled.ended → Judges filled (Ok (after, frame)) → IfNone frame (IsDone before after)
+found_end before filled after None same ended judges =
+    record {
+      nothing = ap (λ (r : Reading). r.pending) judges.1 ∙ next_ended filled.place.clock filled.pending judges.0;
+      place = ap (λ (r : Reading). r.place) judges.1 ∙ same;
+      ended = subst (λ (r : Reading). IsTrue r.ended) (sym judges.1) ended;
+    }
+found_end before filled after (Some frame) same ended judges = tt
+
+-- where the end is found, a reader stays
+pub judged_end : (before filled : Reading) (answer : Result (Reading × Option Frame) FrameError) → filled.place ≡ before.place → IsTrue filled.ended → Judges filled answer → IfOk answer (λ r. IfNone r.1 (IsDone before r.0))
+judged_end before filled (Ok answer) same ended judges = found_end before filled answer.0 answer.1 same ended judges
+judged_end before filled (Err e) same ended judges = tt

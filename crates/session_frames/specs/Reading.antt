@@ -20,7 +20,7 @@ pub record Reading : Type 0 where
 abbrev pub unread : Reading
 unread = record { pending = []; place = start; ended = false }
 
--- a reader that has seen an end has seen the end of this source
+-- a reader that saw an end saw the end of this source
 abbrev pub IsInStep : Reading → Option (List ℕ) → Type 0
 IsInStep reading left = IsTrue reading.ended → IsAtEnd left
 
@@ -38,6 +38,12 @@ pub record Gives (old new : Option (List ℕ)) (before after : Reading) (frame :
       ((next_frame before.place.clock (before.pending ++ taken) ≡ Ended) × IsAtEnd new)
       (λ f. (next_frame before.place.clock (before.pending ++ taken) ≡ Whole f after.pending) × (after.place ≡ past before.place (before.pending ++ taken) f after.pending))
 
+-- At the end of its source a reader stays where it stood, and nothing is left.
+pub record IsDone (before after : Reading) : Type 0 where
+  pub nothing : after.pending ≡ []
+  pub place : after.place ≡ before.place
+  pub ended : IsTrue after.ended
+
 -- This fault stands next in what is left, and all of the source is in it.
 pub record IsFaultNext (at : ℕ) (fault : SessionFault) (before : Reading) (left : List ℕ) (new : Option (List ℕ)) : Type 0 where
   pub placed : at ≡ before.place.bytes
@@ -51,12 +57,12 @@ pub record IsTooMuch (at : ℕ) (before : Reading) (left : List ℕ) : Type 0 wh
   pub first : before ≡ unread
   pub too_much : IsTrue (is_too_much left)
 
--- when the session has a fault for a reader
+-- a reader that stood so may answer this fault at this offset, where these bytes are left
 abbrev pub HasFault : ℕ → SessionFault → Reading → List ℕ → Option (List ℕ) → Type 0
 HasFault at TooManyFrames before left new = IsTooMuch at before left
 HasFault at fault before left new = IsFaultNext at fault before left new
 
--- when a reader that stood so gives no frame, where these bytes are left with those that the call took
+-- a reader that stood so may give no frame for this reason, where these bytes are left
 abbrev pub IsCause : FrameError → Reading → List ℕ → Option (List ℕ) → Type 0
 IsCause (Session at fault) before left new = HasFault at fault before left new
 IsCause Read before left new = Unit {0}

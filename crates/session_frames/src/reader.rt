@@ -1,9 +1,9 @@
 //! The reader of frames.
-ghost use Rattle.std.specs.Prelude.{◌≡◌, ◌<◌, ◌≤◌, length, vec_len, IsTrue, IfOk, IfErr, OnOk, IfSome, IsErrOf};
+ghost use Rattle.std.specs.Prelude.{◌≡◌, ◌<◌, ◌≤◌, length, vec_len, IsTrue, IfOk, IfErr, OnOk, IfSome, IfNone, IsErrOf};
 ghost use Rattle.sd_io.specs.Causes.{Rose, Consumes, IsAtEnd};
 ghost use Rattle.session_frames.specs.Frames as frames;
 ghost use Rattle.session_frames.specs.Frames.{IsFaultless, IsInTime};
-ghost use Rattle.session_frames.specs.Reading.{unread, IsInStep, Gives, Refuses};
+ghost use Rattle.session_frames.specs.Reading.{unread, IsInStep, Gives, IsDone, Refuses};
 ghost use Rattle.session_frames.specs.Bodies.{GivesNext, Fills, Judges};
 
 use crate::body::{BodyError, clock_behind, read_frame};
@@ -141,6 +141,7 @@ impl FrameReader {
             → IfOk result (λ r. Gives (S.left src.old) (S.left src.new) self r.0 r.1) }
         ensures refuses { IsInStep self (S.left src.old)
             → IfErr result (λ e. Refuses (S.left src.old) (S.left src.new) self e) }
+        ensures end { IfOk result (λ r. IfNone r.1 (IsDone self r.0)) }
         ensures faultless { IfOk result (λ r. IfSome r.1 (λ f. IsFaultless f × IsInTime self.place.clock f)) }
         ensures read { IsErrOf result FrameError.Read → Rose (S.faults src.old) (S.faults src.new) }
         ensures later { S.faults src.old ≤ S.faults src.new }

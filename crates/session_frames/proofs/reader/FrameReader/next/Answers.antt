@@ -1,5 +1,5 @@
 -- A call in its two steps.
-use Rattle.session_frames.proofs.ReaderLemmas.{gives, refuses, judged_good}
+use Rattle.session_frames.proofs.ReaderLemmas.{gives, refuses, judged_good, judged_end}
 use Rattle.session_frames.proofs.reader.FrameReader.next.Goals as goal
 
 pub returns-clause-gives : goal.returns-clause-gives
@@ -10,3 +10,6 @@ returns-clause-refuses g c in_step = refuses _ _ c.args.self c.in_ok-filled.fill
 
 pub returns-clause-faultless : goal.returns-clause-faultless
 returns-clause-faultless g c = rw (← c.in_ok-filled.ensures.place) (judged_good c.in_ok-filled.filled c.judge.result c.judge.ensures)
+
+pub returns-clause-end : goal.returns-clause-end
+returns-clause-end g c = judged_end c.args.self c.in_ok-filled.filled c.judge.result c.in_ok-filled.ensures.place c.in_ok-filled.ensures.ended c.judge.ensures
