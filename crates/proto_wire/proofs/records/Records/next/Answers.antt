@@ -47,7 +47,7 @@ invariant_of-self c =
 pub returns-clause-grammar : goal.returns-clause-grammar
 returns-clause-grammar c =
     laws.field-exactly c.args.self.now _ _ (laws.parts-read c.self.inside.end c.self.inside.depth c.self.inside.bytes.now c.in_ok-field.behind.now c.args.self.now
-      (seen c.in_ok-field.field) c.self.view_is c.self.invariant.0 c.in_ok-field.ensures)
+    (seen c.in_ok-field.field) c.self.view_is c.self.invariant.0 c.in_ok-field.ensures)
 
 pub returns-clause-written : goal.returns-clause-written
 returns-clause-written c =
@@ -65,4 +65,4 @@ returns-clause-step c =
     let bytes_is : c.self.inside.bytes.now ≡ c.args.self.now.bytes = ap (λ (r : Rest). r.bytes) c.self.view_is in
     let at_is : c.self.inside.end - length c.self.inside.bytes.now ≡ c.args.self.now.at = ap (λ (r : Rest). r.at) c.self.view_is in
     laws.field-step c.args.self.now _ _ (laws.parts-read c.self.inside.end c.self.inside.depth c.self.inside.bytes.now c.in_ok-field.behind.now c.args.self.now
-      (seen c.in_ok-field.field) c.self.view_is c.self.invariant.0 c.in_ok-field.ensures) (omega (arith, ap length bytes_is, c.self.invariant.0))
+    (seen c.in_ok-field.field) c.self.view_is c.self.invariant.0 c.in_ok-field.ensures) (omega (arith, ap length bytes_is, c.self.invariant.0))
