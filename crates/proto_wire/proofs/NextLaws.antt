@@ -1,8 +1,8 @@
 -- What a call of `next` gives, by what the definition reads.
-use Rattle.std.proofs.Common.{◌≡◌, ℕ, ◌+◌, ◌-◌, ◌<◌, ◌≤◌, ◌^◌, List, ◌++◌, length, None, Some, Ok, Err, sym, ap, ◌∙◌, arith, subst}
+use Rattle.std.proofs.Common.{◌≡◌, ℕ, ◌+◌, ◌-◌, ◌<◌, ◌≤◌, ◌^◌, List, ◌++◌, ◌↔◌, length, None, Some, Ok, Err, sym, ap, ◌∙◌, arith, subst}
 use Rattle.std.proofs.lemmas.Result.{IfOk-at_ok}
 use Rattle.proto_wire.specs.declared.fault.WireFault.{WireFault}
-use Rattle.proto_wire.specs.Fields.{FieldOf, Rest, IsWithin}
+use Rattle.proto_wire.specs.Fields.{FieldOf, Rest, StepsOver}
 use Rattle.proto_wire.specs.Reading.{behind_of, field_at, with_field, stopped, walk_on, walk_from}
 use Rattle.proto_wire.specs.Grammar.{StartsWith, Written, spelling, number_of, body_of, IsWritable}
 use Rattle.proto_wire.proofs.RestReading.{field_at-read, field_at-only, shorter, within, walk_from-some, walk_from-none}
@@ -22,6 +22,9 @@ module _ (old : Rest) where
         let both : read ≡ stood = cc same in
         (ap (λ (p : FieldOf × Rest). p.0) both, ap (λ (p : FieldOf × Rest). p.1) both)
 
+    pub field-exactly : (other : FieldOf) (left : Rest) → StartsWith old other left ↔ ((field ≡ other) × (new ≡ left))
+    field-exactly other left = (only-field other left, λ same. subst (StartsWith old other) same.1 (subst (λ (f : FieldOf). StartsWith old f new) same.0 field-starts))
+
     pub field-written : (written : Written) (behind : List ℕ) → IsWritable written → old.bytes ≡ spelling written ++ behind
         → (field.number ≡ number_of written) × (field.body ≡ body_of written) × (new.bytes ≡ behind)
     field-written written behind writable parts =
@@ -35,13 +38,16 @@ module _ (old : Rest) where
     pub field-shorter : length new.bytes < length old.bytes
     field-shorter = shorter old field new field-starts
 
-    pub field-within : old.at + length old.bytes < 2 ^ 32 → IsWithin field
-    field-within fits = let inside = within old field new field-starts in omega (arith, inside)
+    pub field-step : old.at + length old.bytes < 2 ^ 32 → StepsOver old field new
+    field-step fits = let inside = within old field new field-starts in record { shorter = field-shorter; within = omega (arith, inside) }
 
   -- a fault that was met
   module _ (fault : WireFault) (is : field_at old ≡ Err fault) where
     pub fault-none : (field : FieldOf) (new : Rest) → StartsWith old field new → ⊥
     fault-none field new stands = let both = sym is ∙ field_at-only old field new stands in cc both
+
+    pub fault-exactly : (field : FieldOf) (new : Rest) → StartsWith old field new ↔ ⊥
+    fault-exactly field new = (fault-none field new, λ no. absurd no)
 
     pub fault-unwritten : (written : Written) (behind : List ℕ) → IsWritable written → old.bytes ≡ spelling written ++ behind → ⊥
     fault-unwritten written behind writable parts = let there = written-starts old written behind writable parts in fault-none _ _ there.2

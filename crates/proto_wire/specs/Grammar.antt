@@ -102,12 +102,6 @@ GaveField (Ok (Some given)) left field new = (seen given ≡ field) × (left ≡
 GaveField (Ok None) left field new = ⊥
 GaveField (Err fault) left field new = ⊥
 
--- the call gave no field
-abbrev pub NoField : Result (Option Field) WireFault → Type 0
-NoField (Ok (Some given)) = ⊥
-NoField (Ok None) = Unit {0}
-NoField (Err fault) = Unit {0}
-
 -- a field as it is given to the writer
 pub data Written : Type 0 where
   AsVarint : ℕ → ℕ → Written

@@ -132,6 +132,13 @@ field_at rest =
     field_with (group_at end (100 - rest.depth)) end rest.at head.0.number head.0.wire_type head.1 >>= λ field.
     Ok (field.0, behind_of rest field.1)
 
+-- What a call for the next field answers, by what is read: a field and what is left then, the end, or the first fault.
+-- At the end and at a fault as much is left as before.
+abbrev pub AnswersNext : Rest → Result (Option Field) WireFault → Rest → Type 0
+AnswersNext old (Ok (Some field)) new = field_at old ≡ Ok (seen field, new)
+AnswersNext old (Ok None) new = new ≡ old
+AnswersNext old (Err fault) new = (field_at old ≡ Err fault) × (new ≡ old)
+
 -- the records inside a field of a message so deep
 unfoldable pub inside_at : ℕ → FieldOf → Result Rest WireFault
 inside_at depth field =

@@ -16,3 +16,6 @@ pub use fault::{
 pub use field::{Body, Field};
 pub use records::Records;
 pub use writer::Writer;
+
+#[cfg(test)]
+mod tests;

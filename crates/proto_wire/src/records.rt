@@ -1,8 +1,8 @@
 //! A reader of the records of a message, in one pass and without a copy.
-ghost use Rattle.std.specs.Prelude.{◌≡◌, ◌+◌, ◌<◌, ◌≤◌, ◌^◌, ◌↔◌, ◌++◌, ℕ, List, [], length, Ok, None, IfOk, IfErr, IfSome, IsTrue};
-ghost use Rattle.proto_wire.specs.Fields.{FieldOf, Rest, seen, has_inside, IsWithin};
-ghost use Rattle.proto_wire.specs.Reading.{Gives, field_at, behind_of, inside_at, walk_from, walk_by};
-ghost use Rattle.proto_wire.specs.Grammar.{StartsWith, GaveField, Written, spelling, IsWritable, GaveBack, NoField};
+ghost use Rattle.std.specs.Prelude.{◌≡◌, ◌+◌, ◌<◌, ◌≤◌, ◌^◌, ◌↔◌, ◌++◌, ℕ, List, [], length, Ok, None, IfOk, IfSome, IsTrue};
+ghost use Rattle.proto_wire.specs.Fields.{FieldOf, Rest, seen, has_inside, IsWithin, StepsOver};
+ghost use Rattle.proto_wire.specs.Reading.{Gives, field_at, behind_of, AnswersNext, inside_at, walk_from, walk_by};
+ghost use Rattle.proto_wire.specs.Grammar.{StartsWith, GaveField, Written, spelling, IsWritable, GaveBack};
 
 use crate::fault::{TOO_DEEP, WireFault};
 use crate::field::{Body, Field};
@@ -50,21 +50,17 @@ impl<'a> Records<'a> {
     /// The next field, or none at the end. A reader that met a fault stays before it.
     pub fn next(&mut self) -> Result<Option<Field<'a>>, WireFault>
         // What is read, exactly.
+        ensures read { AnswersNext self.old result self.new }
         ensures end { (result ≡ Ok None) ↔ (self.old.bytes ≡ []) }
-        ensures field { IfOk result (λ found. IfSome found (λ f. field_at self.old ≡ Ok (seen f, self.new))) }
-        ensures fault { IfErr result (λ e. field_at self.old ≡ Err e) }
-        ensures stays { NoField result → self.new ≡ self.old }
 
-        // What is read is laid out so, and what is laid out so is read, as what a writer wrote.
-        ensures grammar { IfOk result (λ found. IfSome found (λ f. StartsWith self.old (seen f) self.new)) }
-        ensures only { (field : FieldOf) (new : Rest) → StartsWith self.old field new → GaveField result self.new field new }
+        // A field is read exactly where one is laid out, and what a writer wrote is read back.
+        ensures grammar { (field : FieldOf) (new : Rest) → StartsWith self.old field new ↔ GaveField result self.new field new }
         ensures written { (field : Written) (behind : List ℕ) → IsWritable field → self.old.bytes ≡ spelling field ++ behind
             → GaveBack result self.new field behind }
 
         // One step of a walk.
         ensures walk { walk_from self.old ≡ walk_by result self.new }
-        ensures shorter { IfOk result (λ found. IfSome found (λ _. length self.new.bytes < length self.old.bytes)) }
-        ensures within { IfOk result (λ found. IfSome found (λ f. IsWithin (seen f))) }
+        ensures step { IfOk result (λ found. IfSome found (λ f. StepsOver self.old (seen f) self.new)) }
     {
         if self.bytes.is_empty() {
             return Ok(None);
@@ -74,8 +70,8 @@ impl<'a> Records<'a> {
         Ok(Some(field))
     }
 
-    #[tactic(auto, unfolding(crate::specs::Reading::inside_at))]
     /// The records inside a field that this reader gave, one level deeper.
+    #[tactic(auto, unfolding(crate::specs::Reading::inside_at))]
     pub fn enter(&self, f: &Field<'a>) -> Result<Records<'a>, WireFault>
         requires inside { IsTrue (has_inside (seen f.now).body) }
         requires within { IsWithin (seen f.now) }
@@ -97,8 +93,8 @@ impl<'a> Records<'a> {
         }
     }
 
-    #[tactic(auto, unfolding(crate::specs::Reading::field_at))]
     /// The field in front, and what is behind it.
+    #[tactic(auto, unfolding(crate::specs::Reading::field_at))]
     fn first(&self) -> Result<(Field<'a>, &'a [u8]), WireFault>
         ensures { Gives (λ x. (seen x.0, behind_of self.now x.1.now)) result (field_at self.now) }
     {

@@ -38,10 +38,7 @@ impl Writer {
     {
         let len = self.bytes.len();
         let put = put_varint_field(&mut self.bytes, number, v);
-        if put.is_err() {
-            self.bytes.truncate(len);
-        }
-        put
+        self.keep_whole(len, put)
     }
 
     /// Adds a field of wire type 2.
@@ -53,10 +50,7 @@ impl Writer {
     {
         let len = self.bytes.len();
         let put = put_bytes_field(&mut self.bytes, number, bytes);
-        if put.is_err() {
-            self.bytes.truncate(len);
-        }
-        put
+        self.keep_whole(len, put)
     }
 
     /// Adds a field of wire type 5.
@@ -68,6 +62,15 @@ impl Writer {
     {
         let len = self.bytes.len();
         let put = put_fixed32_field(&mut self.bytes, number, v);
+        self.keep_whole(len, put)
+    }
+
+    /// Takes back what was put of a field for which memory was short.
+    fn keep_whole(&mut self, len: usize, put: Result<(), AllocError>) -> Result<(), AllocError>
+        ensures same { result ≡ put }
+        ensures field { OnOk put (self.new ≡ self.old) }
+        ensures err { OnErr put (self.new ≡ take len self.old) }
+    {
         if put.is_err() {
             self.bytes.truncate(len);
         }

@@ -22,10 +22,10 @@ pub returns-then-is_empty-clause-walk : goal.returns-then-is_empty-clause-walk
 returns-then-is_empty-clause-walk c =
     laws.end-walk c.args.self.now (none_left c.self.inside.bytes.now c.args.self.now (ap (λ (r : Rest). r.bytes) c.self.view_is) c.if-is_empty.ensures)
 
-pub returns-in_err-field-clause-only : goal.returns-in_err-field-clause-only
-returns-in_err-field-clause-only c =
+pub returns-in_err-field-clause-grammar : goal.returns-in_err-field-clause-grammar
+returns-in_err-field-clause-grammar c =
     let p = err_from_is_err_and c.from_residual.result c.from_residual.ensures.1 in
-    rw p.1 (laws.fault-none c.args.self.now c.in_err-field.field-0.0 c.in_err-field.ensures)
+    rw p.1 (laws.fault-exactly c.args.self.now c.in_err-field.field-0.0 c.in_err-field.ensures)
 
 pub returns-in_err-field-clause-written : goal.returns-in_err-field-clause-written
 returns-in_err-field-clause-written c =
@@ -46,12 +46,7 @@ invariant_of-self c =
 
 pub returns-clause-grammar : goal.returns-clause-grammar
 returns-clause-grammar c =
-    laws.field-starts c.args.self.now _ _ (laws.parts-read c.self.inside.end c.self.inside.depth c.self.inside.bytes.now c.in_ok-field.behind.now c.args.self.now
-    (seen c.in_ok-field.field) c.self.view_is c.self.invariant.0 c.in_ok-field.ensures)
-
-pub returns-clause-only : goal.returns-clause-only
-returns-clause-only c =
-    laws.only-field c.args.self.now _ _ (laws.parts-read c.self.inside.end c.self.inside.depth c.self.inside.bytes.now c.in_ok-field.behind.now c.args.self.now
+    laws.field-exactly c.args.self.now _ _ (laws.parts-read c.self.inside.end c.self.inside.depth c.self.inside.bytes.now c.in_ok-field.behind.now c.args.self.now
     (seen c.in_ok-field.field) c.self.view_is c.self.invariant.0 c.in_ok-field.ensures)
 
 pub returns-clause-written : goal.returns-clause-written
@@ -65,11 +60,9 @@ returns-clause-walk c =
     (seen c.in_ok-field.field) c.self.view_is c.self.invariant.0 c.in_ok-field.ensures)
     (some_left c.self.inside.bytes.now c.args.self.now (ap (λ (r : Rest). r.bytes) c.self.view_is) c.if-is_empty.ensures)
 
-pub returns-clause-shorter : goal.returns-clause-shorter
-returns-clause-shorter c = laws.field-shorter c.args.self.now _ _ c.in_ok-field.ensures
-
-pub returns-clause-within : goal.returns-clause-within
-returns-clause-within c =
+pub returns-clause-step : goal.returns-clause-step
+returns-clause-step c =
     let bytes_is : c.self.inside.bytes.now ≡ c.args.self.now.bytes = ap (λ (r : Rest). r.bytes) c.self.view_is in
     let at_is : c.self.inside.end - length c.self.inside.bytes.now ≡ c.args.self.now.at = ap (λ (r : Rest). r.at) c.self.view_is in
-    laws.field-within c.args.self.now _ _ c.in_ok-field.ensures (omega (arith, ap length bytes_is, c.self.invariant.0))
+    laws.field-step c.args.self.now _ _ (laws.parts-read c.self.inside.end c.self.inside.depth c.self.inside.bytes.now c.in_ok-field.behind.now c.args.self.now
+    (seen c.in_ok-field.field) c.self.view_is c.self.invariant.0 c.in_ok-field.ensures) (omega (arith, ap length bytes_is, c.self.invariant.0))
