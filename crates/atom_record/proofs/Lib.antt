@@ -1,3 +1,4 @@
+pub mod CallerLemmas
 pub mod EntriesLoop
 pub mod EntryLaws
 pub mod PartLaws

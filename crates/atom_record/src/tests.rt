@@ -117,7 +117,6 @@ fn reads_each_kind_of_value(rt: HostRuntime) -> Result<(), Fail> {
         \x02\x01\x02\0\x04\x02\0ab\
         \x02\x02\0\0\x05\x01\0\xff\
         \x03\0\0\0\x06\x01\x02\x03\x04";
-    let atom = parse_atom(rt.alloc(), payload)?;
     let entry = |field, index, sub, flags, value| AtomField {
         field,
         index,
@@ -125,61 +124,61 @@ fn reads_each_kind_of_value(rt: HostRuntime) -> Result<(), Fail> {
         flags,
         value,
     };
-    let mut fields = Seq::new(rt.alloc());
-    fields.push(entry(1, 0, 0, EXCLUSIVE | PRIMARY | RESET, Value::Int(-2)))?;
-    fields.push(entry(2, 0, 0, 0, Value::Long(-2)))?;
-    fields.push(entry(2, 1, 1, PRIMARY, Value::Bool(true)))?;
-    fields.push(entry(2, 1, 2, 0, Value::Str(Seq::from_slice(rt.alloc(), b"ab")?)))?;
-    fields.push(entry(
-        2,
-        2,
-        0,
-        0,
-        Value::Raw(Seq::from_slice(rt.alloc(), b"\xff")?),
-    ))?;
-    fields.push(entry(3, 0, 0, 0, Value::Bits32(0x0403_0201)))?;
+    let text = Seq::from_slice(rt.alloc(), b"ab")?;
+    let bytes = Seq::from_slice(rt.alloc(), b"\xff")?;
+    let fields = [
+        entry(1, 0, 0, EXCLUSIVE | PRIMARY | RESET, Value::Int(-2)),
+        entry(2, 0, 0, 0, Value::Long(-2)),
+        entry(2, 1, 1, PRIMARY, Value::Bool(true)),
+        entry(2, 1, 2, 0, Value::Str(text)),
+        entry(2, 2, 0, 0, Value::Raw(bytes)),
+        entry(3, 0, 0, 0, Value::Bits32(0x0403_0201)),
+    ];
+    let fields = Seq::from_vec(Vec::from_array(rt.alloc(), fields)?);
+    let atom = parse_atom(rt.alloc(), payload)?;
     assert_eq!(rt; atom, Atom { id: 5, fields });
     assert_eq!(rt; atom.clone_atom(rt.alloc())?, atom);
     Ok(())
 }
 
 fn key(alloc: Global, text: &[u8]) -> Result<MetricKey, AllocError> {
-    let mut many = Seq::new(alloc);
-    many.push(Value::Long(1))?;
-    many.push(Value::Str(Seq::from_slice(alloc, text)?))?;
-    let mut dims = Seq::new(alloc);
-    dims.push(Leaf::Missing)?;
-    dims.push(Leaf::One(Value::Int(1)))?;
-    dims.push(Leaf::Many(many))?;
-    let mut slices = Seq::new(alloc);
-    slices.push(Slice::Plain {
-        atom_id: 7,
-        value: -1,
-    })?;
-    slices.push(Slice::Group {
-        atom_id: 8,
-        group: 3,
-    })?;
+    let text = Value::Str(Seq::from_slice(alloc, text)?);
+    let many = Seq::from_vec(Vec::from_array(alloc, [Value::Long(1), text])?);
+    let leaves = [Leaf::Missing, Leaf::One(Value::Int(1)), Leaf::Many(many)];
+    let dims = Seq::from_vec(Vec::from_array(alloc, leaves)?);
+    let slices = [
+        Slice::Plain {
+            atom_id: 7,
+            value: -1,
+        },
+        Slice::Group {
+            atom_id: 8,
+            group: 3,
+        },
+    ];
+    let slices = Seq::from_slice(alloc, &slices)?;
     Ok(MetricKey { dims, slices })
 }
 
 #[test]
 fn equal_keys_made_apart_are_found(rt: HostRuntime) -> Result<(), Fail> {
+    let again = key(rt.alloc(), b"a")?;
+    let other = key(rt.alloc(), b"b")?;
     let mut rows = HashMap::new(rt.alloc());
     rows.insert(key(rt.alloc(), b"a")?, 1)?;
-    rows.insert(key(rt.alloc(), b"b")?, 2)?;
-    assert_eq!(rt; rows.len(), 2);
-    assert_eq!(rt; rows.get(&key(rt.alloc(), b"a")?), Some(&1));
-    assert_eq!(rt;
-        rows.get(&key(rt.alloc(), b"b")?.clone_key(rt.alloc())?),
-        Some(&2)
-    );
-    assert!(rt; rows.get(&key(rt.alloc(), b"c")?).is_none());
-    let dims = key(rt.alloc(), b"a")?.dims;
-    assert_eq!(rt; dims.clone_key(rt.alloc())?, dims);
-    let str = Value::Str(Seq::from_slice(rt.alloc(), b"a")?);
-    assert_eq!(rt; str.clone_value(rt.alloc())?, str);
-    assert!(rt; str != Value::Raw(Seq::from_slice(rt.alloc(), b"a")?));
+    assert_eq!(rt; rows.get(&again), Some(&1));
+    assert!(rt; rows.get(&other).is_none());
+    Ok(())
+}
+
+#[test]
+fn copies_equal_their_sources(rt: HostRuntime) -> Result<(), Fail> {
+    let key = key(rt.alloc(), b"a")?;
+    assert_eq!(rt; key.clone_key(rt.alloc())?, key);
+    assert_eq!(rt; key.dims.clone_key(rt.alloc())?, key.dims);
+    let text = Value::Str(Seq::from_slice(rt.alloc(), b"a")?);
+    assert_eq!(rt; text.clone_value(rt.alloc())?, text);
+    assert!(rt; text != Value::Raw(Seq::from_slice(rt.alloc(), b"a")?));
     Ok(())
 }
 
