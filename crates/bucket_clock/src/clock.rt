@@ -1,8 +1,8 @@
 //! The clock of one metric. It keeps where the open part began and the next full end, and no frame.
 ghost use Rattle.std.specs.Prelude.{◌≡◌, ℕ, ◌+◌, ◌-◌, ◌*◌, ◌^◌, ◌<◌, ◌≤◌, ◌↔◌, [], ◌∷◌, nat_le, IfSome, IsSome};
 ghost use Rattle.bucket_meaning.specs.Ends.{crosses};
-ghost use Rattle.bucket_clock.specs.Sound.{IsSound};
-ghost use Rattle.bucket_clock.specs.Clock.{Saw, Cut, ends_of, Answers, ClockStandsFor, TakesCall};
+ghost use Rattle.bucket_clock.specs.Sound.{times, IsSound};
+ghost use Rattle.bucket_clock.specs.Clock.{frame_at, Saw, Cut, ends_of, Answers, ClockStandsFor, TakesCall};
 
 use crate::Crossings;
 use std::marker::Model;
@@ -35,7 +35,7 @@ impl Clock {
         requires base_fits { base < 2 ^ 63 }
         requires least { 1 ≤ size }
         requires most { size ≤ LONGEST_BUCKET }
-        ensures value { result ≡ record { base = base; size = size; start = base; next_end = base + size } }
+        ensures value { result ≡ times base size base (base + size) }
         ensures stands { ClockStandsFor result [] }
     {
         Clock {
@@ -49,7 +49,7 @@ impl Clock {
     /// The clock with these four numbers, or none where no clock has them.
     pub fn restore(base: u64, size: u64, start: u64, next_end: u64) -> Option<Clock>
         ensures sound { IsSome result ↔ IsSound base size start next_end }
-        ensures value { IfSome result (λ clock. clock ≡ record { base = base; size = size; start = start; next_end = next_end }) }
+        ensures value { IfSome result (λ clock. clock ≡ times base size start next_end) }
     {
         let is_sized = base < 1 << 63 && size >= 1 && size <= LONGEST_BUCKET;
         let is_full_end = is_sized && base < next_end && (next_end - base) % size == 0;
@@ -70,12 +70,12 @@ impl Clock {
         }
     }
 
-    /// What a frame at `time` closes, or none where it crosses no end. A pull at the very end of a bucket belongs to that bucket.
+    /// What a frame at `time` closes, or none where it crosses no end. A pull at an end still belongs to the bucket.
     pub fn crossings(&mut self, time: u64, is_pull: bool) -> Option<Crossings>
         requires not_before { self.old.start ≤ time }
         requires fits { time < 2 ^ 63 }
-        ensures ends { Answers self.old (record { at = time; is_pull = is_pull }) result self.new }
-        ensures stands { TakesCall self.old self.new (Saw (record { at = time; is_pull = is_pull })) (ends_of result) }
+        ensures ends { Answers self.old (frame_at time is_pull) result self.new }
+        ensures stands { TakesCall self.old self.new (Saw (frame_at time is_pull)) (ends_of result) }
     {
         let reach = reach_of(time, is_pull);
         if reach < self.next_end {
@@ -92,7 +92,7 @@ impl Clock {
         Some(crossed)
     }
 
-    /// Closes the open part at `time`, even if its length is 0, and keeps the next full end. The answer is its start and its end.
+    /// Closes the open part at `time`, even if its length is 0, and keeps the next full end. Answers where it began and ended.
     pub fn cut_at(&mut self, time: u64) -> (u64, u64)
         requires not_before { self.old.start ≤ time }
         requires fits { time < 2 ^ 63 }
@@ -139,7 +139,7 @@ impl Clock {
 // The last time at which an end would be crossed.
 fn reach_of(time: u64, is_pull: bool) -> u64
     ensures within { result ≤ time }
-    ensures crosses { (end : ℕ) → 0 < end → crosses (record { at = time; is_pull = is_pull }) end ≡ nat_le end result }
+    ensures crosses { (end : ℕ) → 0 < end → crosses (frame_at time is_pull) end ≡ nat_le end result }
 {
     if is_pull {
         time.saturating_sub(1)
