@@ -1,7 +1,8 @@
 -- The guardrail, one more arrival at a time: for the proofs of tables and producers.
 use Rattle.std.proofs.Common.{◌≡◌, ℕ, zero, suc, ◌+◌, ◌<◌, ◌≤◌, Bool, true, false, not, cond, ◌||◌, if◌then◌else◌, List, [], ◌∷◌, ◌++◌, map, take, length, count_by, refl, sym, ap, subst, ◌∙◌, arith, zero-add, ⊎_elim}
 use Rattle.std.specs.Bool.{Decides}
-use Rattle.std.proofs.lemmas.Bool.{cases_Bool, false≢true}
+use Rattle.std.specs.List.{AllByRecursion, IsDistinct}
+use Rattle.std.proofs.lemmas.Bool.{cases_Bool, cases_lt, false≢true}
 use Rattle.std.proofs.lemmas.List.{take-append-le, take_all, length-take, length-append}
 use Rattle.std.proofs.lemmas.List.Sums.{sum_by-cons, sum_by_push}
 use Rattle.bucket_meaning.specs.Guard.{is_among, with_key, firsts, admitted, dropped, of_key, arrival_key}
@@ -95,6 +96,44 @@ module _ {K : Type 0} (same : K → K → Bool) where
       ap (λ those. count_by (λ k. not (is_among same k those)) (keys ++ key ∷ [])) stays
       ∙ sum_by_push (λ k. cond (not (is_among same k (admitted same bound keys))) 1 0) keys key
 
+  all_push : (P : K → Type 0) (keys : List K) (key : K) → AllByRecursion P keys → P key → AllByRecursion P (keys ++ key ∷ [])
+  all_push P [] key all here = (here, tt)
+  all_push P (first ∷ keys) key all here = (all.0, all_push P keys key all.1 here)
+
+  all_take : (P : K → Type 0) (n : ℕ) (keys : List K) → AllByRecursion P keys → AllByRecursion P (take n keys)
+  all_take P zero keys all = tt
+  all_take P (suc n) [] all = tt
+  all_take P (suc n) (first ∷ keys) all = (all.0, all_take P n keys all.1)
+
+  distinct_push : (keys : List K) (key : K) → IsDistinct same keys → is_among same key keys ≡ false → IsDistinct same (keys ++ key ∷ [])
+  unfolding IsDistinct
+  distinct_push [] key distinct absent = (tt, tt)
+  distinct_push (first ∷ keys) key distinct absent =
+      let here : same first key ≡ false = grind arith in
+      let later : is_among same key keys ≡ false = grind arith in
+      (all_push (λ other. same first other ≡ false) keys key distinct.0 here, distinct_push keys key distinct.1 later)
+
+  distinct_take : (n : ℕ) (keys : List K) → IsDistinct same keys → IsDistinct same (take n keys)
+  unfolding IsDistinct
+  distinct_take zero keys distinct = tt
+  distinct_take (suc n) [] distinct = tt
+  distinct_take (suc n) (first ∷ keys) distinct = (all_take (λ other. same first other ≡ false) n keys distinct.0, distinct_take n keys distinct.1)
+
+  distinct_with : (seen : List K) (key : K) (b : Bool) → is_among same key seen ≡ b → IsDistinct same seen → IsDistinct same (if b then seen else seen ++ key ∷ [])
+  distinct_with seen key true e distinct = distinct
+  distinct_with seen key false e distinct = distinct_push seen key distinct e
+
+  -- the first keys are distinct
+  pub firsts-distinct : (seen keys : List K) → IsDistinct same seen → IsDistinct same (firsts same seen keys)
+  firsts-distinct seen [] distinct = distinct
+  firsts-distinct seen (key ∷ keys) distinct =
+      firsts-distinct (with_key same seen key) keys (distinct_with seen key (is_among same key seen) refl distinct)
+
+  -- and so are the admitted ones
+  pub admitted-distinct : (bound : ℕ) (keys : List K) → IsDistinct same (admitted same bound keys)
+  unfolding IsDistinct
+  admitted-distinct bound keys = distinct_take bound (firsts same [] keys) (firsts-distinct [] keys tt)
+
   -- no more are admitted than the bound says
   pub admitted_within : (bound : ℕ) (keys : List K) → length (admitted same bound keys) ≤ bound
   admitted_within bound keys = omega (arith, length-take bound (firsts same [] keys))
@@ -142,3 +181,15 @@ module _ {K : Type 0} (same : K → K → Bool) where
         let all = all_admitted bound keys room in
         none_dropped_all bound (keys ++ key ∷ []) (admitted_new bound keys key absent room ∙ ap (λ l. l ++ key ∷ []) all ∙ sym (new_first bound keys key absent room))
         ∙ sym (none_dropped bound keys room)
+
+    -- one more arrival never makes the count of drops fall
+    pub dropped-grows : (bound : ℕ) (keys : List K) (key : K) → dropped same bound keys ≤ dropped same bound (keys ++ key ∷ [])
+    dropped-grows bound keys key = ⊎_elim
+        (λ (room : length (admitted same bound keys) < bound).
+        ⊎_elim
+        (λ (present : is_among same key (admitted same bound keys) ≡ true).
+        omega (arith, dropped_same bound keys key (admitted_present bound keys key present)))
+        (λ (absent : is_among same key (admitted same bound keys) ≡ false). omega (arith, dropped_new bound keys key absent room))
+        (cases_Bool (is_among same key (admitted same bound keys))))
+        (λ (full : bound ≤ length (admitted same bound keys)). omega (arith, dropped_same bound keys key (admitted_full bound keys key full)))
+        (cases_lt (length (admitted same bound keys)) bound)
