@@ -1,7 +1,7 @@
 -- What a contract sees of a table: rows in the order in which their keys first came, a bound, and how many were dropped.
 use Rattle.std.specs.Prelude.{◌≡◌, ℕ, ◌+◌, ◌<◌, ◌≤◌, Bool, not, List, [], ◌∷◌, ◌++◌, length, filter, slice_get, Contains, Some, ◌⊎◌}
 use Rattle.std.specs.Map.{keys_of}
-use Rattle.indexmap.specs.Layout.{set_value_at}
+pub use Rattle.indexmap.specs.Layout.{set_value_at}
 use Rattle.bucket_meaning.specs.Guard.{admitted, dropped}
 use Rattle.bucket_meaning.specs.Kept.{counted}
 use Rattle.dim_table.specs.declared.answer.Admit.{Admit}
