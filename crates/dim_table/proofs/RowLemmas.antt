@@ -82,7 +82,7 @@ module _ {K V : Type 0} where
 
     module _ (old new : Table K V) (key : K) (fresh : V) (place : ℕ) (was : old.rows ≡ rows_by before (keys old)) (admits : Admits old new key fresh (At place)) where
       -- the row of an admitted key has the value that the key had, or the fresh one
-      pub Admits-value : (¬ Contains (keys old) key → fresh ≡ before key)
+      pub Admits-value : (IsNew old new key fresh place → fresh ≡ before key)
           → slice_get (values_of new.rows) place ≡ Some (before key)
       Admits-value first = ⊎_elim
           (λ (there : IsThere old new key place).
@@ -93,7 +93,7 @@ module _ {K V : Type 0} where
           (λ (added : IsNew old new key fresh place).
           ap (λ table. slice_get (values_of table.rows) place) added.added
           ∙ ap (slice_get (values_of (old.rows ++ (key, fresh) ∷ []))) added.last
-          ∙ last_value old.rows key fresh ∙ ap Some (first added.absent))
+          ∙ last_value old.rows key fresh ∙ ap Some (first added))
           admits
 
       -- and after a write to that row, each key has its value, where only this key's value changed
