@@ -15,7 +15,7 @@ use std::hash::Hash;
 use std::marker::Model;
 use std::mem;
 
-/// Rows by key, in the order in which the keys first came. What comes with a new key past the bound is dropped and counted.
+/// Rows by key, in the order in which the keys first came. An arrival whose key finds no room is dropped and counted.
 #[derive(Drop)]
 pub struct Guarded<K: Exact + Hash, V> {
     rows: IndexMap<K, V>,
@@ -60,7 +60,7 @@ impl<K: Exact + Hash + Drop, V: Drop> Guarded<K, V> {
         }
     }
 
-    /// Gives the key of an arrival a row: the one that it has, or a new one. Where there is no room for it, counts the arrival.
+    /// Gives an arrival's key a row: the one that it has, or a new one. Where there is no room, counts the arrival.
     pub fn admit(&mut self, key: K, fresh: V) -> Result<Admit, AllocError>
         ensures answer { IfOk result (Admits self.old self.new key fresh) }
         ensures stands { OnOk result (TakesArrival K.eq self.old self.new key) }

@@ -7,19 +7,25 @@ use Rattle.dim_table.proofs.table.Guarded.admit.Goals as goal
 
 pub returns-in-Some-clause-answer : goal.returns-in-Some-clause-answer
 returns-in-Some-clause-answer g c =
-    let at : slice_get (keys c.args.self.now) c.in-Some.place ≡ Some c.args.key = rw (← c.self.view_is) (found _ g.met.K.Exact.exact _ _ _ (sym c.in-Some.ensures.index)) in
-    there_answer g.K.PartialEq.eq g.met.K.Exact.exact c.args.self.now c.args.self.now c.args.key c.args.fresh c.in-Some.place at
+    let at : slice_get (keys c.args.self.now) c.in-Some.place ≡ Some c.args.key =
+    rw (← c.self.view_is) (found _ g.met.K.Exact.exact _ _ _ (sym c.in-Some.ensures.index)) in
+    there_answer g.K.PartialEq.eq g.met.K.Exact.exact c.args.self.now c.args.self.now c.args.key c.args.fresh
+    c.in-Some.place at
 
 pub returns-in-Some-clause-stands : goal.returns-in-Some-clause-stands
 returns-in-Some-clause-stands g c =
-    let at : slice_get (keys c.args.self.now) c.in-Some.place ≡ Some c.args.key = rw (← c.self.view_is) (found _ g.met.K.Exact.exact _ _ _ (sym c.in-Some.ensures.index)) in
-    there_stands g.K.PartialEq.eq g.met.K.Exact.exact c.args.self.now c.args.self.now c.args.key c.in-Some.place (record { at = at; same = refl })
+    let at : slice_get (keys c.args.self.now) c.in-Some.place ≡ Some c.args.key =
+    rw (← c.self.view_is) (found _ g.met.K.Exact.exact _ _ _ (sym c.in-Some.ensures.index)) in
+    there_stands g.K.PartialEq.eq g.met.K.Exact.exact c.args.self.now c.args.self.now c.args.key c.in-Some.place
+    (record { at = at; same = refl })
 
 pub returns-in-None-clause-stands : goal.returns-in-None-clause-stands
 returns-in-None-clause-stands g c =
-    ok_stands g.K.PartialEq.eq g.met.K.Exact.exact c.args.self.now c.append.new.self c.args.key c.args.fresh c.append.result c.append.ensures.answer
+    ok_stands g.K.PartialEq.eq g.met.K.Exact.exact c.args.self.now c.append.new.self c.args.key c.args.fresh
+    c.append.result c.append.ensures.answer
 
 pub returns-in-None-clause-present : goal.returns-in-None-clause-present
 returns-in-None-clause-present g c there =
-    let absent : ¬ Contains (keys c.args.self.now) c.args.key = rw (← c.self.view_is) (missing _ g.met.K.Exact.exact _ _ (sym c.in-None.ensures.index)) in
+    let absent : ¬ Contains (keys c.args.self.now) c.args.key =
+    rw (← c.self.view_is) (missing _ g.met.K.Exact.exact _ _ (sym c.in-None.ensures.index)) in
     absurd (absent there)
