@@ -1,5 +1,5 @@
 -- What a reader of frames needs: how far it came with its source, the place behind a frame, and a call in its two steps.
-use Rattle.std.proofs.Common.{◌≡◌, ℕ, ◌+◌, ◌-◌, ◌<◌, ◌≤◌, Bool, IsTrue, List, ◌++◌, length, take, drop, Option, Some, None, Result, Ok, Err, IfOk, IfErr, IfSome, IfNone, nat_lt, refl, sym, ap, ap₂, ◌∙◌, subst, subst₂, arith}
+use Rattle.std.proofs.Common.{◌≡◌, ℕ, ◌+◌, ◌-◌, ◌<◌, ◌≤◌, Bool, IsTrue, List, ◌++◌, length, take, drop, Option, Some, None, Result, Ok, Err, IfOk, IfErr, IfSome, IfNone, nat_lt, refl, sym, ap, ap₂, ◌∙◌, subst, subst₂, arith, inl, inr}
 use Rattle.std.proofs.lemmas.Bool.Decides.{nat_tests}
 use Rattle.std.proofs.lemmas.List.{length-drop, drop-drop, take_rest}
 use Rattle.std.specs.Io.KnownBytes.{Consumes}
@@ -22,11 +22,11 @@ pub record IsReadSo (old new : Option (List ℕ)) (before now : ℕ) (bytes piec
 
 -- the source failed
 pub Refuses-Read : (old new : Option (List ℕ)) (taken : List ℕ) → Consumes old new taken → Refuses old new unread Read
-Refuses-Read old new taken consumes = record { taken = taken; consumes = consumes; cause = tt }
+Refuses-Read old new taken consumes = record { taken = taken; consumes = consumes; cause = refl }
 
 -- memory was wanting
 pub Refuses-Memory : (old new : Option (List ℕ)) (taken : List ℕ) → Consumes old new taken → Refuses old new unread Memory
-Refuses-Memory old new taken consumes = record { taken = taken; consumes = consumes; cause = tt }
+Refuses-Memory old new taken consumes = record { taken = taken; consumes = consumes; cause = inr refl }
 
 -- too much was read
 pub Refuses-too_much : (old new : Option (List ℕ)) (taken : List ℕ) → Consumes old new taken → most_input < length taken → Refuses old new unread (Session most_input TooManyFrames)
@@ -114,7 +114,7 @@ module _ (old new : Option (List ℕ)) (before filled : Reading) (fills : Fills 
             (record { placed = judges.0 ∙ ap (λ (p : Place). p.bytes) fills.place; broken = sym all_next ∙ judges.1; at_end = fills.at_end; within = within_all });
       }
   Refuses-judged Read judges = absurd judges
-  Refuses-judged Memory judges = record { taken = fills.taken; consumes = fills.consumes; cause = tt }
+  Refuses-judged Memory judges = record { taken = fills.taken; consumes = fills.consumes; cause = inl within_all }
 
   pub gives : (answer : Result (Reading × Option Frame) FrameError) → Judges filled answer → IfOk answer (λ r. Gives old new before r.0 r.1)
   gives (Ok answer) judges = Gives-judged answer.0 answer.1 judges

@@ -1,5 +1,5 @@
 -- What a contract sees of a reader of frames, and what one of its calls does to it and to its source.
-use Rattle.std.specs.Prelude.{◌≡◌, ℕ, ◌+◌, ◌≤◌, Bool, false, IsTrue, List, [], ◌++◌, length, Option, MatchOption}
+use Rattle.std.specs.Prelude.{◌⊎◌, ◌≡◌, ℕ, ◌+◌, ◌≤◌, Bool, false, IsTrue, List, [], ◌++◌, length, Option, MatchOption}
 use Rattle.std.specs.Io.KnownBytes.{Consumes, IsAtEnd}
 use Rattle.session_frames.specs.declared.frame.Frame.{Frame}
 use Rattle.session_frames.specs.declared.frame.FrameError.{FrameError}
@@ -65,8 +65,8 @@ HasFault at fault before left new = IsFaultNext at fault before left new
 -- a reader that stood so may give no frame for this reason, where these bytes are left
 abbrev pub IsCause : FrameError → Reading → List ℕ → Option (List ℕ) → Type 0
 IsCause (Session at fault) before left new = HasFault at fault before left new
-IsCause Read before left new = Unit {0}
-IsCause Memory before left new = Unit {0}
+IsCause Read before left new = before ≡ unread
+IsCause Memory before left new = IsWithin before.place left ⊎ (before ≡ unread)
 
 -- A call took bytes from the source, and failed for cause.
 pub record Refuses (old new : Option (List ℕ)) (before : Reading) (e : FrameError) : Type 0 where
