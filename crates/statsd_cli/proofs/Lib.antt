@@ -4,3 +4,4 @@ pub mod ListLemmas
 pub mod InstanceLemmas
 pub mod LivesLemmas
 pub mod OpenLemmas
+pub mod RunLemmas

@@ -4,3 +4,4 @@ pub mod Lives
 pub mod Note
 pub mod Reading
 pub mod Report
+pub mod Run

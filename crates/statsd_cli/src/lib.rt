@@ -6,3 +6,6 @@ pub mod hub;
 mod instance;
 mod note;
 mod report;
+mod top;
+
+pub use top::statsd_top;

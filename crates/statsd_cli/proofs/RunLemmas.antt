@@ -1,0 +1,290 @@
+-- The run of a session: from frame to frame, and how it ends.
+use Rattle.std.proofs.Common.{◌≡◌, ℕ, suc, zero, ◌+◌, ◌-◌, ◌≤◌, ◌<◌, Bool, true, false, List, [], ◌∷◌, ◌++◌, length, get_or, Option, Some, None, Result, Ok, Err, IsTrue, fold, MatchBool, refl, sym, ap, subst, ◌∙◌, append_assoc, arith, inl, inr, ⊎_elim}
+use Rattle.std.specs.Prelude.{option_to_list}
+use Rattle.std.specs.List.{flat_map}
+use Rattle.std.proofs.lemmas.Bool.{false≢true, cases_Bool}
+use Rattle.std.proofs.lemmas.Bool.Decides.{nat_tests}
+use Rattle.std.proofs.lemmas.List.{append-nil, length-append, nil_from_length}
+use Rattle.sd_io.specs.Causes.{Rose, Appends, AppendsFront, Consumes, IsAtEnd}
+use Rattle.sd_io.proofs.CausesLemmas.{Appends-nil, Appends-trans, Consumes-nil, Consumes-trans, front_behind, front_before}
+use Rattle.session_frames.specs.declared.frame.Frame.{Frame}
+use Rattle.session_frames.specs.declared.frame.FrameError.{FrameError}
+use Rattle.session_frames.specs.declared.frame.FrameError.TheVariants as errors
+use Rattle.session_frames.specs.declared.frame.SessionFault.{SessionFault}
+use Rattle.session_frames.specs.declared.frame.SessionFault.TheVariants.{Cut, TooLong, BadLength, UnknownKind, BadBody, BadAtom, TimeBackwards, TooManyFrames}
+use Rattle.session_frames.specs.Frames.{most_input, clock_behind, next_frame, Next, Ended, Broken, Whole, Place, start, past, End, Clean, Bad, Reads, Begins, is_too_much, frames_of}
+use Rattle.session_frames.specs.Reading.{Reading, unread, IsInStep, IsWithin, Gives, IsFaultNext, IsTooMuch, Refuses}
+use Rattle.session_frames.proofs.FrameLaws.{whole_takes, Begins-more, Begins-push, Reads-from_Begins, Begins_clock, Begins_bytes, some_reading, some_frames, one_frames, frames_of-Reads, frames_of-too_much, Begins-from_Reads, next_not_too_many}
+use Rattle.session_frames.specs.declared.reply.Reply.{Reply}
+use Rattle.session_frames.specs.Replies.{reply_bytes}
+use Rattle.session_meaning.specs.Log.{clock_from, clock_of}
+use Rattle.session_meaning.specs.Answers.{reply_to, text}
+use Rattle.session_meaning.proofs.AnswerLaws.{text-push}
+use Rattle.statsd_cli.specs.declared.hub.Hub.{Hub}
+use Rattle.statsd_cli.specs.declared.top.Ending.{Ending}
+use Rattle.statsd_cli.specs.declared.top.Ending.TheVariants.{Done, BadSession, ReadFault, WriteFault, NoMemory}
+use Rattle.statsd_cli.specs.Hub.{HubStandsFor}
+use Rattle.statsd_cli.specs.Run.{IsWhole, IsDone, IsBadSession, IsCutShort, IsShort, Outcome, IsRun, reply_text, IsServed, ending_by}
+
+-- A run under way: these frames were served, of the bytes taken.
+pub record IsAlong (left_old left_new old new : Option (List ℕ)) (reader : Reading) (hub : Hub) : Type 0 where
+  pub frames : List Frame
+  pub taken : List ℕ
+  pub consumes : Consumes left_old left_new taken
+  pub begins : Begins start taken frames reader.place reader.pending
+  pub in_step : IsInStep reader left_new
+  pub stands : HubStandsFor hub frames
+  pub written : Appends old new (text frames)
+
+clock_is : (clock : ℕ) (frames : List Frame) → fold clock_behind clock frames ≡ clock_from clock frames
+clock_is clock [] = refl
+clock_is clock (frame ∷ frames) = clock_is (clock_behind clock frame) frames
+
+-- at the beginning nothing was served
+pub begins_along : (left old : Option (List ℕ)) (reader : Reading) (hub : Hub) → reader ≡ unread → HubStandsFor hub [] → IsAlong left left old old reader hub
+unfolding text
+begins_along left old reader hub is stands = record {
+  frames = [];
+  taken = [];
+  consumes = Consumes-nil left;
+  begins = (ap (λ (r : Reading). r.pending) (sym is), ap (λ (r : Reading). r.place) (sym is));
+  in_step = λ ended. let unended : reader.ended ≡ false = ap (λ (r : Reading). r.ended) is in absurd (false≢true (sym unended ∙ ended));
+  stands = stands;
+  written = Appends-nil old;
+}
+
+-- the replies to more frames come behind
+text_behind : (frames others : List Frame) → (more : List ℕ) × (text (frames ++ others) ≡ text frames ++ more)
+text_behind frames [] = ([], ap text (append-nil frames) ∙ sym (append-nil (text frames)))
+text_behind frames (frame ∷ others) =
+    let rest = text_behind (frames ++ frame ∷ []) others in
+    (reply_text frames frame ++ rest.0,
+    ap text (sym (append_assoc frames (frame ∷ []) others)) ∙ rest.1 ∙ ap (λ l. l ++ rest.0) (text-push frames frame) ∙ append_assoc (text frames) (reply_text frames frame) rest.0)
+
+no_text : text [] ≡ []
+unfolding text
+no_text = refl
+
+module _ (lo ln o n : Option (List ℕ)) (reader : Reading) (hub : Hub) (a : IsAlong lo ln o n reader hub) where
+  -- all the bytes taken, with more
+  all_with : List ℕ → List ℕ
+  all_with more = a.taken ++ more
+
+  within_all : (more : List ℕ) → IsWithin reader.place (reader.pending ++ more) → length (a.taken ++ more) ≤ most_input
+  within_all more within =
+      omega (arith, within, Begins_bytes start a.taken a.frames reader.place reader.pending a.begins, length-append a.taken more, length-append reader.pending more)
+
+  further : (more : List ℕ) → Begins start (a.taken ++ more) a.frames reader.place (reader.pending ++ more)
+  further more = Begins-more start a.taken a.frames reader.place reader.pending more a.begins
+
+  -- the clock of the reader is that of the frames
+  pub clock_along : reader.place.clock ≡ clock_of a.frames
+  clock_along = Begins_clock start a.taken a.frames reader.place reader.pending a.begins ∙ clock_is 0 a.frames
+
+  -- a reader that has read nothing gave no frame
+  none_yet : reader ≡ unread → (a.frames ≡ []) × (a.taken ≡ [])
+  none_yet is =
+      let bytes = Begins_bytes start a.taken a.frames reader.place reader.pending a.begins in
+      let at : reader.place.bytes ≡ 0 = ap (λ (r : Reading). r.place.bytes) is in
+      let pending : length reader.pending ≡ 0 = ap (λ (r : Reading). length r.pending) is in
+      let len : length a.taken ≡ 0 = omega (arith, bytes, at, pending) in
+      let none : a.taken ≡ [] = nil_from_length a.taken len in
+      (no_frames a.frames a.taken reader.place reader.pending a.begins len, none) where
+    no_frames : (frames : List Frame) (taken : List ℕ) (place : Place) (rest : List ℕ) → Begins start taken frames place rest → length taken ≡ 0 → frames ≡ []
+    no_frames [] taken place rest h len = refl
+    no_frames (frame ∷ frames) taken place rest h len = absurd (omega (arith, whole_takes 0 taken frame h.0 h.1))
+
+  -- the source ended
+  pub ends_done : (lm : Option (List ℕ)) (after : Reading) → Gives ln lm reader after None → IsRun lo lm o n Done
+  ends_done lm after g = record {
+    taken = a.taken ++ g.taken;
+    consumes = Consumes-trans lo ln lm a.taken g.taken a.consumes g.consumes;
+    outcome = record {
+      frames = a.frames;
+      session = frames_of-Reads (a.taken ++ g.taken) a.frames Clean (within_all g.taken g.within)
+          (subst (λ all. Reads start (a.taken ++ g.taken) all Clean) (append-nil a.frames)
+          (Reads-from_Begins start (a.taken ++ g.taken) a.frames reader.place (reader.pending ++ g.taken) [] Clean (further g.taken) g.next.0));
+      at_end = g.next.1;
+      written = a.written;
+    };
+  }
+
+  -- the session has a fault
+  bad : (lm : Option (List ℕ)) (at : ℕ) (fault : SessionFault) (taken : List ℕ) → Consumes ln lm taken → IsWhole fault lm → IsFaultNext at fault reader (reader.pending ++ taken) lm → IsRun lo lm o n (BadSession at fault)
+  bad lm at fault taken consumes whole h = record {
+    taken = a.taken ++ taken;
+    consumes = Consumes-trans lo ln lm a.taken taken a.consumes consumes;
+    outcome = record {
+      frames = a.frames;
+      session = frames_of-Reads (a.taken ++ taken) a.frames (Bad at fault) (within_all taken h.within)
+          (subst (λ all. Reads start (a.taken ++ taken) all (Bad at fault)) (append-nil a.frames)
+          (Reads-from_Begins start (a.taken ++ taken) a.frames reader.place (reader.pending ++ taken) [] (Bad at fault) (further taken) (h.placed, h.broken)));
+      whole = whole;
+      written = a.written;
+    };
+  }
+
+  -- the session is too long
+  too_long : (lm : Option (List ℕ)) (at : ℕ) (taken : List ℕ) → Consumes ln lm taken → IsTooMuch at reader (reader.pending ++ taken) → IsRun lo lm o n (BadSession at TooManyFrames)
+  too_long lm at taken consumes h =
+      let none = none_yet h.first in
+      let pending : reader.pending ≡ [] = ap (λ (r : Reading). r.pending) h.first in
+      let same : reader.pending ++ taken ≡ a.taken ++ taken = ap (λ l. l ++ taken) (pending ∙ sym none.1) in
+      let much : IsTrue (is_too_much (a.taken ++ taken)) = subst (λ l. IsTrue (is_too_much l)) same h.too_much in
+      let session : frames_of (a.taken ++ taken) [] (Bad at TooManyFrames) = subst (λ place. frames_of (a.taken ++ taken) [] (Bad place TooManyFrames)) (sym h.placed) (frames_of-too_much (a.taken ++ taken) much) in
+      record {
+        taken = a.taken ++ taken;
+        consumes = Consumes-trans lo ln lm a.taken taken a.consumes consumes;
+        outcome = record { frames = []; session = session; whole = tt; written = subst (λ all. Appends o n (text all)) none.0 a.written };
+      }
+
+  -- memory was wanting, where the bytes are a session's, or before any frame
+  short_within : (lm : Option (List ℕ)) (taken : List ℕ) → Consumes ln lm taken → IsWithin reader.place (reader.pending ++ taken) → IsRun lo lm o n NoMemory
+  short_within lm taken consumes within =
+      let others = some_reading reader.place (reader.pending ++ taken) in
+      record {
+        taken = a.taken ++ taken;
+        consumes = Consumes-trans lo ln lm a.taken taken a.consumes consumes;
+        outcome = record {
+          answered = a.frames;
+          others = others.0;
+          end = others.1;
+          session = frames_of-Reads (a.taken ++ taken) (a.frames ++ others.0) others.1 (within_all taken within)
+              (Reads-from_Begins start (a.taken ++ taken) a.frames reader.place (reader.pending ++ taken) others.0 others.1 (further taken) others.2);
+          written = a.written;
+        };
+      }
+
+  short_before : (lm : Option (List ℕ)) (taken : List ℕ) → Consumes ln lm taken → reader ≡ unread → IsRun lo lm o n NoMemory
+  short_before lm taken consumes is =
+      let all = some_frames (a.taken ++ taken) in
+      record {
+        taken = a.taken ++ taken;
+        consumes = Consumes-trans lo ln lm a.taken taken a.consumes consumes;
+        outcome = record { answered = []; others = all.0; end = all.1; session = all.2; written = subst (λ frames. Appends o n (text frames)) (none_yet is).0 a.written };
+      }
+
+  -- the reader gave no frame
+  pub ends_refused : (lm : Option (List ℕ)) (e : FrameError) → Refuses ln lm reader e → IsRun lo lm o n (ending_by e)
+  ends_refused lm (errors.Session at Cut) r = bad lm at Cut r.taken r.consumes r.cause.at_end r.cause
+  ends_refused lm (errors.Session at (TooLong size)) r = bad lm at (TooLong size) r.taken r.consumes r.cause.at_end r.cause
+  ends_refused lm (errors.Session at BadLength) r = bad lm at BadLength r.taken r.consumes r.cause.at_end r.cause
+  ends_refused lm (errors.Session at (UnknownKind kind)) r = bad lm at (UnknownKind kind) r.taken r.consumes r.cause.at_end r.cause
+  ends_refused lm (errors.Session at (BadBody reason)) r = bad lm at (BadBody reason) r.taken r.consumes r.cause.at_end r.cause
+  ends_refused lm (errors.Session at (BadAtom reason)) r = bad lm at (BadAtom reason) r.taken r.consumes r.cause.at_end r.cause
+  ends_refused lm (errors.Session at (TimeBackwards last now)) r = bad lm at (TimeBackwards last now) r.taken r.consumes r.cause.at_end r.cause
+  ends_refused lm (errors.Session at TooManyFrames) r = too_long lm at r.taken r.consumes r.cause
+  ends_refused lm errors.Read r = record {
+    taken = a.taken ++ r.taken;
+    consumes = Consumes-trans lo ln lm a.taken r.taken a.consumes r.consumes;
+    outcome = subst (Appends o n) no_text (subst (λ frames. Appends o n (text frames)) (none_yet r.cause).0 a.written);
+  }
+  ends_refused lm errors.Memory r = ⊎_elim (short_within lm r.taken r.consumes) (short_before lm r.taken r.consumes) r.cause
+
+  module _ (lm : Option (List ℕ)) (after : Reading) (frame : Frame) (g : Gives ln lm reader after (Some frame)) (m : Option (List ℕ)) where
+    one_more : Begins start (a.taken ++ g.taken) (a.frames ++ frame ∷ []) after.place after.pending
+    one_more =
+        subst (λ place. Begins start (a.taken ++ g.taken) (a.frames ++ frame ∷ []) place after.pending) (sym g.next.1)
+        (Begins-push start (a.taken ++ g.taken) a.frames reader.place (reader.pending ++ g.taken) frame after.pending (further g.taken) g.next.0)
+
+    -- the place is further on, and within what a session may have
+    pub comes_nearer : (most_input + 1) - after.place.bytes < (most_input + 1) - reader.place.bytes
+    comes_nearer =
+        let place : after.place.bytes ≡ reader.place.bytes + (length (reader.pending ++ g.taken) - length after.pending) = ap (λ (p : Place). p.bytes) g.next.1 in
+        omega (arith, place, g.within, whole_takes reader.place.clock (reader.pending ++ g.taken) frame after.pending g.next.0)
+
+    -- the frame was served
+    pub goes_on : (new : Hub) → IsServed n m a.frames frame (Ok new) → IsAlong lo lm o m after new
+    goes_on new served = record {
+      frames = a.frames ++ frame ∷ [];
+      taken = a.taken ++ g.taken;
+      consumes = Consumes-trans lo ln lm a.taken g.taken a.consumes g.consumes;
+      begins = one_more;
+      in_step = g.in_step;
+      stands = served.0;
+      written = subst (Appends o m) (sym (text-push a.frames frame)) (Appends-trans o n m (text a.frames) (reply_text a.frames frame) a.written served.1);
+    }
+
+    whole_session : (others : List Frame) (end : End) → Reads after.place after.pending others end → frames_of (a.taken ++ g.taken) ((a.frames ++ frame ∷ []) ++ others) end
+    whole_session others end reads =
+        frames_of-Reads (a.taken ++ g.taken) ((a.frames ++ frame ∷ []) ++ others) end (within_all g.taken g.within)
+        (Reads-from_Begins start (a.taken ++ g.taken) (a.frames ++ frame ∷ []) after.place after.pending others end one_more reads)
+
+    -- the frame wasn't served
+    pub ends_in_serve : (ending : Ending) → IsServed n m a.frames frame (Err ending) → IsRun lo lm o m ending
+    ends_in_serve Done served = absurd served
+    ends_in_serve (BadSession at fault) served = absurd served
+    ends_in_serve ReadFault served = absurd served
+    ends_in_serve WriteFault served =
+        let others = some_reading after.place after.pending in
+        let front : AppendsFront o m (text (a.frames ++ frame ∷ [])) = subst (AppendsFront o m) (sym (text-push a.frames frame)) (front_behind o n m (text a.frames) (reply_text a.frames frame) a.written served) in
+        let behind = text_behind (a.frames ++ frame ∷ []) others.0 in
+        record {
+          taken = a.taken ++ g.taken;
+          consumes = Consumes-trans lo ln lm a.taken g.taken a.consumes g.consumes;
+          outcome = record {
+            frames = (a.frames ++ frame ∷ []) ++ others.0;
+            end = others.1;
+            session = whole_session others.0 others.1 others.2;
+            written = subst (AppendsFront o m) (sym behind.1) (front_before o m (text (a.frames ++ frame ∷ [])) behind.0 front);
+          };
+        }
+    ends_in_serve NoMemory served =
+        let others = some_reading after.place after.pending in
+        record {
+          taken = a.taken ++ g.taken;
+          consumes = Consumes-trans lo ln lm a.taken g.taken a.consumes g.consumes;
+          outcome = record {
+            answered = a.frames;
+            others = frame ∷ others.0;
+            end = others.1;
+            session = subst (λ all. frames_of (a.taken ++ g.taken) all others.1) (append_assoc a.frames (frame ∷ []) others.0) (whole_session others.0 others.1 others.2);
+            written = subst (Appends o m) (append-nil (text a.frames)) (Appends-trans o n m (text a.frames) [] a.written served);
+          };
+        }
+
+-- A session that is good to its end has no fault.
+much_more : (taken rest : List ℕ) → is_too_much taken ≡ true → is_too_much (taken ++ rest) ≡ true
+much_more taken rest h = let len = length-append taken rest in grind (arith, nat_tests, len)
+
+clean_within : (too_much : Bool) (bytes : List ℕ) (frames : List Frame) → too_much ≡ true → MatchBool too_much ((frames ≡ []) × (Clean ≡ Bad most_input TooManyFrames)) (Reads start bytes frames Clean) → ⊥
+clean_within true bytes frames e h = cc
+clean_within false bytes frames e h = absurd (cc)
+
+never_too_many : (too_much : Bool) (taken : List ℕ) (frames : List Frame) (at : ℕ) → too_much ≡ false
+    → MatchBool too_much ((frames ≡ []) × (Bad at TooManyFrames ≡ Bad most_input TooManyFrames)) (Reads start taken frames (Bad at TooManyFrames)) → ⊥
+never_too_many true taken frames at e h = absurd (cc)
+never_too_many false taken frames at e h =
+    let last = Begins-from_Reads start taken frames (Bad at TooManyFrames) h in
+    next_not_too_many last.0.clock last.1 last.3.1
+
+same_end : (bytes : List ℕ) (frames others : List Frame) (at : ℕ) (fault : SessionFault) → frames_of bytes frames Clean → frames_of bytes others (Bad at fault) → ⊥
+same_end bytes frames others at fault good bad = let one = one_frames bytes frames others Clean (Bad at fault) good bad in cc
+
+not_bad : (bytes rest taken : List ℕ) (o n : Option (List ℕ)) (at : ℕ) (fault : SessionFault) (frames : List Frame) → bytes ≡ taken ++ rest → IsBadSession at fault taken (Some rest) o n → frames_of bytes frames Clean → ⊥
+not_bad bytes rest taken o n at TooManyFrames frames is h good =
+    ⊎_elim
+    (λ (much : is_too_much taken ≡ true). clean_within (is_too_much bytes) bytes frames (ap is_too_much is ∙ much_more taken rest much) good)
+    (λ (few : is_too_much taken ≡ false). never_too_many (is_too_much taken) taken h.frames at few h.session)
+    (cases_Bool (is_too_much taken))
+not_bad bytes rest taken o n at Cut frames is h good = same_end bytes frames h.frames at Cut good (subst (λ l. frames_of l h.frames (Bad at Cut)) (sym (is ∙ ap (λ r. taken ++ r) h.whole ∙ append-nil taken)) h.session)
+not_bad bytes rest taken o n at (TooLong size) frames is h good = same_end bytes frames h.frames at (TooLong size) good (subst (λ l. frames_of l h.frames (Bad at (TooLong size))) (sym (is ∙ ap (λ r. taken ++ r) h.whole ∙ append-nil taken)) h.session)
+not_bad bytes rest taken o n at BadLength frames is h good = same_end bytes frames h.frames at BadLength good (subst (λ l. frames_of l h.frames (Bad at BadLength)) (sym (is ∙ ap (λ r. taken ++ r) h.whole ∙ append-nil taken)) h.session)
+not_bad bytes rest taken o n at (UnknownKind kind) frames is h good = same_end bytes frames h.frames at (UnknownKind kind) good (subst (λ l. frames_of l h.frames (Bad at (UnknownKind kind))) (sym (is ∙ ap (λ r. taken ++ r) h.whole ∙ append-nil taken)) h.session)
+not_bad bytes rest taken o n at (BadBody reason) frames is h good = same_end bytes frames h.frames at (BadBody reason) good (subst (λ l. frames_of l h.frames (Bad at (BadBody reason))) (sym (is ∙ ap (λ r. taken ++ r) h.whole ∙ append-nil taken)) h.session)
+not_bad bytes rest taken o n at (BadAtom reason) frames is h good = same_end bytes frames h.frames at (BadAtom reason) good (subst (λ l. frames_of l h.frames (Bad at (BadAtom reason))) (sym (is ∙ ap (λ r. taken ++ r) h.whole ∙ append-nil taken)) h.session)
+not_bad bytes rest taken o n at (TimeBackwards last now) frames is h good = same_end bytes frames h.frames at (TimeBackwards last now) good (subst (λ l. frames_of l h.frames (Bad at (TimeBackwards last now))) (sym (is ∙ ap (λ r. taken ++ r) h.whole ∙ append-nil taken)) h.session)
+
+pub good_isnt_bad : (bytes : List ℕ) (left o n : Option (List ℕ)) (at : ℕ) (fault : SessionFault) (frames : List Frame) → IsRun (Some bytes) left o n (BadSession at fault) → frames_of bytes frames Clean → ⊥
+good_isnt_bad bytes None o n at fault frames run good = run.consumes
+good_isnt_bad bytes (Some rest) o n at fault frames run good = not_bad bytes rest run.taken o n at fault frames run.consumes run.outcome good
+
+-- the words are one word
+pub one_word : (words : List (List ℕ)) (word : List ℕ) → 1 ≤ length words → length words < 2 → word ≡ get_or words 0 word → words ≡ word ∷ []
+one_word [] word some few is = absurd (omega arith)
+one_word (first ∷ []) word some few is = ap (λ w. w ∷ []) (sym is)
+one_word (first ∷ second ∷ others) word some few is = absurd (omega arith)
+
+-- the bytes of a reply that there is
+pub reply_text_is : (frames : List Frame) (frame : Frame) (reply : Reply) → reply_to frames frame ≡ Some reply → reply_text frames frame ≡ reply_bytes reply
+reply_text_is frames frame reply is = ap (λ r. flat_map reply_bytes (option_to_list r)) is ∙ append-nil (reply_bytes reply)
