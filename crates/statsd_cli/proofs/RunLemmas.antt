@@ -1,6 +1,6 @@
 -- The run of a session: from frame to frame, and how it ends.
 use Rattle.std.proofs.Common.{◌≡◌, ℕ, suc, zero, ◌+◌, ◌-◌, ◌≤◌, ◌<◌, Bool, true, false, List, [], ◌∷◌, ◌++◌, length, get_or, Option, Some, None, Result, Ok, Err, IsTrue, fold, MatchBool, refl, sym, ap, subst, ◌∙◌, append_assoc, arith, inl, inr, ⊎_elim}
-use Rattle.std.specs.Prelude.{option_to_list}
+use Rattle.std.specs.Prelude.{◌⊎◌, option_to_list, IfSome}
 use Rattle.std.specs.List.{flat_map}
 use Rattle.std.proofs.lemmas.Bool.{false≢true, cases_Bool}
 use Rattle.std.proofs.lemmas.Bool.Decides.{nat_tests}
@@ -24,7 +24,7 @@ use Rattle.statsd_cli.specs.declared.hub.Hub.{Hub}
 use Rattle.statsd_cli.specs.declared.top.Ending.{Ending}
 use Rattle.statsd_cli.specs.declared.top.Ending.TheVariants.{Done, BadSession, ReadFault, WriteFault, NoMemory}
 use Rattle.statsd_cli.specs.Hub.{HubStandsFor}
-use Rattle.statsd_cli.specs.Run.{IsWhole, IsDone, IsBadSession, IsCutShort, IsShort, Outcome, IsRun, reply_text, IsServed, ending_by}
+use Rattle.statsd_cli.specs.Run.{IsWhole, IsDone, IsBadSession, IsCutShort, IsShort, Outcome, IsRun, status_of, reply_text, IsServed, ending_by}
 
 -- A run under way: these frames were served, of the bytes taken.
 pub record IsAlong (left_old left_new old new : Option (List ℕ)) (reader : Reading) (hub : Hub) : Type 0 where
@@ -288,3 +288,18 @@ one_word (first ∷ second ∷ others) word some few is = absurd (omega arith)
 -- the bytes of a reply that there is
 pub reply_text_is : (frames : List Frame) (frame : Frame) (reply : Reply) → reply_to frames frame ≡ Some reply → reply_text frames frame ≡ reply_bytes reply
 reply_text_is frames frame reply is = ap (λ r. flat_map reply_bytes (option_to_list r)) is ∙ append-nil (reply_bytes reply)
+
+-- A good session is answered to its end, unless the outside fails or memory is wanting.
+module _ (left_new o n : Option (List ℕ)) (status read_before read_now write_before write_now : ℕ) where
+  complete_at : (bytes : List ℕ) (ending : Ending) → status ≡ status_of ending → IsRun (Some bytes) left_new o n ending → (ending ≡ ReadFault → Rose read_before read_now) → (ending ≡ WriteFault → Rose write_before write_now)
+      → (frames : List Frame) → frames_of bytes frames Clean → (Rose read_before read_now → ⊥) → (Rose write_before write_now → ⊥) → (status ≡ 0) ⊎ (status ≡ 6)
+  complete_at bytes Done is run reads writes frames good no_read no_write = inl is
+  complete_at bytes (BadSession at fault) is run reads writes frames good no_read no_write = absurd (good_isnt_bad bytes left_new o n at fault frames run good)
+  complete_at bytes ReadFault is run reads writes frames good no_read no_write = absurd (no_read (reads refl))
+  complete_at bytes WriteFault is run reads writes frames good no_read no_write = absurd (no_write (writes refl))
+  complete_at bytes NoMemory is run reads writes frames good no_read no_write = inr is
+
+  pub complete : (left : Option (List ℕ)) (ending : Ending) → status ≡ status_of ending → IsRun left left_new o n ending → (ending ≡ ReadFault → Rose read_before read_now) → (ending ≡ WriteFault → Rose write_before write_now)
+      → IfSome left (λ bytes. (frames : List Frame) → frames_of bytes frames Clean → (Rose read_before read_now → ⊥) → (Rose write_before write_now → ⊥) → (status ≡ 0) ⊎ (status ≡ 6))
+  complete None ending is run reads writes = tt
+  complete (Some bytes) ending is run reads writes = complete_at bytes ending is run reads writes
