@@ -23,13 +23,18 @@ record TakenRead (count : ℕ) (bytes : List ℕ) (read : List ℕ × List ℕ) 
 taken_at-read : (at count : ℕ) (bytes : List ℕ) → IfOk (taken_at at count bytes) (TakenRead count bytes)
 unfolding taken_at
 taken_at-read at count bytes =
-    of-if (λ (r : Result (List ℕ × List ℕ) WireFault). IfOk r (TakenRead count bytes)) (nat_lt (length bytes) count) _ _ (λ _. tt) (λ enough.
+    of-if (λ (r : Result (List ℕ × List ℕ) WireFault). IfOk r (TakenRead count bytes)) (nat_lt
+    (length bytes) count) _ _ (λ _. tt) (λ enough.
     record { len = length-take-le count bytes (ltb-false _ _ enough); parts = sym (take-append-drop count bytes) })
 
-taken_at-only : (at count : ℕ) (bytes behind : List ℕ) → length bytes ≡ count → taken_at at count (bytes ++ behind) ≡ Ok (bytes, behind)
+taken_at-only : (at count : ℕ) (bytes behind : List ℕ) → length bytes ≡ count
+    → taken_at at count (bytes ++ behind) ≡ Ok (bytes, behind)
 unfolding taken_at
 taken_at-only at count bytes behind len =
-    let enough : nat_lt (length (bytes ++ behind)) count ≡ false = le-ltb _ _ (omega (arith, length-append bytes behind)) in
+    let enough : nat_lt (length (bytes ++ behind)) count ≡ false = le-ltb _ _ (omega (
+      arith,
+      length-append bytes behind,
+    )) in
     rw (enough, ← len, take-append_seam bytes behind, drop-append_seam bytes behind) refl
 
 -- a number of so many bytes stands in front
@@ -39,9 +44,11 @@ record FixedRead (width : Width) (count : ℕ) (bytes : List ℕ) (read : ℕ ×
   parts : bytes ≡ front ++ read.1
   value : read.0 ≡ from_le_bytes width front
 
-fixed_at-read : (width : Width) (at count : ℕ) (bytes : List ℕ) → IfOk (fixed_at width at count bytes) (FixedRead width count bytes)
+fixed_at-read : (width : Width) (at count : ℕ) (bytes : List ℕ) → IfOk (fixed_at width at count bytes)
+    (FixedRead width count bytes)
 fixed_at-read width at count bytes =
-    IfOk-then (taken_at at count bytes) _ (TakenRead count bytes) (FixedRead width count bytes) (taken_at-read at count bytes) (λ taken read.
+    IfOk-then (taken_at at count bytes) _ (TakenRead count bytes) (FixedRead width count bytes)
+    (taken_at-read at count bytes) (λ taken read.
     record { front = taken.0; len = read.len; parts = read.parts; value = refl })
 
 fixed_at-only : (width : Width) (at count : ℕ) (bytes behind : List ℕ) → length bytes ≡ count
@@ -49,17 +56,20 @@ fixed_at-only : (width : Width) (at count : ℕ) (bytes behind : List ℕ) → l
 fixed_at-only width at count bytes behind len = rw (taken_at-only at count bytes behind len) refl
 
 -- the front is a group with this inside, and this is behind it
-pub record InsideRead (IsGroupOf : ℕ → List ℕ → List ℕ → Type 0) (number : ℕ) (bytes : List ℕ) (read : List ℕ × List ℕ) : Type 0 where
+pub record InsideRead (IsGroupOf : ℕ → List ℕ → List ℕ → Type 0) (number : ℕ) (bytes : List ℕ)
+    (read : List ℕ × List ℕ) : Type 0 where
   pub payload : List ℕ
   pub parts : bytes ≡ payload ++ read.1
   pub group : IsGroupOf number (take (length bytes - length read.0) bytes) payload
 
 -- what is read of the inside of groups are groups
 abbrev pub ReadsGroups : (ℕ → List ℕ → List ℕ → Type 0) → Inside → Type 0
-ReadsGroups IsGroupOf inside = (number at : ℕ) (bytes : List ℕ) → IfOk (inside number at bytes) (InsideRead IsGroupOf number bytes)
+ReadsGroups IsGroupOf inside = (number at : ℕ) (bytes : List ℕ) → IfOk (inside number at bytes)
+    (InsideRead IsGroupOf number bytes)
 
 -- the front is such a field without its tag, and this is behind it
-pub record FieldRead (IsGroupOf : ℕ → List ℕ → List ℕ → Type 0) (end at number : ℕ) (wire_type : WireType) (bytes : List ℕ) (read : FieldOf × List ℕ) : Type 0 where
+pub record FieldRead (IsGroupOf : ℕ → List ℕ → List ℕ → Type 0) (end at number : ℕ) (wire_type : WireType)
+    (bytes : List ℕ) (read : FieldOf × List ℕ) : Type 0 where
   pub count : List ℕ
   pub payload : List ℕ
   pub parts : bytes ≡ count ++ (payload ++ read.1)
@@ -103,7 +113,8 @@ module _ (IsGroupOf : ℕ → List ℕ → List ℕ → Type 0) (inside : Inside
       })
   field_with-read groups end at number wire.Bytes bytes =
       IfOk-then (varint_at at bytes) _ (VarintRead bytes) _ (varint_at-read at bytes) (λ count read.
-      IfOk-then (taken_at at count.0 count.1) _ (TakenRead count.0 count.1) _ (taken_at-read at count.0 count.1) (λ taken told.
+      IfOk-then (taken_at at count.0 count.1) _ (TakenRead count.0 count.1) _ (taken_at-read at count.0 count.1)
+      (λ taken told.
       record {
         count = read.front;
         payload = taken.0;
@@ -151,19 +162,25 @@ pub record InsideGiven (inside : Inside) (number at : ℕ) (body payload behind 
 
 -- each group is read as one
 abbrev pub GivesGroups : (ℕ → List ℕ → List ℕ → Type 0) → Inside → Type 0
-GivesGroups IsGroupOf inside = (number at : ℕ) (body payload behind : List ℕ) → IsGroupOf number body payload → InsideGiven inside number at body payload behind
+GivesGroups IsGroupOf inside = (number at : ℕ) (body payload behind : List ℕ) → IsGroupOf number body payload
+    → InsideGiven inside number at body payload behind
 
 -- what stands before the last part of a payload
 before_last : (body last payload behind : List ℕ) → payload ≡ body ++ last
     → take (length (payload ++ behind) - length (last ++ behind)) (payload ++ behind) ≡ body
 before_last body last payload behind parts =
-    let joined : payload ++ behind ≡ body ++ (last ++ behind) = ap (λ l. l ++ behind) parts ∙ append_assoc body last behind in
-    let len : length (body ++ (last ++ behind)) - length (last ++ behind) ≡ length body = omega (arith, length-append body (last ++ behind)) in
+    let joined : payload ++ behind ≡ body ++ (last ++ behind) = ap (λ l. l ++ behind) parts
+    ∙ append_assoc body last behind in
+    let len : length (body ++ (last ++ behind)) - length (last ++ behind) ≡ length body = omega (
+      arith,
+      length-append body (last ++ behind),
+    ) in
     rw (joined, len) (take-append_seam body (last ++ behind))
 
 module _ (IsGroupOf : ℕ → List ℕ → List ℕ → Type 0) (inside : Inside) where
   -- and a field is read, whatever is behind it
-  pub field_with-only : GivesGroups IsGroupOf inside → (end at number : ℕ) (body : BodyOf) (count payload behind : List ℕ)
+  pub field_with-only : GivesGroups IsGroupOf inside → (end at number : ℕ) (body : BodyOf)
+      (count payload behind : List ℕ)
       → IsCount count body → IsPayload IsGroupOf number payload body
       → field_with inside end at number (wire_type_for body) (count ++ (payload ++ behind))
       ≡ Ok (record { number = number; at = at; payload_at = end - length (payload ++ behind); body = body }, behind)
@@ -173,7 +190,12 @@ module _ (IsGroupOf : ℕ → List ℕ → List ℕ → Type 0) (inside : Inside
   field_with-only groups end at number (Fixed64 value) count payload behind counted filled =
       rw (counted, fixed_at-only w64 at 8 payload behind filled.0, ← filled.1) refl
   field_with-only groups end at number (Bytes bytes) count payload behind counted filled =
-      rw (filled, varint_at-only at (length bytes) count (bytes ++ behind) counted, taken_at-only at (length bytes) bytes behind refl) refl
+      rw (
+        filled,
+        varint_at-only at (length bytes) count (bytes ++ behind) counted,
+        taken_at-only at
+            (length bytes) bytes behind refl,
+      ) refl
   field_with-only groups end at number (Group body) count payload behind counted filled =
       let read = groups number at body payload behind filled in
       let body_is = before_last body read.last payload behind read.parts in

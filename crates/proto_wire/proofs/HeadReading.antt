@@ -34,10 +34,15 @@ wire_type_of-code code =
     of-if P (code == 4) _ _ (eqb-true code 4) (λ _.
     of-if P (code == 5) _ _ (eqb-true code 5) (λ _. tt))))))
 
-head_with-read : (at tag : ℕ) (o : Option WireType) → IfSome o (λ wire_type. tag % 8 ≡ code_of wire_type) → 1 ≤ tag / 8 → tag < 2 ^ 32
+head_with-read : (at tag : ℕ) (o : Option WireType) → IfSome o (λ wire_type. tag % 8 ≡ code_of wire_type)
+    → 1 ≤ tag / 8 → tag < 2 ^ 32
     → IfOk (head_with at (tag / 8) o) (TagOf tag)
 head_with-read at tag None code named fits = tt
-head_with-read at tag (Some wire_type) code named fits = record { is = omega (arith, code); named = named; fits = omega arith }
+head_with-read at tag (Some wire_type) code named fits = record {
+  is = omega (arith, code);
+  named = named;
+  fits = omega arith;
+}
 
 head_of-read : (at tag : ℕ) → IfOk (head_of at tag) (TagOf tag)
 unfolding head_of
@@ -46,7 +51,10 @@ head_of-read at tag =
     of-if (λ (r : Result Head WireFault). IfOk r (TagOf tag)) (tag / 8 == 0) _ _ (λ _. tt) (λ named.
     let some : tag / 8 ≡ 0 → ⊥ = eqb-false (tag / 8) 0 named in
     let below : tag ≤ 2 ^ 32 - 1 = ltb-false (2 ^ 32 - 1) tag small in
-    head_with-read at tag (wire_type_of (tag % 8)) (wire_type_of-code (tag % 8)) (omega (arith, some)) (omega (arith, below))))
+    head_with-read at tag (wire_type_of (tag % 8)) (wire_type_of-code (tag % 8)) (omega (arith, some)) (omega (
+      arith,
+      below,
+    ))))
 
 -- what is read is a tag
 pub head_at-read : (at : ℕ) (bytes : List ℕ) → IfOk (head_at at bytes) (HeadRead bytes)
@@ -54,7 +62,16 @@ unfolding head_at
 head_at-read at bytes =
     IfOk-then (varint_at at bytes) _ (VarintRead bytes) (HeadRead bytes) (varint_at-read at bytes) (λ tag read.
     IfOk-then (head_of at tag.0) _ (TagOf tag.0) (HeadRead bytes) (head_of-read at tag.0) (λ head told.
-    record { tag = read.front; parts = read.parts; tagged = record { spelled = subst (IsVarint read.front) told.is read.varint; named = told.named; fits = told.fits } }))
+    record {
+      tag = read.front;
+      parts = read.parts;
+      tagged = record {
+        spelled = subst
+            (IsVarint read.front) told.is read.varint;
+        named = told.named;
+        fits = told.fits;
+      };
+    }))
 
 code_of-small : (wire_type : WireType) → code_of wire_type < 8
 code_of-small wire.Varint = lit< tt
@@ -88,4 +105,7 @@ pub head_at-only : (at number : ℕ) (wire_type : WireType) (tag behind : List �
     → head_at at (tag ++ behind) ≡ Ok (record { number = number; wire_type = wire_type }, behind)
 unfolding head_at
 head_at-only at number wire_type tag behind tagged =
-    rw (varint_at-only at (number * 8 + code_of wire_type) tag behind tagged.spelled, head_of-only at number wire_type tagged.named tagged.fits) refl
+    rw (
+      varint_at-only at (number * 8 + code_of wire_type) tag behind tagged.spelled,
+      head_of-only at number wire_type tagged.named tagged.fits,
+    ) refl

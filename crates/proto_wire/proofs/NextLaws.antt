@@ -23,13 +23,22 @@ module _ (old : Rest) where
         (ap (λ (p : FieldOf × Rest). p.0) both, ap (λ (p : FieldOf × Rest). p.1) both)
 
     pub field-exactly : (other : FieldOf) (left : Rest) → StartsWith old other left ↔ ((field ≡ other) × (new ≡ left))
-    field-exactly other left = (only-field other left, λ same. subst (StartsWith old other) same.1 (subst (λ (f : FieldOf). StartsWith old f new) same.0 field-starts))
+    field-exactly other left = (
+      only-field other left,
+      λ same. subst (StartsWith old other) same.1 (subst (λ
+          (f : FieldOf). StartsWith old f new) same.0 field-starts),
+    )
 
-    pub field-written : (written : Written) (behind : List ℕ) → IsWritable written → old.bytes ≡ spelling written ++ behind
+    pub field-written : (written : Written) (behind : List ℕ) → IsWritable written
+        → old.bytes ≡ spelling written ++ behind
         → (field.number ≡ number_of written) × (field.body ≡ body_of written) × (new.bytes ≡ behind)
     field-written written behind writable parts =
         let there = written-starts old written behind writable parts in
-        let same = only-field (field_there old written there.0) (record { bytes = behind; at = there.1; depth = old.depth }) there.2 in
+        let same = only-field (field_there old written there.0) (record {
+          bytes = behind;
+          at = there.1;
+          depth = old.depth;
+        }) there.2 in
         (ap (λ (f : FieldOf). f.number) same.0, ap (λ (f : FieldOf). f.body) same.0, ap (λ (r : Rest). r.bytes) same.1)
 
     pub field-walk : 0 < length old.bytes → walk_from old ≡ with_field field (walk_from new)
@@ -39,7 +48,10 @@ module _ (old : Rest) where
     field-shorter = shorter old field new field-starts
 
     pub field-step : old.at + length old.bytes < 2 ^ 32 → StepsOver old field new
-    field-step fits = let inside = within old field new field-starts in record { shorter = field-shorter; within = omega (arith, inside) }
+    field-step fits = let inside = within old field new field-starts in record {
+      shorter = field-shorter;
+      within = omega (arith, inside);
+    }
 
   -- a fault that was met
   module _ (fault : WireFault) (is : field_at old ≡ Err fault) where
@@ -49,8 +61,10 @@ module _ (old : Rest) where
     pub fault-exactly : (field : FieldOf) (new : Rest) → StartsWith old field new ↔ ⊥
     fault-exactly field new = (fault-none field new, λ no. absurd no)
 
-    pub fault-unwritten : (written : Written) (behind : List ℕ) → IsWritable written → old.bytes ≡ spelling written ++ behind → ⊥
-    fault-unwritten written behind writable parts = let there = written-starts old written behind writable parts in fault-none _ _ there.2
+    pub fault-unwritten : (written : Written) (behind : List ℕ) → IsWritable written
+        → old.bytes ≡ spelling written ++ behind → ⊥
+    fault-unwritten written behind writable parts = let there = written-starts old written behind writable parts in
+        fault-none _ _ there.2
 
     pub fault-walk : 0 < length old.bytes → walk_from old ≡ stopped (Some fault)
     fault-walk some = walk_from-some old some ∙ ap (walk_on walk_from) is
@@ -60,8 +74,10 @@ module _ (old : Rest) where
     pub end-none : (field : FieldOf) (new : Rest) → StartsWith old field new → ⊥
     end-none field new stands = let less = shorter old field new stands in omega (arith, less)
 
-    pub end-unwritten : (written : Written) (behind : List ℕ) → IsWritable written → old.bytes ≡ spelling written ++ behind → ⊥
-    end-unwritten written behind writable parts = let there = written-starts old written behind writable parts in end-none _ _ there.2
+    pub end-unwritten : (written : Written) (behind : List ℕ) → IsWritable written
+        → old.bytes ≡ spelling written ++ behind → ⊥
+    end-unwritten written behind writable parts = let there = written-starts old written behind writable parts in
+        end-none _ _ there.2
 
     pub end-walk : walk_from old ≡ stopped None
     end-walk = walk_from-none old none
@@ -82,5 +98,9 @@ parts-read end depth bytes behind old field is fits read =
     let place : end - length behind ≡ old.at + length old.bytes - length behind = omega arith in
     let moved : left_of end depth behind ≡ behind_of old behind =
     ap (λ (n : ℕ). let left : Rest = record { bytes = behind; at = n; depth = depth } in left) place
-    ∙ ap (λ (n : ℕ). let left : Rest = record { bytes = behind; at = old.at + length old.bytes - length behind; depth = n } in left) depth_is in
+    ∙ ap (λ (n : ℕ). let left : Rest = record {
+      bytes = behind;
+      at = old.at + length old.bytes - length behind;
+      depth = n;
+    } in left) depth_is in
     subst (λ (left : Rest). field_at old ≡ Ok (field, left)) (sym moved) read

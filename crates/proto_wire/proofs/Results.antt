@@ -17,7 +17,8 @@ then-agree (Ok x) next other P told same = same x told
 then-agree (Err fault) next other P told same = refl
 
 -- what holds of each choice
-pub of-if : {A : Type 0} (P : A → Type 0) (test : Bool) (x y : A) → (test ≡ true → P x) → (test ≡ false → P y) → P (if test then x else y)
+pub of-if : {A : Type 0} (P : A → Type 0) (test : Bool) (x y : A) → (test ≡ true → P x) → (test ≡ false → P y)
+    → P (if test then x else y)
 of-if P true x y of_x of_y = of_x refl
 of-if P false x y of_x of_y = of_y refl
 

@@ -20,9 +20,11 @@ varint-last n small = in-last 9 n small
 turns_enough : (turns n : ℕ) → n < 128 ^ suc turns → varint_in (suc turns) n ≡ varint_in (suc (suc turns)) n
 turns_enough zero n fits = let small : n < 128 = omega arith in in-last 0 n small ∙ sym (in-last 1 n small)
 turns_enough (suc turns) n fits =
-    let less : n / 128 < 128 ^ suc turns = (div-lt_iff_lt-mul {k = 128} {x = n} {y = 128 ^ suc turns} (lit< tt)).1 (rw (pow-suc 128 (suc turns)) at fits) in
+    let less : n / 128 < 128 ^ suc turns = (div-lt_iff_lt-mul {k = 128} {x = n} {y = 128 ^ suc turns} (lit< tt)).1 (rw
+    (pow-suc 128 (suc turns)) at fits) in
     ⊎_elim (λ small. in-last (suc turns) n small ∙ sym (in-last (suc (suc turns)) n small))
-    (λ large. in-step (suc turns) n large ∙ ap (λ rest. (n % 128 + 128) ∷ rest) (turns_enough turns (n / 128) less) ∙ sym (in-step (suc (suc turns)) n large))
+    (λ large. in-step (suc turns) n large ∙ ap (λ rest. (n % 128 + 128) ∷ rest) (turns_enough turns (n / 128) less)
+    ∙ sym (in-step (suc (suc turns)) n large))
     (cases_lt n 128)
 
 -- a greater number puts its low seven bits first

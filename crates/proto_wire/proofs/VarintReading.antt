@@ -44,12 +44,14 @@ pub varint_at-read : (at : ℕ) (bytes : List ℕ) → IfOk (varint_at at bytes)
 unfolding varint_at
 varint_at-read at bytes = by_place (position (λ byte. nat_lt byte 128) (take 10 bytes)) refl
   where
-    by_place : (place : Option ℕ) → position (λ byte. nat_lt byte 128) (take 10 bytes) ≡ place → IfOk (varint_to at bytes place) (VarintRead bytes)
+    by_place : (place : Option ℕ) → position (λ byte. nat_lt byte 128) (take 10 bytes) ≡ place
+        → IfOk (varint_to at bytes place) (VarintRead bytes)
     by_place None found = tt
     by_place (Some last) found = to_last bytes last found
 
 -- and a varint is read, whatever is behind it
-pub varint_at-only : (at value : ℕ) (front behind : List ℕ) → IsVarint front value → varint_at at (front ++ behind) ≡ Ok (value, behind)
+pub varint_at-only : (at value : ℕ) (front behind : List ℕ) → IsVarint front value
+    → varint_at at (front ++ behind) ≡ Ok (value, behind)
 unfolding varint_at
 varint_at-only at value front behind varint =
     let bytes : List ℕ = front ++ behind in
@@ -64,5 +66,6 @@ varint_at-only at value front behind varint =
     position_or_len_is (λ byte. nat_lt byte 128) (take 10 bytes) last 0 (omega arith)
     (λ k below. rw (in_front k (omega arith)) (le-ltb _ _ (varint.marked k (omega arith))))
     (λ _. rw (in_front last (omega arith)) (lt-ltb _ _ varint.ended)) in
-    let found : position (λ byte. nat_lt byte 128) (take 10 bytes) ≡ Some last = rw place (rw (lt-ltb last (length (take 10 bytes)) inside) refl) in
+    let found : position (λ byte. nat_lt byte 128) (take 10 bytes) ≡ Some last = rw place (rw (lt-ltb last (length
+    (take 10 bytes)) inside) refl) in
     rw found (rw (last_is, take-append_seam front behind, drop-append_seam front behind, ← varint.holds) refl)

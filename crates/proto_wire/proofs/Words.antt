@@ -31,12 +31,22 @@ unfolding varint
 a_float = refl
 
 -- the hour, read back
-hour_read : fields_of (80 ∷ 128 ∷ 192 ∷ 226 ∷ 133 ∷ 227 ∷ 104 ∷ []) ≡ Ok (record { number = 10; at = 0; payload_at = 1; body = Varint 3600000000000 } ∷ [])
+hour_read : fields_of (80 ∷ 128 ∷ 192 ∷ 226 ∷ 133 ∷ 227 ∷ 104 ∷ []) ≡ Ok (record {
+  number = 10;
+  at = 0;
+  payload_at = 1;
+  body = Varint 3600000000000;
+} ∷ [])
 unfolding walk_from walk_in field_at head_at head_of varint_at field_with
 hour_read = refl
 
 -- a text and a group, in which another group is
-group_read : fields_of (58 ∷ 1 ∷ 97 ∷ 11 ∷ 19 ∷ 20 ∷ 12 ∷ []) ≡ Ok (record { number = 7; at = 0; payload_at = 2; body = Bytes (97 ∷ []) } ∷
+group_read : fields_of (58 ∷ 1 ∷ 97 ∷ 11 ∷ 19 ∷ 20 ∷ 12 ∷ []) ≡ Ok (record {
+  number = 7;
+  at = 0;
+  payload_at = 2;
+  body = Bytes (97 ∷ []);
+} ∷
     record { number = 1; at = 3; payload_at = 4; body = Group (19 ∷ 20 ∷ []) } ∷ [])
 unfolding walk_from walk_in field_at head_at head_of varint_at field_with taken_at group_at until_end
 group_read = refl

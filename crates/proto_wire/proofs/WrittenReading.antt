@@ -32,7 +32,8 @@ marked_front : (byte : ℕ) (bytes : List ℕ) → 128 ≤ byte → ((k : ℕ) �
 marked_front byte bytes high others zero below = high
 marked_front byte bytes high others (suc k) below = others k (omega arith)
 
-byte_more : (turns n : ℕ) (bytes : List ℕ) → 128 ≤ n → IsSpelled turns (n / 128) bytes → IsSpelled (suc turns) n ((n % 128 + 128) ∷ bytes)
+byte_more : (turns n : ℕ) (bytes : List ℕ) → 128 ≤ n → IsSpelled turns (n / 128) bytes
+    → IsSpelled (suc turns) n ((n % 128 + 128) ∷ bytes)
 byte_more turns n bytes large others =
     let last_is : suc (length bytes) - 1 ≡ suc (length bytes - 1) = omega (arith, others.some) in
     record {
@@ -46,9 +47,11 @@ byte_more turns n bytes large others =
 in-spelled : (turns n : ℕ) → n < 128 ^ suc turns → IsSpelled (suc turns) n (varint_in (suc turns) n)
 in-spelled zero n fits = let small : n < 128 = omega arith in rw (in-last 0 n small) (one_byte 0 n small)
 in-spelled (suc turns) n fits =
-    let less : n / 128 < 128 ^ suc turns = (div-lt_iff_lt-mul {k = 128} {x = n} {y = 128 ^ suc turns} (lit< tt)).1 (rw (pow-suc 128 (suc turns)) at fits) in
+    let less : n / 128 < 128 ^ suc turns = (div-lt_iff_lt-mul {k = 128} {x = n} {y = 128 ^ suc turns} (lit< tt)).1 (rw
+    (pow-suc 128 (suc turns)) at fits) in
     ⊎_elim (λ small. rw (in-last (suc turns) n small) (one_byte (suc turns) n small))
-    (λ large. rw (in-step (suc turns) n large) (byte_more (suc turns) n (varint_in (suc turns) (n / 128)) large (in-spelled turns (n / 128) less)))
+    (λ large. rw (in-step (suc turns) n large) (byte_more (suc turns) n (varint_in (suc turns) (n / 128)) large
+    (in-spelled turns (n / 128) less)))
     (cases_lt n 128)
 
 -- the shortest spelling of a number is a varint
@@ -66,11 +69,21 @@ varint-spelled n fits =
 
 -- the field that was written, where it stands in front
 abbrev pub field_there : Rest → Written → ℕ → FieldOf
-field_there rest field payload_at = record { number = number_of field; at = rest.at; payload_at = payload_at; body = body_of field }
+field_there rest field payload_at = record {
+  number = number_of field;
+  at = rest.at;
+  payload_at = payload_at;
+  body = body_of field;
+}
 
 -- a written field is the field in front
-pub written-starts : (rest : Rest) (field : Written) (behind : List ℕ) → IsWritable field → rest.bytes ≡ spelling field ++ behind
-    → (payload_at : ℕ) × (next : ℕ) × StartsWith rest (field_there rest field payload_at) (record { bytes = behind; at = next; depth = rest.depth })
+pub written-starts : (rest : Rest) (field : Written) (behind : List ℕ) → IsWritable field
+    → rest.bytes ≡ spelling field ++ behind
+    → (payload_at : ℕ) × (next : ℕ) × StartsWith rest (field_there rest field payload_at) (record {
+      bytes = behind;
+      at = next;
+      depth = rest.depth;
+    })
 written-starts rest (AsVarint number value) behind writable parts =
     let head : List ℕ = tag number 0 in (
       rest.at + length head + 0,
@@ -81,7 +94,11 @@ written-starts rest (AsVarint number value) behind writable parts =
         payload = varint value;
         parts = parts ∙ append_assoc head (varint value) behind;
         laid_out = record {
-          tagged = record { spelled = varint-spelled (number * 8 + 0) (omega (arith, writable.numbered)); named = writable.named; fits = writable.numbered };
+          tagged = record {
+            spelled = varint-spelled (number * 8 + 0) (omega (arith, writable.numbered));
+            named = writable.named;
+            fits = writable.numbered;
+          };
           counted = refl;
           filled = varint-spelled value writable.fits;
         };
@@ -101,7 +118,11 @@ written-starts rest (AsBytes number bytes) behind writable parts =
         payload = bytes;
         parts = parts ∙ simp append_assoc;
         laid_out = record {
-          tagged = record { spelled = varint-spelled (number * 8 + 2) (omega (arith, writable.numbered)); named = writable.named; fits = writable.numbered };
+          tagged = record {
+            spelled = varint-spelled (number * 8 + 2) (omega (arith, writable.numbered));
+            named = writable.named;
+            fits = writable.numbered;
+          };
           counted = varint-spelled (length bytes) writable.fits;
           filled = refl;
         };
@@ -120,7 +141,11 @@ written-starts rest (AsFixed32 number value) behind writable parts =
         payload = to_le_bytes w32 value;
         parts = parts ∙ append_assoc head (to_le_bytes w32 value) behind;
         laid_out = record {
-          tagged = record { spelled = varint-spelled (number * 8 + 5) (omega (arith, writable.numbered)); named = writable.named; fits = writable.numbered };
+          tagged = record {
+            spelled = varint-spelled (number * 8 + 5) (omega (arith, writable.numbered));
+            named = writable.named;
+            fits = writable.numbered;
+          };
           counted = refl;
           filled = (refl, sym (from_le_bytes-to_le_bytes_4 value writable.fits));
         };

@@ -47,7 +47,7 @@ IsCount count (Fixed64 value) = count ≡ []
 IsCount count (Group bytes) = count ≡ []
 IsCount count (Fixed32 value) = count ≡ []
 
--- the payload, where the last argument says which bytes are a group of this number with this inside
+-- the payload, where the first argument says which bytes are a group of this number with this inside
 abbrev pub IsPayload : (ℕ → List ℕ → List ℕ → Type 0) → ℕ → List ℕ → BodyOf → Type 0
 IsPayload IsGroupOf number payload (Varint value) = IsVarint payload value
 IsPayload IsGroupOf number payload (Fixed64 value) = (length payload ≡ 8) × (value ≡ from_le_bytes w64 payload)
@@ -56,7 +56,8 @@ IsPayload IsGroupOf number payload (Group bytes) = IsGroupOf number bytes payloa
 IsPayload IsGroupOf number payload (Fixed32 value) = (length payload ≡ 4) × (value ≡ from_le_bytes w32 payload)
 
 -- a field's tag, count and payload
-pub record IsLaidOut (IsGroupOf : ℕ → List ℕ → List ℕ → Type 0) (number : ℕ) (body : BodyOf) (tag count payload : List ℕ) : Type 0 where
+pub record IsLaidOut (IsGroupOf : ℕ → List ℕ → List ℕ → Type 0) (number : ℕ) (body : BodyOf)
+    (tag count payload : List ℕ) : Type 0 where
   pub tagged : IsTag tag number (wire_type_for body)
   pub counted : IsCount count body
   pub filled : IsPayload IsGroupOf number payload body
@@ -80,7 +81,7 @@ pub record IsClosed (IsGroupOf : ℕ → List ℕ → List ℕ → Type 0) (numb
   pub each : AllByRecursion (IsRecord IsGroupOf) records
   pub ended : IsTag last number wire.GroupEnd
 
--- a group, where so many may be open inside one another
+-- a group, where so many may be open inside one another, it among them
 abbrev pub IsGroup : ℕ → ℕ → List ℕ → List ℕ → Type 0
 IsGroup zero number inside payload = ⊥
 IsGroup (suc levels) number inside payload = IsClosed (IsGroup levels) number inside payload
@@ -137,6 +138,7 @@ pub record IsWritable (field : Written) : Type 0 where
 
 -- the call gave what was written, and this is left
 abbrev pub GaveBack : Result (Option Field) WireFault → Rest → Written → List ℕ → Type 0
-GaveBack (Ok (Some given)) left field bytes = (given.number ≡ number_of field) × ((seen given).body ≡ body_of field) × (left.bytes ≡ bytes)
+GaveBack (Ok (Some given)) left field bytes =
+    (given.number ≡ number_of field) × ((seen given).body ≡ body_of field) × (left.bytes ≡ bytes)
 GaveBack (Ok None) left field bytes = ⊥
 GaveBack (Err fault) left field bytes = ⊥

@@ -36,7 +36,9 @@ varint_at at bytes = varint_to at bytes (position (λ byte. nat_lt byte 128) (ta
 
 -- so many bytes
 unfoldable pub taken_at : ℕ → ℕ → List ℕ → Result (List ℕ × List ℕ) WireFault
-taken_at at count bytes = if nat_lt (length bytes) count then Err (fault_at at CUT) else Ok (take count bytes, drop count bytes)
+taken_at at count bytes =
+    if nat_lt (length bytes) count then Err (fault_at at CUT)
+    else Ok (take count bytes, drop count bytes)
 
 -- a number of so many bytes, the low ones first
 abbrev pub fixed_at : Width → ℕ → ℕ → List ℕ → Result (ℕ × List ℕ) WireFault
@@ -87,7 +89,8 @@ field_with inside end at number wire.Bytes bytes =
     Ok (record { number = number; at = at; payload_at = end - length count.1; body = Bytes taken.0 }, taken.1)
 field_with inside end at number wire.GroupStart bytes =
     inside number at bytes >>= λ ended.
-    Ok (record { number = number; at = at; payload_at = end - length bytes; body = Group (take (length bytes - length ended.0) bytes) }, ended.1)
+    let body = Group (take (length bytes - length ended.0) bytes) in
+    Ok (record { number = number; at = at; payload_at = end - length bytes; body = body }, ended.1)
 field_with inside end at number wire.GroupEnd bytes = Err (fault_at at STRAY_GROUP_END)
 field_with inside end at number wire.Fixed32 bytes =
     fixed_at w32 at 4 bytes >>= λ value.
@@ -105,7 +108,8 @@ is_group_end wire.Fixed32 = false
 abbrev pub ends : ℕ → Head → Bool
 ends number head = is_group_end head.wire_type && (head.number == number)
 
--- record after record up to the group's end, in at most so many turns; where the bytes end before, the group is at fault
+-- Record after record up to the group's end, in at most so many turns.
+-- Where the bytes end between two records before it, the group is at fault.
 unfoldable pub until_end : Inside → ℕ → ℕ → Inside
 until_end inside end zero number at bytes = Err (fault_at at CUT)
 until_end inside end (suc turns) number at bytes =
@@ -115,7 +119,7 @@ until_end inside end (suc turns) number at bytes =
     else (field_with inside end (end - length bytes) head.0.number head.0.wire_type head.1 >>= λ field.
     until_end inside end turns number at field.1))
 
--- a group, inside of which so many levels less one may be open
+-- a group, where so many may be open inside one another, it among them
 unfoldable pub group_at : ℕ → ℕ → Inside
 group_at end zero number at bytes = Err (fault_at at TOO_DEEP)
 group_at end (suc levels) number at bytes = until_end (group_at end levels) end (length bytes) number at bytes
@@ -177,9 +181,13 @@ fields_or walk = fields_unless walk.fault walk.fields
     fields_unless None fields = Ok fields
     fields_unless (Some fault) fields = Err fault
 
+-- all fields of what is left, or the first fault
+abbrev pub fields_from : Rest → Result (List FieldOf) WireFault
+fields_from rest = fields_or (walk_from rest)
+
 -- all fields of a whole configuration, or its first fault
 abbrev pub fields_of : List ℕ → Result (List FieldOf) WireFault
-fields_of bytes = fields_or (walk_from (record { bytes = bytes; at = 0; depth = 0 }))
+fields_of bytes = fields_from (record { bytes = bytes; at = 0; depth = 0 })
 
 -- what a call answers, as the beginning of a walk: a field and the walk of what is left then, the end, or the fault
 abbrev pub walk_by : Result (Option Field) WireFault → Rest → Walk

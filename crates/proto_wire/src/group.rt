@@ -1,6 +1,6 @@
 //! Fields of every kind, and groups, whose records are read up to their end.
 ghost use Rattle.std.specs.Prelude.{◌≡◌, ◌+◌, ◌<◌, ◌≤◌, length, IfOk};
-ghost use Rattle.std.specs.Int.{w32, w64, from_le_bytes};
+ghost use Rattle.std.specs.Int.{w32, w64};
 ghost use Rattle.proto_wire.specs.Fields.{seen};
 ghost use Rattle.proto_wire.specs.Reading.{Gives, taken_at, fixed_at, field_with, group_at};
 

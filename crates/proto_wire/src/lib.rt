@@ -15,6 +15,7 @@ pub use fault::{
 };
 pub use field::{Body, Field};
 pub use records::Records;
+pub use varint::varint_of;
 pub use writer::Writer;
 
 #[cfg(test)]

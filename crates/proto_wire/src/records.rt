@@ -54,9 +54,10 @@ impl<'a> Records<'a> {
         ensures end { (result ≡ Ok None) ↔ (self.old.bytes ≡ []) }
 
         // A field is read exactly where one is laid out, and what a writer wrote is read back.
-        ensures grammar { (field : FieldOf) (new : Rest) → StartsWith self.old field new ↔ GaveField result self.new field new }
-        ensures written { (field : Written) (behind : List ℕ) → IsWritable field → self.old.bytes ≡ spelling field ++ behind
-            → GaveBack result self.new field behind }
+        ensures grammar { (field : FieldOf) (new : Rest)
+            → StartsWith self.old field new ↔ GaveField result self.new field new }
+        ensures written { (field : Written) (behind : List ℕ)
+            → IsWritable field → self.old.bytes ≡ spelling field ++ behind → GaveBack result self.new field behind }
 
         // One step of a walk.
         ensures walk { walk_from self.old ≡ walk_by result self.new }

@@ -150,6 +150,17 @@ fn reads_numbers_as_they_may_be_written(rt: HostRuntime) {
         assert_eq!(rt; number, Some(want), "at row {at}");
         assert_eq!(rt; records.next(), Ok(None), "at row {at}");
     }
+
+    // A packed payload is read number by number, and its record is at fault.
+    assert_eq!(rt;
+        varint_of(5, b"\xac\x02\x81"),
+        Ok((300, b"\x81".as_slice()))
+    );
+    let cut = WireFault {
+        offset: 5,
+        cause: CUT,
+    };
+    assert_eq!(rt; varint_of(5, b"\x81"), Err(cut));
 }
 
 // Written by protoc 3.21.12 (`--encode`) from this text of a message of proto2, whose field 5 is packed:
