@@ -1,4 +1,5 @@
--- The reading of a payload: the atom that it spells, or the reason that is met first. The reasons stand in the order in which they are judged.
+-- The reading of a payload: the atom that it spells, or the reason that is met first.
+-- The reasons stand in the order in which they are judged.
 use Rattle.std.specs.Prelude.{ℕ, zero, suc, ◌-◌, Bool, true, false, not, ◌&&◌, ◌||◌, ◌==◌, nat_lt, nat_le, List, [], ◌∷◌, ◌++◌, length, take, drop, Option, Some, None, Result, Ok, Err, slice_get, if◌then◌else◌}
 use Rattle.std.specs.Int.{Width, w16, w32, w64, byte_len, from_le_bytes, cast_signed}
 use Rattle.std.specs.List.{list_any}
@@ -37,11 +38,12 @@ is_above place below =
 abbrev pub place_of : AtomField → Place
 place_of entry = record { field = entry.field; index = entry.index; sub = entry.sub }
 
--- the place is above that of the last entry, if there is one
+-- the place is above that of an entry, if there is one
 abbrev pub is_above_entry : Option AtomField → Place → Bool
 is_above_entry None place = true
 is_above_entry (Some last) place = is_above place (place_of last)
 
+-- the place is above that of the last of these entries
 abbrev pub is_behind : List AtomField → Place → Bool
 is_behind before place = is_above_entry (slice_get before (length before - 1)) place
 
@@ -50,7 +52,8 @@ abbrev pub is_state : Place → Kind → Bool
 is_state place kinds.Int = place.index == 0 && place.sub == 0
 is_state place _ = false
 
--- an entry may have these flags: they are known, an exclusive entry is a state and the first of the atom, and only such a one resets
+-- an entry may have these flags: they are known, an exclusive entry is a state and the first of the atom,
+-- and only an exclusive entry resets
 abbrev pub may_have : Bool → Place → Kind → ℕ → Bool
 may_have exclusive_before place kind flags =
     nat_le flags ALL_FLAGS
@@ -102,13 +105,14 @@ entry_at before (field ∷ index ∷ sub ∷ flags ∷ number ∷ bytes) =
     else (value_at kind bytes >>= λ value. Ok (record { field = field; index = index; sub = sub; flags = flags; value = value.0 }, value.1)))
 entry_at before _ = Err CUT
 
--- the entries of these bytes, behind these entries; an entry has a byte at least, so as many turns as bytes are enough
+-- the entries of these bytes, behind these entries: an entry has a byte at least, so as many turns as bytes are enough
 unfoldable pub entries_in : ℕ → List AtomField → List ℕ → Result (List AtomField) ℕ
 entries_in zero before [] = Ok before
 entries_in zero before (byte ∷ bytes) = Err CUT
 entries_in (suc turns) before [] = Ok before
 entries_in (suc turns) before (byte ∷ bytes) = entry_at before (byte ∷ bytes) >>= λ entry. entries_in turns (before ++ entry.0 ∷ []) entry.1
 
+-- all entries of these bytes, behind these entries
 abbrev pub entries_at : List AtomField → List ℕ → Result (List AtomField) ℕ
 entries_at before bytes = entries_in (length bytes) before bytes
 

@@ -23,6 +23,7 @@ IsInRange (values.Str text) = IsText text
 IsInRange (values.Raw bytes) = IsText bytes
 IsInRange (values.Bits32 bits) = bits < 2 ^ 32
 
+-- the value is an Int
 abbrev pub IsInt : Value → Type 0
 IsInt (values.Int n) = Unit {0}
 IsInt (values.Long n) = ⊥

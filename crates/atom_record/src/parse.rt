@@ -6,7 +6,9 @@ ghost use Rattle.sd_base.specs.Reads.{GivesBy};
 ghost use Rattle.atom_record.specs.Flags.{is_exclusive};
 ghost use Rattle.atom_record.specs.Spelling.{payload_of};
 ghost use Rattle.atom_record.specs.Sound.{HasNoFault};
-ghost use Rattle.atom_record.specs.Reading.{reason_of, number_at, text_at, bool_at, kind_at, value_at, id_at, is_in_range, is_above, is_behind, is_state, may_have, entry_at, entries_at, atom_at};
+ghost use Rattle.atom_record.specs.Reading.{reason_of, entry_at, entries_at, id_at, atom_at};
+ghost use Rattle.atom_record.specs.Reading.{number_at, text_at, bool_at, kind_at, value_at};
+ghost use Rattle.atom_record.specs.Reading.{place_of, is_in_range, is_above, is_behind, is_state, may_have};
 
 use crate::atom::{EXCLUSIVE, PRIMARY, RESET, has_flag, is_atom_id};
 use crate::fault::{BAD_FLAGS, BAD_ID, BAD_PLACE, BAD_TYPE, CUT, NOT_ABOVE, TOO_LONG};
@@ -56,7 +58,7 @@ impl Place {
 
 impl AtomField {
     fn place(&self) -> Place
-        ensures { result ≡ record { field = self.now.field; index = self.now.index; sub = self.now.sub } }
+        ensures { result ≡ place_of self.now }
     {
         Place {
             field: self.field,
@@ -288,7 +290,8 @@ pub fn parse_atom(alloc: Global, bytes: &[u8]) -> Result<Atom, AtomFault>
     ensures spelled { IfOk result (λ atom. bytes.now ≡ payload_of atom) }
 
     // What has no fault and is spelled so is read.
-    ensures only { (atom : Atom) → HasNoFault atom → bytes.now ≡ payload_of atom → GivesBy reason_of (λ atom. atom) result (Ok atom) }
+    ensures only { (atom : Atom) → HasNoFault atom → bytes.now ≡ payload_of atom
+        → GivesBy reason_of (λ atom. atom) result (Ok atom) }
 {
     atom_of(alloc, bytes)
 }

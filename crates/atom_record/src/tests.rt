@@ -5,7 +5,7 @@ use std::collections::HashMap;
 use std::test::*;
 
 /// Entries behind the id 5, and the reason for which they are no payload. Reason 0 stands for none.
-const ENTRIES: [(&[u8], u8); 44] = [
+const ENTRIES: [(&[u8], u8); 45] = [
     (b"", 0),
     // fields, indexes and subs at their edges
     (b"\x00\0\0\0\x03\0", 4),
@@ -51,12 +51,24 @@ const ENTRIES: [(&[u8], u8); 44] = [
     (b"\x01\0\0\0\x06\0\0\0", 3),
     // two reasons in one entry: the earlier one of 3, 4, 5, 6, 7, 3, 6
     (b"\x00\0\0\0", 3),
+    (b"\x00\0\0\0\x01\0", 4),
     (b"\x02\0\0\0\x03\0\x00\0\0\0\x03\0", 4),
     (b"\x02\0\0\0\x03\0\x02\0\0\0\x00", 5),
     (b"\x01\0\0\x08\x00", 6),
     (b"\x01\0\0\x08\x01", 7),
     (b"\x01\0\0\x08\x03\x02", 7),
 ];
+
+/// An atom with one value of each kind, and where its entries end.
+const EACH_KIND: &[u8] = b"\x05\0\0\0\
+    \x01\0\0\x07\x01\xfe\xff\xff\xff\
+    \x02\0\0\0\x02\xfe\xff\xff\xff\xff\xff\xff\xff\
+    \x02\x01\x01\x02\x03\x01\
+    \x02\x01\x02\0\x04\x02\0ab\
+    \x02\x02\0\0\x05\x01\0\xff\
+    \x03\0\0\0\x06\x01\x02\x03\x04";
+
+const ENDS: [usize; 7] = [4, 13, 26, 32, 41, 49, 58];
 
 fn answer_of(answer: Result<Atom, AtomFault>) -> u8 {
     match answer {
@@ -109,14 +121,20 @@ fn refuses_ids_and_lengths(rt: HostRuntime) -> Result<(), Fail> {
 }
 
 #[test]
+fn finds_each_cut(rt: HostRuntime) {
+    assert_eq!(rt; EACH_KIND.len(), 58);
+    for len in 4..=EACH_KIND.len() {
+        let reason = if ENDS.contains(&len) { 0 } else { CUT };
+        assert_eq!(rt;
+            answer_of(parse_atom(rt.alloc(), &EACH_KIND[..len])),
+            reason,
+            "at {len}"
+        );
+    }
+}
+
+#[test]
 fn reads_each_kind_of_value(rt: HostRuntime) -> Result<(), Fail> {
-    let payload = b"\x05\0\0\0\
-        \x01\0\0\x07\x01\xfe\xff\xff\xff\
-        \x02\0\0\0\x02\xfe\xff\xff\xff\xff\xff\xff\xff\
-        \x02\x01\x01\x02\x03\x01\
-        \x02\x01\x02\0\x04\x02\0ab\
-        \x02\x02\0\0\x05\x01\0\xff\
-        \x03\0\0\0\x06\x01\x02\x03\x04";
     let entry = |field, index, sub, flags, value| AtomField {
         field,
         index,
@@ -135,7 +153,7 @@ fn reads_each_kind_of_value(rt: HostRuntime) -> Result<(), Fail> {
         entry(3, 0, 0, 0, Value::Bits32(0x0403_0201)),
     ];
     let fields = Seq::from_vec(Vec::from_array(rt.alloc(), fields)?);
-    let atom = parse_atom(rt.alloc(), payload)?;
+    let atom = parse_atom(rt.alloc(), EACH_KIND)?;
     assert_eq!(rt; atom, Atom { id: 5, fields });
     assert_eq!(rt; atom.clone_atom(rt.alloc())?, atom);
     Ok(())
