@@ -1,0 +1,7 @@
+pub mod CallerLemmas
+pub mod EntriesLoop
+pub mod EntryLaws
+pub mod PartLaws
+pub mod PayloadLaws
+pub mod PlaceLaws
+pub mod ValueLaws

@@ -2,9 +2,18 @@
 #![tactic(auto)]
 
 mod atom;
+mod fault;
 mod log;
+mod parse;
 mod value;
 
-pub use atom::{Atom, AtomField};
-pub use log::{LogFrame, PullOutcome};
-pub use value::{Bytes, DimKey, Leaf, MetricKey, Slice, Value};
+pub use atom::{Atom, AtomField, EXCLUSIVE, PRIMARY, RESET, has_flag, is_atom_id};
+pub use fault::{
+    AtomFault, BAD_FLAGS, BAD_ID, BAD_PLACE, BAD_TYPE, CUT, NOT_ABOVE, OTHER_ID, TOO_LONG,
+};
+pub use log::{LogFrame, PullOutcome, is_pulled};
+pub use parse::{MOST_BYTES, parse_atom};
+pub use value::{Bytes, CloneKey, DimKey, Leaf, MetricKey, Slice, Value};
+
+#[cfg(test)]
+mod tests;

@@ -1,4 +1,7 @@
 //! The frames of the log.
+ghost use Rattle.std.specs.Prelude.{◌≡◌, ◌↔◌, IsTrue};
+ghost use Rattle.atom_record.specs.Pulled.{IsPulled, pulled};
+
 use crate::Atom;
 use sd_base::Seq;
 
@@ -15,13 +18,26 @@ pub enum PullOutcome {
 #[derive(Debug, Drop, PartialEq, Eq)]
 pub enum LogFrame {
     /// Time passed.
-    Tick { at: u64 },
+    Tick {
+        at: u64,
+    },
     /// An atom was logged.
-    AtomAt { at: u64, atom: Atom },
+    AtomAt {
+        at: u64,
+        atom: Atom,
+    },
     /// A snapshot of a pulled atom was recorded.
     Pull {
         at: u64,
         id: u32,
         outcome: PullOutcome,
     },
+}
+
+/// Whether atoms of this id are pulled. All others are pushed.
+pub fn is_pulled(id: u32) -> bool
+    ensures exact { IsTrue result ↔ IsPulled id }
+    ensures test { result ≡ pulled id }
+{
+    matches!(id, 10_000..100_000 | 150_000..200_000)
 }

@@ -1,5 +1,9 @@
 //! Values of atoms, and the keys that are made of them.
-use sd_base::Seq;
+ghost use Rattle.std.specs.Prelude.{◌≡◌, IfOk};
+ghost use Rattle.std.proofs.Common.{rules};
+
+use sd_base::{Duplicate, Exact, Seq};
+use std::alloc::{AllocError, Global};
 
 /// A string of bytes.
 pub type Bytes = Seq<u8>;
@@ -45,4 +49,92 @@ pub struct MetricKey {
     pub dims: DimKey,
     /// One slice for each state by which the metric is sliced.
     pub slices: Seq<Slice>,
+}
+
+impl Value {
+    /// A copy, which equals its source.
+    pub fn clone_value(&self, alloc: Global) -> Result<Value, AllocError>
+        ensures { IfOk result (λ copy. copy ≡ self.now) }
+    {
+        self.duplicate(alloc)
+    }
+}
+
+impl MetricKey {
+    /// A copy, which equals its source.
+    pub fn clone_key(&self, alloc: Global) -> Result<MetricKey, AllocError>
+        ensures { IfOk result (λ copy. copy ≡ self.now) }
+    {
+        self.duplicate(alloc)
+    }
+}
+
+/// Copies of keys of dimensions. Their type is a name of a list, which takes no methods of its own.
+pub trait CloneKey: Sized {
+    /// A copy, which equals its source.
+    fn clone_key(&self, alloc: Global) -> Result<Self, AllocError>
+        ensures { IfOk result (λ copy. copy ≡ self.now) };
+}
+
+impl CloneKey for DimKey {
+    fn clone_key(&self, alloc: Global) -> Result<DimKey, AllocError> {
+        self.duplicate(alloc)
+    }
+}
+
+impl Exact for Value {
+    ghost exact = { λ x y. Prim.search rules };
+}
+
+impl Exact for Leaf {
+    ghost use Rattle.atom_record.specs.Equal.{leaf_exact};
+
+    ghost exact = { leaf_exact };
+}
+
+impl Exact for Slice {
+    ghost exact = { λ x y. Prim.search rules };
+}
+
+impl Exact for MetricKey {
+    ghost use Rattle.atom_record.specs.Equal.{metric_key_exact};
+
+    ghost exact = { metric_key_exact };
+}
+
+impl Duplicate for Value {
+    fn duplicate(&self, alloc: Global) -> Result<Value, AllocError> {
+        match self {
+            Value::Int(n) => Ok(Value::Int(*n)),
+            Value::Long(n) => Ok(Value::Long(*n)),
+            Value::Bool(b) => Ok(Value::Bool(*b)),
+            Value::Str(text) => Ok(Value::Str(text.duplicate(alloc)?)),
+            Value::Raw(bytes) => Ok(Value::Raw(bytes.duplicate(alloc)?)),
+            Value::Bits32(bits) => Ok(Value::Bits32(*bits)),
+        }
+    }
+}
+
+impl Duplicate for Leaf {
+    fn duplicate(&self, alloc: Global) -> Result<Leaf, AllocError> {
+        match self {
+            Leaf::Missing => Ok(Leaf::Missing),
+            Leaf::One(value) => Ok(Leaf::One(value.duplicate(alloc)?)),
+            Leaf::Many(values) => Ok(Leaf::Many(values.duplicate(alloc)?)),
+        }
+    }
+}
+
+impl Duplicate for Slice {
+    fn duplicate(&self, _alloc: Global) -> Result<Slice, AllocError> {
+        Ok(*self)
+    }
+}
+
+impl Duplicate for MetricKey {
+    fn duplicate(&self, alloc: Global) -> Result<MetricKey, AllocError> {
+        let dims = self.dims.duplicate(alloc)?;
+        let slices = self.slices.duplicate(alloc)?;
+        Ok(MetricKey { dims, slices })
+    }
 }

@@ -1,0 +1,294 @@
+//! From the bytes of a payload to an atom.
+ghost use Rattle.std.specs.Prelude.{◌≡◌, [], Ok, IfOk};
+ghost use Rattle.std.specs.Int.{w16, w32, w64};
+ghost use Rattle.std.specs.List.{list_any};
+ghost use Rattle.sd_base.specs.Reads.{GivesBy};
+ghost use Rattle.atom_record.specs.Flags.{is_exclusive};
+ghost use Rattle.atom_record.specs.Spelling.{payload_of};
+ghost use Rattle.atom_record.specs.Sound.{HasNoFault};
+ghost use Rattle.atom_record.specs.Reading.{reason_of, number_at, text_at, bool_at, kind_at, value_at, id_at, is_in_range, is_above, is_behind, is_state, may_have, entry_at, entries_at, atom_at};
+
+use crate::atom::{EXCLUSIVE, PRIMARY, RESET, has_flag, is_atom_id};
+use crate::fault::{BAD_FLAGS, BAD_ID, BAD_PLACE, BAD_TYPE, CUT, NOT_ABOVE, TOO_LONG};
+use crate::{Atom, AtomFault, AtomField, Bytes, Value};
+use sd_base::Seq;
+use std::alloc::Global;
+
+/// The most bytes of a payload.
+pub const MOST_BYTES: usize = 4096;
+
+/// All flags together.
+const ALL_FLAGS: u8 = EXCLUSIVE | PRIMARY | RESET;
+
+/// Where an entry stands in its atom: by field, then by index, then by sub.
+#[derive(Clone, Copy, Debug)]
+struct Place {
+    field: u8,
+    index: u8,
+    sub: u8,
+}
+
+impl Place {
+    fn is_in_range(self) -> bool
+        ensures { result ≡ is_in_range self }
+    {
+        1 <= self.field && self.field <= 127 && self.index <= 127 && self.sub <= 127
+    }
+
+    fn is_above(self, below: Place) -> bool
+        ensures { result ≡ is_above self below }
+    {
+        below.field < self.field
+            || below.field == self.field
+                && (below.index < self.index || below.index == self.index && below.sub < self.sub)
+    }
+
+    /// Whether the place is above that of the last entry, if there is one.
+    fn is_behind(self, before: &[AtomField]) -> bool
+        ensures { result ≡ is_behind before.now self }
+    {
+        match before.last() {
+            None => true,
+            Some(last) => self.is_above(last.place()),
+        }
+    }
+}
+
+impl AtomField {
+    fn place(&self) -> Place
+        ensures { result ≡ record { field = self.now.field; index = self.now.index; sub = self.now.sub } }
+    {
+        Place {
+            field: self.field,
+            index: self.index,
+            sub: self.sub,
+        }
+    }
+}
+
+/// The kinds of values, as a payload tells them apart.
+#[derive(Clone, Copy, Debug)]
+enum Kind {
+    Int,
+    Long,
+    Bool,
+    Str,
+    Raw,
+    Bits32,
+}
+
+impl Kind {
+    fn of(number: u8) -> Result<Kind, AtomFault>
+        ensures { GivesBy reason_of (λ kind. kind) result (kind_at number) }
+    {
+        match number {
+            1 => Ok(Kind::Int),
+            2 => Ok(Kind::Long),
+            3 => Ok(Kind::Bool),
+            4 => Ok(Kind::Str),
+            5 => Ok(Kind::Raw),
+            6 => Ok(Kind::Bits32),
+            _ => Err(AtomFault::Bad(BAD_TYPE)),
+        }
+    }
+
+    /// Whether an entry with such a value may be an exclusive state.
+    fn is_state(self, place: Place) -> bool
+        ensures { result ≡ is_state place self }
+    {
+        matches!(self, Kind::Int) && place.index == 0 && place.sub == 0
+    }
+
+    /// Whether an entry may have these flags, with or without an exclusive one before it.
+    fn may_have(self, flags: u8, place: Place, exclusive_before: bool) -> bool
+        ensures { result ≡ may_have exclusive_before place self flags }
+    {
+        if ALL_FLAGS < flags {
+            false
+        } else if has_flag(flags, EXCLUSIVE) {
+            !exclusive_before && self.is_state(place)
+        } else {
+            !has_flag(flags, RESET)
+        }
+    }
+}
+
+fn u16_of(bytes: &[u8]) -> Result<(u16, &[u8]), AtomFault>
+    ensures { GivesBy reason_of (λ x. (x.0, x.1.now)) result (number_at w16 bytes.now) }
+{
+    let Some((front, rest)) = bytes.split_first_chunk::<2>() else {
+        return Err(AtomFault::Bad(CUT));
+    };
+    Ok((u16::from_le_bytes(*front), rest))
+}
+
+fn u32_of(bytes: &[u8]) -> Result<(u32, &[u8]), AtomFault>
+    ensures { GivesBy reason_of (λ x. (x.0, x.1.now)) result (number_at w32 bytes.now) }
+{
+    let Some((front, rest)) = bytes.split_first_chunk::<4>() else {
+        return Err(AtomFault::Bad(CUT));
+    };
+    Ok((u32::from_le_bytes(*front), rest))
+}
+
+fn u64_of(bytes: &[u8]) -> Result<(u64, &[u8]), AtomFault>
+    ensures { GivesBy reason_of (λ x. (x.0, x.1.now)) result (number_at w64 bytes.now) }
+{
+    let Some((front, rest)) = bytes.split_first_chunk::<8>() else {
+        return Err(AtomFault::Bad(CUT));
+    };
+    Ok((u64::from_le_bytes(*front), rest))
+}
+
+fn bool_of(bytes: &[u8]) -> Result<(bool, &[u8]), AtomFault>
+    ensures { GivesBy reason_of (λ x. (x.0, x.1.now)) result (bool_at bytes.now) }
+{
+    match bytes {
+        [] => Err(AtomFault::Bad(CUT)),
+        [0, rest @ ..] => Ok((false, rest)),
+        [1, rest @ ..] => Ok((true, rest)),
+        [_, ..] => Err(AtomFault::Bad(BAD_TYPE)),
+    }
+}
+
+/// A length in two bytes, and so many bytes.
+#[tactic(auto, unfolding(crate::specs::Reading::text_at))]
+fn text_of(alloc: Global, bytes: &[u8]) -> Result<(Bytes, &[u8]), AtomFault>
+    ensures { GivesBy reason_of (λ x. (x.0, x.1.now)) result (text_at bytes.now) }
+{
+    let (len, rest) = u16_of(bytes)?;
+    let len = usize::from(len);
+    if rest.len() < len {
+        return Err(AtomFault::Bad(CUT));
+    }
+    let (text, rest) = rest.split_at(len);
+    Ok((Seq::from_slice(alloc, text)?, rest))
+}
+
+#[tactic(auto, unfolding(crate::specs::Reading::value_at))]
+fn value_of(alloc: Global, kind: Kind, bytes: &[u8]) -> Result<(Value, &[u8]), AtomFault>
+    ensures { GivesBy reason_of (λ x. (x.0, x.1.now)) result (value_at kind bytes.now) }
+{
+    match kind {
+        Kind::Int => {
+            let (number, rest) = u32_of(bytes)?;
+            Ok((Value::Int(number.cast_signed()), rest))
+        }
+        Kind::Long => {
+            let (number, rest) = u64_of(bytes)?;
+            Ok((Value::Long(number.cast_signed()), rest))
+        }
+        Kind::Bool => {
+            let (truth, rest) = bool_of(bytes)?;
+            Ok((Value::Bool(truth), rest))
+        }
+        Kind::Str => {
+            let (text, rest) = text_of(alloc, bytes)?;
+            Ok((Value::Str(text), rest))
+        }
+        Kind::Raw => {
+            let (text, rest) = text_of(alloc, bytes)?;
+            Ok((Value::Raw(text), rest))
+        }
+        Kind::Bits32 => {
+            let (bits, rest) = u32_of(bytes)?;
+            Ok((Value::Bits32(bits), rest))
+        }
+    }
+}
+
+/// The entry at the front, behind these entries.
+#[tactic(auto, unfolding(crate::specs::Reading::entry_at))]
+fn entry_of<'a>(
+    alloc: Global,
+    before: &[AtomField],
+    exclusive_before: bool,
+    bytes: &'a [u8],
+) -> Result<(AtomField, &'a [u8]), AtomFault>
+    requires { exclusive_before ≡ list_any is_exclusive before.now }
+    ensures { GivesBy reason_of (λ x. (x.0, x.1.now)) result (entry_at before.now bytes.now) }
+{
+    let [field, index, sub, flags, kind, rest @ ..] = bytes else {
+        return Err(AtomFault::Bad(CUT));
+    };
+    let place = Place {
+        field: *field,
+        index: *index,
+        sub: *sub,
+    };
+    if !place.is_in_range() {
+        return Err(AtomFault::Bad(BAD_PLACE));
+    }
+    if !place.is_behind(before) {
+        return Err(AtomFault::Bad(NOT_ABOVE));
+    }
+    let kind = Kind::of(*kind)?;
+    if !kind.may_have(*flags, place, exclusive_before) {
+        return Err(AtomFault::Bad(BAD_FLAGS));
+    }
+    let (value, rest) = value_of(alloc, kind, rest)?;
+    let entry = AtomField {
+        field: place.field,
+        index: place.index,
+        sub: place.sub,
+        flags: *flags,
+        value,
+    };
+    Ok((entry, rest))
+}
+
+/// All entries, to the end of the bytes.
+fn entries_of(alloc: Global, bytes: &[u8]) -> Result<Seq<AtomField>, AtomFault>
+    ensures { GivesBy reason_of (λ entries. entries) result (entries_at [] bytes.now) }
+{
+    let mut entries = Seq::new(alloc);
+    let mut exclusive = false;
+    let mut rest = bytes;
+    while !rest.is_empty() {
+        let (entry, after) = entry_of(alloc, entries.as_slice(), exclusive, rest)?;
+        exclusive |= has_flag(entry.flags, EXCLUSIVE);
+        entries.push(entry)?;
+        rest = after;
+    }
+    Ok(entries)
+}
+
+#[tactic(auto, unfolding(crate::specs::Reading::id_at))]
+fn id_of(bytes: &[u8]) -> Result<(u32, &[u8]), AtomFault>
+    ensures { GivesBy reason_of (λ x. (x.0, x.1.now)) result (id_at bytes.now) }
+{
+    let Some((front, rest)) = bytes.split_first_chunk::<4>() else {
+        return Err(AtomFault::Bad(BAD_ID));
+    };
+    let id = u32::from_le_bytes(*front);
+    if !is_atom_id(id) {
+        return Err(AtomFault::Bad(BAD_ID));
+    }
+    Ok((id, rest))
+}
+
+#[tactic(auto, unfolding(crate::specs::Reading::atom_at))]
+fn atom_of(alloc: Global, bytes: &[u8]) -> Result<Atom, AtomFault>
+    ensures { GivesBy reason_of (λ atom. atom) result (atom_at bytes.now) }
+{
+    if MOST_BYTES < bytes.len() {
+        return Err(AtomFault::Bad(TOO_LONG));
+    }
+    let (id, rest) = id_of(bytes)?;
+    let fields = entries_of(alloc, rest)?;
+    Ok(Atom { id, fields })
+}
+
+/// The atom that a payload spells, or the reason that is met first.
+pub fn parse_atom(alloc: Global, bytes: &[u8]) -> Result<Atom, AtomFault>
+    ensures exact { GivesBy reason_of (λ atom. atom) result (atom_at bytes.now) }
+
+    // What is read has no fault and is spelled so.
+    ensures sound { IfOk result HasNoFault }
+    ensures spelled { IfOk result (λ atom. bytes.now ≡ payload_of atom) }
+
+    // What has no fault and is spelled so is read.
+    ensures only { (atom : Atom) → HasNoFault atom → bytes.now ≡ payload_of atom → GivesBy reason_of (λ atom. atom) result (Ok atom) }
+{
+    atom_of(alloc, bytes)
+}

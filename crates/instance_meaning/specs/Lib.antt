@@ -1,0 +1,6 @@
+pub mod Linked
+pub mod Keys
+pub mod History
+pub mod Counts
+pub mod Report
+pub mod Spelling

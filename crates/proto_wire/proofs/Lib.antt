@@ -1,0 +1,12 @@
+pub mod Words
+pub mod VarintLemmas
+pub mod Results
+pub mod VarintReading
+pub mod HeadReading
+pub mod FieldReading
+pub mod GroupReading
+pub mod GroupLoop
+pub mod GroupGiven
+pub mod RestReading
+pub mod WrittenReading
+pub mod NextLaws

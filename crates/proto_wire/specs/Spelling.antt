@@ -1,0 +1,28 @@
+-- The shortest spelling of fields, as bytes.
+use Rattle.std.specs.Prelude.{ℕ, zero, suc, ◌+◌, ◌*◌, ◌/◌, ◌%◌, List, [], ◌∷◌, ◌++◌, length, nat_lt, if◌then◌else◌}
+use Rattle.std.specs.Int.{w32, to_le_bytes}
+
+-- seven bits a byte, the low ones first, in at most so many bytes; each byte but the last has its high bit set
+abbrev pub varint_in : ℕ → ℕ → List ℕ
+varint_in zero n = []
+varint_in (suc turns) n = if nat_lt n 128 then n ∷ [] else (n % 128 + 128) ∷ varint_in turns (n / 128)
+
+-- the shortest spelling of a number below 2^64
+unfoldable pub varint : ℕ → List ℕ
+varint n = varint_in 10 n
+
+-- the head of a field: its number, and how its payload is laid out
+abbrev pub tag : ℕ → ℕ → List ℕ
+tag number wire_type = varint (number * 8 + wire_type)
+
+-- a field that holds a number
+abbrev pub varint_field : ℕ → ℕ → List ℕ
+varint_field number value = tag number 0 ++ varint value
+
+-- a field that holds bytes, behind their count
+abbrev pub bytes_field : ℕ → List ℕ → List ℕ
+bytes_field number bytes = tag number 2 ++ varint (length bytes) ++ bytes
+
+-- a field that holds four bytes, the low ones first
+abbrev pub fixed32_field : ℕ → ℕ → List ℕ
+fixed32_field number value = tag number 5 ++ to_le_bytes w32 value

@@ -1,0 +1,128 @@
+//! A writer of fields in their shortest spelling.
+ghost use Rattle.std.specs.Prelude.{◌≡◌, ◌+◌, ◌<◌, ◌≤◌, ◌^◌, [], ◌++◌, length, take, OnOk, OnErr, vec_len};
+ghost use Rattle.proto_wire.specs.Spelling.{varint, varint_field, bytes_field, fixed32_field};
+
+use std::alloc::{AllocError, Global};
+use std::marker::Model;
+
+/// The bytes of a message, field by field. Contracts see the bytes.
+#[derive(Debug, Drop)]
+pub struct Writer {
+    bytes: Vec<u8>,
+}
+
+impl Model for Writer {
+    ghost use Rattle.std.specs.Prelude.{ℕ, List};
+
+    ghost Value = { List ℕ };
+
+    ghost view = { λ w. w.bytes.items };
+}
+
+impl Writer {
+    /// A message without fields. It takes no memory yet.
+    pub fn new(alloc: Global) -> Writer
+        ensures { result ≡ [] }
+    {
+        Writer {
+            bytes: Vec::new(alloc),
+        }
+    }
+
+    /// Adds a field of wire type 0. A negative number is given as the 64 bits of its two's complement.
+    pub fn varint_field(&mut self, number: u32, v: u64) -> Result<(), AllocError>
+        requires named { 1 ≤ number }
+        requires fits { number < 2 ^ 29 }
+        ensures field { OnOk result (self.new ≡ self.old ++ varint_field number v) }
+        ensures err { OnErr result (self.new ≡ self.old) }
+    {
+        let len = self.bytes.len();
+        let put = put_varint_field(&mut self.bytes, number, v);
+        self.keep_whole(len, put)
+    }
+
+    /// Adds a field of wire type 2.
+    pub fn bytes_field(&mut self, number: u32, bytes: &[u8]) -> Result<(), AllocError>
+        requires named { 1 ≤ number }
+        requires fits { number < 2 ^ 29 }
+        ensures field { OnOk result (self.new ≡ self.old ++ bytes_field number bytes.now) }
+        ensures err { OnErr result (self.new ≡ self.old) }
+    {
+        let len = self.bytes.len();
+        let put = put_bytes_field(&mut self.bytes, number, bytes);
+        self.keep_whole(len, put)
+    }
+
+    /// Adds a field of wire type 5.
+    pub fn fixed32_field(&mut self, number: u32, v: u32) -> Result<(), AllocError>
+        requires named { 1 ≤ number }
+        requires fits { number < 2 ^ 29 }
+        ensures field { OnOk result (self.new ≡ self.old ++ fixed32_field number v) }
+        ensures err { OnErr result (self.new ≡ self.old) }
+    {
+        let len = self.bytes.len();
+        let put = put_fixed32_field(&mut self.bytes, number, v);
+        self.keep_whole(len, put)
+    }
+
+    /// Takes back what was put of a field for which memory was short.
+    fn keep_whole(&mut self, len: usize, put: Result<(), AllocError>) -> Result<(), AllocError>
+        ensures same { result ≡ put }
+        ensures field { OnOk put (self.new ≡ self.old) }
+        ensures err { OnErr put (self.new ≡ take len self.old) }
+    {
+        if put.is_err() {
+            self.bytes.truncate(len);
+        }
+        put
+    }
+
+    /// The bytes written.
+    pub fn into_bytes(self) -> Vec<u8>
+        ensures { result.items ≡ self }
+    {
+        self.bytes
+    }
+}
+
+/// Adds a varint. Where memory is short, a part of it may stand behind the old bytes.
+fn put_varint(out: &mut Vec<u8>, value: u64) -> Result<(), AllocError>
+    ensures spelled { OnOk result (out.new.items ≡ out.old.items ++ varint value) }
+    ensures err { OnErr result (take (vec_len out.old) out.new.items ≡ out.old.items) }
+{
+    let mut rest = value;
+    while rest >= 128 {
+        out.push((rest % 128 + 128) as u8)?;
+        rest /= 128;
+    }
+    out.push(rest as u8)?;
+    Ok(())
+}
+
+fn put_varint_field(out: &mut Vec<u8>, number: u32, value: u64) -> Result<(), AllocError>
+    requires { number < 2 ^ 29 }
+    ensures field { OnOk result (out.new.items ≡ out.old.items ++ varint_field number value) }
+    ensures err { OnErr result (take (vec_len out.old) out.new.items ≡ out.old.items) }
+{
+    put_varint(out, u64::from(number) * 8)?;
+    put_varint(out, value)
+}
+
+fn put_bytes_field(out: &mut Vec<u8>, number: u32, bytes: &[u8]) -> Result<(), AllocError>
+    requires { number < 2 ^ 29 }
+    ensures field { OnOk result (out.new.items ≡ out.old.items ++ bytes_field number bytes.now) }
+    ensures err { OnErr result (take (vec_len out.old) out.new.items ≡ out.old.items) }
+{
+    put_varint(out, u64::from(number) * 8 + 2)?;
+    put_varint(out, bytes.len() as u64)?;
+    out.extend_from_slice(bytes)
+}
+
+fn put_fixed32_field(out: &mut Vec<u8>, number: u32, value: u32) -> Result<(), AllocError>
+    requires { number < 2 ^ 29 }
+    ensures field { OnOk result (out.new.items ≡ out.old.items ++ fixed32_field number value) }
+    ensures err { OnErr result (take (vec_len out.old) out.new.items ≡ out.old.items) }
+{
+    put_varint(out, u64::from(number) * 8 + 5)?;
+    out.extend_from_slice(&value.to_le_bytes())
+}

@@ -1,0 +1,3 @@
+pub mod CausesLemmas
+pub mod PutLemmas
+pub mod MemLemmas

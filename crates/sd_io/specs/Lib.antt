@@ -1,0 +1,4 @@
+pub mod Causes
+pub mod MemSource
+pub mod MemSink
+pub mod Streams

@@ -1,0 +1,26 @@
+-- What a contract sees of a `MemSink`, and of a call that isn't to fail.
+use Rattle.std.specs.Prelude.{ℕ, ◌-◌, ◌+◌, ◌<◌, List, length, take, Contains}
+
+pub record SinkContents : Type 0 where
+  -- the bytes that were written
+  pub written : List ℕ
+  -- how many bytes it takes in all
+  pub room : ℕ
+  -- the numbers of the calls that fail, the first call being 0
+  pub fails : List ℕ
+  -- how many calls there were
+  pub calls : ℕ
+  -- how many of them failed
+  pub faults : ℕ
+
+-- the next call is one of those that fail
+abbrev pub IsPutToFail : SinkContents → Type 0
+IsPutToFail sink = Contains sink.fails sink.calls
+
+-- the room that is left doesn't hold the piece
+abbrev pub IsTooLong : SinkContents → List ℕ → Type 0
+IsTooLong sink piece = sink.room < length sink.written + length piece
+
+-- as much of the piece as the room that is left holds
+abbrev pub front_that_fits : SinkContents → List ℕ → List ℕ
+front_that_fits sink piece = take (sink.room - length sink.written) piece

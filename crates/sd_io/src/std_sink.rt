@@ -1,0 +1,58 @@
+//! std's writers as sinks.
+ghost use Rattle.std.specs.Prelude.{◌≡◌, is_err, if◌then◌else◌};
+ghost use Rattle.sd_io.specs.Causes.{PutAppends, HasCause, count_up};
+
+use crate::{Sink, WriteFailed};
+use std::io::Write;
+use std::marker::Model;
+
+/// Writes to a writer of std, by calls of its `write` until the piece is written. Every error, an interruption too,
+/// is a fault, and so is a call that takes nothing.
+#[derive(Debug, Drop)]
+pub struct StdSink<W> {
+    inner: W,
+    faults: u64,
+}
+
+impl<W> Model for StdSink<W> {
+    ghost use Rattle.sd_io.specs.Streams.{Counted};
+
+    ghost Value = { Counted W };
+
+    ghost view = { λ s. record { stream = s.inner; faults = s.faults } };
+}
+
+impl<W: Write> StdSink<W> {
+    /// A sink that has counted no fault.
+    pub fn new(inner: W) -> StdSink<W>
+        ensures { result ≡ record { stream = inner; faults = 0 } }
+    {
+        StdSink { inner, faults: 0 }
+    }
+}
+
+impl<W: Write> Sink for StdSink<W> {
+    ghost written = { λ s. W.contents s.stream };
+
+    ghost faults = { λ s. s.faults };
+
+    fn put(&mut self, piece: &[u8]) -> Result<(), WriteFailed>
+        ensures counts { self.new.faults ≡ (if is_err result then count_up self.old.faults else self.old.faults) }
+
+        // What every sink ensures.
+        ensures bytes { PutAppends (W.contents self.old.stream) (W.contents self.new.stream) result piece.now }
+        ensures cause { HasCause self.old.faults self.new.faults result }
+    {
+        let mut rest = piece;
+        while !rest.is_empty() {
+            match self.inner.write(rest) {
+                Ok(count) if count > 0 => rest = &rest[count..],
+                _ => {
+                    self.faults = self.faults.saturating_add(1);
+                    return Err(WriteFailed);
+                }
+            }
+        }
+        Ok(())
+    }
+}

@@ -1,0 +1,54 @@
+//! std's readers as sources.
+ghost use Rattle.std.specs.Prelude.{◌≡◌, is_err, if◌then◌else◌};
+ghost use Rattle.sd_io.specs.Causes.{ReadsAtMost, ReadConsumes, HasCause, count_up};
+
+use crate::{ReadFailed, Source};
+use std::io::Read;
+use std::marker::Model;
+
+/// Reads from a reader of std, by one call of its `read` for each call. Every error, an interruption too, is a fault.
+#[derive(Debug, Drop)]
+pub struct StdSource<R> {
+    inner: R,
+    faults: u64,
+}
+
+impl<R> Model for StdSource<R> {
+    ghost use Rattle.sd_io.specs.Streams.{Counted};
+
+    ghost Value = { Counted R };
+
+    ghost view = { λ s. record { stream = s.inner; faults = s.faults } };
+}
+
+impl<R: Read> StdSource<R> {
+    /// A source that has counted no fault.
+    pub fn new(inner: R) -> StdSource<R>
+        ensures { result ≡ record { stream = inner; faults = 0 } }
+    {
+        StdSource { inner, faults: 0 }
+    }
+}
+
+impl<R: Read> Source for StdSource<R> {
+    ghost left = { λ s. R.remaining s.stream };
+
+    ghost faults = { λ s. s.faults };
+
+    fn read(&mut self, buf: &mut [u8]) -> Result<usize, ReadFailed>
+        ensures counts { self.new.faults ≡ (if is_err result then count_up self.old.faults else self.old.faults) }
+
+        // What every source ensures.
+        ensures bound { ReadsAtMost result buf.new }
+        ensures bytes { ReadConsumes (R.remaining self.old.stream) (R.remaining self.new.stream) result buf.new }
+        ensures cause { HasCause self.old.faults self.new.faults result }
+    {
+        match self.inner.read(buf) {
+            Ok(count) => Ok(count),
+            Err(_) => {
+                self.faults = self.faults.saturating_add(1);
+                Err(ReadFailed)
+            }
+        }
+    }
+}

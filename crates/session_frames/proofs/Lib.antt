@@ -1,0 +1,4 @@
+mod Worked
+mod WritingLemmas
+pub mod FrameLaws
+mod ReaderLemmas

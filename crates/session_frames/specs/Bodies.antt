@@ -1,0 +1,43 @@
+-- What the inner calls of a reader answer.
+use Rattle.std.specs.Prelude.{◌≡◌, ℕ, IsTrue, List, ◌++◌, Option, Some, None, Result, Ok, Err, MatchOption}
+use Rattle.std.specs.Io.KnownBytes.{Consumes, IsAtEnd}
+use Rattle.session_frames.specs.declared.body.BodyError.{BodyError}
+use Rattle.session_frames.specs.declared.body.BodyError.TheVariants.{Fault, Memory}
+use Rattle.session_frames.specs.declared.frame.Frame.{Frame}
+use Rattle.session_frames.specs.declared.frame.FrameError.{FrameError}
+use Rattle.session_frames.specs.declared.frame.FrameError.TheVariants as failed
+use Rattle.session_frames.specs.declared.frame.SessionFault.{SessionFault}
+use Rattle.session_frames.specs.Frames.{Next, Ended, Broken, Whole, next_frame, past}
+use Rattle.session_frames.specs.Reading.{Reading, IsWithin}
+
+-- the fault that an error names; want of memory names none
+abbrev pub fault_of : BodyError → Option SessionFault
+fault_of (Fault fault) = Some fault
+fault_of Memory = None
+
+-- the call answers what stands next in what is left
+abbrev pub GivesNext : {Slice : Type 0} → (Slice → List ℕ) → Result (Option (Frame × Slice)) BodyError → Next → Type 0
+GivesNext bytes (Ok None) next = next ≡ Ended
+GivesNext bytes (Ok (Some found)) next = next ≡ Whole found.0 (bytes found.1)
+GivesNext bytes (Err (Fault fault)) next = next ≡ Broken fault
+GivesNext bytes (Err Memory) next = Unit {0}
+
+-- The whole of a source was read behind what a reader had, and it isn't too much.
+pub record Fills (old new : Option (List ℕ)) (before after : Reading) : Type 0 where
+  pub taken : List ℕ
+  pub consumes : Consumes old new taken
+  pub at_end : IsAtEnd new
+  pub pending : after.pending ≡ before.pending ++ taken
+  pub place : after.place ≡ before.place
+  pub ended : IsTrue after.ended
+  pub within : IsWithin after.place after.pending
+
+-- what a reader that has the whole of a source gives: it judges what stands next in it
+abbrev pub Judges : Reading → Result (Reading × Option Frame) FrameError → Type 0
+Judges before (Ok answer) = MatchOption answer.1
+    ((next_frame before.place.clock before.pending ≡ Ended) × (answer.0 ≡ before))
+    (λ frame. (next_frame before.place.clock before.pending ≡ Whole frame answer.0.pending)
+    × (answer.0.place ≡ past before.place before.pending frame answer.0.pending) × IsTrue answer.0.ended)
+Judges before (Err (failed.Session at fault)) = (at ≡ before.place.bytes) × (next_frame before.place.clock before.pending ≡ Broken fault)
+Judges before (Err failed.Read) = ⊥
+Judges before (Err failed.Memory) = Unit {0}

@@ -1,0 +1,18 @@
+//! The frames of a recorded session, read one by one, and the framed replies.
+#![tactic(auto)]
+
+mod body;
+mod frame;
+mod laws;
+mod reader;
+mod reply;
+mod writing;
+
+pub use frame::{Frame, FrameError, SessionFault};
+pub use laws::bytes_have_one_reading;
+pub use reader::FrameReader;
+pub use reply::{Refusal, Reply, ReplyBody};
+pub use writing::write_reply;
+
+#[cfg(test)]
+mod tests;

@@ -1,0 +1,43 @@
+//! The answers to commands.
+use atom_record::Bytes;
+use sd_base::Seq;
+
+/// The answer to one command, with the command's uid and configuration id.
+#[derive(Debug, Drop, PartialEq, Eq)]
+pub struct Reply {
+    pub uid: i32,
+    pub id: i64,
+    pub body: ReplyBody,
+}
+
+/// What a command is answered.
+#[derive(Debug, Drop, PartialEq, Eq)]
+pub enum ReplyBody {
+    /// The configuration is live.
+    Installed,
+    /// The configuration is live in place of the one that had its id.
+    Replaced,
+    /// The configuration was refused, and nothing has changed.
+    Refused(Refusal),
+    /// The configuration was taken out.
+    Removed,
+    /// The client has no configuration of that id.
+    NoConfig,
+    /// A report, as the bytes of its message.
+    ReportBytes(Bytes),
+    /// The client has as many configurations as it may have: this number.
+    ClientFull(u32),
+}
+
+/// Why a configuration was refused.
+#[derive(Debug, Drop, PartialEq, Eq)]
+pub enum Refusal {
+    /// It has this many bytes, which is above the limit.
+    TooLarge(u32),
+    /// It isn't well-formed as a message: the cause's number, and where.
+    Wire { cause: u8, offset: u32 },
+    /// It uses what isn't supported: the field numbers from the top to it.
+    Unsupported(Seq<u32>),
+    /// Its parts don't fit together: the fault's number, its reason, and the value at fault.
+    Link { number: u8, reason: u8, value: i64 },
+}

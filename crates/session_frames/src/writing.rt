@@ -1,0 +1,139 @@
+//! Replies as framed bytes.
+ghost use Rattle.std.specs.Prelude.{◌≡◌, ◌<◌, ◌^◌, length};
+ghost use Rattle.std.specs.List.{flat_map};
+ghost use Rattle.std.specs.Int.{w32, to_le_bytes};
+ghost use Rattle.sd_io.specs.Causes.{HasCause, PutAppends};
+ghost use Rattle.session_frames.specs.ReplyLayout.{head_bytes};
+ghost use Rattle.session_frames.specs.Replies.{HasShortPath, body_bytes, kind_of, refusal_bytes, reply_bytes};
+
+use crate::{Refusal, Reply, ReplyBody};
+use sd_io::{Sink, WriteFailed};
+
+/// Writes a reply with its length in front. It takes no memory.
+pub fn write_reply<K: Sink>(reply: &Reply, out: &mut K) -> Result<(), WriteFailed>
+    requires { HasShortPath reply.now.body }
+    ensures bytes { PutAppends (K.written out.old) (K.written out.new) result (reply_bytes reply.now) }
+    ensures cause { HasCause (K.faults out.old) (K.faults out.new) result }
+{
+    out.put(&head(reply))?;
+    write_body(&reply.body, out)
+}
+
+// The length, the kind, the uid and the configuration's id.
+fn head(reply: &Reply) -> [u8; 21]
+    requires { HasShortPath reply.now.body }
+    ensures { result ≡ head_bytes reply.now }
+{
+    let mut head = [0; 21];
+    head[..8].copy_from_slice(&(13 + body_len(&reply.body)).to_le_bytes());
+    head[8] = kind(&reply.body);
+    head[9..13].copy_from_slice(&reply.uid.to_le_bytes());
+    head[13..].copy_from_slice(&reply.id.to_le_bytes());
+    head
+}
+
+fn kind(body: &ReplyBody) -> u8
+    ensures { result ≡ kind_of body.now }
+{
+    match body {
+        ReplyBody::Installed => 1,
+        ReplyBody::Replaced => 2,
+        ReplyBody::Refused(_) => 3,
+        ReplyBody::Removed => 4,
+        ReplyBody::NoConfig => 5,
+        ReplyBody::ReportBytes(_) => 6,
+        ReplyBody::ClientFull(_) => 7,
+    }
+}
+
+fn body_len(body: &ReplyBody) -> u64
+    requires { HasShortPath body.now }
+    ensures len { result ≡ length (body_bytes body.now) }
+    ensures room { result < 2 ^ 63 }
+{
+    match body {
+        ReplyBody::Refused(refusal) => refusal_len(refusal),
+        ReplyBody::ReportBytes(report) => size(report.as_slice()),
+        ReplyBody::ClientFull(_) => 4,
+        ReplyBody::Installed | ReplyBody::Replaced | ReplyBody::Removed | ReplyBody::NoConfig => 0,
+    }
+}
+
+fn refusal_len(refusal: &Refusal) -> u64
+    requires { HasShortPath (ReplyBody.Refused refusal.now) }
+    ensures len { result ≡ length (refusal_bytes refusal.now) }
+    ensures room { result < 2 ^ 63 }
+{
+    match refusal {
+        Refusal::TooLarge(_) => 5,
+        Refusal::Wire { .. } => 6,
+        Refusal::Unsupported(path) => 2 + 4 * path.len() as u64,
+        Refusal::Link { .. } => 11,
+    }
+}
+
+// The length of bytes in memory, which leaves room for what stands in front of them.
+fn size(bytes: &[u8]) -> u64
+    ensures len { result ≡ length bytes.now }
+    ensures room { result < 2 ^ 63 }
+{
+    bytes.len() as u64
+}
+
+fn write_body<K: Sink>(body: &ReplyBody, out: &mut K) -> Result<(), WriteFailed>
+    requires { HasShortPath body.now }
+    ensures bytes { PutAppends (K.written out.old) (K.written out.new) result (body_bytes body.now) }
+    ensures cause { HasCause (K.faults out.old) (K.faults out.new) result }
+{
+    match body {
+        ReplyBody::Refused(refusal) => write_refusal(refusal, out),
+        ReplyBody::ReportBytes(report) => out.put(report.as_slice()),
+        ReplyBody::ClientFull(most) => out.put(&most.to_le_bytes()),
+        ReplyBody::Installed | ReplyBody::Replaced | ReplyBody::Removed | ReplyBody::NoConfig => Ok(
+            (),
+        ),
+    }
+}
+
+fn write_refusal<K: Sink>(refusal: &Refusal, out: &mut K) -> Result<(), WriteFailed>
+    requires { HasShortPath (ReplyBody.Refused refusal.now) }
+    ensures bytes { PutAppends (K.written out.old) (K.written out.new) result (refusal_bytes refusal.now) }
+    ensures cause { HasCause (K.faults out.old) (K.faults out.new) result }
+{
+    match refusal {
+        Refusal::TooLarge(size) => {
+            let [a, b, c, d] = size.to_le_bytes();
+            out.put(&[1, a, b, c, d])
+        }
+        Refusal::Wire { cause, offset } => {
+            let [a, b, c, d] = offset.to_le_bytes();
+            out.put(&[2, *cause, a, b, c, d])
+        }
+        Refusal::Unsupported(path) => {
+            out.put(&[3, path.len() as u8])?;
+            write_path(path.as_slice(), out)
+        }
+        Refusal::Link {
+            number,
+            reason,
+            value,
+        } => {
+            let [a, b, c, d, e, f, g, h] = value.to_le_bytes();
+            out.put(&[4, *number, *reason, a, b, c, d, e, f, g, h])
+        }
+    }
+}
+
+fn write_path<K: Sink>(path: &[u32], out: &mut K) -> Result<(), WriteFailed>
+    ensures bytes { PutAppends (K.written out.old) (K.written out.new) result
+        (flat_map (to_le_bytes w32) path.now) }
+    ensures cause { HasCause (K.faults out.old) (K.faults out.new) result }
+{
+    for number in path {
+        out.put(&number.to_le_bytes())?;
+    }
+    Ok(())
+}
+
+#[cfg(test)]
+mod tests;

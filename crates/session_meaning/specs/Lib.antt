@@ -1,0 +1,4 @@
+pub mod Log
+pub mod Config
+pub mod Live
+pub mod Answers

@@ -1,0 +1,6 @@
+pub mod Fields
+pub mod HubLemmas
+pub mod ListLemmas
+pub mod InstanceLemmas
+pub mod LivesLemmas
+pub mod OpenLemmas

@@ -1,0 +1,45 @@
+-- Each kind of frame: the hub stands for the frames with it, and its answer is theirs.
+use Rattle.std.proofs.Common.{◌≡◌, Some, None, SFits, w32, w64, rules, subst, ap, sym, ◌∙◌}
+use Rattle.std.proofs.lemmas.Int.{to_z-of_z}
+use Rattle.session_frames.specs.declared.frame.Frame.{Frame}
+use Rattle.session_frames.specs.declared.frame.Frame.TheVariants.{Log, Install, Remove, Report}
+use Rattle.session_frames.specs.Frames.{IsFaultless}
+use Rattle.session_meaning.specs.Config.{config_of}
+use Rattle.statsd_cli.specs.Reading.{found}
+use Rattle.statsd_cli.proofs.HubLemmas.{stands_log, no_reply, serves_as, serves_install, serves_remove, serves_report}
+use Rattle.statsd_cli.proofs.hub.Hub.step.Goals as goal
+
+pub returns-in-Log-clause-serves : goal.returns-in-Log-clause-serves
+returns-in-Log-clause-serves c = λ frames h fine in_time.
+    serves_as c.log.new.self frames c.args.frame (Log c.in-Log.frame) None c.in-Log.is (record {
+      stands = stands_log c.args.self c.log.new.self frames c.in-Log.frame c.log.ensures.clock c.log.ensures.lives (subst IsFaultless c.in-Log.is fine) h;
+      answer = no_reply frames c.in-Log.frame;
+    })
+
+pub returns-in_ok-body-in-Install-clause-serves : goal.returns-in_ok-body-in-Install-clause-serves
+returns-in_ok-body-in-Install-clause-serves c =
+    let uid_fits : SFits w32 c.in-Install.uid = search rules in
+    let id_fits : SFits w64 c.in-Install.id = search rules in
+    let installs = simp to_z-of_z at c.in_ok-body-in-Install.ensures.lives in
+    let read : config_of c.in-Install.config ≡ found c.read_config-read.result = ap config_of (sym c.as_slice.ensures) ∙ c.read_config-read.ensures in
+    simp to_z-of_z (λ frames h fine in_time.
+    serves_as c.install.new.self frames c.args.frame _ _ c.in-Install.is
+    (serves_install c.args.self c.install.new.self frames c.in-Install.uid c.in-Install.id c.in_ok-body-in-Install.ensures.clock h c.in-Install.config c.in_ok-body-in-Install.body c.read_config-read.result read installs))
+
+pub returns-in-Remove-clause-serves : goal.returns-in-Remove-clause-serves
+returns-in-Remove-clause-serves c =
+    let uid_fits : SFits w32 c.in-Remove.uid = search rules in
+    let id_fits : SFits w64 c.in-Remove.id = search rules in
+    let removes = simp to_z-of_z at c.remove-body.ensures.lives in
+    simp to_z-of_z (λ frames h fine in_time.
+    serves_as c.remove-body.new.self frames c.args.frame _ _ c.in-Remove.is
+    (serves_remove c.args.self c.remove-body.new.self frames c.in-Remove.uid c.in-Remove.id c.remove-body.ensures.clock h c.remove-body.result removes))
+
+pub returns-in_ok-body-in-Report-clause-serves : goal.returns-in_ok-body-in-Report-clause-serves
+returns-in_ok-body-in-Report-clause-serves c =
+    let uid_fits : SFits w32 c.in-Report.uid = search rules in
+    let id_fits : SFits w64 c.in-Report.id = search rules in
+    let reports = simp to_z-of_z at c.in_ok-body-in-Report.ensures.lives in
+    simp to_z-of_z (λ frames h fine in_time.
+    serves_as c.report.new.self frames c.args.frame _ _ c.in-Report.is
+    (serves_report c.args.self c.report.new.self frames c.in-Report.uid c.in-Report.id c.in_ok-body-in-Report.ensures.clock h c.in-Report.include_current c.in_ok-body-in-Report.body reports))

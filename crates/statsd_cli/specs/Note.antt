@@ -1,0 +1,25 @@
+-- The line that a note is.
+use Rattle.std.specs.Prelude.{ℕ, List, ◌++◌, codes, decimal}
+use Rattle.session_frames.specs.declared.frame.SessionFault.{SessionFault}
+use Rattle.session_frames.specs.declared.frame.SessionFault.TheVariants.{Cut, TooLong, BadLength, UnknownKind, BadBody, BadAtom, TimeBackwards, TooManyFrames}
+use Rattle.statsd_cli.specs.declared.note.Note.{Note}
+use Rattle.statsd_cli.specs.declared.note.Note.TheVariants.{Usage, BadSession, ReadFault, WriteFault, NoMemory}
+
+-- a fault of a session: its number, its name, and the values that it has
+abbrev pub fault_text : SessionFault → List ℕ
+fault_text Cut = codes "1 cut"
+fault_text (TooLong length) = codes "2 too long " ++ decimal length
+fault_text BadLength = codes "3 bad length"
+fault_text (UnknownKind kind) = codes "4 unknown kind " ++ decimal kind
+fault_text (BadBody reason) = codes "5 bad body " ++ decimal reason
+fault_text (BadAtom reason) = codes "6 bad atom " ++ decimal reason
+fault_text (TimeBackwards previous now) = codes "7 time backwards " ++ decimal previous ++ codes " " ++ decimal now
+fault_text TooManyFrames = codes "8 too many frames"
+
+-- a note, with its newline
+abbrev pub note_line : Note → List ℕ
+note_line Usage = codes "statsd: usage: replay | check | load SEED FRAMES\n"
+note_line (BadSession at fault) = codes "statsd: bad session at " ++ decimal at ++ codes ": " ++ fault_text fault ++ codes "\n"
+note_line ReadFault = codes "statsd: read fault\n"
+note_line WriteFault = codes "statsd: write fault\n"
+note_line NoMemory = codes "statsd: out of memory\n"
