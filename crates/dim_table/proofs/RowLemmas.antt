@@ -59,6 +59,11 @@ module _ {K V : Type 0} where
         let among = not_among same exact (first ∷ keys) key absent in
         (flip first key (grind (arith, among)), all_apart key keys (λ there. absent (suc there.0, omega (arith, there.1), there.2)))
 
+    -- where only the value of an absent key changed, all rows stay
+    pub rows_by-absent : (key : K) (keys : List K) → ¬ Contains keys key
+        → ((other : K) → same key other ≡ false → after other ≡ before other) → rows_by before keys ≡ rows_by after keys
+    rows_by-absent key keys absent stays = rows_by-others key stays keys (all_apart key keys absent)
+
     apart_at : (key other : K) (keys : List K) (place : ℕ) → AllByRecursion (λ k. same other k ≡ false) keys
         → slice_get keys place ≡ Some key → same other key ≡ false
     apart_at key other [] place apart at = absurd (none-some key at)
@@ -107,8 +112,7 @@ module _ {K V : Type 0} where
           ∙ set_value_at-rows_by (keys old) place key distinct there.at stays
           ∙ ap (λ table. rows_by after (keys table)) (sym there.same))
           (λ (added : IsNew old new key fresh place).
-          let apart = all_apart key (keys old) added.absent in
-          let others : old.rows ≡ rows_by after (keys old) = was ∙ rows_by-others key stays (keys old) apart in
+          let others : old.rows ≡ rows_by after (keys old) = was ∙ rows_by-absent key (keys old) added.absent stays in
           ap (λ table. set_value_at table.rows place (after key)) added.added
           ∙ ap (λ n. set_value_at (old.rows ++ (key, fresh) ∷ []) n (after key)) added.last
           ∙ set_last_value old.rows key fresh (after key) ∙ ap (λ rows. rows ++ (key, after key) ∷ []) others
