@@ -1,5 +1,5 @@
 //! Each note by its line.
-use crate::{Note, write_note};
+use super::{Note, write_note};
 use sd_io::{MemSink, WriteFailed};
 use session_frames::SessionFault;
 use std::test::Fail;
