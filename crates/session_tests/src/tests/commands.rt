@@ -1,6 +1,7 @@
 //! What commands are answered, and what reports show.
 use super::parts::{
-    ATOM_AT_2, ATOM_AT_3, COUNTED_2_TO_3, CUT, INSTALL, INSTALLED, NO_CONFIG, REPLACED, REPORT,
+    ATOM_AT_2, ATOM_AT_3, CUT, INSTALL, INSTALLED, NO_CONFIG, NONE_BY_2, ONE_BY_2, REPLACED,
+    REPORT, TWO_BY_3,
 };
 use super::run::assert_replay;
 use std::test::Fail;
@@ -13,17 +14,17 @@ fn reports_what_came_since_the_last_cut(rt: HostRuntime) -> Result<(), Fail> {
         (
             "two atoms and a cut",
             &[INSTALL, ATOM_AT_2, ATOM_AT_3, CUT],
-            &[INSTALLED, COUNTED_2_TO_3],
+            &[INSTALLED, TWO_BY_3],
         ),
         (
             "a report without a cut, and one with",
             &[INSTALL, ATOM_AT_2, ATOM_AT_3, REPORT, CUT],
             &[
                 INSTALLED,
-                // No bucket; the last report at 0, the clock at 3.
+                // As of 3, no bucket; the report before at 0.
                 b"\x28\0\0\0\0\0\0\0\x06\x0a\0\0\0\x07\0\0\0\0\0\0\0\x0a\x04\x08\x0a\x10\x07\x12\x13\
                     \x0a\x0d\x08\x64\x2a\0\x48\0\x50\x80\xc0\xe2\x85\xe3\x68\x18\0\x20\x03",
-                // Two from 0 to 3; the last report and the clock at 3.
+                // As of 3, two from 0 to 3; the report before at 3.
                 b"\x32\0\0\0\0\0\0\0\x06\x0a\0\0\0\x07\0\0\0\0\0\0\0\x0a\x04\x08\x0a\x10\x07\x12\x1d\
                     \x0a\x17\x08\x64\x2a\x0a\x0a\x08\x1a\x06\x08\0\x10\x03\x18\x02\x48\0\x50\x80\xc0\xe2\
                     \x85\xe3\x68\x18\x03\x20\x03",
@@ -34,10 +35,8 @@ fn reports_what_came_since_the_last_cut(rt: HostRuntime) -> Result<(), Fail> {
             &[INSTALL, ATOM_AT_2, REPORT, ATOM_AT_3, CUT],
             &[
                 INSTALLED,
-                // No bucket; the last report at 0, the clock at 2.
-                b"\x28\0\0\0\0\0\0\0\x06\x0a\0\0\0\x07\0\0\0\0\0\0\0\x0a\x04\x08\x0a\x10\x07\x12\x13\
-                    \x0a\x0d\x08\x64\x2a\0\x48\0\x50\x80\xc0\xe2\x85\xe3\x68\x18\0\x20\x02",
-                // Two from 0 to 3; the last report at 2, the clock at 3.
+                NONE_BY_2,
+                // As of 3, two from 0 to 3; the report before at 2.
                 b"\x32\0\0\0\0\0\0\0\x06\x0a\0\0\0\x07\0\0\0\0\0\0\0\x0a\x04\x08\x0a\x10\x07\x12\x1d\
                     \x0a\x17\x08\x64\x2a\x0a\x0a\x08\x1a\x06\x08\0\x10\x03\x18\x02\x48\0\x50\x80\xc0\xe2\
                     \x85\xe3\x68\x18\x02\x20\x03",
@@ -48,11 +47,8 @@ fn reports_what_came_since_the_last_cut(rt: HostRuntime) -> Result<(), Fail> {
             &[INSTALL, ATOM_AT_2, CUT, CUT],
             &[
                 INSTALLED,
-                // One from 0 to 2; the last report at 0, the clock at 2.
-                b"\x32\0\0\0\0\0\0\0\x06\x0a\0\0\0\x07\0\0\0\0\0\0\0\x0a\x04\x08\x0a\x10\x07\x12\x1d\
-                    \x0a\x17\x08\x64\x2a\x0a\x0a\x08\x1a\x06\x08\0\x10\x02\x18\x01\x48\0\x50\x80\xc0\xe2\
-                    \x85\xe3\x68\x18\0\x20\x02",
-                // No bucket; the last report and the clock at 2.
+                ONE_BY_2,
+                // As of 2, no bucket; the report before at 2.
                 b"\x28\0\0\0\0\0\0\0\x06\x0a\0\0\0\x07\0\0\0\0\0\0\0\x0a\x04\x08\x0a\x10\x07\x12\x13\
                     \x0a\x0d\x08\x64\x2a\0\x48\0\x50\x80\xc0\xe2\x85\xe3\x68\x18\x02\x20\x02",
             ],
@@ -69,10 +65,8 @@ fn reports_what_came_since_the_last_cut(rt: HostRuntime) -> Result<(), Fail> {
             ],
             &[
                 INSTALLED,
-                // No bucket; the last report at 0, the clock at 2.
-                b"\x28\0\0\0\0\0\0\0\x06\x0a\0\0\0\x07\0\0\0\0\0\0\0\x0a\x04\x08\x0a\x10\x07\x12\x13\
-                    \x0a\x0d\x08\x64\x2a\0\x48\0\x50\x80\xc0\xe2\x85\xe3\x68\x18\0\x20\x02",
-                // One from 2 to 3; the last report at 2, the clock at 3.
+                NONE_BY_2,
+                // As of 3, one from 2 to 3; the report before at 2.
                 b"\x32\0\0\0\0\0\0\0\x06\x0a\0\0\0\x07\0\0\0\0\0\0\0\x0a\x04\x08\x0a\x10\x07\x12\x1d\
                     \x0a\x17\x08\x64\x2a\x0a\x0a\x08\x1a\x06\x08\x02\x10\x03\x18\x01\x48\0\x50\x80\xc0\
                     \xe2\x85\xe3\x68\x18\x02\x20\x03",
@@ -93,7 +87,7 @@ fn keeps_configurations_apart(rt: HostRuntime) -> Result<(), Fail> {
             [
                 INSTALLED,
                 REPLACED,
-                // One from 2 to 3; the base and the last report at 2, the clock at 3.
+                // As of 3, one from 2 to 3; the base and the report before at 2.
                 b"\x32\0\0\0\0\0\0\0\x06\x0a\0\0\0\x07\0\0\0\0\0\0\0\x0a\x04\x08\x0a\x10\x07\x12\x1d\
                     \x0a\x17\x08\x64\x2a\x0a\x0a\x08\x1a\x06\x08\x02\x10\x03\x18\x01\x48\x02\x50\x80\xc0\
                     \xe2\x85\xe3\x68\x18\x02\x20\x03",
@@ -115,8 +109,8 @@ fn keeps_configurations_apart(rt: HostRuntime) -> Result<(), Fail> {
             &[
                 INSTALLED,
                 b"\x0d\0\0\0\0\0\0\0\x01\x0b\0\0\0\x07\0\0\0\0\0\0\0",
-                COUNTED_2_TO_3,
-                // Of client 11, one from 2 to 3; the base and the last report at 2, the clock at 3.
+                TWO_BY_3,
+                // Of client 11 as of 3, one from 2 to 3; the base and the report before at 2.
                 b"\x32\0\0\0\0\0\0\0\x06\x0b\0\0\0\x07\0\0\0\0\0\0\0\x0a\x04\x08\x0b\x10\x07\x12\x1d\
                     \x0a\x17\x08\x64\x2a\x0a\x0a\x08\x1a\x06\x08\x02\x10\x03\x18\x01\x48\x02\x50\x80\xc0\
                     \xe2\x85\xe3\x68\x18\x02\x20\x03",
@@ -135,7 +129,7 @@ fn keeps_configurations_apart(rt: HostRuntime) -> Result<(), Fail> {
             &[
                 b"\x0d\0\0\0\0\0\0\0\x01\xff\xff\xff\xff\xfe\xff\xff\xff\xff\xff\xff\xff",
                 NO_CONFIG,
-                // Of client -1, one from 0 to 2; the base and the last report at 0, the clock at 2.
+                // Of client -1 as of 2, one from 0 to 2; the base and the report before at 0.
                 b"\x44\0\0\0\0\0\0\0\x06\xff\xff\xff\xff\xfe\xff\xff\xff\xff\xff\xff\xff\x0a\x16\x08\
                     \xff\xff\xff\xff\xff\xff\xff\xff\xff\x01\x10\xfe\xff\xff\xff\xff\xff\xff\xff\xff\x01\
                     \x12\x1d\x0a\x17\x08\x64\x2a\x0a\x0a\x08\x1a\x06\x08\0\x10\x02\x18\x01\x48\0\x50\x80\

@@ -1,5 +1,5 @@
 //! Which configurations are accepted, and what they then count.
-use super::parts::{ATOM_AT_2, CUT, INSTALL, INSTALLED, NO_CONFIG, UNSUPPORTED};
+use super::parts::{ATOM_AT_2, CUT, INSTALL, INSTALLED, NO_CONFIG, ONE_BY_2, UNSUPPORTED};
 use super::run::assert_replay;
 use std::test::Fail;
 
@@ -11,17 +11,13 @@ fn accepts_every_spelling_of_one_count(rt: HostRuntime) -> Result<(), Fail> {
             b"\x1d\0\0\0\x10\x0a\0\0\0\x07\0\0\0\0\0\0\0\x3a\x08\x08\x01\x12\x04\x08\x85\x80\0\x1a\x04\
                 \x08\x64\x10\x01"
                 .as_slice(),
-            // One from 0 to 2; the base and the last report at 0, the clock at 2.
-            b"\x32\0\0\0\0\0\0\0\x06\x0a\0\0\0\x07\0\0\0\0\0\0\0\x0a\x04\x08\x0a\x10\x07\x12\x1d\x0a\
-                \x17\x08\x64\x2a\x0a\x0a\x08\x1a\x06\x08\0\x10\x02\x18\x01\x48\0\x50\x80\xc0\xe2\x85\xe3\
-                \x68\x18\0\x20\x02"
-                .as_slice(),
+            ONE_BY_2,
         ),
         (
             "the metric's id -1",
             b"\x24\0\0\0\x10\x0a\0\0\0\x07\0\0\0\0\0\0\0\x3a\x06\x08\x01\x12\x02\x08\x05\x1a\x0d\x08\
                 \xff\xff\xff\xff\xff\xff\xff\xff\xff\x01\x10\x01",
-            // The same, of the metric -1.
+            // As ONE_BY_2, of the metric -1.
             b"\x3b\0\0\0\0\0\0\0\x06\x0a\0\0\0\x07\0\0\0\0\0\0\0\x0a\x04\x08\x0a\x10\x07\x12\x26\x0a\
                 \x20\x08\xff\xff\xff\xff\xff\xff\xff\xff\xff\x01\x2a\x0a\x0a\x08\x1a\x06\x08\0\x10\x02\
                 \x18\x01\x48\0\x50\x80\xc0\xe2\x85\xe3\x68\x18\0\x20\x02",
@@ -30,9 +26,7 @@ fn accepts_every_spelling_of_one_count(rt: HostRuntime) -> Result<(), Fail> {
             "the matcher's id -1",
             b"\x2d\0\0\0\x10\x0a\0\0\0\x07\0\0\0\0\0\0\0\x3a\x0f\x08\xff\xff\xff\xff\xff\xff\xff\xff\
                 \xff\x01\x12\x02\x08\x05\x1a\x0d\x08\x64\x10\xff\xff\xff\xff\xff\xff\xff\xff\xff\x01",
-            b"\x32\0\0\0\0\0\0\0\x06\x0a\0\0\0\x07\0\0\0\0\0\0\0\x0a\x04\x08\x0a\x10\x07\x12\x1d\x0a\
-                \x17\x08\x64\x2a\x0a\x0a\x08\x1a\x06\x08\0\x10\x02\x18\x01\x48\0\x50\x80\xc0\xe2\x85\xe3\
-                \x68\x18\0\x20\x02",
+            ONE_BY_2,
         ),
     ] {
         assert_replay(
@@ -87,14 +81,7 @@ fn refuses_every_other_form(rt: HostRuntime) -> Result<(), Fail> {
             name,
             &[INSTALL, install, ATOM_AT_2, CUT],
             0,
-            &[
-                INSTALLED,
-                UNSUPPORTED,
-                // One from 0 to 2; the base and the last report at 0, the clock at 2.
-                b"\x32\0\0\0\0\0\0\0\x06\x0a\0\0\0\x07\0\0\0\0\0\0\0\x0a\x04\x08\x0a\x10\x07\x12\x1d\
-                    \x0a\x17\x08\x64\x2a\x0a\x0a\x08\x1a\x06\x08\0\x10\x02\x18\x01\x48\0\x50\x80\xc0\xe2\
-                    \x85\xe3\x68\x18\0\x20\x02",
-            ],
+            &[INSTALLED, UNSUPPORTED, ONE_BY_2],
             "",
         )?;
     }

@@ -1,7 +1,5 @@
 //! Sessions with a fault: the replies before it, and the note.
-use super::parts::{
-    ATOM_AT_2, ATOM_AT_3, COUNTED_2_TO_3, CUT, INSTALL, INSTALLED, NO_CONFIG, REPORT,
-};
+use super::parts::{ATOM_AT_2, ATOM_AT_3, CUT, INSTALL, INSTALLED, NO_CONFIG, REPORT, TWO_BY_3};
 use super::run::assert_replay;
 use std::test::Fail;
 
@@ -33,7 +31,7 @@ fn ends_at_the_first_fault(rt: HostRuntime) -> Result<(), Fail> {
         (
             "a length of 0",
             &[INSTALL, ATOM_AT_2, ATOM_AT_3, CUT, b"\0\0\0\0"],
-            &[INSTALLED, COUNTED_2_TO_3],
+            &[INSTALLED, TWO_BY_3],
             "statsd: bad session at 83: 4 unknown kind 0\n",
         ),
         (

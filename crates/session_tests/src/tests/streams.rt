@@ -1,5 +1,5 @@
 //! Sources that give little at a time, and sources and sinks that fail.
-use super::parts::{ATOM_AT_2, ATOM_AT_3, COUNTED_2_TO_3, CUT, INSTALL, INSTALLED};
+use super::parts::{ATOM_AT_2, ATOM_AT_3, CUT, INSTALL, INSTALLED, TWO_BY_3};
 use super::run::{AMPLE, ample_sink, assert_left, joined, run, source_of};
 use sd_io::{MemSink, MemSource};
 use std::test::Fail;
@@ -19,7 +19,7 @@ fn reads_in_pieces(rt: HostRuntime) -> Result<(), Fail> {
             ample_sink(alloc)?,
             ample_sink(alloc)?,
         )?;
-        assert_left(&rt, "pieces", &outcome, 0, &[INSTALLED, COUNTED_2_TO_3], "")?;
+        assert_left(&rt, "pieces", &outcome, 0, &[INSTALLED, TWO_BY_3], "")?;
     }
     Ok(())
 }
@@ -43,7 +43,7 @@ fn tells_which_stream_failed(rt: HostRuntime) -> Result<(), Fail> {
     let input = source_of(alloc, &SESSION, AMPLE)?;
     let out = MemSink::new(alloc, 30, Vec::new(alloc))?;
     let outcome = run(alloc, &["replay"], input, out, ample_sink(alloc)?)?;
-    let front = [INSTALLED, &COUNTED_2_TO_3[..9]];
+    let front = [INSTALLED, &TWO_BY_3[..9]];
     assert_left(&rt, "a put", &outcome, 5, &front, "statsd: write fault\n")
 }
 
