@@ -1,0 +1,8 @@
+//! Sessions and what they leave, by tables. All expected bytes were worked by hand.
+mod commands;
+mod configs;
+mod faults;
+mod parts;
+mod run;
+mod streams;
+mod words;
