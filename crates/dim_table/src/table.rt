@@ -65,8 +65,9 @@ impl<K: Exact + Hash + Drop, V: Drop> Guarded<K, V> {
         ensures answer { IfOk result (Admits self.old self.new key fresh) }
         ensures stands { OnOk result (TakesArrival K.eq self.old self.new key) }
 
-        // Only a new key asks for memory.
+        // Only a new key that finds room asks for memory.
         ensures present { Contains (keys self.old) key → IsOk result }
+        ensures full { length self.old.rows ≡ self.old.bound → IsOk result }
         ensures err { OnErr result (self.new ≡ self.old) }
     {
         match self.rows.get_index_of(&key) {
@@ -79,6 +80,7 @@ impl<K: Exact + Hash + Drop, V: Drop> Guarded<K, V> {
     fn append(&mut self, key: K, fresh: V) -> Result<Admit, AllocError>
         requires { position (K.eq key) (keys self.old) ≡ None }
         ensures answer { IfOk result (Admits self.old self.new key fresh) }
+        ensures full { length self.old.rows ≡ self.old.bound → IsOk result }
         ensures err { OnErr result (self.new ≡ self.old) }
     {
         let place = self.rows.len();

@@ -1,17 +1,17 @@
 -- The live configurations and their histories behind one more own frame.
-use Rattle.std.proofs.Common.{◌≡◌, ℕ, suc, ◌+◌, ◌<◌, ◌≤◌, ℤ, Bool, true, false, not, cond, List, [], ◌∷◌, ◌++◌, length, take, drop, filter, Result, Ok, Err, refl, sym, ap, subst, ◌∙◌, append_assoc, arith}
+use Rattle.std.proofs.Common.{◌≡◌, ℕ, suc, ◌+◌, ◌<◌, ℤ, Bool, true, false, not, cond, List, [], ◌∷◌, ◌++◌, length, take, drop, Result, Ok, Err, refl, sym, ap, subst, ◌∙◌, append_assoc, arith}
 use Rattle.std.specs.Prelude.{◌||◌}
 use Rattle.std.specs.List.{list_any}
 use Rattle.std.specs.Ordering.{int_eq}
 use Rattle.std.specs.Cmp.{signed_Decides}
-use Rattle.std.proofs.lemmas.List.{append-nil, take-append-drop, take-append-le, drop-append-le, take_at, take_all, drop_all, length-append}
+use Rattle.std.proofs.lemmas.List.{append-nil, take-append-drop, take-append-le, drop-append-le, take_at, drop_all, length-append}
 use Rattle.sd_base.specs.Given.{given_after}
 use Rattle.sd_base.proofs.GivenLemmas.{given_after-push}
 use Rattle.session_frames.specs.declared.frame.Frame.{Frame}
 use Rattle.session_frames.specs.declared.frame.Frame.TheVariants.{Log, Install, Remove, Report}
 use Rattle.session_frames.specs.declared.reply.Refusal.{Refusal}
 use Rattle.instance_meaning.specs.Linked.{Linked}
-use Rattle.instance_meaning.specs.History.{Step, History, with_steps}
+use Rattle.instance_meaning.specs.History.{with_steps}
 use Rattle.session_meaning.specs.Log.{clock_of}
 use Rattle.session_meaning.specs.Config.{config_of}
 use Rattle.session_meaning.specs.Live.{Installed, with_config, without_id, installed, live_behind, live_from, live, step_at, history_of}
@@ -86,9 +86,9 @@ history_of-push client frames frame config placed =
     let front : take (suc config.place) (frames ++ frame ∷ []) ≡ take (suc config.place) frames = take-append-le (suc config.place) frames (frame ∷ []) (omega (arith, placed)) in
     let behind : drop (suc config.place) (frames ++ frame ∷ []) ≡ drop (suc config.place) frames ++ frame ∷ [] = drop-append-le (suc config.place) frames (frame ∷ []) (omega (arith, placed)) in
     let steps : given_after step (take (suc config.place) (frames ++ frame ∷ [])) (drop (suc config.place) (frames ++ frame ∷ []))
-        ≡ given_after step (take (suc config.place) frames) (drop (suc config.place) frames) ++ step frames frame =
-        rw (front, behind) (given_after-push step (take (suc config.place) frames) (drop (suc config.place) frames) frame
-        ∙ ap (λ all. given_after step (take (suc config.place) frames) (drop (suc config.place) frames) ++ step all frame) (take-append-drop (suc config.place) frames)) in
+    ≡ given_after step (take (suc config.place) frames) (drop (suc config.place) frames) ++ step frames frame =
+    rw (front, behind) (given_after-push step (take (suc config.place) frames) (drop (suc config.place) frames) frame
+    ∙ ap (λ all. given_after step (take (suc config.place) frames) (drop (suc config.place) frames) ++ step all frame) (take-append-drop (suc config.place) frames)) in
     let base : clock_of (take config.place (frames ++ frame ∷ [])) ≡ clock_of (take config.place frames) = ap clock_of before in
     cc
 

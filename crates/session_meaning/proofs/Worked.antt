@@ -1,15 +1,13 @@
 -- Worked sessions, by computing: frames in, replies and their bytes out.
-use Rattle.std.proofs.Common.{◌≡◌, ℕ, ℤ, pos, negsuc, Bool, true, false, List, [], ◌∷◌, ◌++◌, Result, Ok, Err, refl}
+use Rattle.std.proofs.Common.{◌≡◌, ℕ, ℤ, pos, negsuc, Bool, true, false, List, [], ◌∷◌, Ok, Err, refl}
 use Rattle.atom_record.specs.declared.log.LogFrame.TheVariants.{Tick, AtomAt}
 use Rattle.session_frames.specs.declared.frame.Frame.{Frame}
 use Rattle.session_frames.specs.declared.frame.Frame.TheVariants.{Log, Install, Remove, Report}
 use Rattle.session_frames.specs.declared.reply.Reply.{Reply}
 use Rattle.session_frames.specs.declared.reply.ReplyBody.{ReplyBody}
 use Rattle.session_frames.specs.declared.reply.ReplyBody.TheVariants as answers
-use Rattle.session_frames.specs.Replies.{reply_bytes}
 use Rattle.proto_wire.specs.Spelling.{varint}
 use Rattle.proto_wire.specs.Reading.{walk_from, walk_in, field_at, field_with, head_at, head_of, varint_at, taken_at}
-use Rattle.instance_meaning.specs.Linked.{Linked}
 use Rattle.instance_meaning.specs.Report.{report_of}
 use Rattle.instance_meaning.specs.Spelling.{report_bytes}
 use Rattle.session_meaning.specs.Config.{config_of, matcher_of, count_of, atom_id_of, linked_of, other_form}

@@ -1,5 +1,5 @@
 -- What the bytes of a configuration say, or why they are refused.
-use Rattle.std.specs.Prelude.{ℕ, ℤ, ◌^◌, Bool, true, not, ◌&&◌, ◌||◌, ◌==◌, nat_lt, List, [], ◌∷◌, length, Result, Ok, Err, if◌then◌else◌}
+use Rattle.std.specs.Prelude.{ℕ, ℤ, ◌^◌, true, not, ◌&&◌, ◌||◌, ◌==◌, nat_lt, List, [], ◌∷◌, length, Result, Ok, Err, if◌then◌else◌}
 use Rattle.std.specs.Int.{w64, cast_signed}
 use Rattle.sd_base.specs.Reads.{◌>>=◌}
 use Rattle.proto_wire.specs.declared.fault.WireFault.{WireFault}
@@ -7,7 +7,7 @@ use Rattle.proto_wire.specs.Fields.{BodyOf, Varint, Bytes, FieldOf}
 use Rattle.proto_wire.specs.Reading.{fields_of}
 use Rattle.session_frames.specs.declared.reply.Refusal.{Refusal}
 use Rattle.session_frames.specs.declared.reply.Refusal.TheVariants.{Unsupported}
-use Rattle.instance_meaning.specs.Linked.{Matcher, Simple, Metric, Linked}
+use Rattle.instance_meaning.specs.Linked.{Simple, Linked}
 
 -- the most bytes of a configuration
 abbrev pub most_config : ℕ

@@ -1,5 +1,5 @@
 -- The live configurations of a client, and their histories, by the client's own frames.
-use Rattle.std.specs.Prelude.{ℕ, suc, ℤ, Bool, true, false, not, ◌==◌, List, [], ◌∷◌, ◌++◌, length, take, drop, filter, Option, Some, None, Result, Ok, Err, if◌then◌else◌}
+use Rattle.std.specs.Prelude.{ℕ, suc, ℤ, not, List, [], ◌∷◌, ◌++◌, length, take, drop, filter, Option, Some, None, Result, Ok, Err, if◌then◌else◌}
 use Rattle.std.specs.Ordering.{int_eq}
 use Rattle.sd_base.specs.Given.{given_after}
 use Rattle.session_frames.specs.declared.frame.Frame.{Frame}
@@ -7,7 +7,7 @@ use Rattle.session_frames.specs.declared.frame.Frame.TheVariants.{Log, Install, 
 use Rattle.session_frames.specs.declared.reply.Refusal.{Refusal}
 use Rattle.session_frames.specs.Frames.{log_time}
 use Rattle.instance_meaning.specs.Linked.{Linked}
-use Rattle.instance_meaning.specs.History.{What, Logged, Reported, Step, History, truths_of}
+use Rattle.instance_meaning.specs.History.{Logged, Reported, Step, History, truths_of}
 use Rattle.session_meaning.specs.Log.{clock_of}
 use Rattle.session_meaning.specs.Config.{config_of}
 

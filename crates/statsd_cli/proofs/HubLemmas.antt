@@ -1,37 +1,34 @@
 -- A hub stands for the frames that it got, from frame to frame.
-use Rattle.std.proofs.Common.{◌≡◌, ℕ, ℤ, suc, ◌+◌, ◌<◌, Bool, true, false, not, cond, List, [], ◌∷◌, ◌++◌, map, length, filter, find, Option, Some, None, Result, Ok, Err, refl, sym, ap, subst, ◌∙◌, arith, inl, inr}
-use Rattle.std.specs.Prelude.{◌||◌, ◌&&◌, if◌then◌else◌, is_some}
+use Rattle.std.proofs.Common.{◌≡◌, ℕ, ℤ, ◌<◌, Bool, true, false, not, cond, List, [], ◌∷◌, ◌++◌, map, length, filter, find, Option, Some, None, Ok, refl, sym, ap, subst, ◌∙◌, arith}
+use Rattle.std.specs.Prelude.{◌||◌, is_some}
 use Rattle.std.specs.List.{list_any}
 use Rattle.std.specs.Ordering.{int_eq}
 use Rattle.std.specs.Cmp.{signed_Decides}
 use Rattle.std.proofs.lemmas.List.{append-nil}
 use Rattle.atom_record.specs.declared.log.LogFrame.{LogFrame}
-use Rattle.atom_record.specs.declared.value.Value.{Value}
 use Rattle.session_frames.specs.declared.frame.Frame.{Frame}
 use Rattle.session_frames.specs.declared.frame.Frame.TheVariants.{Log, Install, Remove, Report}
 use Rattle.session_frames.specs.declared.reply.Reply.{Reply}
 use Rattle.session_frames.specs.declared.reply.ReplyBody.{ReplyBody}
 use Rattle.session_frames.specs.declared.reply.ReplyBody.TheVariants as answers
-use Rattle.session_frames.specs.declared.reply.Refusal.{Refusal}
 use Rattle.session_frames.specs.Frames.{log_time, clock_behind, IsFaultlessLog}
 use Rattle.instance_meaning.specs.Linked.{Linked}
 use Rattle.instance_meaning.specs.History.{Step, History, with_steps}
 use Rattle.instance_meaning.specs.Report.{report_of}
 use Rattle.instance_meaning.specs.Spelling.{report_bytes}
 use Rattle.session_meaning.specs.Log.{is_own, own, clock_of}
-use Rattle.session_meaning.specs.Config.{config_of, linked_of, other_form}
+use Rattle.session_meaning.specs.Config.{config_of, linked_of}
 use Rattle.session_meaning.specs.Live.{Installed, with_config, without_id, config_at, installed, live_behind, live, step_at, history_of}
-use Rattle.session_meaning.specs.Answers.{install_answer, remove_answer, report_answer, reply_of, answer, reply_to}
+use Rattle.session_meaning.specs.Answers.{install_answer, remove_answer, report_answer, reply_of, reply_to}
 use Rattle.session_meaning.proofs.LogLaws.{own-push_own, own-push_other, clock_of-push, clock_of-own}
 use Rattle.session_meaning.proofs.LiveLaws.{live-push, ArePlaced, live_placed, AreDistinct, has_config, live_distinct, int_eq_sym, history_of-push, history_of-new}
 use Rattle.statsd_cli.specs.declared.instance.CountConfig.{CountConfig}
-use Rattle.statsd_cli.specs.declared.instance.Instance.{Instance}
 use Rattle.statsd_cli.specs.declared.hub.Live.{Live}
 use Rattle.statsd_cli.specs.declared.hub.Hub.{Hub}
 use Rattle.statsd_cli.specs.Instance.{fresh, logged, reported, shown_by, InstanceStandsFor}
 use Rattle.statsd_cli.specs.Report.{shown_tree}
 use Rattle.statsd_cli.specs.Reading.{found}
-use Rattle.statsd_cli.specs.Lives.{is_of, is_at, at_first, with_live, logged_live, reported_live, Installs, Removes, Reports}
+use Rattle.statsd_cli.specs.Lives.{is_of, is_at, at_first, logged_live, reported_live, Installs, Removes, Reports}
 use Rattle.statsd_cli.specs.Hub.{LiveStandsFor, AllStand, HubStandsFor}
 use Rattle.statsd_cli.proofs.InstanceLemmas.{stands_fresh, stands_logged, stands_reported, asked_step, shows}
 use Rattle.statsd_cli.proofs.LivesLemmas.{has_id, with_own, own_logged, own_reported, own_removed, own_find, own_any, own_with, other_reported, other_removed, other_with}

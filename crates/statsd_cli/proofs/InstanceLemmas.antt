@@ -1,23 +1,22 @@
 -- An instance stands for its history from step to step, and what it shows is the history's report.
-use Rattle.std.proofs.Common.{◌≡◌, ℕ, ℤ, pos, zero, suc, ◌+◌, ◌-◌, ◌*◌, ◌/◌, ◌^◌, ◌<◌, ◌≤◌, ◌==◌, min, Bool, true, false, cond, List, [], ◌∷◌, ◌++◌, map, length, replicate, filter, Some, None, Option, refl, sym, ap, subst, ◌∙◌, arith, ⊎_elim}
-use Rattle.std.specs.List.{flat_map, list_any}
+use Rattle.std.proofs.Common.{◌≡◌, ℕ, ℤ, zero, suc, ◌+◌, ◌-◌, ◌/◌, ◌<◌, ◌==◌, Bool, true, false, cond, List, [], ◌∷◌, ◌++◌, map, length, filter, Some, None, Option, refl, sym, ap, subst, ◌∙◌, arith}
+use Rattle.std.specs.List.{list_any}
 use Rattle.std.specs.Prelude.{not, ◌&&◌}
 use Rattle.std.proofs.Math.Nat.{div-eq_of_lt}
 use Rattle.std.proofs.lemmas.Bool.Decides.{nat_tests}
-use Rattle.std.proofs.lemmas.List.{append-nil, length-append, length-replicate}
+use Rattle.std.proofs.lemmas.List.{append-nil, length-replicate}
 use Rattle.sd_base.proofs.GivenLemmas.{given-push}
-use Rattle.atom_record.specs.declared.atom.Atom.{Atom}
 use Rattle.atom_record.specs.declared.log.LogFrame.{LogFrame}
 use Rattle.atom_record.specs.declared.log.LogFrame.TheVariants.{Tick, AtomAt, Pull}
 use Rattle.atom_record.specs.declared.value.MetricKey.{MetricKey}
 use Rattle.bucket_meaning.specs.Ends.{Moment, crosses, ends_from, full_ends, ends_at}
-use Rattle.bucket_meaning.specs.Marks.{Mark, Ends, Came, Asked, Part, Books, after, books_from, books_of}
+use Rattle.bucket_meaning.specs.Marks.{Ends, Came, Asked, Part, Books, after, books_from, books_of}
 use Rattle.bucket_meaning.specs.Kept.{counted, taken}
-use Rattle.bucket_meaning.specs.Rows.{drops, closed_rows, report}
+use Rattle.bucket_meaning.specs.Rows.{drops, closed_rows}
 use Rattle.bucket_meaning.proofs.MarksLemmas.{books-append}
-use Rattle.session_frames.specs.Frames.{log_time, hour, IsFaultlessLog}
+use Rattle.session_frames.specs.Frames.{log_time, IsFaultlessLog}
 use Rattle.instance_meaning.specs.Linked.{Metric, Linked}
-use Rattle.instance_meaning.specs.History.{What, Logged, Reported, Step, History, with_steps, truths_of}
+use Rattle.instance_meaning.specs.History.{Logged, Reported, Step, History, with_steps, truths_of}
 use Rattle.instance_meaning.specs.Counts.{counting, moments, crossed_at, arrivals_at, asked_at, marks_at, marks_of, cut_at, shown_of}
 use Rattle.instance_meaning.specs.Report.{MetricTree, ReportTree, last_report, metric_tree, report_of}
 use Rattle.session_meaning.specs.Config.{linked_of}
@@ -26,7 +25,7 @@ use Rattle.statsd_cli.specs.declared.instance.Bucket.{Bucket}
 use Rattle.statsd_cli.specs.declared.instance.Instance.{Instance}
 use Rattle.statsd_cli.specs.Instance.{fresh, raised, logged, reported, closed_at, shown_by, metric_of, no_key, OpenStandsFor, books_at, InstanceStandsFor}
 use Rattle.statsd_cli.specs.Report.{shown_metric, shown_tree}
-use Rattle.statsd_cli.proofs.OpenLemmas.{arrivals, one_more, drops_none, no_row, one_row}
+use Rattle.statsd_cli.proofs.OpenLemmas.{arrivals, one_more, drops_none, one_row}
 
 abbrev dropping : List (MetricKey × ℕ) → MetricKey × ℕ → ℕ
 dropping = drops counting 800

@@ -1,13 +1,13 @@
 -- The open part of a metric without dimensions: its arrivals are all alike.
-use Rattle.std.proofs.Common.{◌≡◌, ℕ, zero, suc, ◌+◌, ◌-◌, ◌*◌, ◌/◌, ◌^◌, ◌<◌, ◌≤◌, min, Bool, true, false, List, [], ◌∷◌, ◌++◌, map, length, replicate, refl, sym, ap, subst, ◌∙◌, arith}
+use Rattle.std.proofs.Common.{◌≡◌, ℕ, zero, suc, ◌-◌, List, [], ◌∷◌, ◌++◌, length, replicate, refl, ap, ◌∙◌, arith}
 use Rattle.std.specs.Prelude.{take, count_by, not}
 use Rattle.std.specs.List.{flat_map}
 use Rattle.atom_record.specs.declared.value.MetricKey.{MetricKey}
-use Rattle.bucket_meaning.specs.Marks.{Mark, Ends, Came, Asked, Part, Books, after}
-use Rattle.bucket_meaning.specs.Guard.{is_among, firsts, admitted, dropped, of_key, arrival_key}
+use Rattle.bucket_meaning.specs.Marks.{Part}
+use Rattle.bucket_meaning.specs.Guard.{is_among, firsts, admitted, dropped, of_key}
 use Rattle.bucket_meaning.specs.Kept.{counted}
-use Rattle.bucket_meaning.specs.Rows.{Kind, keys_of, drops, row_of, rows_of}
-use Rattle.instance_meaning.specs.Counts.{Row, counting}
+use Rattle.bucket_meaning.specs.Rows.{keys_of, drops, row_of, rows_of}
+use Rattle.instance_meaning.specs.Counts.{counting}
 use Rattle.instance_meaning.specs.Keys.{same_key}
 use Rattle.statsd_cli.specs.Instance.{no_key}
 

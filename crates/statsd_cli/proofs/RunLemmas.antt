@@ -1,18 +1,18 @@
 -- The run of a session: from frame to frame, and how it ends.
-use Rattle.std.proofs.Common.{◌≡◌, ℕ, suc, zero, ◌+◌, ◌-◌, ◌≤◌, ◌<◌, Bool, true, false, List, [], ◌∷◌, ◌++◌, length, get_or, Option, Some, None, Result, Ok, Err, IsTrue, fold, MatchBool, refl, sym, ap, subst, ◌∙◌, append_assoc, arith, inl, inr, ⊎_elim}
+use Rattle.std.proofs.Common.{◌≡◌, ℕ, ◌+◌, ◌-◌, ◌≤◌, ◌<◌, Bool, true, false, List, [], ◌∷◌, ◌++◌, length, get_or, Option, Some, None, Ok, Err, IsTrue, fold, MatchBool, refl, sym, ap, subst, ◌∙◌, append_assoc, arith, inl, inr, ⊎_elim}
 use Rattle.std.specs.Prelude.{◌⊎◌, option_to_list, IfSome}
 use Rattle.std.specs.List.{flat_map}
 use Rattle.std.proofs.lemmas.Bool.{false≢true, cases_Bool}
 use Rattle.std.proofs.lemmas.Bool.Decides.{nat_tests}
 use Rattle.std.proofs.lemmas.List.{append-nil, length-append, nil_from_length}
-use Rattle.sd_io.specs.Causes.{Rose, Appends, AppendsFront, Consumes, IsAtEnd}
+use Rattle.sd_io.specs.Causes.{Rose, Appends, AppendsFront, Consumes}
 use Rattle.sd_io.proofs.CausesLemmas.{Appends-nil, Appends-trans, Consumes-nil, Consumes-trans, front_behind, front_before}
 use Rattle.session_frames.specs.declared.frame.Frame.{Frame}
 use Rattle.session_frames.specs.declared.frame.FrameError.{FrameError}
 use Rattle.session_frames.specs.declared.frame.FrameError.TheVariants as errors
 use Rattle.session_frames.specs.declared.frame.SessionFault.{SessionFault}
 use Rattle.session_frames.specs.declared.frame.SessionFault.TheVariants.{Cut, TooLong, BadLength, UnknownKind, BadBody, BadAtom, TimeBackwards, TooManyFrames}
-use Rattle.session_frames.specs.Frames.{most_input, clock_behind, next_frame, Next, Ended, Broken, Whole, Place, start, past, End, Clean, Bad, Reads, Begins, is_too_much, frames_of}
+use Rattle.session_frames.specs.Frames.{most_input, clock_behind, Place, start, End, Clean, Bad, Reads, Begins, is_too_much, frames_of}
 use Rattle.session_frames.specs.Reading.{Reading, unread, IsInStep, IsWithin, Gives, IsFaultNext, IsTooMuch, Refuses}
 use Rattle.session_frames.proofs.FrameLaws.{whole_takes, Begins-more, Begins-push, Reads-from_Begins, Begins_clock, Begins_bytes, some_reading, some_frames, one_frames, frames_of-Reads, frames_of-too_much, Begins-from_Reads, next_not_too_many}
 use Rattle.session_frames.specs.declared.reply.Reply.{Reply}
@@ -24,7 +24,7 @@ use Rattle.statsd_cli.specs.declared.hub.Hub.{Hub}
 use Rattle.statsd_cli.specs.declared.top.Ending.{Ending}
 use Rattle.statsd_cli.specs.declared.top.Ending.TheVariants.{Done, BadSession, ReadFault, WriteFault, NoMemory}
 use Rattle.statsd_cli.specs.Hub.{HubStandsFor}
-use Rattle.statsd_cli.specs.Run.{IsWhole, IsDone, IsBadSession, IsCutShort, IsShort, Outcome, IsRun, status_of, reply_text, IsServed, ending_by}
+use Rattle.statsd_cli.specs.Run.{IsWhole, IsBadSession, IsRun, status_of, reply_text, IsServed, ending_by}
 
 -- A run under way: these frames were served, of the bytes taken.
 pub record IsAlong (left_old left_new old new : Option (List ℕ)) (reader : Reading) (hub : Hub) : Type 0 where
@@ -57,9 +57,10 @@ begins_along left old reader hub is stands = record {
 text_behind : (frames others : List Frame) → (more : List ℕ) × (text (frames ++ others) ≡ text frames ++ more)
 text_behind frames [] = ([], ap text (append-nil frames) ∙ sym (append-nil (text frames)))
 text_behind frames (frame ∷ others) =
-    let rest = text_behind (frames ++ frame ∷ []) others in
-    (reply_text frames frame ++ rest.0,
-    ap text (sym (append_assoc frames (frame ∷ []) others)) ∙ rest.1 ∙ ap (λ l. l ++ rest.0) (text-push frames frame) ∙ append_assoc (text frames) (reply_text frames frame) rest.0)
+    let rest = text_behind (frames ++ frame ∷ []) others in (
+      reply_text frames frame ++ rest.0,
+      ap text (sym (append_assoc frames (frame ∷ []) others)) ∙ rest.1 ∙ ap (λ l. l ++ rest.0) (text-push frames frame) ∙ append_assoc (text frames) (reply_text frames frame) rest.0,
+    )
 
 no_text : text [] ≡ []
 unfolding text
@@ -90,9 +91,9 @@ module _ (lo ln o n : Option (List ℕ)) (reader : Reading) (hub : Hub) (a : IsA
       let len : length a.taken ≡ 0 = omega (arith, bytes, at, pending) in
       let none : a.taken ≡ [] = nil_from_length a.taken len in
       (no_frames a.frames a.taken reader.place reader.pending a.begins len, none) where
-    no_frames : (frames : List Frame) (taken : List ℕ) (place : Place) (rest : List ℕ) → Begins start taken frames place rest → length taken ≡ 0 → frames ≡ []
-    no_frames [] taken place rest h len = refl
-    no_frames (frame ∷ frames) taken place rest h len = absurd (omega (arith, whole_takes 0 taken frame h.0 h.1))
+        no_frames : (frames : List Frame) (taken : List ℕ) (place : Place) (rest : List ℕ) → Begins start taken frames place rest → length taken ≡ 0 → frames ≡ []
+        no_frames [] taken place rest h len = refl
+        no_frames (frame ∷ frames) taken place rest h len = absurd (omega (arith, whole_takes 0 taken frame h.0 h.1))
 
   -- the source ended
   pub ends_done : (lm : Option (List ℕ)) (after : Reading) → Gives ln lm reader after None → IsRun lo lm o n Done

@@ -1,8 +1,7 @@
 -- A live configuration: how it goes from step to step, and what history it stands for.
-use Rattle.std.specs.Prelude.{◌≡◌, ℕ, ◌+◌, ◌-◌, ◌^◌, min, ◌==◌, Bool, true, false, List, [], ◌∷◌, ◌++◌, length, replicate, Option, Some, None, if◌then◌else◌}
-use Rattle.atom_record.specs.declared.atom.Atom.{Atom}
+use Rattle.std.specs.Prelude.{◌≡◌, ℕ, ◌+◌, ◌-◌, ◌^◌, min, ◌==◌, Bool, true, false, List, [], length, replicate, Option, Some, None, if◌then◌else◌}
 use Rattle.atom_record.specs.declared.log.LogFrame.{LogFrame}
-use Rattle.atom_record.specs.declared.log.LogFrame.TheVariants.{Tick, AtomAt, Pull}
+use Rattle.atom_record.specs.declared.log.LogFrame.TheVariants.{AtomAt}
 use Rattle.atom_record.specs.declared.value.MetricKey.{MetricKey}
 use Rattle.bucket_meaning.specs.Marks.{Books, books_of}
 use Rattle.bucket_meaning.specs.Kept.{counted}

@@ -1,5 +1,5 @@
 -- The report that is written of what a configuration shows.
-use Rattle.std.specs.Prelude.{ℕ, ℤ, pos, ◌-◌, ◌^◌, min, List, [], ◌∷◌, Option, Some, None}
+use Rattle.std.specs.Prelude.{ℤ, pos, ◌-◌, ◌^◌, min, List, [], ◌∷◌, Option, Some, None}
 use Rattle.instance_meaning.specs.Report.{NumBucket, NumTree, MetricTree, Counts, ReportTree}
 use Rattle.session_meaning.specs.Config.{default_size}
 use Rattle.statsd_cli.specs.declared.instance.Bucket.{Bucket}

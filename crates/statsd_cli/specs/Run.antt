@@ -1,5 +1,5 @@
 -- How a run of a session ended, and what it did to its input and its outputs.
-use Rattle.std.specs.Prelude.{◌≡◌, ℕ, ◌≤◌, ◌⊎◌, List, [], ◌∷◌, ◌++◌, codes, Option, Some, None, Result, Ok, Err, option_to_list}
+use Rattle.std.specs.Prelude.{◌≡◌, ℕ, ◌⊎◌, List, [], ◌∷◌, ◌++◌, codes, Option, Some, None, Result, Ok, Err, option_to_list}
 use Rattle.std.specs.List.{flat_map}
 use Rattle.sd_io.specs.Causes.{Rose, Appends, AppendsFront, Consumes, IsAtEnd}
 use Rattle.session_frames.specs.declared.frame.Frame.{Frame}

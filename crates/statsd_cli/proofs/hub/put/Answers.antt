@@ -1,9 +1,9 @@
 -- Where the place was found, the write there is the list with the new one; else it goes last.
 use Rattle.std.proofs.Common.{◌≡◌, ap, sym, ◌∙◌, Some, None, length, SFits, w32, w64, rules, arith}
-use Rattle.std.specs.List.{position_from, list_any}
+use Rattle.std.specs.List.{position_from}
 use Rattle.std.proofs.lemmas.Int.{to_z-of_z}
 use Rattle.statsd_cli.specs.Lives.{is_at}
-use Rattle.statsd_cli.proofs.ListLemmas.{IsFirst, first_at, none_found, any_first, within}
+use Rattle.statsd_cli.proofs.ListLemmas.{first_at, none_found, any_first, within}
 use Rattle.statsd_cli.proofs.LivesLemmas.{with_live_set, with_live_push}
 use Rattle.statsd_cli.proofs.hub.put.Goals as goal
 

@@ -1,5 +1,5 @@
 -- One frame after the other; where no frame comes or one isn't served, the run ends so.
-use Rattle.std.proofs.Common.{◌≡◌, arith, subst}
+use Rattle.std.proofs.Common.{arith, subst}
 use Rattle.session_frames.specs.Frames.{IsInTime}
 use Rattle.statsd_cli.proofs.RunLemmas.{begins_along, clock_along, ends_done, ends_refused, comes_nearer, goes_on, ends_in_serve}
 use Rattle.statsd_cli.proofs.top.replay.Goals as goal

@@ -1,5 +1,5 @@
 -- The run under way: what was taken is the frames so far and what the reader holds, and the hub stands for them.
-use Rattle.std.proofs.Common.{ℕ, ◌+◌, ◌-◌, ◌≤◌}
+use Rattle.std.proofs.Common.{◌+◌, ◌-◌, ◌≤◌}
 use Rattle.session_frames.specs.Frames.{most_input}
 use Rattle.statsd_cli.proofs.RunLemmas.{IsAlong}
 use Rattle.statsd_cli.proofs.top.replay.Given as goal

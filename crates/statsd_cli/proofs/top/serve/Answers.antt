@@ -1,5 +1,5 @@
 -- The reply was written whole.
-use Rattle.std.proofs.Common.{◌≡◌, sym, ◌∙◌, subst}
+use Rattle.std.proofs.Common.{sym, ◌∙◌, subst}
 use Rattle.sd_io.specs.Causes.{Appends}
 use Rattle.statsd_cli.proofs.RunLemmas.{reply_text_is}
 use Rattle.statsd_cli.proofs.top.serve.Goals as goal

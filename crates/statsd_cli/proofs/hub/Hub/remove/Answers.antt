@@ -1,5 +1,5 @@
 -- What stays is told by `take_out`, and whether something was there by the search for its place.
-use Rattle.std.proofs.Common.{◌≡◌, ap, sym, ◌∙◌, cond}
+use Rattle.std.proofs.Common.{◌≡◌, ap, ◌∙◌, cond}
 use Rattle.std.specs.Prelude.{is_some}
 use Rattle.std.specs.List.{position_from, list_any}
 use Rattle.std.proofs.lemmas.Int.{to_z-of_z}

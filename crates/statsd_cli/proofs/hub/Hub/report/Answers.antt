@@ -1,14 +1,14 @@
 -- What was found is the first, and the write at its place is the change of the first.
-use Rattle.std.proofs.Common.{◌≡◌, ap, sym, ◌∙◌, Some, None, find, set, length, refl, SFits, w32, w64, rules, arith, subst}
-use Rattle.std.specs.List.{position_from, list_any}
+use Rattle.std.proofs.Common.{◌≡◌, ap, sym, ◌∙◌, Some, None, set, length, refl, arith, subst}
+use Rattle.std.specs.List.{position_from}
 use Rattle.std.proofs.lemmas.Int.{to_z-of_z}
 use Rattle.session_frames.specs.declared.reply.ReplyBody.TheVariants as answers
 use Rattle.instance_meaning.specs.Spelling.{report_bytes}
 use Rattle.statsd_cli.specs.declared.hub.Live.{Live}
-use Rattle.statsd_cli.specs.Instance.{reported, shown_by}
+use Rattle.statsd_cli.specs.Instance.{shown_by}
 use Rattle.statsd_cli.specs.Report.{shown_tree}
-use Rattle.statsd_cli.specs.Lives.{is_at, reported_live, at_first, Reports}
-use Rattle.statsd_cli.proofs.ListLemmas.{IsFirst, first_at, none_found, find_first, find_none, get_first, within}
+use Rattle.statsd_cli.specs.Lives.{is_at, reported_live, Reports}
+use Rattle.statsd_cli.proofs.ListLemmas.{first_at, none_found, find_first, find_none, get_first, within}
 use Rattle.statsd_cli.proofs.LivesLemmas.{at_first_set}
 use Rattle.statsd_cli.proofs.hub.Hub.report.Goals as goal
 

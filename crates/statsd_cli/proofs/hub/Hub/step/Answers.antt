@@ -1,8 +1,7 @@
 -- Each kind of frame: the hub stands for the frames with it, and its answer is theirs.
-use Rattle.std.proofs.Common.{◌≡◌, Some, None, SFits, w32, w64, rules, subst, ap, sym, ◌∙◌}
+use Rattle.std.proofs.Common.{◌≡◌, None, SFits, w32, w64, rules, subst, ap, sym, ◌∙◌}
 use Rattle.std.proofs.lemmas.Int.{to_z-of_z}
-use Rattle.session_frames.specs.declared.frame.Frame.{Frame}
-use Rattle.session_frames.specs.declared.frame.Frame.TheVariants.{Log, Install, Remove, Report}
+use Rattle.session_frames.specs.declared.frame.Frame.TheVariants.{Log}
 use Rattle.session_frames.specs.Frames.{IsFaultless}
 use Rattle.session_meaning.specs.Config.{config_of}
 use Rattle.statsd_cli.specs.Reading.{found}
