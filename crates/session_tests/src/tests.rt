@@ -4,5 +4,6 @@ mod configs;
 mod faults;
 mod parts;
 mod run;
+mod std_streams;
 mod streams;
 mod words;

@@ -1,6 +1,6 @@
 //! Sessions with a fault: the replies before it, and the note.
 use super::parts::{ATOM_AT_2, ATOM_AT_3, CUT, INSTALL, INSTALLED, NO_CONFIG, REPORT, TWO_BY_3};
-use super::run::assert_replay;
+use super::run::{assert_replay, joined};
 use std::test::Fail;
 
 #[test]
@@ -27,6 +27,12 @@ fn ends_at_the_first_fault(rt: HostRuntime) -> Result<(), Fail> {
             &[b"\x01\0\0\0\x09"],
             &[],
             "statsd: bad session at 0: 4 unknown kind 9\n",
+        ),
+        (
+            "a length of 0 at the start",
+            &[b"\0\0\0\0"],
+            &[],
+            "statsd: bad session at 0: 4 unknown kind 0\n",
         ),
         (
             "a length of 0",
@@ -66,6 +72,25 @@ fn ends_at_the_first_fault(rt: HostRuntime) -> Result<(), Fail> {
         ),
     ] {
         assert_replay(&rt, name, session, 3, replies, note)?;
+    }
+    Ok(())
+}
+
+#[test]
+fn answers_the_frames_before_a_cut(rt: HostRuntime) -> Result<(), Fail> {
+    let alloc = rt.alloc();
+    for (start, end, replies, note) in [
+        (0, 31, [].as_slice(), "statsd: bad session at 0: 1 cut\n"),
+        (31, 48, &[INSTALLED], "statsd: bad session at 31: 1 cut\n"),
+        (48, 65, &[INSTALLED], "statsd: bad session at 48: 1 cut\n"),
+        (65, 83, &[INSTALLED], "statsd: bad session at 65: 1 cut\n"),
+    ] {
+        for left in start..end {
+            let mut session = joined(alloc, &[INSTALL, ATOM_AT_2, ATOM_AT_3, CUT])?;
+            session.truncate(left);
+            let (status, told) = if left == start { (0, "") } else { (3, note) };
+            assert_replay(&rt, note, &[session.as_slice()], status, replies, told)?;
+        }
     }
     Ok(())
 }
