@@ -2,14 +2,17 @@
 use Rattle.std.proofs.Common.{◌≡◌, ◌↔◌, IsTrue, ℕ, zero, suc, ◌+◌, ◌-◌, ◌^◌, ◌<◌, ◌≤◌, Bool, true, false, not, ◌||◌, ◌==◌, nat_lt, if◌then◌else◌, MatchBool, fold, List, [], ◌∷◌, ◌++◌, length, take, drop, Result, Ok, Err, refl, sym, ap, ap₂, ◌∙◌, subst, subst₂, arith}
 use Rattle.std.proofs.lemmas.Bool.Decides.{nat_tests}
 use Rattle.std.proofs.lemmas.List.{take-append-le, drop-append-le, length-append, length-drop}
-use Rattle.std.specs.Int.{Width, byte_len, w32, w64, from_le_bytes, cast_signed}
-use Rattle.sd_base.specs.Reads.{◌>>=◌}
-use Rattle.atom_record.specs.declared.log.LogFrame.TheVariants.{AtomAt}
+use Rattle.std.specs.Int.{Width, byte_len, w16, w32, w64, from_le_bytes, cast_signed}
+use Rattle.sd_base.specs.Reads.{◌>>=◌, many}
+use Rattle.atom_record.specs.declared.log.LogFrame.TheVariants.{Tick, Pull}
+use Rattle.atom_record.specs.declared.log.PullOutcome.{PullOutcome}
+use Rattle.atom_record.specs.Id.{is_atom_id}
+use Rattle.atom_record.specs.Reading.{atom_at}
 use Rattle.session_frames.specs.declared.frame.Frame.{Frame}
 use Rattle.session_frames.specs.declared.frame.Frame.TheVariants.{Log, Install, Remove, Report}
 use Rattle.session_frames.specs.declared.frame.SessionFault.{SessionFault}
-use Rattle.session_frames.specs.declared.frame.SessionFault.TheVariants.{Cut, UnknownKind, TooManyFrames}
-use Rattle.session_frames.specs.Frames.{most_body, most_input, hour, log_time, clock_behind, IsAtomId, HasIds, IsFaultless, IsInTime, number_at, no_such, atom_body, install_body, flag_at, report_body, body_of, timed, frame_of, Next, Ended, Broken, Whole, followed_by, size_at, next_frame, Place, start, past, End, Clean, Bad, Reads, Begins, is_too_much, frames_of}
+use Rattle.session_frames.specs.declared.frame.SessionFault.TheVariants.{Cut, TooLong, BadLength, UnknownKind, TooManyFrames}
+use Rattle.session_frames.specs.Frames.{most_body, most_input, hour, most_atoms, log_time, clock_behind, number_at, time_at, flag_at, at_end, of_payload, tick_body, atom_body, pulled_atom, payload_at, pulled_at, pull_id_at, snapshot_at, outcome_at, pull_body, install_body, remove_body, report_body, body_of, timed, frame_of, Next, Ended, Broken, Whole, followed_by, size_at, next_frame, Place, start, past, End, Clean, Bad, Reads, Begins, is_too_much, frames_of}
 
 -- A frame stands whole in front: its length, its content, and what is behind it.
 pub record IsWhole (clock : ℕ) (left : List ℕ) (frame : Frame) (rest : List ℕ) : Type 0 where
@@ -20,50 +23,57 @@ pub record IsWhole (clock : ℕ) (left : List ℕ) (frame : Frame) (rest : List 
   pub reads : frame_of clock (take (size_at left) (drop 4 left)) ≡ Ok frame
   pub behind : drop (size_at left) (drop 4 left) ≡ rest
 
--- The judgement by its four tests: what they say where a frame is found.
-record FoundSo (empty short wrong cut : Bool) (read : Result Frame SessionFault) (behind : List ℕ) (frame : Frame) (rest : List ℕ) : Type 0 where
+-- The judgement by its five tests: what they say where a frame is found.
+record FoundSo (empty short none long cut : Bool) (read : Result Frame SessionFault) (behind : List ℕ) (frame : Frame) (rest : List ℕ) : Type 0 where
   pub not_empty : empty ≡ false
   pub not_short : short ≡ false
-  pub not_wrong : wrong ≡ false
+  pub not_none : none ≡ false
+  pub not_long : long ≡ false
   pub not_cut : cut ≡ false
   pub reads : read ≡ Ok frame
   pub leaves : behind ≡ rest
 
-abbrev judged : Bool → Bool → Bool → Bool → Result Frame SessionFault → List ℕ → Next
-judged empty short wrong cut read behind =
-    if empty then Ended else if short then Broken Cut else if wrong then Broken (UnknownKind 0) else if cut then Broken Cut else followed_by behind read
+abbrev judged : Bool → Bool → Bool → Bool → Bool → ℕ → Result Frame SessionFault → List ℕ → Next
+judged empty short none long cut size read behind =
+    if empty then Ended
+    else if short then Broken Cut
+    else if none then Broken BadLength
+    else if long then Broken (TooLong size)
+    else if cut then Broken Cut
+    else followed_by behind read
 
-found_so : (empty short wrong cut : Bool) (read : Result Frame SessionFault) (behind : List ℕ) (frame : Frame) (rest : List ℕ)
-    → judged empty short wrong cut read behind ≡ Whole frame rest → FoundSo empty short wrong cut read behind frame rest
-found_so true short wrong cut read behind frame rest e = absurd (cc)
-found_so false true wrong cut read behind frame rest e = absurd (cc)
-found_so false false true cut read behind frame rest e = absurd (cc)
-found_so false false false true read behind frame rest e = absurd (cc)
-found_so false false false false (Err fault) behind frame rest e = absurd (cc)
-found_so false false false false (Ok found) behind frame rest e =
-    record { not_empty = refl; not_short = refl; not_wrong = refl; not_cut = refl; reads = cc; leaves = cc }
+found_so : (empty short none long cut : Bool) (size : ℕ) (read : Result Frame SessionFault) (behind : List ℕ) (frame : Frame) (rest : List ℕ)
+    → judged empty short none long cut size read behind ≡ Whole frame rest → FoundSo empty short none long cut read behind frame rest
+found_so true short none long cut size read behind frame rest e = absurd (cc)
+found_so false true none long cut size read behind frame rest e = absurd (cc)
+found_so false false true long cut size read behind frame rest e = absurd (cc)
+found_so false false false true cut size read behind frame rest e = absurd (cc)
+found_so false false false false true size read behind frame rest e = absurd (cc)
+found_so false false false false false size (Err fault) behind frame rest e = absurd (cc)
+found_so false false false false false size (Ok found) behind frame rest e =
+    record { not_empty = refl; not_short = refl; not_none = refl; not_long = refl; not_cut = refl; reads = cc; leaves = cc }
 
-judged_so : (empty short wrong cut : Bool) (read : Result Frame SessionFault) (behind : List ℕ) (frame : Frame) (rest : List ℕ)
-    → FoundSo empty short wrong cut read behind frame rest → judged empty short wrong cut read behind ≡ Whole frame rest
-judged_so empty short wrong cut read behind frame rest h = rw (h.not_empty, h.not_short, h.not_wrong, h.not_cut, h.reads, h.leaves) refl
+judged_so : (empty short none long cut : Bool) (size : ℕ) (read : Result Frame SessionFault) (behind : List ℕ) (frame : Frame) (rest : List ℕ)
+    → FoundSo empty short none long cut read behind frame rest → judged empty short none long cut size read behind ≡ Whole frame rest
+judged_so empty short none long cut size read behind frame rest h = rw (h.not_empty, h.not_short, h.not_none, h.not_long, h.not_cut, h.reads, h.leaves) refl
 
 -- the tests, as facts on numbers
-tests_tell : (len size most behind : ℕ) → (len == 0) ≡ false → nat_lt len 4 ≡ false → (size == 0 || nat_lt most size) ≡ false → nat_lt behind size ≡ false
+tests_tell : (len size most behind : ℕ) → (len == 0) ≡ false → nat_lt len 4 ≡ false → (size == 0) ≡ false → nat_lt most size ≡ false → nat_lt behind size ≡ false
     → (4 ≤ len) × (1 ≤ size) × (size ≤ most) × (size ≤ behind)
-tests_tell len size most behind e1 e2 e3 e4 = (grind (arith, nat_tests), grind (arith, nat_tests), grind (arith, nat_tests), grind (arith, nat_tests))
+tests_tell len size most behind e1 e2 e3 e4 e5 = (grind (arith, nat_tests), grind (arith, nat_tests), grind (arith, nat_tests), grind (arith, nat_tests))
 
 told_by_tests : (len size most behind : ℕ) → 4 ≤ len → 1 ≤ size → size ≤ most → size ≤ behind
-    → ((len == 0) ≡ false) × (nat_lt len 4 ≡ false) × ((size == 0 || nat_lt most size) ≡ false) × (nat_lt behind size ≡ false)
-told_by_tests len size most behind h1 h2 h3 h4 = (grind (arith, nat_tests), grind (arith, nat_tests), grind (arith, nat_tests), grind (arith, nat_tests))
+    → ((len == 0) ≡ false) × (nat_lt len 4 ≡ false) × ((size == 0) ≡ false) × (nat_lt most size ≡ false) × (nat_lt behind size ≡ false)
+told_by_tests len size most behind h1 h2 h3 h4 = (grind (arith, nat_tests), grind (arith, nat_tests), grind (arith, nat_tests), grind (arith, nat_tests), grind (arith, nat_tests))
 
 -- what is judged a frame stands whole in front
 pub IsWhole-from_next : (clock : ℕ) (left : List ℕ) (frame : Frame) (rest : List ℕ) → next_frame clock left ≡ Whole frame rest → IsWhole clock left frame rest
 unfolding next_frame
 IsWhole-from_next clock left frame rest e =
     let size = size_at left in
-    let so : FoundSo (length left == 0) (nat_lt (length left) 4) (size == 0 || nat_lt most_body size) (nat_lt (length (drop 4 left)) size) (frame_of clock (take size (drop 4 left))) (drop size (drop 4 left)) frame rest =
-    found_so _ _ _ _ _ _ frame rest e in
-    let told = tests_tell (length left) size most_body (length (drop 4 left)) so.not_empty so.not_short so.not_wrong so.not_cut in
+    let so : FoundSo (length left == 0) (nat_lt (length left) 4) (size == 0) (nat_lt most_body size) (nat_lt (length (drop 4 left)) size) (frame_of clock (take size (drop 4 left))) (drop size (drop 4 left)) frame rest =
+    found_so _ _ _ _ _ size _ _ frame rest e in
+    let told = tests_tell (length left) size most_body (length (drop 4 left)) so.not_empty so.not_short so.not_none so.not_long so.not_cut in
     record { long = told.0; some = told.1; small = told.2; here = told.3; reads = so.reads; behind = so.leaves }
 
 -- what stands whole in front is judged a frame
@@ -72,8 +82,8 @@ unfolding next_frame
 next-from_IsWhole clock left frame rest h =
     let size = size_at left in
     let told = told_by_tests (length left) size most_body (length (drop 4 left)) h.long h.some h.small h.here in
-    judged_so (length left == 0) (nat_lt (length left) 4) (size == 0 || nat_lt most_body size) (nat_lt (length (drop 4 left)) size) (frame_of clock (take size (drop 4 left))) (drop size (drop 4 left)) frame rest
-    (record { not_empty = told.0; not_short = told.1; not_wrong = told.2; not_cut = told.3; reads = h.reads; leaves = h.behind })
+    judged_so (length left == 0) (nat_lt (length left) 4) (size == 0) (nat_lt most_body size) (nat_lt (length (drop 4 left)) size) size (frame_of clock (take size (drop 4 left))) (drop size (drop 4 left)) frame rest
+    (record { not_empty = told.0; not_short = told.1; not_none = told.2; not_long = told.3; not_cut = told.4; reads = h.reads; leaves = h.behind })
 
 -- a frame takes its length and one byte at least
 pub whole_takes : (clock : ℕ) (left : List ℕ) (frame : Frame) (rest : List ℕ) → next_frame clock left ≡ Whole frame rest → length rest + 5 ≤ length left
@@ -228,91 +238,10 @@ none_of_too_much false bytes frames end h none last = absurd (cc)
 pub frames_of-too_much : (bytes : List ℕ) → IsTrue (is_too_much bytes) → frames_of bytes [] (Bad most_input TooManyFrames)
 frames_of-too_much bytes h = none_of_too_much (is_too_much bytes) bytes [] (Bad most_input TooManyFrames) h refl refl
 
--- what one reading gives on to the next, where both are good
-bound : {A B F : Type 0} (read : Result A F) (next : A → Result B F) (good : B) → (read >>= next) ≡ Ok good → (x : A) × (read ≡ Ok x) × (next x ≡ Ok good)
-bound (Ok x) next good e = (x, refl, e)
-bound (Err fault) next good e = absurd (cc)
-
--- a choice that isn't its first branch is its second
-other_branch : {A : Type 0} (test : Bool) (x y z : A) → (x ≡ z → ⊥) → (if test then x else y) ≡ z → (test ≡ false) × (y ≡ z)
-other_branch true x y z differs e = absurd (differs e)
-other_branch false x y z differs e = (refl, e)
-
--- a frame of the log has ids that may be
-abbrev FrameHasIds : Frame → Type 0
-FrameHasIds (Log frame) = HasIds frame
-FrameHasIds _ = Unit {0}
-
-id_from_test : (front : Bool) (id : ℕ) → (front || (id == 0 || not (nat_lt id (2 ^ 31)))) ≡ false → IsAtomId id
-id_from_test true id e = absurd (cc)
-id_from_test false id e = record { least = grind (arith, nat_tests); most = grind (arith, nat_tests) }
-
-atom_has_ids : (bytes : List ℕ) (frame : Frame) → atom_body bytes ≡ Ok frame → FrameHasIds frame
-unfolding atom_body
-atom_has_ids bytes frame e =
-    let at = bound (number_at w64 (no_such 2) bytes) _ frame e in
-    let id = bound (number_at w32 (no_such 2) at.0.1) _ frame at.2 in
-    let chosen = other_branch (not (length id.0.1 == 0) || (id.0.0 == 0 || not (nat_lt id.0.0 (2 ^ 31)))) _ _ (Ok frame) (λ p. cc) id.2 in
-    let is : Log (AtomAt at.0.0 (record { id = id.0.0; fields = [] })) ≡ frame = cc (chosen.1) in
-    subst FrameHasIds is (id_from_test (not (length id.0.1 == 0)) id.0.0 chosen.0)
-
-install_has_ids : (bytes : List ℕ) (frame : Frame) → install_body bytes ≡ Ok frame → FrameHasIds frame
-unfolding install_body
-install_has_ids bytes frame e =
-    let uid = bound (number_at w32 (no_such 16) bytes) _ frame e in
-    let id = bound (number_at w64 (no_such 16) uid.0.1) _ frame uid.2 in
-    let is : Install (cast_signed w32 uid.0.0) (cast_signed w64 id.0.0) id.0.1 ≡ frame = cc (id.2) in
-    subst FrameHasIds is tt
-
-report_has_ids : (bytes : List ℕ) (frame : Frame) → report_body bytes ≡ Ok frame → FrameHasIds frame
-unfolding report_body
-report_has_ids bytes frame e =
-    let uid = bound (number_at w32 (no_such 18) bytes) _ frame e in
-    let id = bound (number_at w64 (no_such 18) uid.0.1) _ frame uid.2 in
-    let flag = bound (flag_at (no_such 18) id.0.1) _ frame id.2 in
-    let is : Report (cast_signed w32 uid.0.0) (cast_signed w64 id.0.0) flag.0 ≡ frame = cc (flag.2) in
-    subst FrameHasIds is tt
-
 -- what holds of both branches holds of the choice
 of_choice : {A : Type 0} (P : A → Type 0) (test : Bool) (x y : A) → P x → P y → P (if test then x else y)
 of_choice P true x y p q = p
 of_choice P false x y p q = q
-
-body_has_ids : (kind : ℕ) (body : List ℕ) (frame : Frame) → body_of kind body ≡ Ok frame → FrameHasIds frame
-body_has_ids kind body frame =
-    let P : Result Frame SessionFault → Type 0 = λ read. read ≡ Ok frame → FrameHasIds frame in
-    let none : P (Err (no_such kind)) = λ e. absurd (cc) in
-    of_choice P (kind == 2) (atom_body body) _ (atom_has_ids body frame)
-    (of_choice P (kind == 16) (install_body body) _ (install_has_ids body frame)
-    (of_choice P (kind == 18) (report_body body) (Err (no_such kind)) (report_has_ids body frame) none))
-
-abbrev IsGood : ℕ → Frame → Type 0
-IsGood clock frame = IsFaultless frame × IsInTime clock frame
-
-times_tell : (time clock most : ℕ) → (nat_lt time clock || not (nat_lt time most)) ≡ false → (clock ≤ time) × (time < most)
-times_tell time clock most e = (grind (arith, nat_tests), grind (arith, nat_tests))
-
-timed_good : (clock kind : ℕ) (frame found : Frame) → FrameHasIds frame → timed clock kind frame ≡ Ok found → IsGood clock found
-timed_good clock kind (Log frame) found ids e =
-    let chosen = other_branch (nat_lt (log_time frame) clock || not (nat_lt (log_time frame) hour)) (Err (no_such kind)) _ (Ok found) (λ p. cc) e in
-    let is : Log frame ≡ found = cc (chosen.1) in
-    let times = times_tell (log_time frame) clock hour chosen.0 in
-    subst (IsGood clock) is (record { timely = times.1; ids = ids }, times.0)
-timed_good clock kind (Install uid id config) found ids e = let is : Install uid id config ≡ found = cc in subst (IsGood clock) is (tt, tt)
-timed_good clock kind (Remove uid id) found ids e = let is : Remove uid id ≡ found = cc in subst (IsGood clock) is (tt, tt)
-timed_good clock kind (Report uid id cut) found ids e = let is : Report uid id cut ≡ found = cc in subst (IsGood clock) is (tt, tt)
-
-frame_good : (clock : ℕ) (content : List ℕ) (frame : Frame) → frame_of clock content ≡ Ok frame → IsGood clock frame
-frame_good clock [] frame e = absurd (cc)
-frame_good clock (kind ∷ body) frame e =
-    let read = bound (body_of kind body) (timed clock kind) frame e in
-    timed_good clock kind read.0 frame (body_has_ids kind body read.0 read.1) read.2
-
--- A frame that is found has no fault and isn't late.
-pub whole_faultless : (clock : ℕ) (left : List ℕ) (frame : Frame) (rest : List ℕ) → next_frame clock left ≡ Whole frame rest → IsFaultless frame × IsInTime clock frame
-whole_faultless clock left frame rest e =
-    let h = IsWhole-from_next clock left frame rest e in
-    frame_good clock (take (size_at left) (drop 4 left)) frame h.reads
 
 -- Only the whole of a session can be too much: no frame by itself has that fault.
 abbrev IsNotTooMany : {A : Type 0} → Result A SessionFault → Type 0
@@ -322,42 +251,113 @@ bound_not_too_many : {A B : Type 0} (read : Result A SessionFault) (next : A →
 bound_not_too_many (Ok x) next first second = second x
 bound_not_too_many (Err fault) next first second = λ e. first (cc)
 
-number_not_too_many : (width : Width) (kind : ℕ) (bytes : List ℕ) → IsNotTooMany (number_at width (no_such kind) bytes)
-number_not_too_many width kind bytes = of_choice IsNotTooMany (nat_lt (length bytes) (byte_len width)) _ _ (λ e. cc) (λ e. cc)
+number_not_too_many : (width : Width) (bytes : List ℕ) → IsNotTooMany (number_at width bytes)
+number_not_too_many width bytes = of_choice IsNotTooMany (nat_lt (length bytes) (byte_len width)) _ _ (λ e. cc) (λ e. cc)
 
-flag_not_too_many : (kind : ℕ) (bytes : List ℕ) → IsNotTooMany (flag_at (no_such kind) bytes)
-flag_not_too_many kind [] = λ e. cc
-flag_not_too_many kind (flag ∷ []) = of_choice IsNotTooMany (nat_lt flag 2) _ _ (λ e. cc) (λ e. cc)
-flag_not_too_many kind (flag ∷ more ∷ bytes) = λ e. cc
+time_not_too_many : (bytes : List ℕ) → IsNotTooMany (time_at bytes)
+unfolding time_at
+time_not_too_many bytes =
+    bound_not_too_many (number_at w64 bytes) _ (number_not_too_many w64 bytes) (λ (at : ℕ × List ℕ).
+    of_choice IsNotTooMany (not (nat_lt at.0 (2 ^ 63))) _ _ (λ e. cc) (λ e. cc))
+
+flag_not_too_many : (bytes : List ℕ) → IsNotTooMany (flag_at bytes)
+flag_not_too_many [] = λ e. cc
+flag_not_too_many (flag ∷ bytes) = of_choice IsNotTooMany (nat_lt flag 2) _ _ (λ e. cc) (λ e. cc)
+
+end_not_too_many : (frame : Frame) (bytes : List ℕ) → IsNotTooMany (at_end frame bytes)
+end_not_too_many frame [] = λ e. cc
+end_not_too_many frame (byte ∷ bytes) = λ e. cc
+
+payload_not_too_many : {X : Type 0} (read : Result X ℕ) → IsNotTooMany (of_payload read)
+payload_not_too_many (Ok x) = λ e. cc
+payload_not_too_many (Err reason) = λ e. cc
+
+many_not_too_many : {X : Type 0} (one : List ℕ → Result (X × List ℕ) SessionFault) → ((bytes : List ℕ) → IsNotTooMany (one bytes)) → (n : ℕ) (bytes : List ℕ) → IsNotTooMany (many one n bytes)
+unfolding many
+many_not_too_many one fine zero bytes = λ e. cc
+many_not_too_many {X} one fine (suc n) bytes =
+    bound_not_too_many (one bytes) _ (fine bytes) (λ (first : X × List ℕ).
+    bound_not_too_many (many one n first.1) _ (many_not_too_many one fine n first.1) (λ others e. cc))
+
+pulled_not_too_many : (id : ℕ) (bytes : List ℕ) → IsNotTooMany (pulled_at id bytes)
+unfolding pulled_at payload_at
+pulled_not_too_many id bytes =
+    bound_not_too_many (payload_at bytes) _
+    (bound_not_too_many (number_at w16 bytes) _ (number_not_too_many w16 bytes) (λ (len : ℕ × List ℕ).
+    of_choice IsNotTooMany (nat_lt (length len.1) len.0) _ _ (λ e. cc) (λ e. cc)))
+    (λ (payload : List ℕ × List ℕ).
+    bound_not_too_many (of_payload (pulled_atom id payload.0)) _ (payload_not_too_many (pulled_atom id payload.0)) (λ atom e. cc))
+
+snapshot_not_too_many : (id : ℕ) (bytes : List ℕ) → IsNotTooMany (snapshot_at id bytes)
+unfolding snapshot_at
+snapshot_not_too_many id bytes =
+    bound_not_too_many (number_at w16 bytes) _ (number_not_too_many w16 bytes) (λ (count : ℕ × List ℕ).
+    of_choice IsNotTooMany (nat_lt most_atoms count.0) _ _ (λ e. cc) (many_not_too_many (pulled_at id) (pulled_not_too_many id) count.0 count.1))
+
+outcome_not_too_many : (id : ℕ) (failed : Bool) (bytes : List ℕ) → IsNotTooMany (outcome_at id failed bytes)
+unfolding outcome_at
+outcome_not_too_many id true bytes = λ e. cc
+outcome_not_too_many id false bytes = bound_not_too_many (snapshot_at id bytes) _ (snapshot_not_too_many id bytes) (λ atoms e. cc)
+
+pull_id_not_too_many : (bytes : List ℕ) → IsNotTooMany (pull_id_at bytes)
+unfolding pull_id_at
+pull_id_not_too_many bytes =
+    bound_not_too_many (number_at w32 bytes) _ (number_not_too_many w32 bytes) (λ (id : ℕ × List ℕ).
+    of_choice IsNotTooMany (not (is_atom_id id.0)) _ _ (λ e. cc) (λ e. cc))
+
+tick_not_too_many : (bytes : List ℕ) → IsNotTooMany (tick_body bytes)
+unfolding tick_body
+tick_not_too_many bytes = bound_not_too_many (time_at bytes) _ (time_not_too_many bytes) (λ (at : ℕ × List ℕ). end_not_too_many (Log (Tick at.0)) at.1)
 
 atom_not_too_many : (bytes : List ℕ) → IsNotTooMany (atom_body bytes)
 unfolding atom_body
 atom_not_too_many bytes =
-    bound_not_too_many (number_at w64 (no_such 2) bytes) _ (number_not_too_many w64 2 bytes) (λ (at : ℕ × List ℕ).
-    bound_not_too_many (number_at w32 (no_such 2) at.1) _ (number_not_too_many w32 2 at.1) (λ (id : ℕ × List ℕ).
-    of_choice IsNotTooMany (not (length id.1 == 0) || (id.0 == 0 || not (nat_lt id.0 (2 ^ 31)))) _ _ (λ e. cc) (λ e. cc)))
+    bound_not_too_many (time_at bytes) _ (time_not_too_many bytes) (λ (at : ℕ × List ℕ).
+    bound_not_too_many (of_payload (atom_at at.1)) _ (payload_not_too_many (atom_at at.1)) (λ atom e. cc))
+
+pull_not_too_many : (bytes : List ℕ) → IsNotTooMany (pull_body bytes)
+unfolding pull_body
+pull_not_too_many bytes =
+    bound_not_too_many (time_at bytes) _ (time_not_too_many bytes) (λ (at : ℕ × List ℕ).
+    bound_not_too_many (pull_id_at at.1) _ (pull_id_not_too_many at.1) (λ (id : ℕ × List ℕ).
+    bound_not_too_many (flag_at id.1) _ (flag_not_too_many id.1) (λ (failed : Bool × List ℕ).
+    bound_not_too_many (outcome_at id.0 failed.0 failed.1) _ (outcome_not_too_many id.0 failed.0 failed.1) (λ (outcome : PullOutcome × List ℕ).
+    end_not_too_many (Log (Pull at.0 id.0 outcome.0)) outcome.1))))
 
 install_not_too_many : (bytes : List ℕ) → IsNotTooMany (install_body bytes)
 unfolding install_body
 install_not_too_many bytes =
-    bound_not_too_many (number_at w32 (no_such 16) bytes) _ (number_not_too_many w32 16 bytes) (λ (uid : ℕ × List ℕ).
-    bound_not_too_many (number_at w64 (no_such 16) uid.1) _ (number_not_too_many w64 16 uid.1) (λ (id : ℕ × List ℕ) e. cc))
+    bound_not_too_many (number_at w32 bytes) _ (number_not_too_many w32 bytes) (λ (uid : ℕ × List ℕ).
+    bound_not_too_many (number_at w64 uid.1) _ (number_not_too_many w64 uid.1) (λ (id : ℕ × List ℕ) e. cc))
+
+remove_not_too_many : (bytes : List ℕ) → IsNotTooMany (remove_body bytes)
+unfolding remove_body
+remove_not_too_many bytes =
+    bound_not_too_many (number_at w32 bytes) _ (number_not_too_many w32 bytes) (λ (uid : ℕ × List ℕ).
+    bound_not_too_many (number_at w64 uid.1) _ (number_not_too_many w64 uid.1) (λ (id : ℕ × List ℕ).
+    end_not_too_many (Remove (cast_signed w32 uid.0) (cast_signed w64 id.0)) id.1))
 
 report_not_too_many : (bytes : List ℕ) → IsNotTooMany (report_body bytes)
 unfolding report_body
 report_not_too_many bytes =
-    bound_not_too_many (number_at w32 (no_such 18) bytes) _ (number_not_too_many w32 18 bytes) (λ (uid : ℕ × List ℕ).
-    bound_not_too_many (number_at w64 (no_such 18) uid.1) _ (number_not_too_many w64 18 uid.1) (λ (id : ℕ × List ℕ).
-    bound_not_too_many (flag_at (no_such 18) id.1) _ (flag_not_too_many 18 id.1) (λ flag e. cc)))
+    bound_not_too_many (number_at w32 bytes) _ (number_not_too_many w32 bytes) (λ (uid : ℕ × List ℕ).
+    bound_not_too_many (number_at w64 uid.1) _ (number_not_too_many w64 uid.1) (λ (id : ℕ × List ℕ).
+    bound_not_too_many (flag_at id.1) _ (flag_not_too_many id.1) (λ (flag : Bool × List ℕ).
+    end_not_too_many (Report (cast_signed w32 uid.0) (cast_signed w64 id.0) flag.0) flag.1)))
 
 body_not_too_many : (kind : ℕ) (body : List ℕ) → IsNotTooMany (body_of kind body)
 body_not_too_many kind body =
-    of_choice IsNotTooMany (kind == 2) (atom_body body) _ (atom_not_too_many body)
+    of_choice IsNotTooMany (kind == 1) (tick_body body) _ (tick_not_too_many body)
+    (of_choice IsNotTooMany (kind == 2) (atom_body body) _ (atom_not_too_many body)
+    (of_choice IsNotTooMany (kind == 3) (pull_body body) _ (pull_not_too_many body)
     (of_choice IsNotTooMany (kind == 16) (install_body body) _ (install_not_too_many body)
-    (of_choice IsNotTooMany (kind == 18) (report_body body) (Err (no_such kind)) (report_not_too_many body) (λ e. cc)))
+    (of_choice IsNotTooMany (kind == 17) (remove_body body) _ (remove_not_too_many body)
+    (of_choice IsNotTooMany (kind == 18) (report_body body) (Err (UnknownKind kind)) (report_not_too_many body) (λ e. cc))))))
 
 timed_not_too_many : (clock kind : ℕ) (frame : Frame) → IsNotTooMany (timed clock kind frame)
-timed_not_too_many clock kind (Log frame) = of_choice IsNotTooMany (nat_lt (log_time frame) clock || not (nat_lt (log_time frame) hour)) _ _ (λ e. cc) (λ e. cc)
+timed_not_too_many clock kind (Log frame) =
+    of_choice IsNotTooMany (nat_lt (log_time frame) clock) _ _ (λ e. cc)
+    (of_choice IsNotTooMany (not (nat_lt (log_time frame) hour)) _ _ (λ e. cc) (λ e. cc))
 timed_not_too_many clock kind (Install uid id config) = λ e. cc
 timed_not_too_many clock kind (Remove uid id) = λ e. cc
 timed_not_too_many clock kind (Report uid id cut) = λ e. cc
@@ -376,9 +376,10 @@ next_not_too_many clock left =
     let P : Next → Type 0 = λ next. next ≡ Broken TooManyFrames → ⊥ in
     of_choice P (length left == 0) Ended _ (λ e. cc)
     (of_choice P (nat_lt (length left) 4) (Broken Cut) _ (λ e. cc)
-    (of_choice P (size_at left == 0 || nat_lt most_body (size_at left)) (Broken (UnknownKind 0)) _ (λ e. cc)
+    (of_choice P (size_at left == 0) (Broken BadLength) _ (λ e. cc)
+    (of_choice P (nat_lt most_body (size_at left)) (Broken (TooLong (size_at left))) _ (λ e. cc)
     (of_choice P (nat_lt (length (drop 4 left)) (size_at left)) (Broken Cut) _ (λ e. cc)
-    (followed_not_too_many (drop (size_at left) (drop 4 left)) (frame_of clock (take (size_at left) (drop 4 left))) (frame_not_too_many clock (take (size_at left) (drop 4 left)))))))
+    (followed_not_too_many (drop (size_at left) (drop 4 left)) (frame_of clock (take (size_at left) (drop 4 left))) (frame_not_too_many clock (take (size_at left) (drop 4 left))))))))
 
 -- A choice that is its first branch, and not its second, was decided for it.
 first_branch : (test : Bool) (x y z : Next) → (y ≡ z → ⊥) → (if test then x else y) ≡ z → test ≡ true
@@ -400,7 +401,8 @@ next_ended clock left e =
     let P : Next → Type 0 = λ next. next ≡ Ended → ⊥ in
     none_of_no_length left (first_branch (length left == 0) Ended _ Ended
     (of_choice P (nat_lt (length left) 4) (Broken Cut) _ (λ f. cc)
-    (of_choice P (size_at left == 0 || nat_lt most_body (size_at left)) (Broken (UnknownKind 0)) _ (λ f. cc)
+    (of_choice P (size_at left == 0) (Broken BadLength) _ (λ f. cc)
+    (of_choice P (nat_lt most_body (size_at left)) (Broken (TooLong (size_at left))) _ (λ f. cc)
     (of_choice P (nat_lt (length (drop 4 left)) (size_at left)) (Broken Cut) _ (λ f. cc)
-    (followed_not_ended (drop (size_at left) (drop 4 left)) (frame_of clock (take (size_at left) (drop 4 left)))))))
+    (followed_not_ended (drop (size_at left) (drop 4 left)) (frame_of clock (take (size_at left) (drop 4 left))))))))
     e)

@@ -1,4 +1,5 @@
 mod Worked
 mod WritingLemmas
 pub mod FrameLaws
+mod BodyLemmas
 mod ReaderLemmas

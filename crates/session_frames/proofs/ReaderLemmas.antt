@@ -8,10 +8,10 @@ use Rattle.session_frames.specs.declared.frame.FrameError.{FrameError}
 use Rattle.session_frames.specs.declared.frame.FrameError.TheVariants.{Session, Read, Memory}
 use Rattle.session_frames.specs.declared.frame.SessionFault.{SessionFault}
 use Rattle.session_frames.specs.declared.frame.SessionFault.TheVariants.{Cut, TooLong, BadLength, UnknownKind, BadBody, BadAtom, TimeBackwards, TooManyFrames}
-use Rattle.session_frames.specs.Frames.{most_input, clock_behind, size_at, next_frame, Next, Whole, Place, past, IsFaultless, IsInTime}
+use Rattle.session_frames.specs.Frames.{most_input, clock_behind, size_at, next_frame, Next, Whole, Place, past}
 use Rattle.session_frames.specs.Reading.{Reading, IsDone, unread, Gives, Refuses, HasFault, IsFaultNext, IsWithin}
 use Rattle.session_frames.specs.Bodies.{Fills, Judges}
-use Rattle.session_frames.proofs.FrameLaws.{IsWhole-from_next, whole_takes, whole_faultless, next_not_too_many, next_ended}
+use Rattle.session_frames.proofs.FrameLaws.{IsWhole-from_next, whole_takes, next_not_too_many, next_ended}
 
 -- so much of a source was read
 pub record IsReadSo (old new : Option (List ℕ)) (before now : ℕ) (bytes piece : List ℕ) : Type 0 where
@@ -123,15 +123,6 @@ module _ (old new : Option (List ℕ)) (before filled : Reading) (fills : Fills 
   pub refuses : (answer : Result (Reading × Option Frame) FrameError) → Judges filled answer → IfErr answer (λ e. Refuses old new before e)
   refuses (Ok answer) judges = tt
   refuses (Err e) judges = Refuses-judged e judges
-
-found_good : (filled : Reading) (after : Reading) (frame : Option Frame) → Judges filled (Ok (after, frame)) → IfSome frame (λ f. IsFaultless f × IsInTime filled.place.clock f)
-found_good filled after None judges = tt
-found_good filled after (Some frame) judges = whole_faultless filled.place.clock filled.pending frame after.pending judges.0
-
--- what is found has no fault and isn't late
-pub judged_good : (filled : Reading) (answer : Result (Reading × Option Frame) FrameError) → Judges filled answer → IfOk answer (λ r. IfSome r.1 (λ f. IsFaultless f × IsInTime filled.place.clock f))
-judged_good filled (Ok answer) judges = found_good filled answer.0 answer.1 judges
-judged_good filled (Err e) judges = tt
 
 found_end : (before filled after : Reading) (frame : Option Frame) → filled.place ≡ before.place → IsTrue filled.ended → Judges filled (Ok (after, frame)) → IfNone frame (IsDone before after)
 found_end before filled after None same ended judges =

@@ -4,16 +4,22 @@ use Rattle.std.specs.Io.KnownBytes.{Consumes, IsAtEnd}
 use Rattle.session_frames.specs.declared.body.BodyError.{BodyError}
 use Rattle.session_frames.specs.declared.body.BodyError.TheVariants.{Fault, Memory}
 use Rattle.session_frames.specs.declared.frame.Frame.{Frame}
+use Rattle.session_frames.specs.declared.frame.Frame.TheVariants.{Log}
 use Rattle.session_frames.specs.declared.frame.FrameError.{FrameError}
 use Rattle.session_frames.specs.declared.frame.FrameError.TheVariants as failed
 use Rattle.session_frames.specs.declared.frame.SessionFault.{SessionFault}
-use Rattle.session_frames.specs.Frames.{Next, Ended, Broken, Whole, next_frame, past}
+use Rattle.session_frames.specs.Frames.{HasSoundAtoms, Next, Ended, Broken, Whole, next_frame, past}
 use Rattle.session_frames.specs.Reading.{Reading, IsWithin}
 
 -- the fault that an error names; want of memory names none
 abbrev pub fault_of : BodyError → Option SessionFault
 fault_of (Fault fault) = Some fault
 fault_of Memory = None
+
+-- the atoms of a frame have no fault: commands have none
+abbrev pub HasSoundBody : Frame → Type 0
+HasSoundBody (Log frame) = HasSoundAtoms frame
+HasSoundBody _ = Unit {0}
 
 -- the call answers what stands next in what is left
 abbrev pub GivesNext : {Slice : Type 0} → (Slice → List ℕ) → Result (Option (Frame × Slice)) BodyError → Next → Type 0

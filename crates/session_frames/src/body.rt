@@ -1,25 +1,41 @@
 //! One frame, read from the bytes of its content.
-ghost use Rattle.std.specs.Prelude.{◌≡◌};
-ghost use Rattle.std.specs.Int.{w32, w64};
-ghost use Rattle.sd_base.specs.Reads.{GivesBy};
+ghost use Rattle.std.specs.Prelude.{◌≡◌, ◌≤◌, length, All, IfOk};
+ghost use Rattle.std.specs.Int.{w16, w32, w64};
+ghost use Rattle.sd_base.specs.Reads.{GivesBy, many};
+ghost use Rattle.atom_record.specs.Id.{IsAtomId};
+ghost use Rattle.atom_record.specs.Sound.{HasNoFault};
+ghost use Rattle.atom_record.specs.Reading.{atom_at};
 ghost use Rattle.session_frames.specs.Frames as frames;
-ghost use Rattle.session_frames.specs.Bodies.{fault_of};
+ghost use Rattle.session_frames.specs.Frames.{IsFaultless, IsInTime, IsPulledAtom, IsOutcome};
+ghost use Rattle.session_frames.specs.Bodies.{fault_of, HasSoundBody};
 
+use crate::frame::{BAD_FLAG, LATE, LEFT_OVER, TOO_MANY_ATOMS, TOO_SHORT};
 use crate::{Frame, SessionFault};
-use atom_record::{Atom, LogFrame};
+use atom_record::{
+    Atom, AtomFault, BAD_ID, LogFrame, MOST_BYTES, OTHER_ID, PullOutcome, is_atom_id, parse_atom,
+};
 use sd_base::Seq;
 use std::alloc::{AllocError, Global};
 
 // Log times stay below an hour.
 const HOUR: u64 = 3_600_000_000_000;
 
-// The first id that an atom may not have.
-const ATOM_IDS: u32 = 1 << 31;
+// The first time that is too late to be one.
+const NO_TIME: u64 = 1 << 63;
+
+// The most atoms of a recorded pull.
+const MOST_ATOMS: u16 = 200;
 
 // The kinds of frames.
+const TICK: u8 = 1;
+
 const ATOM: u8 = 2;
 
+const PULL: u8 = 3;
+
 const INSTALL: u8 = 16;
+
+const REMOVE: u8 = 17;
 
 const REPORT: u8 = 18;
 
@@ -41,63 +57,242 @@ impl From<AllocError> for BodyError {
     }
 }
 
-// There is no frame of this kind and this form.
-fn no_such(kind: u8) -> BodyError
-    ensures { result ≡ BodyError.Fault (SessionFault.UnknownKind kind) }
+// The body isn't of its kind's form.
+fn bad_body(reason: u8) -> BodyError
+    ensures { result ≡ BodyError.Fault (SessionFault.BadBody reason) }
 {
-    BodyError::Fault(SessionFault::UnknownKind(kind))
+    BodyError::Fault(SessionFault::BadBody(reason))
 }
 
-// A number of four bytes at the front, and what is behind it.
-fn u32_at(kind: u8, bytes: &[u8]) -> Result<(u32, &[u8]), BodyError>
-    ensures { GivesBy fault_of (λ x. (x.0, x.1.now)) result (frames.number_at w32 (frames.no_such kind) bytes.now) }
+// An atom isn't well-formed.
+fn bad_atom(reason: u8) -> BodyError
+    ensures { result ≡ BodyError.Fault (SessionFault.BadAtom reason) }
 {
-    if bytes.len() < 4 {
-        return Err(no_such(kind));
-    }
-    let (front, rest) = bytes.split_at(4);
-    Ok((
-        u32::from_le_bytes([front[0], front[1], front[2], front[3]]),
-        rest,
-    ))
+    BodyError::Fault(SessionFault::BadAtom(reason))
 }
 
-// A number of eight bytes at the front, and what is behind it.
-fn u64_at(kind: u8, bytes: &[u8]) -> Result<(u64, &[u8]), BodyError>
-    ensures { GivesBy fault_of (λ x. (x.0, x.1.now)) result (frames.number_at w64 (frames.no_such kind) bytes.now) }
+fn u16_at(bytes: &[u8]) -> Result<(u16, &[u8]), BodyError>
+    ensures { GivesBy fault_of (λ x. (x.0, x.1.now)) result (frames.number_at w16 bytes.now) }
 {
-    if bytes.len() < 8 {
-        return Err(no_such(kind));
+    let Some((front, rest)) = bytes.split_first_chunk::<2>() else {
+        return Err(bad_body(TOO_SHORT));
+    };
+    Ok((u16::from_le_bytes(*front), rest))
+}
+
+fn u32_at(bytes: &[u8]) -> Result<(u32, &[u8]), BodyError>
+    ensures { GivesBy fault_of (λ x. (x.0, x.1.now)) result (frames.number_at w32 bytes.now) }
+{
+    let Some((front, rest)) = bytes.split_first_chunk::<4>() else {
+        return Err(bad_body(TOO_SHORT));
+    };
+    Ok((u32::from_le_bytes(*front), rest))
+}
+
+fn u64_at(bytes: &[u8]) -> Result<(u64, &[u8]), BodyError>
+    ensures { GivesBy fault_of (λ x. (x.0, x.1.now)) result (frames.number_at w64 bytes.now) }
+{
+    let Some((front, rest)) = bytes.split_first_chunk::<8>() else {
+        return Err(bad_body(TOO_SHORT));
+    };
+    Ok((u64::from_le_bytes(*front), rest))
+}
+
+// A time in nanoseconds.
+#[tactic(auto, unfolding(crate::specs::Frames::time_at))]
+fn time_at(bytes: &[u8]) -> Result<(u64, &[u8]), BodyError>
+    ensures { GivesBy fault_of (λ x. (x.0, x.1.now)) result (frames.time_at bytes.now) }
+{
+    let (at, rest) = u64_at(bytes)?;
+    if at >= NO_TIME {
+        return Err(bad_body(LATE));
     }
-    let (front, rest) = bytes.split_at(8);
-    let number = u64::from_le_bytes([
-        front[0], front[1], front[2], front[3], front[4], front[5], front[6], front[7],
-    ]);
-    Ok((number, rest))
+    Ok((at, rest))
+}
+
+fn flag_at(bytes: &[u8]) -> Result<(bool, &[u8]), BodyError>
+    ensures { GivesBy fault_of (λ x. (x.0, x.1.now)) result (frames.flag_at bytes.now) }
+{
+    match bytes {
+        [] => Err(bad_body(TOO_SHORT)),
+        [flag, rest @ ..] if *flag < 2 => Ok((*flag == 1, rest)),
+        _ => Err(bad_body(BAD_FLAG)),
+    }
+}
+
+// The frame, where nothing is left over.
+fn at_end(frame: Frame, rest: &[u8]) -> Result<Frame, BodyError>
+    ensures exact { GivesBy fault_of (λ frame. frame) result (frames.at_end frame rest.now) }
+    ensures same { IfOk result (λ found. found ≡ frame) }
+{
+    if !rest.is_empty() {
+        return Err(bad_body(LEFT_OVER));
+    }
+    Ok(frame)
+}
+
+#[tactic(auto, unfolding(crate::specs::Frames::tick_body))]
+fn read_tick(body: &[u8]) -> Result<Frame, BodyError>
+    ensures exact { GivesBy fault_of (λ frame. frame) result (frames.tick_body body.now) }
+    ensures sound { IfOk result HasSoundBody }
+{
+    let (at, rest) = time_at(body)?;
+    at_end(Frame::Log(LogFrame::Tick { at }), rest)
+}
+
+// The atom of a payload.
+fn atom_of(alloc: Global, payload: &[u8]) -> Result<Atom, BodyError>
+    ensures exact { GivesBy fault_of (λ atom. atom) result (frames.of_payload (atom_at payload.now)) }
+    ensures sound { IfOk result HasNoFault }
+{
+    match parse_atom(alloc, payload) {
+        Ok(atom) => Ok(atom),
+        Err(AtomFault::Bad(reason)) => Err(bad_atom(reason)),
+        Err(AtomFault::Memory) => Err(BodyError::Memory),
+    }
 }
 
 #[tactic(auto, unfolding(crate::specs::Frames::atom_body))]
 fn read_atom(alloc: Global, body: &[u8]) -> Result<Frame, BodyError>
-    ensures { GivesBy fault_of (λ frame. frame) result (frames.atom_body body.now) }
+    ensures exact { GivesBy fault_of (λ frame. frame) result (frames.atom_body body.now) }
+    ensures sound { IfOk result HasSoundBody }
 {
-    let (at, rest) = u64_at(ATOM, body)?;
-    let (id, rest) = u32_at(ATOM, rest)?;
-    if !rest.is_empty() || (id == 0 || id >= ATOM_IDS) {
-        return Err(no_such(ATOM));
+    let (at, rest) = time_at(body)?;
+    let atom = atom_of(alloc, rest)?;
+    Ok(Frame::Log(LogFrame::AtomAt { at, atom }))
+}
+
+// Whether a payload that isn't too long begins with the id of another atom.
+#[tactic(auto, unfolding(atom_record::specs::Reading::id_at))]
+fn is_of_other(id: u32, payload: &[u8]) -> bool
+    ensures { result ≡ frames.is_of_other id payload.now }
+{
+    match payload.split_first_chunk::<4>() {
+        Some((front, _)) if payload.len() <= MOST_BYTES => {
+            let own = u32::from_le_bytes(*front);
+            is_atom_id(own) && own != id
+        }
+        _ => false,
     }
-    let fields = Seq::new(alloc);
-    Ok(Frame::Log(LogFrame::AtomAt {
-        at,
-        atom: Atom { id, fields },
-    }))
+}
+
+// The atom of a payload in a pull of this id.
+fn pulled_atom_of(alloc: Global, id: u32, payload: &[u8]) -> Result<Atom, BodyError>
+    ensures exact { GivesBy fault_of (λ atom. atom) result (frames.of_payload (frames.pulled_atom id payload.now)) }
+    ensures sound { IfOk result (IsPulledAtom id) }
+{
+    if is_of_other(id, payload) {
+        return Err(bad_atom(OTHER_ID));
+    }
+    atom_of(alloc, payload)
+}
+
+// A payload behind its length.
+#[tactic(auto, unfolding(crate::specs::Frames::payload_at))]
+fn payload_at(bytes: &[u8]) -> Result<(&[u8], &[u8]), BodyError>
+    ensures { GivesBy fault_of (λ x. (x.0.now, x.1.now)) result (frames.payload_at bytes.now) }
+{
+    let (len, rest) = u16_at(bytes)?;
+    let len = usize::from(len);
+    if rest.len() < len {
+        return Err(bad_body(TOO_SHORT));
+    }
+    Ok(rest.split_at(len))
+}
+
+// The next atom of a pull of this id.
+#[tactic(auto, unfolding(crate::specs::Frames::pulled_at))]
+fn pulled_at(alloc: Global, id: u32, bytes: &[u8]) -> Result<(Atom, &[u8]), BodyError>
+    ensures exact { GivesBy fault_of (λ x. (x.0, x.1.now)) result (frames.pulled_at id bytes.now) }
+    ensures sound { IfOk result (λ x. IsPulledAtom id x.0) }
+{
+    let (payload, rest) = payload_at(bytes)?;
+    let atom = pulled_atom_of(alloc, id, payload)?;
+    Ok((atom, rest))
+}
+
+// So many atoms of a pull of this id.
+fn atoms_at(
+    alloc: Global,
+    id: u32,
+    count: u16,
+    bytes: &[u8],
+) -> Result<(Seq<Atom>, &[u8]), BodyError>
+    ensures exact { GivesBy fault_of (λ x. (x.0, x.1.now)) result (many (frames.pulled_at id) count bytes.now) }
+    ensures sound { IfOk result (λ x. (length x.0 ≡ count) × All (IsPulledAtom id) x.0) }
+{
+    let mut atoms = Seq::new(alloc);
+    let mut rest = bytes;
+    for _turn in 0..count {
+        let (atom, behind) = pulled_at(alloc, id, rest)?;
+        atoms.push(atom)?;
+        rest = behind;
+    }
+    Ok((atoms, rest))
+}
+
+// The atoms of a pull of this id, behind their count.
+#[tactic(auto, unfolding(crate::specs::Frames::snapshot_at))]
+fn snapshot_at(alloc: Global, id: u32, bytes: &[u8]) -> Result<(Seq<Atom>, &[u8]), BodyError>
+    ensures exact { GivesBy fault_of (λ x. (x.0, x.1.now)) result (frames.snapshot_at id bytes.now) }
+    ensures sound { IfOk result (λ x. IsOutcome id (PullOutcome.Atoms x.0)) }
+{
+    let (count, rest) = u16_at(bytes)?;
+    if count > MOST_ATOMS {
+        return Err(bad_body(TOO_MANY_ATOMS));
+    }
+    atoms_at(alloc, id, count, rest)
+}
+
+#[tactic(auto, unfolding(crate::specs::Frames::outcome_at))]
+fn outcome_at(
+    alloc: Global,
+    id: u32,
+    failed: bool,
+    bytes: &[u8],
+) -> Result<(PullOutcome, &[u8]), BodyError>
+    ensures exact { GivesBy fault_of (λ x. (x.0, x.1.now)) result (frames.outcome_at id failed bytes.now) }
+    ensures sound { IfOk result (λ x. IsOutcome id x.0) }
+{
+    if failed {
+        return Ok((PullOutcome::Failed, bytes));
+    }
+    let (atoms, rest) = snapshot_at(alloc, id, bytes)?;
+    Ok((PullOutcome::Atoms(atoms), rest))
+}
+
+// The id of a pull.
+#[tactic(auto, unfolding(crate::specs::Frames::pull_id_at))]
+fn pull_id_at(bytes: &[u8]) -> Result<(u32, &[u8]), BodyError>
+    ensures exact { GivesBy fault_of (λ x. (x.0, x.1.now)) result (frames.pull_id_at bytes.now) }
+    ensures sound { IfOk result (λ x. IsAtomId x.0) }
+{
+    let (id, rest) = u32_at(bytes)?;
+    if !is_atom_id(id) {
+        return Err(bad_atom(BAD_ID));
+    }
+    Ok((id, rest))
+}
+
+#[tactic(auto, unfolding(crate::specs::Frames::pull_body))]
+fn read_pull(alloc: Global, body: &[u8]) -> Result<Frame, BodyError>
+    ensures exact { GivesBy fault_of (λ frame. frame) result (frames.pull_body body.now) }
+    ensures sound { IfOk result HasSoundBody }
+{
+    let (at, rest) = time_at(body)?;
+    let (id, rest) = pull_id_at(rest)?;
+    let (failed, rest) = flag_at(rest)?;
+    let (outcome, rest) = outcome_at(alloc, id, failed, rest)?;
+    at_end(Frame::Log(LogFrame::Pull { at, id, outcome }), rest)
 }
 
 #[tactic(auto, unfolding(crate::specs::Frames::install_body))]
 fn read_install(alloc: Global, body: &[u8]) -> Result<Frame, BodyError>
-    ensures { GivesBy fault_of (λ frame. frame) result (frames.install_body body.now) }
+    ensures exact { GivesBy fault_of (λ frame. frame) result (frames.install_body body.now) }
+    ensures sound { IfOk result HasSoundBody }
 {
-    let (uid, rest) = u32_at(INSTALL, body)?;
-    let (id, rest) = u64_at(INSTALL, rest)?;
+    let (uid, rest) = u32_at(body)?;
+    let (id, rest) = u64_at(rest)?;
     let config = Seq::from_slice(alloc, rest)?;
     Ok(Frame::Install {
         uid: uid.cast_signed(),
@@ -106,38 +301,48 @@ fn read_install(alloc: Global, body: &[u8]) -> Result<Frame, BodyError>
     })
 }
 
+#[tactic(auto, unfolding(crate::specs::Frames::remove_body))]
+fn read_remove(body: &[u8]) -> Result<Frame, BodyError>
+    ensures exact { GivesBy fault_of (λ frame. frame) result (frames.remove_body body.now) }
+    ensures sound { IfOk result HasSoundBody }
+{
+    let (uid, rest) = u32_at(body)?;
+    let (id, rest) = u64_at(rest)?;
+    let frame = Frame::Remove {
+        uid: uid.cast_signed(),
+        id: id.cast_signed(),
+    };
+    at_end(frame, rest)
+}
+
 #[tactic(auto, unfolding(crate::specs::Frames::report_body))]
 fn read_report(body: &[u8]) -> Result<Frame, BodyError>
-    ensures { GivesBy fault_of (λ frame. frame) result (frames.report_body body.now) }
+    ensures exact { GivesBy fault_of (λ frame. frame) result (frames.report_body body.now) }
+    ensures sound { IfOk result HasSoundBody }
 {
-    let (uid, rest) = u32_at(REPORT, body)?;
-    let (id, rest) = u64_at(REPORT, rest)?;
-    let include_current = flag(REPORT, rest)?;
-    Ok(Frame::Report {
+    let (uid, rest) = u32_at(body)?;
+    let (id, rest) = u64_at(rest)?;
+    let (include_current, rest) = flag_at(rest)?;
+    let frame = Frame::Report {
         uid: uid.cast_signed(),
         id: id.cast_signed(),
         include_current,
-    })
-}
-
-// A flag that is all there is.
-fn flag(kind: u8, bytes: &[u8]) -> Result<bool, BodyError>
-    ensures { GivesBy fault_of (λ flag. flag) result (frames.flag_at (frames.no_such kind) bytes.now) }
-{
-    match bytes {
-        [flag] if *flag < 2 => Ok(*flag == 1),
-        _ => Err(no_such(kind)),
-    }
+    };
+    at_end(frame, rest)
 }
 
 fn read_body(alloc: Global, kind: u8, body: &[u8]) -> Result<Frame, BodyError>
-    ensures { GivesBy fault_of (λ frame. frame) result (frames.body_of kind body.now) }
+    ensures exact { GivesBy fault_of (λ frame. frame) result (frames.body_of kind body.now) }
+    ensures sound { IfOk result HasSoundBody }
 {
     match kind {
+        TICK => read_tick(body),
         ATOM => read_atom(alloc, body),
+        PULL => read_pull(alloc, body),
         INSTALL => read_install(alloc, body),
+        REMOVE => read_remove(body),
         REPORT => read_report(body),
-        _ => Err(no_such(kind)),
+        _ => Err(BodyError::Fault(SessionFault::UnknownKind(kind))),
     }
 }
 
@@ -152,13 +357,17 @@ fn log_time(frame: &LogFrame) -> u64
 
 // The same frame, unless it is of the log and comes before the clock or after the hour.
 fn timed(clock: u64, kind: u8, frame: Frame) -> Result<Frame, BodyError>
-    ensures { GivesBy fault_of (λ frame. frame) result (frames.timed clock kind frame) }
+    ensures exact { GivesBy fault_of (λ frame. frame) result (frames.timed clock kind frame) }
+    ensures sound { HasSoundBody frame → IfOk result (λ f. IsFaultless f × IsInTime clock f) }
 {
     match frame {
         Frame::Log(log) => {
             let at = log_time(&log);
-            if at < clock || at >= HOUR {
-                return Err(no_such(kind));
+            if at < clock {
+                return Err(BodyError::Fault(SessionFault::TimeBackwards(clock, at)));
+            }
+            if at >= HOUR {
+                return Err(BodyError::Fault(SessionFault::UnknownKind(kind)));
             }
             Ok(Frame::Log(log))
         }
@@ -168,10 +377,11 @@ fn timed(clock: u64, kind: u8, frame: Frame) -> Result<Frame, BodyError>
 
 /// The frame that is this kind byte and body, where the clock stands at a time.
 pub fn read_frame(alloc: Global, clock: u64, content: &[u8]) -> Result<Frame, BodyError>
-    ensures { GivesBy fault_of (λ frame. frame) result (frames.frame_of clock content.now) }
+    ensures exact { GivesBy fault_of (λ frame. frame) result (frames.frame_of clock content.now) }
+    ensures sound { IfOk result (λ f. IsFaultless f × IsInTime clock f) }
 {
     let [kind, body @ ..] = content else {
-        return Err(no_such(0));
+        return Err(BodyError::Fault(SessionFault::BadLength));
     };
     let frame = read_body(alloc, *kind, body)?;
     timed(clock, *kind, frame)

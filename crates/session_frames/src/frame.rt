@@ -25,6 +25,21 @@ pub enum Frame {
     },
 }
 
+/// The body is too short for its kind.
+pub const TOO_SHORT: u8 = 1;
+
+/// Bytes are left over behind the body.
+pub const LEFT_OVER: u8 = 2;
+
+/// A flag is neither 0 nor 1.
+pub const BAD_FLAG: u8 = 3;
+
+/// A time is 2^63 nanoseconds or more.
+pub const LATE: u8 = 4;
+
+/// A recorded pull has more than 200 atoms.
+pub const TOO_MANY_ATOMS: u8 = 5;
+
 /// Why a session can't be read on.
 #[derive(Clone, Copy, Debug, PartialEq, Eq)]
 pub enum SessionFault {
@@ -36,7 +51,7 @@ pub enum SessionFault {
     BadLength,
     /// There is no such kind of frame.
     UnknownKind(u8),
-    /// A frame's body isn't of its kind's form, with the reason's number.
+    /// A frame's body isn't of its kind's form, for one of the reasons above.
     BadBody(u8),
     /// An atom isn't well-formed, with the reason's number.
     BadAtom(u8),

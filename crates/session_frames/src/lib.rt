@@ -8,7 +8,9 @@ mod reader;
 mod reply;
 mod writing;
 
-pub use frame::{Frame, FrameError, SessionFault};
+pub use frame::{
+    BAD_FLAG, Frame, FrameError, LATE, LEFT_OVER, SessionFault, TOO_MANY_ATOMS, TOO_SHORT,
+};
 pub use laws::bytes_have_one_reading;
 pub use reader::FrameReader;
 pub use reply::{Refusal, Reply, ReplyBody};

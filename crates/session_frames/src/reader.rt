@@ -13,12 +13,13 @@ use std::alloc::{AllocError, Global};
 use std::marker::Model;
 
 // The most bytes of a frame behind its length.
-const MOST_BODY: usize = 1 << 20;
+const MOST_BODY: u32 = 1 << 20;
 
 // What stands next in what is left: a frame and the bytes behind it, or nothing at the end.
 #[tactic(auto, unfolding(crate::specs::Frames::next_frame))]
 fn next_in(alloc: Global, clock: u64, left: &[u8]) -> Result<Option<(Frame, &[u8])>, BodyError>
-    ensures { GivesNext (λ bytes. bytes.now) result (frames.next_frame clock left.now) }
+    ensures exact { GivesNext (λ bytes. bytes.now) result (frames.next_frame clock left.now) }
+    ensures sound { IfOk result (λ found. IfSome found (λ x. IsFaultless x.0 × IsInTime clock x.0)) }
 {
     if left.is_empty() {
         return Ok(None);
@@ -27,10 +28,14 @@ fn next_in(alloc: Global, clock: u64, left: &[u8]) -> Result<Option<(Frame, &[u8
         return Err(BodyError::Fault(SessionFault::Cut));
     }
     let (front, behind) = left.split_at(4);
-    let size = u32::from_le_bytes([front[0], front[1], front[2], front[3]]) as usize;
-    if size == 0 || size > MOST_BODY {
-        return Err(BodyError::Fault(SessionFault::UnknownKind(0)));
+    let size = u32::from_le_bytes([front[0], front[1], front[2], front[3]]);
+    if size == 0 {
+        return Err(BodyError::Fault(SessionFault::BadLength));
     }
+    if size > MOST_BODY {
+        return Err(BodyError::Fault(SessionFault::TooLong(size)));
+    }
+    let size = size as usize;
     if behind.len() < size {
         return Err(BodyError::Fault(SessionFault::Cut));
     }
@@ -171,7 +176,8 @@ impl FrameReader {
     // What stands next in what is held.
     fn judge(mut self) -> Result<(FrameReader, Option<Frame>), FrameError>
         requires { IsTrue self.ended }
-        ensures { Judges self result }
+        ensures judges { Judges self result }
+        ensures sound { IfOk result (λ r. IfSome r.1 (λ f. IsFaultless f × IsInTime self.place.clock f)) }
     {
         match next_in(self.alloc, self.clock, &self.bytes[self.at..]) {
             Ok(None) => Ok((self, None)),

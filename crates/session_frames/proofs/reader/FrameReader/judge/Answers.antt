@@ -9,14 +9,14 @@ use Rattle.session_frames.proofs.reader.FrameReader.judge.Goals as goal
 pub overflow_sub-self : goal.overflow_sub-self
 overflow_sub-self c =
     let bytes = c.self.inside.bytes.items in
-    let whole = on_rest bytes c.deref.result.now c.self.inside.at c.self.inside.clock (Whole c.in-Ok-Some.frame c.in-Ok-Some.rest.now) c.deref.ensures.value (rw c.in-Ok-Some.field-0-is at c.in-Ok-Some.ensures) in
+    let whole = on_rest bytes c.deref.result.now c.self.inside.at c.self.inside.clock (Whole c.in-Ok-Some.frame c.in-Ok-Some.rest.now) c.deref.ensures.value (rw c.in-Ok-Some.field-0-is at c.in-Ok-Some.ensures.exact) in
     let is_len = c.len.ensures ∙ sym c.deref.ensures.len ∙ ap length c.deref.ensures.value in
     rest_within bytes c.self.inside.at c.self.inside.clock c.len.result c.in-Ok-Some.frame c.in-Ok-Some.rest.now is_len whole
 
-pub returns-in-Ok-Some : goal.returns-in-Ok-Some
-returns-in-Ok-Some c =
+pub returns-in-Ok-Some-clause-judges : goal.returns-in-Ok-Some-clause-judges
+returns-in-Ok-Some-clause-judges c =
     let bytes = c.self.inside.bytes.items in
-    let whole = on_rest bytes c.deref.result.now c.self.inside.at c.self.inside.clock (Whole c.in-Ok-Some.frame c.in-Ok-Some.rest.now) c.deref.ensures.value (rw c.in-Ok-Some.field-0-is at c.in-Ok-Some.ensures) in
+    let whole = on_rest bytes c.deref.result.now c.self.inside.at c.self.inside.clock (Whole c.in-Ok-Some.frame c.in-Ok-Some.rest.now) c.deref.ensures.value (rw c.in-Ok-Some.field-0-is at c.in-Ok-Some.ensures.exact) in
     let is_len = c.len.ensures ∙ sym c.deref.ensures.len ∙ ap length c.deref.ensures.value in
     let at = c.len.result - length c.in-Ok-Some.rest.now in
     let after : Reading = record { pending = drop at bytes; place = record { bytes = at; clock = c.clock_behind.result }; ended = c.self.inside.ended } in

@@ -1,0 +1,12 @@
+-- The atoms so far, and those of the rest behind them, are those of all the bytes.
+use Rattle.std.proofs.Common.{◌≡◌, ◌-◌, length, All}
+use Rattle.sd_base.specs.Reads.{many, with_front}
+use Rattle.session_frames.specs.Frames.{pulled_at, IsPulledAtom}
+use Rattle.session_frames.proofs.body.atoms_at.Given as goal
+
+abbrev pub invariant-loop-turn : goal.invariant-loop-turn
+invariant-loop-turn l = record {
+  reads : with_front l.atoms (many (pulled_at l.id) (l.count - l._turn) l.rest) ≡ many (pulled_at l.id) l.count l.bytes;
+  some : length l.atoms ≡ l._turn;
+  sound : All (IsPulledAtom l.id) l.atoms;
+}
