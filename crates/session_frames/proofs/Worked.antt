@@ -9,7 +9,7 @@ use Rattle.session_frames.specs.declared.frame.Frame.{Frame}
 use Rattle.session_frames.specs.declared.frame.Frame.TheVariants.{Log, Install, Remove, Report}
 use Rattle.session_frames.specs.declared.frame.SessionFault.TheVariants.{Cut, TooLong, BadLength, UnknownKind, BadBody, BadAtom, TimeBackwards}
 use Rattle.session_frames.specs.declared.reply.ReplyBody.TheVariants.{Installed, NoConfig}
-use Rattle.session_frames.specs.Frames.{next_frame, Next, Broken, Whole, start, Reads, Clean, time_at, tick_body, atom_body, pull_id_at, payload_at, pulled_at, snapshot_at, outcome_at, pull_body, install_body, remove_body, report_body}
+use Rattle.session_frames.specs.Frames.{next_frame, Broken, Whole, start, Reads, Clean, time_at, tick_body, atom_body, pull_id_at, payload_at, pulled_at, snapshot_at, outcome_at, pull_body, install_body, remove_body, report_body}
 use Rattle.session_frames.specs.Replies.{reply_bytes}
 
 -- an install, two atoms and a report with a cut

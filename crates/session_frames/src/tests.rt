@@ -1,6 +1,12 @@
 //! Sessions read to their end or to their fault.
-use crate::{Frame, FrameError, FrameReader, SessionFault};
-use atom_record::{Atom, LogFrame};
+use crate::{
+    BAD_FLAG, Frame, FrameError, FrameReader, LATE, LEFT_OVER, SessionFault, TOO_MANY_ATOMS,
+    TOO_SHORT,
+};
+use atom_record::{
+    Atom, AtomField, BAD_FLAGS, BAD_ID, BAD_PLACE, BAD_TYPE, CUT, LogFrame, NOT_ABOVE, OTHER_ID,
+    PullOutcome, Value,
+};
 use sd_base::Seq;
 use sd_io::MemSource;
 use std::alloc::{AllocError, Global};
@@ -72,30 +78,153 @@ fn gives_the_same_frames_in_any_pieces(rt: HostRuntime) -> Result<(), Fail> {
 #[test]
 fn finds_the_first_fault_behind_good_frames(rt: HostRuntime) -> Result<(), Fail> {
     let alloc = rt.alloc();
-    let kind = SessionFault::UnknownKind;
+    let body = SessionFault::BadBody;
+    let atom = SessionFault::BadAtom;
     for (behind, fault) in [
+        // Lengths.
         (b"\x0d\0\0".as_slice(), SessionFault::Cut),
         (
             b"\x0d\0\0\0\x02\x03\0\0\0\0\0\0\0\x05\0\0",
             SessionFault::Cut,
         ),
-        (b"\0\0\0\0", kind(0)),
-        (b"\x01\0\x10\0", kind(0)),
-        (b"\x01\0\0\0\x09", kind(9)),
-        (b"\x09\0\0\0\x01\x03\0\0\0\0\0\0\0", kind(1)),
-        // An atom before the clock, at the hour, of id 0, of id 2^31, and with a byte more.
-        (b"\x0d\0\0\0\x02\x02\0\0\0\0\0\0\0\x05\0\0\0", kind(2)),
+        (b"\0\0\0\0", SessionFault::BadLength),
+        (b"\x01\0\x10\0", SessionFault::TooLong(1_048_577)),
+        (b"\0\0\x10\0", SessionFault::Cut),
+        (b"\x01\0\0\0\x09", SessionFault::UnknownKind(9)),
+        // Ticks: a byte short, a byte over, a late time before it, the clock, the hour.
+        (b"\x08\0\0\0\x01\x03\0\0\0\0\0\0", body(TOO_SHORT)),
+        (b"\x0a\0\0\0\x01\x03\0\0\0\0\0\0\0\0", body(LEFT_OVER)),
+        (b"\x0a\0\0\0\x01\0\0\0\0\0\0\0\x80\0", body(LATE)),
+        (
+            b"\x09\0\0\0\x01\x02\0\0\0\0\0\0\0",
+            SessionFault::TimeBackwards(3, 2),
+        ),
+        (b"\x0a\0\0\0\x01\x02\0\0\0\0\0\0\0\0", body(LEFT_OVER)),
+        (
+            b"\x09\0\0\0\x01\0\xa0\xb8\x30\x46\x03\0\0",
+            SessionFault::UnknownKind(1),
+        ),
+        // Atoms: no time, a late time before the id, no id, an id out of range before the clock, entries.
+        (b"\x08\0\0\0\x02\x03\0\0\0\0\0\0", body(TOO_SHORT)),
+        (b"\x09\0\0\0\x02\0\0\0\0\0\0\0\x80", body(LATE)),
+        (b"\x0c\0\0\0\x02\x03\0\0\0\0\0\0\0\x05\0\0", atom(BAD_ID)),
+        (b"\x0d\0\0\0\x02\x02\0\0\0\0\0\0\0\0\0\0\0", atom(BAD_ID)),
+        (b"\x0d\0\0\0\x02\x03\0\0\0\0\0\0\0\0\0\0\x80", atom(BAD_ID)),
+        (b"\x0e\0\0\0\x02\x03\0\0\0\0\0\0\0\x05\0\0\0\x01", atom(CUT)),
+        (
+            b"\x16\0\0\0\x02\x03\0\0\0\0\0\0\0\x05\0\0\0\0\0\0\0\x01\x07\0\0\0",
+            atom(BAD_PLACE),
+        ),
+        (
+            b"\x1f\0\0\0\x02\x03\0\0\0\0\0\0\0\x05\0\0\0\x01\0\0\0\x01\x07\0\0\0\x01\0\0\0\x01\x07\0\0\0",
+            atom(NOT_ABOVE),
+        ),
+        (
+            b"\x13\0\0\0\x02\x03\0\0\0\0\0\0\0\x05\0\0\0\x01\0\0\0\x03\x02",
+            atom(BAD_TYPE),
+        ),
+        (
+            b"\x16\0\0\0\x02\x03\0\0\0\0\0\0\0\x05\0\0\0\x01\0\0\x08\x01\x07\0\0\0",
+            atom(BAD_FLAGS),
+        ),
+        (
+            b"\x16\0\0\0\x02\x02\0\0\0\0\0\0\0\x05\0\0\0\x01\0\0\0\x01\x07\0\0\0",
+            SessionFault::TimeBackwards(3, 2),
+        ),
         (
             b"\x0d\0\0\0\x02\0\xa0\xb8\x30\x46\x03\0\0\x05\0\0\0",
-            kind(2),
+            SessionFault::UnknownKind(2),
         ),
-        (b"\x0d\0\0\0\x02\x03\0\0\0\0\0\0\0\0\0\0\0", kind(2)),
-        (b"\x0d\0\0\0\x02\x03\0\0\0\0\0\0\0\0\0\0\x80", kind(2)),
-        (b"\x0e\0\0\0\x02\x03\0\0\0\0\0\0\0\x05\0\0\0\0", kind(2)),
-        // An install without a whole id, a report with another flag, and one with none.
-        (b"\x0c\0\0\0\x10\x0a\0\0\0\x07\0\0\0\0\0\0", kind(16)),
-        (b"\x0e\0\0\0\x12\x0a\0\0\0\x07\0\0\0\0\0\0\0\x02", kind(18)),
-        (b"\x0d\0\0\0\x12\x0a\0\0\0\x07\0\0\0\0\0\0\0", kind(18)),
+        // Pulls: the id before the flag, the flag before what is behind it, the count before the atoms.
+        (
+            b"\x0c\0\0\0\x03\x03\0\0\0\0\0\0\0\x11\x27\0",
+            body(TOO_SHORT),
+        ),
+        (
+            b"\x0e\0\0\0\x03\x03\0\0\0\0\0\0\0\0\0\0\0\x02",
+            atom(BAD_ID),
+        ),
+        (
+            b"\x0e\0\0\0\x03\x03\0\0\0\0\0\0\0\0\0\0\x80\x02",
+            atom(BAD_ID),
+        ),
+        (
+            b"\x0d\0\0\0\x03\x03\0\0\0\0\0\0\0\x11\x27\0\0",
+            body(TOO_SHORT),
+        ),
+        (
+            b"\x0f\0\0\0\x03\x03\0\0\0\0\0\0\0\x11\x27\0\0\x02\0",
+            body(BAD_FLAG),
+        ),
+        (
+            b"\x0f\0\0\0\x03\x03\0\0\0\0\0\0\0\x11\x27\0\0\x01\0",
+            body(LEFT_OVER),
+        ),
+        (
+            b"\x0f\0\0\0\x03\x03\0\0\0\0\0\0\0\x11\x27\0\0\0\x01",
+            body(TOO_SHORT),
+        ),
+        (
+            b"\x10\0\0\0\x03\x03\0\0\0\0\0\0\0\x11\x27\0\0\0\xc9\0",
+            body(TOO_MANY_ATOMS),
+        ),
+        (
+            b"\x10\0\0\0\x03\x03\0\0\0\0\0\0\0\x11\x27\0\0\0\xc8\0",
+            body(TOO_SHORT),
+        ),
+        // Atoms of a pull: cut before its id, no id before another one, another one before its entries, these before the end.
+        (
+            b"\x16\0\0\0\x03\x03\0\0\0\0\0\0\0\x11\x27\0\0\0\x01\0\x05\0\0\0\0\0",
+            body(TOO_SHORT),
+        ),
+        (
+            b"\x16\0\0\0\x03\x03\0\0\0\0\0\0\0\x11\x27\0\0\0\x01\0\x04\0\0\0\0\0",
+            atom(BAD_ID),
+        ),
+        (
+            b"\x12\0\0\0\x03\x03\0\0\0\0\0\0\0\x11\x27\0\0\0\x01\0\0\0",
+            atom(BAD_ID),
+        ),
+        (
+            b"\x17\0\0\0\x03\x03\0\0\0\0\0\0\0\x11\x27\0\0\0\x01\0\x05\0\x12\x27\0\0\x01",
+            atom(OTHER_ID),
+        ),
+        (
+            b"\x27\0\0\0\x03\x03\0\0\0\0\0\0\0\x11\x27\0\0\0\x02\0\x0d\0\x11\x27\0\0\x01\0\0\0\x01\x07\0\0\0\x05\0\x11\x27\0\0\x01\0",
+            atom(CUT),
+        ),
+        (
+            b"\x17\0\0\0\x03\x02\0\0\0\0\0\0\0\x11\x27\0\0\0\x01\0\x04\0\x11\x27\0\0\0",
+            body(LEFT_OVER),
+        ),
+        (
+            b"\x0e\0\0\0\x03\x02\0\0\0\0\0\0\0\x11\x27\0\0\x01",
+            SessionFault::TimeBackwards(3, 2),
+        ),
+        (
+            b"\x0e\0\0\0\x03\0\xa0\xb8\x30\x46\x03\0\0\x11\x27\0\0\x01",
+            SessionFault::UnknownKind(3),
+        ),
+        // Commands: an id that is cut, bytes left over, a flag of 2 before them.
+        (b"\x0c\0\0\0\x10\x0a\0\0\0\x07\0\0\0\0\0\0", body(TOO_SHORT)),
+        (b"\x04\0\0\0\x11\x0a\0\0", body(TOO_SHORT)),
+        (b"\x0c\0\0\0\x11\x0a\0\0\0\x07\0\0\0\0\0\0", body(TOO_SHORT)),
+        (
+            b"\x0e\0\0\0\x11\x0a\0\0\0\x07\0\0\0\0\0\0\0\0",
+            body(LEFT_OVER),
+        ),
+        (
+            b"\x0d\0\0\0\x12\x0a\0\0\0\x07\0\0\0\0\0\0\0",
+            body(TOO_SHORT),
+        ),
+        (
+            b"\x0f\0\0\0\x12\x0a\0\0\0\x07\0\0\0\0\0\0\0\x02\0",
+            body(BAD_FLAG),
+        ),
+        (
+            b"\x0f\0\0\0\x12\x0a\0\0\0\x07\0\0\0\0\0\0\0\x01\0",
+            body(LEFT_OVER),
+        ),
     ] {
         let mut bytes = LEAST.to_vec(alloc)?;
         bytes.extend_from_slice(behind)?;
@@ -107,6 +236,67 @@ fn finds_the_first_fault_behind_good_frames(rt: HostRuntime) -> Result<(), Fail>
             "at {behind:?}"
         );
     }
+    Ok(())
+}
+
+#[test]
+fn reads_what_was_logged(rt: HostRuntime) -> Result<(), Fail> {
+    let alloc = rt.alloc();
+    let mut bytes = Vec::new(alloc);
+    for frame in [
+        // A tick, an atom with an entry, a pull of two atoms, one that failed, and one of none, all at 3; a remove.
+        b"\x09\0\0\0\x01\x03\0\0\0\0\0\0\0".as_slice(),
+        b"\x16\0\0\0\x02\x03\0\0\0\0\0\0\0\x05\0\0\0\x01\0\0\0\x01\x07\0\0\0",
+        b"\x25\0\0\0\x03\x03\0\0\0\0\0\0\0\x11\x27\0\0\0\x02\0\x04\0\x11\x27\0\0\x0d\0\x11\x27\0\0\x01\0\0\0\x01\x07\0\0\0",
+        b"\x0e\0\0\0\x03\x03\0\0\0\0\0\0\0\x11\x27\0\0\x01",
+        b"\x10\0\0\0\x03\x03\0\0\0\0\0\0\0\x11\x27\0\0\0\0\0",
+        b"\x0d\0\0\0\x11\x0a\0\0\0\x07\0\0\0\0\0\0\0",
+    ] {
+        bytes.extend_from_slice(frame)?;
+    }
+    let (frames, error) = read(alloc, MemSource::new(bytes, 16, Vec::new(alloc)))?;
+    let entries = || -> Result<Seq<AtomField>, AllocError> {
+        let entry = AtomField {
+            field: 1,
+            index: 0,
+            sub: 0,
+            flags: 0,
+            value: Value::Int(7),
+        };
+        Ok(Seq::from_vec(vec![in alloc; entry]?))
+    };
+    let pulled = |outcome| {
+        Frame::Log(LogFrame::Pull {
+            at: 3,
+            id: 10_001,
+            outcome,
+        })
+    };
+    let first = Atom {
+        id: 10_001,
+        fields: Seq::new(alloc),
+    };
+    let second = Atom {
+        id: 10_001,
+        fields: entries()?,
+    };
+    let logged = Atom {
+        id: 5,
+        fields: entries()?,
+    };
+    let wanted = vec![in alloc;
+        Frame::Log(LogFrame::Tick { at: 3 }),
+        Frame::Log(LogFrame::AtomAt {
+            at: 3,
+            atom: logged
+        }),
+        pulled(PullOutcome::Atoms(Seq::from_vec(vec![in alloc; first, second]?))),
+        pulled(PullOutcome::Failed),
+        pulled(PullOutcome::Atoms(Seq::new(alloc))),
+        Frame::Remove { uid: 10, id: 7 },
+    ]?;
+    assert_eq!(rt; frames, wanted);
+    assert_eq!(rt; error, None);
     Ok(())
 }
 

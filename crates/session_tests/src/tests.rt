@@ -2,6 +2,7 @@
 mod commands;
 mod configs;
 mod faults;
+mod limits;
 mod parts;
 mod run;
 mod std_streams;

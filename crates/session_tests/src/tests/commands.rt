@@ -1,7 +1,7 @@
 //! What commands are answered, and what reports show.
 use super::parts::{
-    ATOM_AT_2, ATOM_AT_3, CUT, INSTALL, INSTALLED, NO_CONFIG, NONE_BY_2, ONE_BY_2, REPLACED,
-    REPORT, TWO_BY_3,
+    ATOM_AT_2, ATOM_AT_3, CUT, INSTALL, INSTALLED, NO_CONFIG, NONE_BY_2, ONE_BY_2, ONE_BY_3,
+    PULL_AT_3, REMOVE, REMOVED, REPLACED, REPORT, TICK_AT_3, TWO_BY_3,
 };
 use super::run::assert_replay;
 use std::test::Fail;
@@ -138,6 +138,86 @@ fn keeps_configurations_apart(rt: HostRuntime) -> Result<(), Fail> {
         ),
     ] {
         assert_replay(&rt, name, session, 0, replies, "")?;
+    }
+    Ok(())
+}
+
+#[test]
+fn takes_configurations_out(rt: HostRuntime) -> Result<(), Fail> {
+    for (name, session, replies) in [
+        (
+            "a remove, a report and another remove",
+            [INSTALL, ATOM_AT_2, REMOVE, REPORT, REMOVE].as_slice(),
+            [INSTALLED, REMOVED, NO_CONFIG, NO_CONFIG].as_slice(),
+        ),
+        (
+            "of another client",
+            &[
+                INSTALL,
+                ATOM_AT_2,
+                b"\x0d\0\0\0\x11\x0b\0\0\0\x07\0\0\0\0\0\0\0",
+                CUT,
+            ],
+            &[
+                INSTALLED,
+                b"\x0d\0\0\0\0\0\0\0\x05\x0b\0\0\0\x07\0\0\0\0\0\0\0",
+                ONE_BY_2,
+            ],
+        ),
+        (
+            "an install behind a remove",
+            &[REMOVE, INSTALL, REMOVE, INSTALL, ATOM_AT_2, REPORT],
+            &[NO_CONFIG, INSTALLED, REMOVED, INSTALLED, NONE_BY_2],
+        ),
+    ] {
+        assert_replay(&rt, name, session, 0, replies, "")?;
+    }
+    Ok(())
+}
+
+#[test]
+fn moves_the_clock_by_all_that_is_logged(rt: HostRuntime) -> Result<(), Fail> {
+    for (name, session) in [
+        ("a tick", [INSTALL, ATOM_AT_2, TICK_AT_3, CUT].as_slice()),
+        ("a failed pull", &[INSTALL, ATOM_AT_2, PULL_AT_3, CUT]),
+        (
+            "a pull of no atoms",
+            &[
+                INSTALL,
+                ATOM_AT_2,
+                b"\x10\0\0\0\x03\x03\0\0\0\0\0\0\0\x11\x27\0\0\0\0\0",
+                CUT,
+            ],
+        ),
+        (
+            "an atom of another id",
+            &[
+                INSTALL,
+                ATOM_AT_2,
+                b"\x0d\0\0\0\x02\x03\0\0\0\0\0\0\0\x06\0\0\0",
+                CUT,
+            ],
+        ),
+        (
+            "a pull of an atom of the counted id, which isn't logged",
+            &[
+                INSTALL,
+                ATOM_AT_2,
+                b"\x16\0\0\0\x03\x03\0\0\0\0\0\0\0\x05\0\0\0\0\x01\0\x04\0\x05\0\0\0",
+                CUT,
+            ],
+        ),
+        (
+            "an atom with entries",
+            &[
+                INSTALL,
+                b"\x16\0\0\0\x02\x02\0\0\0\0\0\0\0\x05\0\0\0\x01\0\0\0\x01\x07\0\0\0",
+                TICK_AT_3,
+                CUT,
+            ],
+        ),
+    ] {
+        assert_replay(&rt, name, session, 0, &[INSTALLED, ONE_BY_3], "")?;
     }
     Ok(())
 }
