@@ -3,6 +3,7 @@
 
 mod atom;
 mod fault;
+mod item;
 mod log;
 mod parse;
 mod value;
@@ -11,6 +12,7 @@ pub use atom::{Atom, AtomField, EXCLUSIVE, PRIMARY, RESET, has_flag, is_atom_id}
 pub use fault::{
     AtomFault, BAD_FLAGS, BAD_ID, BAD_PLACE, BAD_TYPE, CUT, NOT_ABOVE, OTHER_ID, TOO_LONG,
 };
+pub use item::{Item, Items};
 pub use log::{LogFrame, PullOutcome, is_pulled};
 pub use parse::{MOST_BYTES, parse_atom};
 pub use value::{Bytes, CloneKey, DimKey, Leaf, MetricKey, Slice, Value};
