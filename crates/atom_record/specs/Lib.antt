@@ -1,7 +1,9 @@
 pub mod Equal
 pub mod Flags
 pub mod Id
+pub mod ItemSpelling
 pub mod Pulled
 pub mod Reading
+pub mod Savable
 pub mod Sound
 pub mod Spelling

@@ -6,6 +6,7 @@ mod fault;
 mod item;
 mod log;
 mod parse;
+mod spell;
 mod value;
 
 pub use atom::{Atom, AtomField, EXCLUSIVE, PRIMARY, RESET, has_flag, is_atom_id};
@@ -15,6 +16,7 @@ pub use fault::{
 pub use item::{Item, Items};
 pub use log::{LogFrame, PullOutcome, is_pulled};
 pub use parse::{MOST_BYTES, parse_atom};
+pub use spell::item_bytes;
 pub use value::{Bytes, CloneKey, DimKey, Leaf, MetricKey, Slice, Value};
 
 #[cfg(test)]
