@@ -1,5 +1,7 @@
+pub mod Bounded
 pub mod Equal
 pub mod Flags
+pub mod Flat
 pub mod Id
 pub mod ItemSpelling
 pub mod Pulled
@@ -7,3 +9,4 @@ pub mod Reading
 pub mod Savable
 pub mod Sound
 pub mod Spelling
+pub mod Weight

@@ -3,6 +3,8 @@
 
 mod atom;
 mod fault;
+mod flat;
+mod flat_error;
 mod item;
 mod log;
 mod parse;
@@ -13,6 +15,8 @@ pub use atom::{Atom, AtomField, EXCLUSIVE, PRIMARY, RESET, has_flag, is_atom_id}
 pub use fault::{
     AtomFault, BAD_FLAGS, BAD_ID, BAD_PLACE, BAD_TYPE, CUT, NOT_ABOVE, OTHER_ID, TOO_LONG,
 };
+pub use flat::Flat;
+pub use flat_error::FlatError;
 pub use item::{Item, Items};
 pub use log::{LogFrame, PullOutcome, is_pulled};
 pub use parse::{MOST_BYTES, parse_atom};
