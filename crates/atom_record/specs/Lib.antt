@@ -3,6 +3,8 @@ pub mod Equal
 pub mod Flags
 pub mod Flat
 pub mod Id
+pub mod ItemRange
+pub mod ItemReading
 pub mod ItemSpelling
 pub mod Pulled
 pub mod Reading

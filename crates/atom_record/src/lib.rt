@@ -9,6 +9,7 @@ mod item;
 mod log;
 mod parse;
 mod spell;
+mod unspell;
 mod value;
 
 pub use atom::{Atom, AtomField, EXCLUSIVE, PRIMARY, RESET, has_flag, is_atom_id};
@@ -21,7 +22,10 @@ pub use item::{Item, Items};
 pub use log::{LogFrame, PullOutcome, is_pulled};
 pub use parse::{MOST_BYTES, parse_atom};
 pub use spell::item_bytes;
+pub use unspell::items_of;
 pub use value::{Bytes, CloneKey, DimKey, Leaf, MetricKey, Slice, Value};
 
+#[cfg(test)]
+mod flat_tests;
 #[cfg(test)]
 mod tests;
