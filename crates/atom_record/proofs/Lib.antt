@@ -1,6 +1,10 @@
 pub mod CallerLemmas
 pub mod EntriesLoop
 pub mod EntryLaws
+pub mod FlatLaws
+pub mod ItemLaws
+pub mod ItemsLoop
+pub mod ManyLoop
 pub mod PartLaws
 pub mod PayloadLaws
 pub mod PlaceLaws

@@ -23,16 +23,16 @@ kind_of (values.Str text) = kinds.Str
 kind_of (values.Raw bytes) = kinds.Raw
 kind_of (values.Bits32 bits) = kinds.Bits32
 
-unsigned32 : (n : ℤ) → FitsSigned w32 n → cast_unsigned w32 n < 2 ^ 32
+pub unsigned32 : (n : ℤ) → FitsSigned w32 n → cast_unsigned w32 n < 2 ^ 32
 unsigned32 n fits = let bits = Fits-of_z fits in omega arith
 
-unsigned64 : (n : ℤ) → FitsSigned w64 n → cast_unsigned w64 n < 2 ^ 64
+pub unsigned64 : (n : ℤ) → FitsSigned w64 n → cast_unsigned w64 n < 2 ^ 64
 unsigned64 n fits = let bits = Fits-of_z fits in omega arith
 
-signed32 : (n : ℕ) → n < 2 ^ 32 → FitsSigned w32 (cast_signed w32 n)
+pub signed32 : (n : ℕ) → n < 2 ^ 32 → FitsSigned w32 (cast_signed w32 n)
 signed32 n below = let bits : Fits w32 n = record { fits = omega arith } in sfits_to_z bits
 
-signed64 : (n : ℕ) → n < 2 ^ 64 → FitsSigned w64 (cast_signed w64 n)
+pub signed64 : (n : ℕ) → n < 2 ^ 64 → FitsSigned w64 (cast_signed w64 n)
 signed64 n below = let bits : Fits w64 n = record { fits = omega arith } in sfits_to_z bits
 
 pub value_again : (value : Value) (rest : List ℕ) → IsInRange value → value_at (kind_of value) (value_bytes value ++ rest) ≡ Ok (value, rest)

@@ -1,7 +1,14 @@
+pub mod Bounded
 pub mod Equal
 pub mod Flags
+pub mod Flat
 pub mod Id
+pub mod ItemRange
+pub mod ItemReading
+pub mod ItemSpelling
 pub mod Pulled
 pub mod Reading
+pub mod Savable
 pub mod Sound
 pub mod Spelling
+pub mod Weight

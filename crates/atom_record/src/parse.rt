@@ -70,7 +70,7 @@ impl AtomField {
 
 /// The kinds of values, as a payload tells them apart.
 #[derive(Clone, Copy, Debug)]
-enum Kind {
+pub(crate) enum Kind {
     Int,
     Long,
     Bool,
@@ -80,7 +80,7 @@ enum Kind {
 }
 
 impl Kind {
-    fn of(number: u8) -> Result<Kind, AtomFault>
+    pub(crate) fn of(number: u8) -> Result<Kind, AtomFault>
         ensures { GivesBy reason_of (λ kind. kind) result (kind_at number) }
     {
         match number {
@@ -115,7 +115,7 @@ impl Kind {
     }
 }
 
-fn u16_of(bytes: &[u8]) -> Result<(u16, &[u8]), AtomFault>
+pub(crate) fn u16_of(bytes: &[u8]) -> Result<(u16, &[u8]), AtomFault>
     ensures { GivesBy reason_of (λ x. (x.0, x.1.now)) result (number_at w16 bytes.now) }
 {
     let Some((front, rest)) = bytes.split_first_chunk::<2>() else {
@@ -124,7 +124,7 @@ fn u16_of(bytes: &[u8]) -> Result<(u16, &[u8]), AtomFault>
     Ok((u16::from_le_bytes(*front), rest))
 }
 
-fn u32_of(bytes: &[u8]) -> Result<(u32, &[u8]), AtomFault>
+pub(crate) fn u32_of(bytes: &[u8]) -> Result<(u32, &[u8]), AtomFault>
     ensures { GivesBy reason_of (λ x. (x.0, x.1.now)) result (number_at w32 bytes.now) }
 {
     let Some((front, rest)) = bytes.split_first_chunk::<4>() else {
@@ -133,7 +133,7 @@ fn u32_of(bytes: &[u8]) -> Result<(u32, &[u8]), AtomFault>
     Ok((u32::from_le_bytes(*front), rest))
 }
 
-fn u64_of(bytes: &[u8]) -> Result<(u64, &[u8]), AtomFault>
+pub(crate) fn u64_of(bytes: &[u8]) -> Result<(u64, &[u8]), AtomFault>
     ensures { GivesBy reason_of (λ x. (x.0, x.1.now)) result (number_at w64 bytes.now) }
 {
     let Some((front, rest)) = bytes.split_first_chunk::<8>() else {
@@ -155,7 +155,7 @@ fn bool_of(bytes: &[u8]) -> Result<(bool, &[u8]), AtomFault>
 
 /// A length in two bytes, and so many bytes.
 #[tactic(auto, unfolding(crate::specs::Reading::text_at))]
-fn text_of(alloc: Global, bytes: &[u8]) -> Result<(Bytes, &[u8]), AtomFault>
+pub(crate) fn text_of(alloc: Global, bytes: &[u8]) -> Result<(Bytes, &[u8]), AtomFault>
     ensures { GivesBy reason_of (λ x. (x.0, x.1.now)) result (text_at bytes.now) }
 {
     let (len, rest) = u16_of(bytes)?;
@@ -168,7 +168,7 @@ fn text_of(alloc: Global, bytes: &[u8]) -> Result<(Bytes, &[u8]), AtomFault>
 }
 
 #[tactic(auto, unfolding(crate::specs::Reading::value_at))]
-fn value_of(alloc: Global, kind: Kind, bytes: &[u8]) -> Result<(Value, &[u8]), AtomFault>
+pub(crate) fn value_of(alloc: Global, kind: Kind, bytes: &[u8]) -> Result<(Value, &[u8]), AtomFault>
     ensures { GivesBy reason_of (λ x. (x.0, x.1.now)) result (value_at kind bytes.now) }
 {
     match kind {
@@ -270,7 +270,7 @@ fn id_of(bytes: &[u8]) -> Result<(u32, &[u8]), AtomFault>
 }
 
 #[tactic(auto, unfolding(crate::specs::Reading::atom_at))]
-fn atom_of(alloc: Global, bytes: &[u8]) -> Result<Atom, AtomFault>
+pub(crate) fn atom_of(alloc: Global, bytes: &[u8]) -> Result<Atom, AtomFault>
     ensures { GivesBy reason_of (λ atom. atom) result (atom_at bytes.now) }
 {
     if MOST_BYTES < bytes.len() {
