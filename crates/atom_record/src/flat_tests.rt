@@ -132,32 +132,63 @@ fn spells_items(rt: HostRuntime) -> Result<(), Fail> {
     Ok(())
 }
 
+fn key(alloc: Global) -> Result<MetricKey, AllocError> {
+    let dims = dims(alloc)?;
+    let slices = slices(alloc)?;
+    Ok(MetricKey { dims, slices })
+}
+
+/// A number and a key, one behind the other.
+fn flattened(alloc: Global) -> Result<Items, AllocError> {
+    let mut items = Items::new(alloc);
+    7u64.flatten(alloc, &mut items)?;
+    key(alloc)?.flatten(alloc, &mut items)?;
+    Ok(items)
+}
+
 #[test]
-fn builds_what_was_flattened(rt: HostRuntime) -> Result<(), Fail> {
-    let key = MetricKey {
-        dims: dims(rt.alloc())?,
-        slices: slices(rt.alloc())?,
-    };
+fn builds_a_key(rt: HostRuntime) -> Result<(), Fail> {
+    let items = flattened(rt.alloc())?;
+    let built = MetricKey::build(rt.alloc(), &items, 1)?;
+    assert_eq!(rt; built, (key(rt.alloc())?, 3));
+    Ok(())
+}
+
+#[test]
+fn builds_a_pair(rt: HostRuntime) -> Result<(), Fail> {
+    let items = flattened(rt.alloc())?;
+    let ((number, _), end) = <(u64, MetricKey)>::build(rt.alloc(), &items, 0)?;
+    assert_eq!(rt; number, 7);
+    assert_eq!(rt; end, 3);
+    Ok(())
+}
+
+#[test]
+fn builds_no_key_of_other_items(rt: HostRuntime) -> Result<(), Fail> {
+    let items = flattened(rt.alloc())?;
+    for place in [0, 2, 3] {
+        let built = MetricKey::build(rt.alloc(), &items, place);
+        assert!(rt; built.is_err(), "at {place}");
+    }
+    Ok(())
+}
+
+#[test]
+fn builds_a_list(rt: HostRuntime) -> Result<(), Fail> {
     let numbers: Seq<u64> = seq(rt.alloc(), [3, 1, 2])?;
     let mut items = Items::new(rt.alloc());
-    7u64.flatten(rt.alloc(), &mut items)?;
-    key.flatten(rt.alloc(), &mut items)?;
     numbers.flatten(rt.alloc(), &mut items)?;
-    assert_eq!(rt; items.len(), 7);
-    assert_eq!(rt; MetricKey::build(rt.alloc(), &items, 1)?, (key, 3));
-    assert_eq!(rt; Seq::<u64>::build(rt.alloc(), &items, 3)?, (numbers, 7));
-    for place in [0, 2, 3, 7] {
-        assert!(rt;
-            MetricKey::build(rt.alloc(), &items, place).is_err(),
-            "at {place}"
-        );
-    }
-    assert!(rt; Seq::<u64>::build(rt.alloc(), &items, 0).is_err());
-    let pair = <(u64, MetricKey)>::build(rt.alloc(), &items, 0)?;
-    assert_eq!(rt; pair.0.0, 7);
-    assert_eq!(rt; pair.1, 3);
-    let kept = atom(rt.alloc())?;
-    kept.flatten(rt.alloc(), &mut items)?;
-    assert_eq!(rt; Atom::build(rt.alloc(), &items, 7)?, (kept, 8));
+    assert_eq!(rt; items.len(), 4);
+    let built = Seq::<u64>::build(rt.alloc(), &items, 0)?;
+    assert_eq!(rt; built, (numbers, 4));
+    Ok(())
+}
+
+#[test]
+fn builds_an_atom(rt: HostRuntime) -> Result<(), Fail> {
+    let mut items = Items::new(rt.alloc());
+    atom(rt.alloc())?.flatten(rt.alloc(), &mut items)?;
+    let built = Atom::build(rt.alloc(), &items, 0)?;
+    assert_eq!(rt; built, (atom(rt.alloc())?, 1));
     Ok(())
 }
