@@ -1,0 +1,19 @@
+//! A decoder of configurations: from the bytes of a `StatsdConfig` to the tree of what it says.
+#![tactic(auto)]
+
+mod fault;
+mod field_matcher;
+mod field_test;
+mod listed;
+mod matcher;
+mod message;
+mod metric;
+mod predicate;
+mod profile;
+mod state;
+mod tree;
+mod walk;
+mod whole;
+
+pub use fault::{DecodeFault, Path};
+pub use whole::{MOST_BYTES, decode};

@@ -1,0 +1,48 @@
+//! Parts of the tree that are read from a message.
+ghost use Rattle.std.specs.Prelude.{◌≡◌, List, map, IfOk};
+ghost use Rattle.std.specs.Option.{option_map};
+ghost use Rattle.proto_wire.specs.Fields.{FieldOf};
+ghost use Rattle.config_decode.specs.Values as values;
+
+use crate::message::Message;
+use sd_base::Seq;
+use std::alloc::{AllocError, Global};
+
+/// What a message says.
+pub trait FromMessage: Sized + Drop {
+    /// The definition, by the message's records.
+    ghost tree: { List FieldOf → Self };
+
+    fn from_message(alloc: Global, message: &Message<'_>) -> Result<Self, AllocError>
+        ensures { IfOk result (λ read. read ≡ tree message.now) };
+}
+
+/// What a field that is a message says, if it is there.
+pub fn optional<T: FromMessage>(
+    alloc: Global,
+    message: &Message<'_>,
+    number: u32,
+) -> Result<Option<T>, AllocError>
+    ensures { IfOk result (λ read. read ≡ option_map T.tree (values.message number message.now)) }
+{
+    match message.message(alloc, number)? {
+        Some(inner) => Ok(Some(T::from_message(alloc, &inner)?)),
+        None => Ok(None),
+    }
+}
+
+/// What each message of a repeated field says.
+pub fn repeated<T: FromMessage>(
+    alloc: Global,
+    message: &Message<'_>,
+    number: u32,
+) -> Result<Seq<T>, AllocError>
+    ensures { IfOk result (λ read. read ≡ map T.tree (values.messages number message.now)) }
+{
+    let messages = message.messages(alloc, number)?;
+    let mut read = Seq::new(alloc);
+    for inner in messages.iter() {
+        read.push(T::from_message(alloc, inner)?)?;
+    }
+    Ok(read)
+}

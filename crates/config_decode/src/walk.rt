@@ -1,0 +1,92 @@
+//! The walk over a configuration, which looks for the first fault of the wire format and for the first record that isn't
+//! supported.
+ghost use Rattle.std.specs.Prelude.{◌≡◌, ◌≤◌, ◌<◌, ◌-◌, ◌^◌, None, length, OnOk, IfOk};
+ghost use Rattle.proto_wire.specs.Fields.{seen, IsWithin};
+ghost use Rattle.config_decode.specs.Walk.{packed_at, walk_in, record_walked, inner_walk, walk_of};
+ghost use Rattle.config_decode.specs.Walks.{Walks, IsUnsupported, PacksWell};
+
+use crate::profile::{Kind, Shape};
+use crate::{DecodeFault, Path};
+use proto_wire::{Body, Field, Records, WireFault, varint_of};
+use sd_base::Seq;
+use std::alloc::{AllocError, Global};
+
+/// Where a walk is, and what it found.
+#[derive(Debug, Drop)]
+struct Walker {
+    alloc: Global,
+    /// The numbers that lead to the message that is walked.
+    path: Vec<u32>,
+    /// The first record that isn't supported.
+    unsupported: Option<Path>,
+}
+
+/// The path of the first record that isn't supported, if there is any, unless a fault of the wire format stands anywhere.
+pub fn first_unsupported(alloc: Global, bytes: &[u8]) -> Result<Option<Path>, DecodeFault>
+    requires { length bytes.now < 2 ^ 32 }
+    ensures found { IsUnsupported (walk_of bytes.now) result }
+    ensures path { IfOk result (λ found. IfSome found (λ path. length path ≤ 101)) }
+{
+    let mut walker = Walker {
+        alloc,
+        path: Vec::new(alloc),
+        unsupported: None,
+    };
+    walker.message(Kind::Config, Records::new(bytes, 0, 0))?;
+    Ok(walker.unsupported)
+}
+
+impl Walker {
+    /// Walks the records of a message.
+    #[cycle(walk)]
+    fn message(&mut self, kind: Kind, records: Records<'_>) -> Result<(), DecodeFault>
+        requires { length self.old.path.items ≡ records.entry.depth }
+        ensures walked { Walks (walk_in (100 - records.entry.depth) self.old.path.items kind records.entry) self.old self.new result }
+    {
+        let mut records = records;
+        while let Some(field) = records.next()? {
+            self.record(kind, &records, &field)?;
+        }
+        Ok(())
+    }
+
+    /// Walks one record of a message, and what it holds.
+    #[cycle(walk)]
+    fn record(
+        &mut self,
+        kind: Kind,
+        records: &Records<'_>,
+        field: &Field<'_>,
+    ) -> Result<(), DecodeFault>
+        requires depth { length self.old.path.items ≡ records.now.depth }
+        requires within { IsWithin (seen field.now) }
+        ensures walked { Walks (record_walked (inner_walk (100 - records.now.depth)) kind self.old.path.items records.now.depth (seen field.now)) self.old self.new result }
+    {
+        self.path.push(field.number)?;
+        if self.unsupported.is_none() && kind.refuses(field) {
+            self.unsupported = Some(Seq::from_slice(self.alloc, self.path.as_slice())?);
+        }
+        match (kind.shape(field.number), field.body) {
+            (Shape::Message(inner), Body::Bytes(_)) => {
+                let inside = records.enter(field)?;
+                self.message(inner, inside)?;
+            }
+            (Shape::Numbers, Body::Bytes(packed)) => check_packed(field.at, packed)?,
+            _ => {}
+        }
+        self.path.pop();
+        Ok(())
+    }
+}
+
+/// Reads packed numbers to their end. A fault is told of the record that begins at `at`.
+fn check_packed(at: u32, packed: &[u8]) -> Result<(), WireFault>
+    ensures { PacksWell (packed_at at packed.now) result }
+{
+    let mut rest = packed;
+    while !rest.is_empty() {
+        let (_, behind) = varint_of(at, rest)?;
+        rest = behind;
+    }
+    Ok(())
+}

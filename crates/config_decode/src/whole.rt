@@ -1,0 +1,62 @@
+//! The decoder of a whole configuration.
+ghost use Rattle.std.specs.Prelude.{◌≡◌, ◌<◌, ◌^◌, length, IfOk, IfErr};
+ghost use Rattle.sd_base.specs.Reads.{GivesBy};
+ghost use Rattle.config_decode.specs.Config.{config_of, tree_of, fault_of, HasShortPath};
+
+use crate::DecodeFault;
+use crate::message::Message;
+use crate::tree::{FromMessage, repeated};
+use crate::walk::first_unsupported;
+use config_types::Config;
+use std::alloc::{AllocError, Global};
+
+/// The most bytes of a configuration.
+pub const MOST_BYTES: usize = 262_144;
+
+/// The tree of a configuration, or its one fault: too many bytes, the first fault of the wire format, or, where there is
+/// none, the first record that isn't supported. A path has at most 101 numbers.
+#[tactic(auto, unfolding(crate::specs::Config::config_of))]
+pub fn decode(alloc: Global, bytes: &[u8]) -> Result<Config, DecodeFault>
+    requires { length bytes.now < 2 ^ 32 }
+    ensures read { GivesBy fault_of (λ config. config) result (config_of bytes.now) }
+    ensures path { IfErr result HasShortPath }
+{
+    if bytes.len() > MOST_BYTES {
+        return Err(DecodeFault::TooLarge(bytes.len() as u32));
+    }
+    if let Some(path) = first_unsupported(alloc, bytes)? {
+        return Err(DecodeFault::Unsupported(path));
+    }
+    let message = Message::read(alloc, bytes)?;
+    let config = Config::from_message(alloc, &message)?;
+    Ok(config)
+}
+
+impl FromMessage for Config {
+    ghost use Rattle.config_decode.specs.Config.{tree_of};
+
+    ghost tree = { tree_of };
+
+    fn from_message(alloc: Global, message: &Message<'_>) -> Result<Config, AllocError> {
+        let matchers = repeated(alloc, message, 7)?;
+        let predicates = repeated(alloc, message, 8)?;
+        let states = repeated(alloc, message, 21)?;
+        let events = repeated(alloc, message, 2)?;
+        let counts = repeated(alloc, message, 3)?;
+        let values = repeated(alloc, message, 4)?;
+        let gauges = repeated(alloc, message, 5)?;
+        let durations = repeated(alloc, message, 6)?;
+        let no_report = message.longs(alloc, 13)?;
+        Ok(Config {
+            matchers,
+            predicates,
+            states,
+            events,
+            counts,
+            values,
+            gauges,
+            durations,
+            no_report,
+        })
+    }
+}
