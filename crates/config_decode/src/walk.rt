@@ -1,6 +1,6 @@
 //! The walk over a configuration, which looks for the first fault of the wire format and for the first record that isn't
 //! supported.
-ghost use Rattle.std.specs.Prelude.{◌≡◌, ◌≤◌, ◌<◌, ◌-◌, ◌^◌, None, length, OnOk, IfOk};
+ghost use Rattle.std.specs.Prelude.{◌≡◌, ◌≤◌, ◌<◌, ◌-◌, ◌^◌, None, length, OnOk, IfOk, IfSome};
 ghost use Rattle.proto_wire.specs.Fields.{seen, IsWithin};
 ghost use Rattle.config_decode.specs.Walk.{packed_at, walk_in, record_walked, inner_walk, walk_of};
 ghost use Rattle.config_decode.specs.Walks.{Walks, IsUnsupported, PacksWell};
@@ -40,8 +40,8 @@ impl Walker {
     /// Walks the records of a message.
     #[cycle(walk)]
     fn message(&mut self, kind: Kind, records: Records<'_>) -> Result<(), DecodeFault>
-        requires { length self.old.path.items ≡ records.entry.depth }
-        ensures walked { Walks (walk_in (100 - records.entry.depth) self.old.path.items kind records.entry) self.old self.new result }
+        requires { length self.old.path.items ≡ records.depth }
+        ensures walked { Walks (walk_in (100 - records.depth) self.old.path.items kind records.entry) self.old self.new result }
     {
         let mut records = records;
         while let Some(field) = records.next()? {
