@@ -18,15 +18,15 @@ FailsAt fault (TooLarge size) = ⊥
 FailsAt fault (Unsupported path) = ⊥
 
 -- the path, if there is one, has at most a number for each level and one for the record
-abbrev pub IsShort : Option (List ℕ) → Type 0
-IsShort found = IfSome found (λ path. length path ≤ 101)
+abbrev pub IsShortPath : Option (List ℕ) → Type 0
+IsShortPath found = IfSome found (λ path. length path ≤ 101)
 
 -- A walk without a fault leaves the walker where it was, with the first record that isn't supported.
 pub record LeavesOff (walked : Walked) (old new : Walker) : Type 0 where
   pub whole : walked.fault ≡ None
   pub path : new.path.items ≡ old.path.items
   pub found : new.unsupported ≡ option_or old.unsupported (first_refused walked.records)
-  pub short : IsShort old.unsupported → IsShort new.unsupported
+  pub short : IsShortPath old.unsupported → IsShortPath new.unsupported
 
 abbrev pub Walks : Walked → Walker → Walker → Result Unit DecodeFault → Type 0
 Walks walked old new (Ok done) = LeavesOff walked old new
@@ -36,7 +36,7 @@ Walks walked old new (Err fault) = FailsAt walked.fault fault
 pub record GoesTo (kind : Kind) (field : FieldOf) (old new : Walker) : Type 0 where
   pub path : new.path.items ≡ old.path.items ++ field.number ∷ []
   pub found : new.unsupported ≡ option_or old.unsupported (if refuses kind field then Some new.path.items else None)
-  pub short : IsShort old.unsupported → IsShort new.unsupported
+  pub short : IsShortPath old.unsupported → IsShortPath new.unsupported
 
 abbrev pub IsUnsupported : Walked → Result (Option (List ℕ)) DecodeFault → Type 0
 IsUnsupported walked (Ok found) = (walked.fault ≡ None) × (found ≡ first_refused walked.records)

@@ -1,9 +1,9 @@
 //! The walk over a configuration, which looks for the first fault of the wire format and for the first record that isn't
 //! supported.
-ghost use Rattle.std.specs.Prelude.{◌≡◌, ◌≤◌, ◌<◌, ◌+◌, ◌-◌, ◌^◌, length, OnOk, IfOk};
+ghost use Rattle.std.specs.Prelude.{◌≡◌, ◌≤◌, ◌<◌, ◌+◌, ◌-◌, ◌^◌, length, OnOk, IfOk, IfSome};
 ghost use Rattle.proto_wire.specs.Fields.{seen, IsWithin};
 ghost use Rattle.config_decode.specs.Walk.{packed_at, walk_in, record_walked, inside_walked, inner_walk, walk_of};
-ghost use Rattle.config_decode.specs.Walks.{Walks, GoesTo, IsShort, IsUnsupported, PacksWell};
+ghost use Rattle.config_decode.specs.Walks.{Walks, GoesTo, IsUnsupported, PacksWell};
 
 use crate::profile::{Kind, Shape};
 use crate::{DecodeFault, Path};
@@ -25,7 +25,7 @@ struct Walker {
 pub fn first_unsupported(alloc: Global, bytes: &[u8]) -> Result<Option<Path>, DecodeFault>
     requires { length bytes.now < 2 ^ 32 }
     ensures found { IsUnsupported (walk_of bytes.now) result }
-    ensures path { IfOk result IsShort }
+    ensures path { IfOk result (λ found. IfSome found (λ path. length path ≤ 101)) }
 {
     let mut walker = Walker {
         alloc,

@@ -32,9 +32,10 @@ message-loop-field-preserved t c =
     let taken : Takes c.loop-field.records (seen c.in-Some.field) c.next.new.self =
     takes c.loop-field.records c.next.new.self c.in_ok-field.field-0 c.in-Some.field c.in-Some.is
     c.in_ok-field.ensures.read c.in_ok-field.ensures.walk c.in_ok-field.ensures.step in
+    let kept : c.record.new.self.path.items ≡ c.loop-field.self.path.items = c.in_ok-record.ensures.walked.path in
     record {
       depth = taken.depth ∙ c.loop-field.invariant.depth;
-      path = c.in_ok-record.ensures.walked.path ∙ c.loop-field.invariant.path;
+      path = kept ∙ c.loop-field.invariant.path;
       leads = λ last result after. c.loop-field.invariant.leads last result (goes_on c.args.records.depth
       c.args.self.now.path.items c.args.kind c.loop-field.records c.next.new.self (seen c.in-Some.field) c.loop-field.self taken
       c.loop-field.invariant.depth c.loop-field.invariant.path c.record.new.self last c.in_ok-record.ensures.walked result after);
