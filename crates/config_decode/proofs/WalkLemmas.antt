@@ -1,5 +1,5 @@
 -- A walk, record by record.
-use Rattle.std.proofs.Common.{◌≡◌, ℕ, zero, suc, ◌+◌, ◌-◌, ◌<◌, ◌≤◌, List, [], ◌∷◌, ◌++◌, length, Bool, true, false, Option, None, Some, Result, Ok, Err, refl, sym, ap, ◌∙◌, subst, arith}
+use Rattle.std.proofs.Common.{◌≡◌, ℕ, zero, suc, ◌+◌, ◌-◌, ◌<◌, List, [], ◌∷◌, ◌++◌, length, Bool, true, false, Option, None, Some, Result, Ok, Err, refl, sym, ap, ◌∙◌, subst, arith}
 use Rattle.std.specs.Prelude.{if◌then◌else◌, nat_lt}
 use Rattle.std.specs.Option.{option_or, IfSome}
 use Rattle.std.proofs.lemmas.Bool.{ltb-true}
@@ -17,7 +17,7 @@ use Rattle.config_decode.specs.declared.profile.Kind.{Kind}
 use Rattle.config_decode.specs.declared.profile.Kind.TheVariants.{Config}
 use Rattle.config_decode.specs.declared.walk.Walker.{Walker}
 use Rattle.config_decode.specs.Profile.{refuses}
-use Rattle.config_decode.specs.Walk.{Located, Walked, just, halted, and_then, entered, record_walked, all_walked, message_walked, walk_in, walk_of, inner_walk, first_refused}
+use Rattle.config_decode.specs.Walk.{Located, Walked, halted, and_then, entered, record_walked, all_walked, message_walked, walk_in, walk_of, inner_walk, first_refused}
 use Rattle.config_decode.specs.Walks.{FailsAt, LeavesOff, Walks}
 
 or_else : (test : Bool) (path : List ℕ) (first second : Option (List ℕ))
@@ -77,7 +77,8 @@ walk_in-message (suc levels) = refl
 -- the walk of a message goes from record to record
 module _ (levels : ℕ) (above : List ℕ) (kind : Kind) where
   abbrev fields_walked : ℕ → Walk → Walked
-  fields_walked depth fields = all_walked (record_walked (inner_walk levels) kind above depth) fields.fields fields.fault
+  fields_walked depth fields =
+      all_walked (record_walked (inner_walk levels) kind above depth) fields.fields fields.fault
 
   walk_in-fields : (rest : Rest) (fields : Walk) → walk_from rest ≡ fields
       → walk_in levels above kind rest ≡ fields_walked rest.depth fields
@@ -147,21 +148,24 @@ module _ (depth : ℕ) (above : List ℕ) (kind : Kind) (rest new : Rest) (field
   first_is : walked_at old.path.items new.depth ≡ walked_at above depth
   first_is = ap (λ (a : List ℕ). walked_at a new.depth) path ∙ ap (walked_at above) (taken.depth ∙ here)
 
-  both_are : walk_in (100 - depth) above kind rest ≡ and_then (walked_at above depth) (walk_in (100 - depth) above kind new)
+  both_are : walk_in (100 - depth) above kind rest
+      ≡ and_then (walked_at above depth) (walk_in (100 - depth) above kind new)
   both_are = walk_in-field (100 - depth) above kind rest new field depth taken.walk here (taken.depth ∙ here)
 
   pub goes_on : (mid last : Walker) → LeavesOff (walked_at old.path.items new.depth) old mid
       → (result : Result Unit DecodeFault) → Walks (walk_in (100 - depth) above kind new) mid last result
       → Walks (walk_in (100 - depth) above kind rest) old last result
   goes_on mid last left result after =
-      let first : LeavesOff (walked_at above depth) old mid = subst (λ (walked : Walked). LeavesOff walked old mid) first_is left in
+      let first : LeavesOff (walked_at above depth) old mid =
+      subst (λ (walked : Walked). LeavesOff walked old mid) first_is left in
       subst (λ (walked : Walked). Walks walked old last result) (sym both_are)
       (walks-then (walked_at above depth) (walk_in (100 - depth) above kind new) old mid last first result after)
 
   pub breaks_off : (fault : DecodeFault) → FailsAt (walked_at old.path.items new.depth).fault fault
       → FailsAt (walk_in (100 - depth) above kind rest).fault fault
   breaks_off fault failed =
-      let first : FailsAt (walked_at above depth).fault fault = subst (λ (walked : Walked). FailsAt walked.fault fault) first_is failed in
+      let first : FailsAt (walked_at above depth).fault fault =
+      subst (λ (walked : Walked). FailsAt walked.fault fault) first_is failed in
       subst (λ (walked : Walked). FailsAt walked.fault fault) (sym both_are)
       (fails-first (walked_at above depth) (walk_in (100 - depth) above kind new) fault first)
 
@@ -170,14 +174,18 @@ pub record Enters (depth : ℕ) (field : FieldOf) (inside : Rest) : Type 0 where
   pub deeper : inside.depth ≡ depth + 1
   pub shallow : depth < 100
 
-pub enters : (depth : ℕ) (field : FieldOf) (inside : Rest) → Ok inside ≡ inside_at depth field → Enters depth field inside
+abbrev inside_of_field : ℕ → FieldOf → Rest
+inside_of_field depth field = record { bytes = inside_of field.body; at = field.payload_at; depth = depth + 1 }
+
+pub enters : (depth : ℕ) (field : FieldOf) (inside : Rest) → Ok inside ≡ inside_at depth field
+    → Enters depth field inside
 unfolding inside_at
 enters depth field inside is = by_test (nat_lt depth 100) refl is
   where
     by_test : (test : Bool) → nat_lt depth 100 ≡ test
-        → Ok inside ≡ (if test then Ok (record { bytes = inside_of field.body; at = field.payload_at; depth = depth + 1 }) else Err (fault_at field.at TOO_DEEP))
+        → Ok inside ≡ (if test then Ok (inside_of_field depth field) else Err (fault_at field.at TOO_DEEP))
         → Enters depth field inside
-    by_test true low is = let there : inside ≡ record { bytes = inside_of field.body; at = field.payload_at; depth = depth + 1 } = cc is in record {
+    by_test true low is = let there : inside ≡ inside_of_field depth field = cc is in record {
       deeper = ap (λ (r : Rest). r.depth) there;
       shallow = ltb-true _ _ low;
     }
@@ -187,12 +195,15 @@ one_less : (levels : ℕ) (above : List ℕ) (kind : Kind) (inside : Rest) (more
     → inner_walk more above kind inside ≡ walk_in levels above kind inside
 one_less levels above kind inside more is = ap (λ (n : ℕ). inner_walk n above kind inside) is
 
-pub inside-is : (depth : ℕ) (above : List ℕ) (kind : Kind) (field : FieldOf) (inside : Rest) → Ok inside ≡ inside_at depth field
-    → entered (inner_walk (100 - depth) above kind) (inside_at depth field) ≡ walk_in (100 - inside.depth) above kind inside
+pub inside-is : (depth : ℕ) (above : List ℕ) (kind : Kind) (field : FieldOf) (inside : Rest)
+    → Ok inside ≡ inside_at depth field
+    → entered (inner_walk (100 - depth) above kind) (inside_at depth field)
+    ≡ walk_in (100 - inside.depth) above kind inside
 inside-is depth above kind field inside is =
     let there = enters depth field inside is in
     let more : 100 - depth ≡ suc (100 - inside.depth) = omega (arith, there.deeper, there.shallow) in
-    ap (entered (inner_walk (100 - depth) above kind)) (sym is) ∙ one_less (100 - inside.depth) above kind inside (100 - depth) more
+    ap (entered (inner_walk (100 - depth) above kind)) (sym is)
+    ∙ one_less (100 - inside.depth) above kind inside (100 - depth) more
 
 -- the whole is walked from its top
 top-is : (bytes : List ℕ) → walk_in 100 [] Config (record { bytes = bytes; at = 0; depth = 0 }) ≡ walk_of bytes
@@ -213,8 +224,7 @@ pub finds-first : (bytes above : List ℕ) (rest : Rest) (old last : Walker) →
     → ((walk_of bytes).fault ≡ None) × (last.unsupported ≡ first_refused (walk_of bytes).records)
 finds-first bytes above rest old last path there none left =
     let whole : LeavesOff (walk_of bytes) old last =
-    subst (λ (walked : Walked). LeavesOff walked old last) (whole-is bytes above rest path there) left in
-    (
+    subst (λ (walked : Walked). LeavesOff walked old last) (whole-is bytes above rest path there) left in (
       whole.whole,
       whole.found ∙ ap (λ (found : Option (List ℕ)). option_or found (first_refused (walk_of bytes).records)) none,
     )

@@ -28,6 +28,7 @@ pub record LeavesOff (walked : Walked) (old new : Walker) : Type 0 where
   pub found : new.unsupported ≡ option_or old.unsupported (first_refused walked.records)
   pub short : IsShortPath old.unsupported → IsShortPath new.unsupported
 
+-- the call came to the walk's end, or failed at its first fault or for want of memory
 abbrev pub Walks : Walked → Walker → Walker → Result Unit DecodeFault → Type 0
 Walks walked old new (Ok done) = LeavesOff walked old new
 Walks walked old new (Err fault) = FailsAt walked.fault fault
@@ -38,10 +39,12 @@ pub record GoesTo (kind : Kind) (field : FieldOf) (old new : Walker) : Type 0 wh
   pub found : new.unsupported ≡ option_or old.unsupported (if refuses kind field then Some new.path.items else None)
   pub short : IsShortPath old.unsupported → IsShortPath new.unsupported
 
+-- the call found the first record that isn't supported, unless there is a fault
 abbrev pub IsUnsupported : Walked → Result (Option (List ℕ)) DecodeFault → Type 0
 IsUnsupported walked (Ok found) = (walked.fault ≡ None) × (found ≡ first_refused walked.records)
 IsUnsupported walked (Err fault) = FailsAt walked.fault fault
 
+-- the call read packed numbers to their end, or failed at the first that isn't whole
 abbrev pub PacksWell : Packed → Result Unit WireFault → Type 0
 PacksWell packed (Ok done) = packed.fault ≡ None
 PacksWell packed (Err fault) = packed.fault ≡ Some fault

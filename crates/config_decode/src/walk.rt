@@ -42,7 +42,8 @@ impl Walker {
     fn message(&mut self, kind: Kind, records: Records<'_>) -> Result<(), DecodeFault>
         requires depth { length self.old.path.items ≡ records.depth }
         requires shallow { records.depth ≤ 100 }
-        ensures walked { Walks (walk_in (100 - records.entry.depth) self.old.path.items kind records.entry) self.old self.new result }
+        ensures walked { Walks (walk_in (100 - records.entry.depth) self.old.path.items kind records.entry)
+            self.old self.new result }
     {
         let mut records = records;
         while let Some(field) = records.next()? {
@@ -62,7 +63,8 @@ impl Walker {
         requires depth { length self.old.path.items ≡ records.now.depth }
         requires shallow { records.now.depth ≤ 100 }
         requires within { IsWithin (seen field.now) }
-        ensures walked { Walks (record_walked (inner_walk (100 - records.now.depth)) kind self.old.path.items records.now.depth (seen field.now)) self.old self.new result }
+        ensures walked { Walks (record_walked (inner_walk (100 - records.now.depth)) kind self.old.path.items
+            records.now.depth (seen field.now)) self.old self.new result }
     {
         self.note(kind, field)?;
         self.inside(kind.shape(field.number), records, field)?;
@@ -92,7 +94,8 @@ impl Walker {
     ) -> Result<(), DecodeFault>
         requires depth { length self.old.path.items ≡ records.now.depth + 1 }
         requires within { IsWithin (seen field.now) }
-        ensures walked { Walks (inside_walked (inner_walk (100 - records.now.depth) self.old.path.items) records.now.depth (seen field.now) shape (seen field.now).body) self.old self.new result }
+        ensures walked { Walks (inside_walked (inner_walk (100 - records.now.depth) self.old.path.items)
+            records.now.depth (seen field.now) shape (seen field.now).body) self.old self.new result }
     {
         match (shape, field.body) {
             (Shape::Message(kind), Body::Bytes(_)) => self.message(kind, records.enter(field)?),

@@ -1,5 +1,5 @@
 -- A message inside is one level deeper, and what is left of a message gets shorter.
-use Rattle.std.proofs.Common.{◌≡◌, ℕ, Result, length, ◌+◌, ◌-◌, ◌*◌}
+use Rattle.std.proofs.Common.{◌≡◌, Result, length, ◌+◌, ◌-◌, ◌*◌}
 use Rattle.config_decode.specs.declared.fault.DecodeFault.{DecodeFault}
 use Rattle.config_decode.specs.declared.walk.Walker.{Walker}
 use Rattle.config_decode.specs.Walk.{walk_in}
