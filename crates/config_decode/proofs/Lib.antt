@@ -1,0 +1,3 @@
+pub mod PackedLemmas
+pub mod WalkLemmas
+mod Worked
