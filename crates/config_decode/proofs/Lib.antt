@@ -1,0 +1,3 @@
+pub mod PackedLemmas
+pub mod RunLemmas
+pub mod ValuesLemmas
