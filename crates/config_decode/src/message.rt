@@ -1,5 +1,5 @@
 //! The records of a message, and what its fields say.
-ghost use Rattle.std.specs.Prelude.{◌≡◌, ◌∷◌, ◌++◌, ◌<◌, ◌^◌, [], length, IfOk, OnOk};
+ghost use Rattle.std.specs.Prelude.{◌≡◌, ◌∷◌, ◌++◌, ◌<◌, ◌^◌, [], length, IfOk, IfSome, OnOk};
 ghost use Rattle.std.specs.Option.{option_copied};
 ghost use Rattle.std.specs.List.{cons_option};
 ghost use Rattle.proto_wire.specs.Fields.{seen, inside_of};
@@ -114,7 +114,9 @@ impl<'a> Message<'a> {
     {
         let mut last = None;
         for field in self.records.iter() {
-            if let Some(value) = number_in(number, field) && let Some(variant) = E::with_number(low_half(value)) {
+            if let Some(value) = number_in(number, field)
+                && let Some(variant) = E::with_number(low_half(value))
+            {
                 last = Some(variant);
             }
         }
@@ -195,6 +197,7 @@ impl<'a> Message<'a> {
     }
 
     /// A field that is a message: all its payloads, read as one.
+    #[tactic(auto, using(crate::proofs::ValuesLemmas::payloads_more, crate::proofs::ValuesLemmas::joined_append))]
     pub fn joined(&self, alloc: Global, number: u32) -> Result<Message<'a>, AllocError>
         ensures { IfOk result (λ joined. joined ≡ values.joined (values.payloads number self.now)) }
     {
@@ -208,16 +211,18 @@ impl<'a> Message<'a> {
     }
 
     /// A field that is a message, if there is any.
+    #[tactic(auto, using(crate::proofs::ValuesLemmas::joined_if_last, crate::proofs::ValuesLemmas::none_joined))]
     pub fn message(&self, alloc: Global, number: u32) -> Result<Option<Message<'a>>, AllocError>
         ensures { IfOk result (λ message. message ≡ values.message number self.now) }
     {
-        if self.payload(number).is_none() {
-            return Ok(None);
+        match self.payload(number) {
+            Some(_) => Ok(Some(self.joined(alloc, number)?)),
+            None => Ok(None),
         }
-        Ok(Some(self.joined(alloc, number)?))
     }
 
     /// A repeated field of messages.
+    #[tactic(auto, using(crate::proofs::ValuesLemmas::payloads_more))]
     pub fn messages(&self, alloc: Global, number: u32) -> Result<Vec<Message<'a>>, AllocError>
         ensures { IfOk result (λ messages. messages.items ≡ values.messages number self.now) }
     {
@@ -278,7 +283,8 @@ fn number_in(number: u32, field: &Field<'_>) -> Option<u64>
 
 /// The bytes of a record, if it is of this field and holds some.
 fn bytes_in<'a>(number: u32, field: &Field<'a>) -> Option<&'a [u8]>
-    ensures { cons_option (option_copied result) [] ≡ values.payloads number (seen field.now ∷ []) }
+    ensures payload { cons_option (option_copied result) [] ≡ values.payloads number (seen field.now ∷ []) }
+    ensures inside { IfSome result (λ bytes. bytes.now ≡ inside_of (seen field.now).body) }
 {
     match field.body {
         Body::Bytes(bytes) if field.number == number => Some(bytes),

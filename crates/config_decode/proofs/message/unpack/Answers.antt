@@ -1,18 +1,20 @@
 -- Each number that is read is the next of those that are packed.
-use Rattle.std.proofs.Common.{arith}
+use Rattle.std.proofs.Common.{append_assoc, arith}
 use Rattle.std.proofs.lemmas.Grind.{common_steps}
-use Rattle.std.proofs.Common.{append_assoc}
 use Rattle.config_decode.proofs.ValuesLemmas.{numbers-none, numbers-behind, numbers-broken}
 use Rattle.config_decode.proofs.message.unpack.Goals as goal
 
 pub returns-in_default : goal.returns-in_default
 returns-in_default c =
-    let none = numbers-broken 0 c.loop-rest.rest.now c.in_default.field-0 c.loop-rest-test.ensures c.in_default.ensures.number in
-    grind (arith, common_steps, none)
+    let rest = c.loop-rest.rest.now in
+    let broken = numbers-broken 0 rest c.loop-rest-test.ensures c.in_default.field-0 c.in_default.ensures.number in
+    grind (arith, common_steps, broken)
 
 pub loop-rest-preserved : goal.loop-rest-preserved
 loop-rest-preserved c =
-    let next = numbers-behind 0 c.in-Ok.number c.loop-rest.rest.now c.in-Ok.behind.now c.loop-rest-test.ensures c.in-Ok.ensures.number in
+    let rest = c.loop-rest.rest.now in
+    let behind = c.in-Ok.behind.now in
+    let next = numbers-behind 0 rest c.loop-rest-test.ensures c.in-Ok.number behind c.in-Ok.ensures.number in
     grind (arith, common_steps, append_assoc, next)
 
 pub returns : goal.returns
