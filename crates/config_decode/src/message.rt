@@ -71,7 +71,7 @@ impl<'a> Message<'a> {
     {
         let mut last = None;
         for field in self.records.iter() {
-            if let Some(value) = number_in(number, field) {
+            if let Some(value) = single_in(number, field) {
                 last = Some(value);
             }
         }
@@ -114,7 +114,7 @@ impl<'a> Message<'a> {
     {
         let mut last = None;
         for field in self.records.iter() {
-            if let Some(value) = number_in(number, field)
+            if let Some(value) = single_in(number, field)
                 && let Some(variant) = E::with_number(low_half(value))
             {
                 last = Some(variant);
@@ -165,7 +165,7 @@ impl<'a> Message<'a> {
     {
         let mut last = None;
         for field in self.records.iter() {
-            if let Some(bytes) = bytes_in(number, field) {
+            if let Some(bytes) = payload_in(number, field) {
                 last = Some(bytes);
             }
         }
@@ -189,7 +189,7 @@ impl<'a> Message<'a> {
     {
         let mut texts = Seq::new(alloc);
         for field in self.records.iter() {
-            if let Some(bytes) = bytes_in(number, field) {
+            if let Some(bytes) = payload_in(number, field) {
                 texts.push(Seq::from_slice(alloc, bytes)?)?;
             }
         }
@@ -203,7 +203,7 @@ impl<'a> Message<'a> {
     {
         let mut joined = Message::new(alloc);
         for field in self.records.iter() {
-            if let Some(bytes) = bytes_in(number, field) {
+            if let Some(bytes) = payload_in(number, field) {
                 joined.join(bytes)?;
             }
         }
@@ -228,7 +228,7 @@ impl<'a> Message<'a> {
     {
         let mut messages = Vec::new(alloc);
         for field in self.records.iter() {
-            if let Some(bytes) = bytes_in(number, field) {
+            if let Some(bytes) = payload_in(number, field) {
                 messages.push(Message::read(alloc, bytes)?)?;
             }
         }
@@ -272,7 +272,7 @@ impl<'a> Message<'a> {
 }
 
 /// The number of a record, if it is of this field and holds one.
-fn number_in(number: u32, field: &Field<'_>) -> Option<u64>
+fn single_in(number: u32, field: &Field<'_>) -> Option<u64>
     ensures { cons_option result [] ≡ values.singles number (seen field.now ∷ []) }
 {
     match field.body {
@@ -282,7 +282,7 @@ fn number_in(number: u32, field: &Field<'_>) -> Option<u64>
 }
 
 /// The bytes of a record, if it is of this field and holds some.
-fn bytes_in<'a>(number: u32, field: &Field<'a>) -> Option<&'a [u8]>
+fn payload_in<'a>(number: u32, field: &Field<'a>) -> Option<&'a [u8]>
     ensures payload { cons_option (option_copied result) [] ≡ values.payloads number (seen field.now ∷ []) }
     ensures inside { IfSome result (λ bytes. bytes.now ≡ inside_of (seen field.now).body) }
 {
