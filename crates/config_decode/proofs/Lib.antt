@@ -1,3 +1,5 @@
 pub mod PackedLemmas
 pub mod WalkLemmas
 mod Worked
+pub mod RunLemmas
+pub mod ValuesLemmas
