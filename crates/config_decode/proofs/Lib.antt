@@ -3,3 +3,4 @@ pub mod WalkLemmas
 mod Worked
 pub mod RunLemmas
 pub mod ValuesLemmas
+pub mod Levels
