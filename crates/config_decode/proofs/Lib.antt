@@ -1,6 +1,6 @@
-pub mod PackedLemmas
-pub mod WalkLemmas
 mod Worked
+pub mod Levels
+pub mod PackedLemmas
 pub mod RunLemmas
 pub mod ValuesLemmas
-pub mod Levels
+pub mod WalkLemmas
