@@ -1,4 +1,6 @@
 //! Why bytes are refused, and where.
+ghost use Rattle.std.specs.Prelude.{◌≤◌, ◌<◌, ◌^◌, length};
+
 use crate::{DecodeFault, decode};
 use proto_wire::{CUT, LONG_VARINT, TOO_DEEP, UNKNOWN_WIRE_TYPE, WireFault, Writer, ZERO_NUMBER};
 use std::alloc::{AllocError, Global};
@@ -33,32 +35,76 @@ fn answers(alloc: Global, bytes: &[u8], want: Want<'_>) -> bool
 fn tells_what_is_not_supported(rt: HostRuntime) {
     let rows: [(&str, &[u8], Want<'_>); 15] = [
         ("an activation", b"\x8a\x01\0", Want::Unsupported(&[17])),
-        ("an activation as a number", b"\x88\x01\x01", Want::Unsupported(&[17])),
+        (
+            "an activation as a number",
+            b"\x88\x01\x01",
+            Want::Unsupported(&[17]),
+        ),
         (
             "a test of a float",
             b"\x3a\x0f\x08\x01\x12\x0b\x08\x05\x12\x07\x08\x01\x45\0\0\0\0",
             Want::Unsupported(&[7, 2, 2, 8]),
         ),
-        ("an unlisted field of a matcher", b"\x3a\x02\x20\x01", Want::Unsupported(&[7, 4])),
-        ("a matcher's id as bytes", b"\x3a\x02\x0a\0", Want::Unsupported(&[7, 1])),
-        ("a simple matcher as a number", b"\x3a\x02\x10\x01", Want::Unsupported(&[7, 2])),
-        ("a group in a matcher", b"\x3a\x02\x2b\x2c", Want::Unsupported(&[7, 5])),
-        ("a bucket of 0", b"\x1a\x02\x28\0", Want::Unsupported(&[3, 5])),
+        (
+            "an unlisted field of a matcher",
+            b"\x3a\x02\x20\x01",
+            Want::Unsupported(&[7, 4]),
+        ),
+        (
+            "a matcher's id as bytes",
+            b"\x3a\x02\x0a\0",
+            Want::Unsupported(&[7, 1]),
+        ),
+        (
+            "a simple matcher as a number",
+            b"\x3a\x02\x10\x01",
+            Want::Unsupported(&[7, 2]),
+        ),
+        (
+            "a group in a matcher",
+            b"\x3a\x02\x2b\x2c",
+            Want::Unsupported(&[7, 5]),
+        ),
+        (
+            "a bucket of 0",
+            b"\x1a\x02\x28\0",
+            Want::Unsupported(&[3, 5]),
+        ),
         (
             "a good bucket behind one that is none",
             b"\x1a\x04\x28\x0a\x28\x05",
             Want::Unsupported(&[3, 5]),
         ),
-        ("an aggregation of 4", b"\x22\x02\x40\x04", Want::Unsupported(&[4, 8])),
-        ("a sampling of 2", b"\x2a\x02\x48\x02", Want::Unsupported(&[5, 9])),
-        ("a bound of overflow", b"\x1a\x03\xd0\x3e\x01", Want::Unsupported(&[3, 1002])),
-        ("an activation of a metric", b"\x1a\x03\x92\x3f\0", Want::Unsupported(&[3, 1010])),
+        (
+            "an aggregation of 4",
+            b"\x22\x02\x40\x04",
+            Want::Unsupported(&[4, 8]),
+        ),
+        (
+            "a sampling of 2",
+            b"\x2a\x02\x48\x02",
+            Want::Unsupported(&[5, 9]),
+        ),
+        (
+            "a bound of overflow",
+            b"\x1a\x03\xd0\x3e\x01",
+            Want::Unsupported(&[3, 1002]),
+        ),
+        (
+            "an activation of a metric",
+            b"\x1a\x03\x92\x3f\0",
+            Want::Unsupported(&[3, 1010]),
+        ),
         (
             "the first of two, deeper than the second",
             b"\x3a\x04\x12\x02\x18\x01\x3a\x02\x20\x01",
             Want::Unsupported(&[7, 2, 3]),
         ),
-        ("slices of a gauge", b"\x2a\x02\x40\x01", Want::Unsupported(&[5, 8])),
+        (
+            "slices of a gauge",
+            b"\x2a\x02\x40\x01",
+            Want::Unsupported(&[5, 8]),
+        ),
     ];
     for (name, bytes, want) in rows {
         assert!(rt; bytes.len() < 100);
@@ -81,7 +127,11 @@ fn tells_faults_of_the_wire(rt: HostRuntime) {
             b"\x3a\x01\x0e\x00",
             Want::Wire(2, UNKNOWN_WIRE_TYPE),
         ),
-        ("packed numbers that are cut", b"\x6a\x02\x01\x80", Want::Wire(0, CUT)),
+        (
+            "packed numbers that are cut",
+            b"\x6a\x02\x01\x80",
+            Want::Wire(0, CUT),
+        ),
         (
             "a packed number of eleven bytes",
             b"\x08\x01\x6a\x0b\x80\x80\x80\x80\x80\x80\x80\x80\x80\x80\x01",
@@ -97,8 +147,16 @@ fn tells_faults_of_the_wire(rt: HostRuntime) {
             b"\x3a\x07\x20\x01\x1a\x03\x12\x01\x80",
             Want::Wire(6, CUT),
         ),
-        ("inside a group that is skipped", b"\x0b\x00\x0c", Want::Wire(1, ZERO_NUMBER)),
-        ("a group without an end", b"\x08\x01\x0b\x08\x01", Want::Wire(2, CUT)),
+        (
+            "inside a group that is skipped",
+            b"\x0b\x00\x0c",
+            Want::Wire(1, ZERO_NUMBER),
+        ),
+        (
+            "a group without an end",
+            b"\x08\x01\x0b\x08\x01",
+            Want::Wire(2, CUT),
+        ),
         (
             "a group in a matcher, which is not supported",
             b"\x3a\x03\x2b\x0e\x2c",
@@ -120,17 +178,33 @@ fn tells_faults_of_the_wire(rt: HostRuntime) {
 fn passes_over_what_has_no_effect(rt: HostRuntime) {
     let rows: [(&str, &[u8], Want<'_>); 8] = [
         ("nothing", b"", Want::Fine),
-        ("the id, with any wire type", b"\x08\x07\x0a\x01\x0e\x0b\x0c\x0d\0\0\0\0", Want::Fine),
-        ("an unlisted field, whose bytes are no message", b"\xfa\x07\x01\x0e", Want::Fine),
+        (
+            "the id, with any wire type",
+            b"\x08\x07\x0a\x01\x0e\x0b\x0c\x0d\0\0\0\0",
+            Want::Fine,
+        ),
+        (
+            "an unlisted field, whose bytes are no message",
+            b"\xfa\x07\x01\x0e",
+            Want::Fine,
+        ),
         ("a matcher as a number", b"\x38\x01", Want::Fine),
-        ("no report, as eight bytes", b"\x69\0\0\0\0\0\0\0\0", Want::Fine),
+        (
+            "no report, as eight bytes",
+            b"\x69\0\0\0\0\0\0\0\0",
+            Want::Fine,
+        ),
         ("alerts", b"\x9a\x3f\x01\x0e", Want::Fine),
         (
             "fields of a value that have no effect",
             b"\x22\x0a\x50\x01\x82\x01\x01\x0e\x8b\x01\x8c\x01",
             Want::Fine,
         ),
-        ("a field of a gauge that has no effect", b"\x2a\x03\x52\x01\x0e", Want::Fine),
+        (
+            "a field of a gauge that has no effect",
+            b"\x2a\x03\x52\x01\x0e",
+            Want::Fine,
+        ),
     ];
     for (name, bytes, want) in rows {
         assert!(rt; bytes.len() < 100);
@@ -171,7 +245,13 @@ fn goes_a_hundred_messages_deep(rt: HostRuntime) -> Result<(), Fail> {
     let too_deep = in_a_key(rt.alloc(), 98, b"\x08\x01")?;
     assert!(rt; 4 < too_deep.len() && too_deep.len() < 1000);
     let offset = too_deep.len() as u32 - 4;
-    assert!(rt; answers(rt.alloc(), too_deep.as_slice(), Want::Wire(offset, TOO_DEEP)));
+    assert!(rt;
+        answers(
+            rt.alloc(),
+            too_deep.as_slice(),
+            Want::Wire(offset, TOO_DEEP)
+        )
+    );
 
     // A length that runs past the end is told before the depth.
     let cut = in_a_key(rt.alloc(), 97, b"\x1a\x05")?;

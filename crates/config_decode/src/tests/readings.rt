@@ -29,8 +29,7 @@ fn takes_the_last_record_of_a_number(rt: HostRuntime) -> Result<(), Fail> {
 #[test]
 fn begins_anew_where_another_member_was_set(rt: HostRuntime) -> Result<(), Fail> {
     // A simple matcher of atom 5, a combination, and a simple matcher with a test and no atom.
-    let bytes =
-        b"\x3a\x12\x08\x01\x12\x02\x08\x05\x1a\x02\x08\x02\x12\x06\x12\x04\x08\x01\x28\x03";
+    let bytes = b"\x3a\x12\x08\x01\x12\x02\x08\x05\x1a\x02\x08\x02\x12\x06\x12\x04\x08\x01\x28\x03";
     let body = SimpleMatcher {
         atom_id: None,
         tests: list(rt.alloc(), [equals(1, 3)])?,
@@ -47,8 +46,7 @@ fn begins_anew_where_another_member_was_set(rt: HostRuntime) -> Result<(), Fail>
 #[test]
 fn joins_a_run_of_one_member(rt: HostRuntime) -> Result<(), Fail> {
     // A combination, and two records of a simple matcher.
-    let bytes =
-        b"\x3a\x12\x08\x01\x1a\x02\x08\x02\x12\x02\x08\x05\x12\x06\x12\x04\x08\x01\x28\x03";
+    let bytes = b"\x3a\x12\x08\x01\x1a\x02\x08\x02\x12\x02\x08\x05\x12\x06\x12\x04\x08\x01\x28\x03";
     let tests = list(rt.alloc(), [equals(1, 3)])?;
     let want = one_matcher(rt.alloc(), simple(1, 5, tests))?;
     assert_eq!(rt; decode(rt.alloc(), bytes)?, want);
@@ -56,7 +54,11 @@ fn joins_a_run_of_one_member(rt: HostRuntime) -> Result<(), Fail> {
 }
 
 /// The tree of one test of a field, of which nothing else is said.
-fn one_test(alloc: Global, position: Option<Position>, test: Option<Test>) -> Result<Config, AllocError> {
+fn one_test(
+    alloc: Global,
+    position: Option<Position>,
+    test: Option<Test>,
+) -> Result<Config, AllocError> {
     let test = FieldTest {
         field: None,
         position,

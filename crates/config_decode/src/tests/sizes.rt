@@ -1,4 +1,6 @@
 //! The most bytes of a configuration, and shapes that ask for much work.
+ghost use Rattle.std.specs.Prelude.{◌≤◌, ◌<◌, ◌^◌};
+
 use super::trees::nothing;
 use crate::{DecodeFault, MOST_BYTES, decode};
 use proto_wire::Writer;

@@ -209,11 +209,7 @@ fn screen_is_off(alloc: Global) -> Result<PredicateDef, AllocError> {
 
 /// Crashes while the screen is on, by process, and how long syncs run while it is off, by uid.
 fn ordinary_use(alloc: Global) -> Result<Config, AllocError> {
-    let predicates = [
-        screen_is_on(),
-        sync_runs(alloc)?,
-        screen_is_off(alloc)?,
-    ];
+    let predicates = [screen_is_on(), sync_runs(alloc)?, screen_is_off(alloc)?];
     let process = above(alloc, 48, leaf(alloc, 1, None))?;
     let uid = above(alloc, 10, first_uid(alloc)?)?;
     let count = CountDef {
@@ -429,7 +425,10 @@ fn tests_of_fields(alloc: Global) -> Result<Seq<FieldTest>, AllocError> {
         asks(6, Test::LteInt(8)),
         asks(7, Test::GteInt(9)),
         asks(8, Test::Tuple(list(alloc, [equals(1, 3)])?)),
-        asks(9, Test::AnyOf(list(alloc, [text(alloc, b"b")?, text(alloc, b"")?])?)),
+        asks(
+            9,
+            Test::AnyOf(list(alloc, [text(alloc, b"b")?, text(alloc, b"")?])?),
+        ),
         asks(10, Test::NoneOf(Seq::new(alloc))),
     ];
     list(alloc, tests)
