@@ -4,3 +4,4 @@ pub mod PackedLemmas
 pub mod RunLemmas
 pub mod ValuesLemmas
 pub mod WalkLemmas
+mod WorkedTrees
