@@ -82,7 +82,7 @@ tick_backwards : next_frame 4 (9 ∷ 0 ∷ 0 ∷ 0 ∷ 1 ∷ 3 ∷ 0 ∷ 0 ∷ 0
 unfolding next_frame time_at tick_body
 tick_backwards = refl
 
--- before the hour, for now
+-- times stay below the hour
 tick_hour : next_frame 0 (9 ∷ 0 ∷ 0 ∷ 0 ∷ 1 ∷ 0 ∷ 160 ∷ 184 ∷ 48 ∷ 70 ∷ 3 ∷ 0 ∷ 0 ∷ []) ≡ Broken (UnknownKind 1)
 unfolding next_frame time_at tick_body
 tick_hour = refl

@@ -1,6 +1,7 @@
 //! Why bytes are refused, and where.
 ghost use Rattle.std.specs.Prelude.{◌≤◌, ◌<◌, ◌^◌, length};
 
+use super::trees::nothing;
 use crate::{DecodeFault, decode};
 use proto_wire::{CUT, LONG_VARINT, TOO_DEEP, UNKNOWN_WIRE_TYPE, WireFault, Writer, ZERO_NUMBER};
 use std::alloc::{AllocError, Global};
@@ -176,7 +177,7 @@ fn tells_faults_of_the_wire(rt: HostRuntime) {
 
 #[test]
 fn passes_over_what_has_no_effect(rt: HostRuntime) {
-    let rows: [(&str, &[u8], Want<'_>); 8] = [
+    let rows: [(&str, &[u8], Want<'_>); 10] = [
         ("nothing", b"", Want::Fine),
         (
             "the id, with any wire type",
@@ -203,6 +204,16 @@ fn passes_over_what_has_no_effect(rt: HostRuntime) {
         (
             "a field of a gauge that has no effect",
             b"\x2a\x03\x52\x01\x0e",
+            Want::Fine,
+        ),
+        (
+            "bytes in a group, which are no message",
+            b"\x0b\x0a\x01\x0e\x0c",
+            Want::Fine,
+        ),
+        (
+            "a bucket of 5 and a bit past the 32nd",
+            b"\x1a\x06\x28\x85\x80\x80\x80\x10",
             Want::Fine,
         ),
     ];
@@ -271,5 +282,18 @@ fn tells_a_path_of_101_numbers(rt: HostRuntime) -> Result<(), Fail> {
     path[2] = 6;
     path[100] = 4;
     assert!(rt; answers(rt.alloc(), bytes.as_slice(), Want::Unsupported(&path)));
+    Ok(())
+}
+
+#[test]
+fn goes_a_hundred_groups_deep(rt: HostRuntime) -> Result<(), Fail> {
+    // The bytes end in the innermost group; a group more is too deep, though its end isn't there either.
+    let starts = [0x0b; 101];
+    assert!(rt; answers(rt.alloc(), &starts[..100], Want::Wire(99, CUT)));
+    assert!(rt; answers(rt.alloc(), &starts, Want::Wire(100, TOO_DEEP)));
+
+    let mut groups = starts[..100].to_vec(rt.alloc())?;
+    groups.extend_from_slice(&[0x0c; 100])?;
+    assert_eq!(rt; decode(rt.alloc(), groups.as_slice())?, nothing(rt.alloc()));
     Ok(())
 }

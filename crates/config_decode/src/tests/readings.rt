@@ -165,3 +165,65 @@ fn joins_packed_numbers_with_others(rt: HostRuntime) -> Result<(), Fail> {
     assert_eq!(rt; decode(rt.alloc(), bytes)?, want);
     Ok(())
 }
+
+/// The tree of a count of which only this is said.
+fn one_count(
+    alloc: Global,
+    dims: Option<FieldMatcher>,
+    slices: Seq<i64>,
+) -> Result<Config, AllocError> {
+    let count = CountDef {
+        common: Common {
+            id: None,
+            what: None,
+            condition: None,
+            links: Seq::new(alloc),
+        },
+        sliced: Sliced {
+            dims,
+            bucket: None,
+            bound: None,
+            slices,
+            state_links: Seq::new(alloc),
+        },
+    };
+    Ok(Config {
+        counts: list(alloc, [count])?,
+        ..nothing(alloc)
+    })
+}
+
+#[test]
+fn tells_what_is_empty_from_what_is_absent(rt: HostRuntime) -> Result<(), Fail> {
+    let alloc = rt.alloc();
+    let empty = FieldMatcher {
+        field: None,
+        position: None,
+        children: Seq::new(alloc),
+    };
+    let want = one_count(alloc, Some(empty), Seq::new(alloc))?;
+    assert_eq!(rt; decode(alloc, b"\x1a\x02\x22\0")?, want);
+    let want = one_count(alloc, None, Seq::new(alloc))?;
+    assert_eq!(rt; decode(alloc, b"\x1a\0")?, want);
+    Ok(())
+}
+
+#[test]
+fn reads_slices_packed(rt: HostRuntime) -> Result<(), Fail> {
+    let want = one_count(rt.alloc(), None, list(rt.alloc(), [31, 32, 33])?)?;
+    let bytes = b"\x1a\x06\x42\x02\x1f\x20\x40\x21";
+    assert_eq!(rt; decode(rt.alloc(), bytes)?, want);
+    Ok(())
+}
+
+#[test]
+fn takes_the_last_way_of_runs_that_there_is(rt: HostRuntime) -> Result<(), Fail> {
+    // The longest, and then a number that stands for nothing.
+    let tree = decode(rt.alloc(), b"\x32\x04\x28\x02\x28\x07")?;
+    let mut longest = false;
+    for duration in tree.durations.as_slice() {
+        longest = duration.max_sparse;
+    }
+    assert!(rt; longest);
+    Ok(())
+}
