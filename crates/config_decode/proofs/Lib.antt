@@ -1,0 +1,7 @@
+mod Worked
+pub mod Levels
+pub mod PackedLemmas
+pub mod RunLemmas
+pub mod ValuesLemmas
+pub mod WalkLemmas
+mod WorkedTrees

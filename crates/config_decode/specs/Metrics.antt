@@ -1,5 +1,5 @@
 -- Metrics, from the records of their messages.
-use Rattle.std.specs.Prelude.{ℕ, Bool, true, false, List, [], ◌∷◌, map, Option, Some, None}
+use Rattle.std.specs.Prelude.{ℕ, Bool, true, false, List, [], map, Option}
 use Rattle.std.specs.Option.{option_map, unwrap_or}
 use Rattle.proto_wire.specs.Fields.{FieldOf}
 use Rattle.config_types.specs.declared.fields.FieldMatcher.{FieldMatcher}

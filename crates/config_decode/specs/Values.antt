@@ -1,7 +1,7 @@
 -- What a message says: each field is found by its number among the message's records.
-use Rattle.std.specs.Prelude.{ℕ, zero, suc, ℤ, Bool, true, false, not, ◌==◌, List, [], ◌∷◌, ◌++◌, map, length, Option, Some, None, if◌then◌else◌}
+use Rattle.std.specs.Prelude.{ℕ, ℤ, Bool, not, ◌==◌, List, [], ◌∷◌, ◌++◌, map, Option, Some, None, if◌then◌else◌}
 use Rattle.std.specs.Int.{w32, w64, cast_signed}
-use Rattle.std.specs.Option.{option_map, option_map_or}
+use Rattle.std.specs.Option.{option_map}
 use Rattle.std.specs.List.{filter, list_any, list_all, last_or, flat_map, cons_option}
 use Rattle.proto_wire.specs.Fields.{BodyOf, Varint, Bytes, FieldOf}
 use Rattle.proto_wire.specs.Reading.{walk_from}
@@ -100,7 +100,7 @@ message number fields = joined_if_any (payloads number fields)
 
 -- the records whose numbers are among these
 abbrev pub with_numbers : List ℕ → List FieldOf → List FieldOf
-with_numbers numbers fields = filter (λ (field : FieldOf). list_any (λ number. field.number == number) numbers) fields
+with_numbers numbers fields = filter (λ (field : FieldOf). list_any (λ number. number == field.number) numbers) fields
 
 abbrev pub all_have : ℕ → List FieldOf → Bool
 all_have number fields = list_all (λ (field : FieldOf). field.number == number) fields

@@ -24,7 +24,7 @@ impl FromMessage for FieldMatcher {
 
 /// A tree in which so many may stand inside one another.
 #[cycle(levels)]
-#[tactic(auto, unfolding(crate::specs::Tree::field_matcher_in))]
+#[tactic(auto, using(crate::proofs::Levels::field_matcher_step))]
 fn field_matcher(
     alloc: Global,
     levels: u32,
@@ -42,6 +42,7 @@ fn field_matcher(
 
 /// What is below such a tree.
 #[cycle(levels)]
+#[tactic(auto, using(crate::proofs::Levels::children_step))]
 fn children(
     alloc: Global,
     levels: u32,

@@ -25,7 +25,7 @@ impl FromMessage for FieldTest {
 
 /// A test in which so many tuples may stand inside one another.
 #[cycle(levels)]
-#[tactic(auto, unfolding(crate::specs::Tree::field_test_in))]
+#[tactic(auto, using(crate::proofs::Levels::field_test_step))]
 fn field_test(alloc: Global, levels: u32, message: &Message<'_>) -> Result<FieldTest, AllocError>
     ensures { IfOk result (λ read. read ≡ tree.field_test_in levels message.now) }
 {
@@ -70,6 +70,7 @@ fn number_test(number: u32, run: &Message<'_>) -> Option<Test>
 
 /// The tests of a tuple.
 #[cycle(levels)]
+#[tactic(auto, using(crate::proofs::Levels::tests_step))]
 fn tuple(alloc: Global, levels: u32, run: &Message<'_>) -> Result<Seq<FieldTest>, AllocError>
     ensures { IfOk result (λ read. read ≡ tree.tests_in levels (values.messages 1 (values.joined (values.payloads 12 run.now)))) }
 {

@@ -17,3 +17,6 @@ mod whole;
 
 pub use fault::{DecodeFault, Path};
 pub use whole::{MOST_BYTES, decode};
+
+#[cfg(test)]
+mod tests;

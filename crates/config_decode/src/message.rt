@@ -1,6 +1,7 @@
 //! The records of a message, and what its fields say.
-ghost use Rattle.std.specs.Prelude.{◌≡◌, ◌++◌, ◌<◌, ◌^◌, [], length, IfOk, OnOk};
+ghost use Rattle.std.specs.Prelude.{◌≡◌, ◌∷◌, ◌++◌, ◌<◌, ◌^◌, [], length, IfOk, IfSome, OnOk};
 ghost use Rattle.std.specs.Option.{option_copied};
+ghost use Rattle.std.specs.List.{cons_option};
 ghost use Rattle.proto_wire.specs.Fields.{seen, inside_of};
 ghost use Rattle.config_decode.specs.Walk.{packed_at};
 ghost use Rattle.config_decode.specs.Values as values;
@@ -70,7 +71,7 @@ impl<'a> Message<'a> {
     {
         let mut last = None;
         for field in self.records.iter() {
-            if field.number == number && let Body::Varint(value) = field.body {
+            if let Some(value) = single_in(number, field) {
                 last = Some(value);
             }
         }
@@ -113,28 +114,23 @@ impl<'a> Message<'a> {
     {
         let mut last = None;
         for field in self.records.iter() {
-            if field.number == number && let Body::Varint(value) = field.body {
-                if let Some(variant) = E::with_number(low_half(value)) {
-                    last = Some(variant);
-                }
+            if let Some(value) = single_in(number, field)
+                && let Some(variant) = E::with_number(low_half(value))
+            {
+                last = Some(variant);
             }
         }
         last
     }
 
     /// All numbers of a repeated field, packed or not.
+    #[tactic(auto, using(crate::proofs::ValuesLemmas::numbers_more))]
     fn numbers(&self, alloc: Global, number: u32) -> Result<Vec<u64>, AllocError>
         ensures { IfOk result (λ numbers. numbers.items ≡ values.numbers number self.now) }
     {
         let mut numbers = Vec::new(alloc);
         for field in self.records.iter() {
-            if field.number == number {
-                match field.body {
-                    Body::Varint(value) => numbers.push(value)?,
-                    Body::Bytes(packed) => unpack(&mut numbers, packed)?,
-                    _ => {}
-                }
-            }
+            add_numbers(&mut numbers, number, field)?;
         }
         Ok(numbers)
     }
@@ -169,7 +165,7 @@ impl<'a> Message<'a> {
     {
         let mut last = None;
         for field in self.records.iter() {
-            if field.number == number && let Body::Bytes(bytes) = field.body {
+            if let Some(bytes) = payload_in(number, field) {
                 last = Some(bytes);
             }
         }
@@ -187,12 +183,13 @@ impl<'a> Message<'a> {
     }
 
     /// A repeated string.
+    #[tactic(auto, using(crate::proofs::ValuesLemmas::payloads_more))]
     pub fn texts(&self, alloc: Global, number: u32) -> Result<Seq<Bytes>, AllocError>
         ensures { IfOk result (λ texts. texts ≡ values.payloads number self.now) }
     {
         let mut texts = Seq::new(alloc);
         for field in self.records.iter() {
-            if field.number == number && let Body::Bytes(bytes) = field.body {
+            if let Some(bytes) = payload_in(number, field) {
                 texts.push(Seq::from_slice(alloc, bytes)?)?;
             }
         }
@@ -200,12 +197,13 @@ impl<'a> Message<'a> {
     }
 
     /// A field that is a message: all its payloads, read as one.
+    #[tactic(auto, using(crate::proofs::ValuesLemmas::payloads_more, crate::proofs::ValuesLemmas::joined_append))]
     pub fn joined(&self, alloc: Global, number: u32) -> Result<Message<'a>, AllocError>
         ensures { IfOk result (λ joined. joined ≡ values.joined (values.payloads number self.now)) }
     {
         let mut joined = Message::new(alloc);
         for field in self.records.iter() {
-            if field.number == number && let Body::Bytes(bytes) = field.body {
+            if let Some(bytes) = payload_in(number, field) {
                 joined.join(bytes)?;
             }
         }
@@ -213,22 +211,24 @@ impl<'a> Message<'a> {
     }
 
     /// A field that is a message, if there is any.
+    #[tactic(auto, using(crate::proofs::ValuesLemmas::joined_if_last, crate::proofs::ValuesLemmas::none_joined))]
     pub fn message(&self, alloc: Global, number: u32) -> Result<Option<Message<'a>>, AllocError>
         ensures { IfOk result (λ message. message ≡ values.message number self.now) }
     {
-        if self.payload(number).is_none() {
-            return Ok(None);
+        match self.payload(number) {
+            Some(_) => Ok(Some(self.joined(alloc, number)?)),
+            None => Ok(None),
         }
-        Ok(Some(self.joined(alloc, number)?))
     }
 
     /// A repeated field of messages.
+    #[tactic(auto, using(crate::proofs::ValuesLemmas::payloads_more))]
     pub fn messages(&self, alloc: Global, number: u32) -> Result<Vec<Message<'a>>, AllocError>
         ensures { IfOk result (λ messages. messages.items ≡ values.messages number self.now) }
     {
         let mut messages = Vec::new(alloc);
         for field in self.records.iter() {
-            if field.number == number && let Body::Bytes(bytes) = field.body {
+            if let Some(bytes) = payload_in(number, field) {
                 messages.push(Message::read(alloc, bytes)?)?;
             }
         }
@@ -271,12 +271,48 @@ impl<'a> Message<'a> {
     }
 }
 
+/// The number of a record, if it is of this field and holds one.
+fn single_in(number: u32, field: &Field<'_>) -> Option<u64>
+    ensures { cons_option result [] ≡ values.singles number (seen field.now ∷ []) }
+{
+    match field.body {
+        Body::Varint(value) if field.number == number => Some(value),
+        _ => None,
+    }
+}
+
+/// The bytes of a record, if it is of this field and holds some.
+fn payload_in<'a>(number: u32, field: &Field<'a>) -> Option<&'a [u8]>
+    ensures payload { cons_option (option_copied result) [] ≡ values.payloads number (seen field.now ∷ []) }
+    ensures inside { IfSome result (λ bytes. bytes.now ≡ inside_of (seen field.now).body) }
+{
+    match field.body {
+        Body::Bytes(bytes) if field.number == number => Some(bytes),
+        _ => None,
+    }
+}
+
+/// Adds the numbers of a record, if it is of this field: one, or packed ones.
+fn add_numbers(numbers: &mut Vec<u64>, number: u32, field: &Field<'_>) -> Result<(), AllocError>
+    ensures { OnOk result (numbers.new.items ≡ numbers.old.items ++ values.numbers number (seen field.now ∷ [])) }
+{
+    match field.body {
+        Body::Varint(value) if field.number == number => numbers.push(value)?,
+        Body::Bytes(packed) if field.number == number => unpack(numbers, packed)?,
+        _ => {}
+    }
+    Ok(())
+}
+
 /// Adds the numbers of a packed record.
 fn unpack(numbers: &mut Vec<u64>, packed: &[u8]) -> Result<(), AllocError>
     ensures { OnOk result (numbers.new.items ≡ numbers.old.items ++ (packed_at 0 packed.now).numbers) }
 {
     let mut rest = packed;
-    while !rest.is_empty() && let Ok((number, behind)) = varint_of(0, rest) {
+    while !rest.is_empty() {
+        let Ok((number, behind)) = varint_of(0, rest) else {
+            return Ok(());
+        };
         numbers.push(number)?;
         rest = behind;
     }

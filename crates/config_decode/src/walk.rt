@@ -1,9 +1,9 @@
 //! The walk over a configuration, which looks for the first fault of the wire format and for the first record that isn't
 //! supported.
-ghost use Rattle.std.specs.Prelude.{◌≡◌, ◌≤◌, ◌<◌, ◌-◌, ◌^◌, None, length, OnOk, IfOk};
+ghost use Rattle.std.specs.Prelude.{◌≡◌, ◌≤◌, ◌<◌, ◌+◌, ◌-◌, ◌^◌, length, OnOk, IfOk, IfSome};
 ghost use Rattle.proto_wire.specs.Fields.{seen, IsWithin};
-ghost use Rattle.config_decode.specs.Walk.{packed_at, walk_in, record_walked, inner_walk, walk_of};
-ghost use Rattle.config_decode.specs.Walks.{Walks, IsUnsupported, PacksWell};
+ghost use Rattle.config_decode.specs.Walk.{packed_at, walk_in, record_walked, inside_walked, inner_walk, walk_of};
+ghost use Rattle.config_decode.specs.Walks.{Walks, GoesTo, IsUnsupported, PacksWell};
 
 use crate::profile::{Kind, Shape};
 use crate::{DecodeFault, Path};
@@ -40,8 +40,10 @@ impl Walker {
     /// Walks the records of a message.
     #[cycle(walk)]
     fn message(&mut self, kind: Kind, records: Records<'_>) -> Result<(), DecodeFault>
-        requires { length self.old.path.items ≡ records.entry.depth }
-        ensures walked { Walks (walk_in (100 - records.entry.depth) self.old.path.items kind records.entry) self.old self.new result }
+        requires depth { length self.old.path.items ≡ records.depth }
+        requires shallow { records.depth ≤ 100 }
+        ensures walked { Walks (walk_in (100 - records.entry.depth) self.old.path.items kind records.entry)
+            self.old self.new result }
     {
         let mut records = records;
         while let Some(field) = records.next()? {
@@ -59,23 +61,47 @@ impl Walker {
         field: &Field<'_>,
     ) -> Result<(), DecodeFault>
         requires depth { length self.old.path.items ≡ records.now.depth }
+        requires shallow { records.now.depth ≤ 100 }
         requires within { IsWithin (seen field.now) }
-        ensures walked { Walks (record_walked (inner_walk (100 - records.now.depth)) kind self.old.path.items records.now.depth (seen field.now)) self.old self.new result }
+        ensures walked { Walks (record_walked (inner_walk (100 - records.now.depth)) kind self.old.path.items
+            records.now.depth (seen field.now)) self.old self.new result }
+    {
+        self.note(kind, field)?;
+        self.inside(kind.shape(field.number), records, field)?;
+        self.path.pop();
+        Ok(())
+    }
+
+    /// Goes to a record, and notes its path if it is the first that isn't supported.
+    fn note(&mut self, kind: Kind, field: &Field<'_>) -> Result<(), AllocError>
+        requires { length self.old.path.items ≤ 100 }
+        ensures { OnOk result (GoesTo kind (seen field.now) self.old self.new) }
     {
         self.path.push(field.number)?;
         if self.unsupported.is_none() && kind.refuses(field) {
             self.unsupported = Some(Seq::from_slice(self.alloc, self.path.as_slice())?);
         }
-        match (kind.shape(field.number), field.body) {
-            (Shape::Message(inner), Body::Bytes(_)) => {
-                let inside = records.enter(field)?;
-                self.message(inner, inside)?;
-            }
-            (Shape::Numbers, Body::Bytes(packed)) => check_packed(field.at, packed)?,
-            _ => {}
-        }
-        self.path.pop();
         Ok(())
+    }
+
+    /// Walks what a record holds, to which the path leads.
+    #[cycle(walk)]
+    fn inside(
+        &mut self,
+        shape: Shape,
+        records: &Records<'_>,
+        field: &Field<'_>,
+    ) -> Result<(), DecodeFault>
+        requires depth { length self.old.path.items ≡ records.now.depth + 1 }
+        requires within { IsWithin (seen field.now) }
+        ensures walked { Walks (inside_walked (inner_walk (100 - records.now.depth) self.old.path.items)
+            records.now.depth (seen field.now) shape (seen field.now).body) self.old self.new result }
+    {
+        match (shape, field.body) {
+            (Shape::Message(kind), Body::Bytes(_)) => self.message(kind, records.enter(field)?),
+            (Shape::Numbers, Body::Bytes(packed)) => Ok(check_packed(field.at, packed)?),
+            _ => Ok(()),
+        }
     }
 }
 

@@ -1,0 +1,6 @@
+//! Configurations and their trees, or why they are refused. All trees and faults were worked by hand.
+mod faults;
+mod readings;
+mod samples;
+mod sizes;
+mod trees;
