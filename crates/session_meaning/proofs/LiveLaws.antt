@@ -13,7 +13,7 @@ use Rattle.session_frames.specs.declared.reply.Refusal.{Refusal}
 use Rattle.instance_meaning.specs.Linked.{Linked}
 use Rattle.instance_meaning.specs.History.{with_steps}
 use Rattle.session_meaning.specs.Log.{clock_of}
-use Rattle.session_meaning.specs.Config.{config_of}
+use Rattle.session_meaning.specs.Config.{linked_of_bytes}
 use Rattle.session_meaning.specs.Live.{Installed, with_config, without_id, installed, live_behind, live_from, live, step_at, history_of}
 
 live_from-push : (before : List Frame) (configs : List Installed) (frames : List Frame) (frame : Frame) → live_from before configs (frames ++ frame ∷ []) ≡ live_behind (before ++ frames) frame (live_from before configs frames)
@@ -60,7 +60,7 @@ ArePlaced-installed place id (Err refusal) configs placed = ArePlaced-later plac
 
 ArePlaced-behind : (before : List Frame) (frame : Frame) (configs : List Installed) → ArePlaced (length before) configs → ArePlaced (length before + 1) (live_behind before frame configs)
 ArePlaced-behind before (Log frame) configs placed = ArePlaced-later (length before) 1 configs placed
-ArePlaced-behind before (Install uid id config) configs placed = ArePlaced-installed (length before) id (config_of config) configs placed
+ArePlaced-behind before (Install uid id config) configs placed = ArePlaced-installed (length before) id (linked_of_bytes config) configs placed
 ArePlaced-behind before (Remove uid id) configs placed = ArePlaced-later (length before) 1 (without_id id configs) (ArePlaced-without_id (length before) id configs placed)
 ArePlaced-behind before (Report uid id include_current) configs placed = ArePlaced-later (length before) 1 configs placed
 
@@ -163,7 +163,7 @@ AreDistinct-installed place id (Err refusal) configs distinct = distinct
 
 AreDistinct-behind : (before : List Frame) (frame : Frame) (configs : List Installed) → AreDistinct configs → AreDistinct (live_behind before frame configs)
 AreDistinct-behind before (Log frame) configs distinct = distinct
-AreDistinct-behind before (Install uid id config) configs distinct = AreDistinct-installed (length before) id (config_of config) configs distinct
+AreDistinct-behind before (Install uid id config) configs distinct = AreDistinct-installed (length before) id (linked_of_bytes config) configs distinct
 AreDistinct-behind before (Remove uid id) configs distinct = AreDistinct-without_id id configs distinct
 AreDistinct-behind before (Report uid id include_current) configs distinct = distinct
 

@@ -14,7 +14,7 @@ use Rattle.instance_meaning.specs.Linked.{Linked}
 use Rattle.instance_meaning.specs.Report.{report_of}
 use Rattle.instance_meaning.specs.Spelling.{report_bytes}
 use Rattle.session_meaning.specs.Log.{own, clock_of}
-use Rattle.session_meaning.specs.Config.{config_of}
+use Rattle.session_meaning.specs.Config.{linked_of_bytes}
 use Rattle.session_meaning.specs.Live.{Installed, config_at, live, history_of}
 
 -- an install is refused, or it goes where a configuration of its id stands, or it is new
@@ -40,7 +40,7 @@ reply_of uid id body = Some (record { uid = uid; id = id; body = body })
 -- the reply to a frame that comes behind the client's own frames; a frame of the log has none
 abbrev pub answer : List Frame → Frame → Option Reply
 answer before (Log frame) = None
-answer before (Install uid id config) = reply_of uid id (install_answer (config_of config) (config_at id (live before)))
+answer before (Install uid id config) = reply_of uid id (install_answer (linked_of_bytes config) (config_at id (live before)))
 answer before (Remove uid id) = reply_of uid id (remove_answer (config_at id (live before)))
 answer before (Report uid id include_current) = reply_of uid id (report_answer uid before include_current (config_at id (live before)))
 

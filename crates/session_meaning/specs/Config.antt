@@ -1,17 +1,22 @@
--- What the bytes of a configuration say, or why they are refused.
-use Rattle.std.specs.Prelude.{ℕ, ℤ, ◌^◌, true, not, ◌&&◌, ◌||◌, ◌==◌, nat_lt, List, [], ◌∷◌, length, Result, Ok, Err, if◌then◌else◌}
-use Rattle.std.specs.Int.{w64, cast_signed}
+-- What a configuration asks for, or why it is refused. So far one form is understood: one matcher of an atom's id, and
+-- one metric that counts what it matches.
+use Rattle.std.specs.Prelude.{ℕ, ℤ, pos, ◌-◌, ◌^◌, min, Bool, true, ◌&&◌, ◌==◌, List, [], ◌∷◌, length, Option, Some, None, is_none, Result, Ok, Err, if◌then◌else◌}
+use Rattle.std.specs.Ordering.{int_eq}
 use Rattle.sd_base.specs.Reads.{◌>>=◌}
-use Rattle.proto_wire.specs.declared.fault.WireFault.{WireFault}
-use Rattle.proto_wire.specs.Fields.{BodyOf, Varint, Bytes, FieldOf}
-use Rattle.proto_wire.specs.Reading.{fields_of}
+use Rattle.config_types.specs.declared.config.Config.{Config}
+use Rattle.config_types.specs.declared.matcher.MatcherDef.{MatcherDef}
+use Rattle.config_types.specs.declared.matcher.MatcherBody.{MatcherBody}
+use Rattle.config_types.specs.declared.matcher.MatcherBody.TheVariants as body
+use Rattle.config_types.specs.declared.matcher.SimpleMatcher.{SimpleMatcher}
+use Rattle.config_types.specs.declared.metric.Common.{Common}
+use Rattle.config_types.specs.declared.metric.Sliced.{Sliced}
+use Rattle.config_types.specs.declared.metric.CountDef.{CountDef}
+use Rattle.config_decode.specs.declared.fault.DecodeFault.{DecodeFault}
+use Rattle.config_decode.specs.declared.fault.DecodeFault.TheVariants as fault
+use Rattle.config_decode.specs.Config.{config_of}
 use Rattle.session_frames.specs.declared.reply.Refusal.{Refusal}
-use Rattle.session_frames.specs.declared.reply.Refusal.TheVariants.{Unsupported}
+use Rattle.session_frames.specs.declared.reply.Refusal.TheVariants.{TooLarge, Wire, Unsupported}
 use Rattle.instance_meaning.specs.Linked.{Simple, Linked}
-
--- the most bytes of a configuration
-abbrev pub most_config : ℕ
-most_config = 262144
 
 -- an hour, which is the size of buckets, in nanoseconds
 abbrev pub default_size : ℕ
@@ -25,59 +30,71 @@ default_bound = 800
 abbrev pub other_form : Refusal
 other_form = Unsupported []
 
--- the number that a field holds
-abbrev pub number_in : BodyOf → Result ℕ Refusal
-number_in (Varint number) = Ok number
-number_in _ = Err other_form
+-- why bytes that aren't a configuration are refused; the definition of what they say wants no memory
+abbrev pub refusal_of : DecodeFault → Refusal
+refusal_of (fault.TooLarge size) = TooLarge (min size (2 ^ 32 - 1))
+refusal_of (fault.Wire wire) = Wire wire.cause wire.offset
+refusal_of (fault.Unsupported path) = Unsupported path
+refusal_of fault.Memory = other_form
 
--- the message that a field holds
-abbrev pub message_in : BodyOf → Result (List ℕ) Refusal
-message_in (Bytes bytes) = Ok bytes
-message_in _ = Err other_form
+-- the one member of a list
+abbrev pub one_of : {A : Type 0} → List A → Result A Refusal
+one_of (one ∷ []) = Ok one
+one_of _ = Err other_form
 
--- the body of the one field of a message, if it has this number
-abbrev pub one_of : ℕ → Result (List FieldOf) WireFault → Result BodyOf Refusal
-one_of number (Ok (field ∷ [])) = if field.number == number then Ok field.body else Err other_form
-one_of number _ = Err other_form
+-- an id that is set
+abbrev pub id_in : Option ℤ → Result ℤ Refusal
+id_in (Some id) = Ok id
+id_in None = Err other_form
 
--- the bodies of the two fields of a message, if they have these numbers, in this order
-abbrev pub two_of : ℕ → ℕ → Result (List FieldOf) WireFault → Result (BodyOf × BodyOf) Refusal
-two_of first second (Ok (one ∷ two ∷ [])) = if one.number == first && two.number == second then Ok (one.body, two.body) else Err other_form
-two_of first second _ = Err other_form
+-- the id of an atom, which is above 0; as a number of 32 bits it is at most 2^31 - 1
+abbrev pub atom_id_in : Option ℤ → Result ℕ Refusal
+atom_id_in (Some (pos id)) = if id == 0 then Err other_form else Ok id
+atom_id_in _ = Err other_form
 
--- A matcher as it is spelled: its id, as 64 bits, and the id of the atoms for which it holds.
-pub record MatcherDef : Type 0 where
-  pub id : ℕ
+-- A matcher of an atom's id.
+pub record AtomMatcher : Type 0 where
+  pub id : ℤ
   pub atom_id : ℕ
 
--- a simple matcher without tests: the atom's id, from 1 to 2^31 - 1
-unfoldable pub atom_id_of : List ℕ → Result ℕ Refusal
-atom_id_of bytes =
-    one_of 1 (fields_of bytes) >>= λ body.
-    number_in body >>= λ atom_id.
-    if atom_id == 0 || not (nat_lt atom_id (2 ^ 31)) then Err other_form else Ok atom_id
+-- the atom's id of a simple matcher without tests
+abbrev pub simple_built : SimpleMatcher → Result ℕ Refusal
+simple_built simple = if length simple.tests == 0 then atom_id_in simple.atom_id else Err other_form
 
--- a matcher: its id, and the simple matcher that it is
-unfoldable pub matcher_of : List ℕ → Result MatcherDef Refusal
-matcher_of bytes =
-    two_of 1 2 (fields_of bytes) >>= λ bodies.
-    number_in bodies.0 >>= λ id.
-    message_in bodies.1 >>= λ simple.
-    atom_id_of simple >>= λ atom_id.
+-- the atom's id of a matcher, which is a simple one
+abbrev pub body_built : Option MatcherBody → Result ℕ Refusal
+body_built (Some (body.Simple simple)) = simple_built simple
+body_built (Some (body.Combo combo)) = Err other_form
+body_built None = Err other_form
+
+-- a matcher
+abbrev pub matcher_built : MatcherDef → Result AtomMatcher Refusal
+matcher_built matcher =
+    id_in matcher.id >>= λ id.
+    body_built matcher.body >>= λ atom_id.
     Ok (record { id = id; atom_id = atom_id })
 
--- A count metric as it is spelled: its id, and the id of the matcher of what it counts, as 64 bits.
-pub record CountDef : Type 0 where
-  pub id : ℕ
-  pub what : ℕ
+-- A metric that counts: its id, and the id of the matcher of what it counts.
+pub record CountMetric : Type 0 where
+  pub id : ℤ
+  pub what : ℤ
+
+-- it has no condition
+abbrev pub is_unconditional : Common → Bool
+is_unconditional common = is_none common.condition && length common.links == 0
+
+-- it has no key, and says nothing of its buckets
+abbrev pub is_unsliced : Sliced → Bool
+is_unsliced sliced =
+    is_none sliced.dims && is_none sliced.bucket && is_none sliced.bound
+    && length sliced.slices == 0 && length sliced.state_links == 0
 
 -- a count metric with nothing but its id and what it counts
-unfoldable pub count_of : List ℕ → Result CountDef Refusal
-count_of bytes =
-    two_of 1 2 (fields_of bytes) >>= λ bodies.
-    number_in bodies.0 >>= λ id.
-    number_in bodies.1 >>= λ what.
-    Ok (record { id = id; what = what })
+abbrev pub count_built : CountDef → Result CountMetric Refusal
+count_built count =
+    if is_unconditional count.common && is_unsliced count.sliced
+    then (id_in count.common.id >>= λ id. id_in count.common.what >>= λ what. Ok (record { id = id; what = what }))
+    else Err other_form
 
 -- a matcher of an atom's id, and a metric that counts what it matches
 abbrev pub linked_of : ℕ → ℤ → Linked
@@ -87,16 +104,31 @@ linked_of atom_id metric_id = record {
 }
 
 -- the metric counts what the matcher matches
-abbrev pub joined : MatcherDef → CountDef → Result Linked Refusal
-joined matcher count = if count.what == matcher.id then Ok (linked_of matcher.atom_id (cast_signed w64 count.id)) else Err other_form
+abbrev pub joined : AtomMatcher → CountMetric → Result Linked Refusal
+joined matcher count = if int_eq count.what matcher.id then Ok (linked_of matcher.atom_id count.id) else Err other_form
 
--- a configuration: one matcher, and then one metric that counts what it matches
-unfoldable pub config_of : List ℕ → Result Linked Refusal
-config_of bytes =
-    if nat_lt most_config (length bytes) then Err other_form
-    else (two_of 7 3 (fields_of bytes) >>= λ bodies.
-    message_in bodies.0 >>= λ matcher.
-    message_in bodies.1 >>= λ count.
-    matcher_of matcher >>= λ found.
-    count_of count >>= λ counted.
+-- there is nothing but matchers and metrics that count
+abbrev pub has_only_counts : Config → Bool
+has_only_counts config =
+    length config.predicates == 0 && length config.states == 0 && length config.events == 0 && length config.values == 0
+    && length config.gauges == 0 && length config.durations == 0 && length config.no_report == 0
+
+-- the parts of a configuration
+abbrev pub built : Config → Result Linked Refusal
+built config =
+    if has_only_counts config
+    then (one_of config.matchers >>= λ matcher.
+    one_of config.counts >>= λ count.
+    matcher_built matcher >>= λ found.
+    count_built count >>= λ counted.
     joined found counted)
+    else Err other_form
+
+-- the parts of what was read, or why it is refused
+abbrev pub built_of : Result Config DecodeFault → Result Linked Refusal
+built_of (Ok config) = built config
+built_of (Err fault) = Err (refusal_of fault)
+
+-- what the bytes of a configuration ask for, or why they are refused
+unfoldable pub linked_of_bytes : List ℕ → Result Linked Refusal
+linked_of_bytes bytes = built_of (config_of bytes)

@@ -9,7 +9,7 @@ use Rattle.session_frames.specs.Frames.{log_time}
 use Rattle.instance_meaning.specs.Linked.{Linked}
 use Rattle.instance_meaning.specs.History.{Logged, Reported, Step, History, truths_of}
 use Rattle.session_meaning.specs.Log.{clock_of}
-use Rattle.session_meaning.specs.Config.{config_of}
+use Rattle.session_meaning.specs.Config.{linked_of_bytes}
 
 -- A live configuration: its id, its parts, and how many of the client's own frames came before its install.
 pub record Installed : Type 0 where
@@ -39,7 +39,7 @@ installed place id (Err refusal) configs = configs
 -- what is live behind a frame, where these came before it
 abbrev pub live_behind : List Frame → Frame → List Installed → List Installed
 live_behind before (Log frame) configs = configs
-live_behind before (Install uid id config) configs = installed (length before) id (config_of config) configs
+live_behind before (Install uid id config) configs = installed (length before) id (linked_of_bytes config) configs
 live_behind before (Remove uid id) configs = without_id id configs
 live_behind before (Report uid id include_current) configs = configs
 

@@ -1,5 +1,5 @@
 -- A hub stands for the frames that it got, from frame to frame.
-use Rattle.std.proofs.Common.{◌≡◌, ℕ, ℤ, ◌<◌, Bool, true, false, not, cond, List, [], ◌∷◌, ◌++◌, map, length, filter, find, Option, Some, None, Ok, refl, sym, ap, subst, ◌∙◌, arith}
+use Rattle.std.proofs.Common.{◌≡◌, ℕ, ℤ, ◌<◌, Bool, true, false, not, cond, List, [], ◌∷◌, ◌++◌, map, length, filter, find, Option, Some, None, Result, Ok, Err, refl, sym, ap, subst, ◌∙◌, arith}
 use Rattle.std.specs.Prelude.{◌||◌, is_some}
 use Rattle.std.specs.List.{list_any}
 use Rattle.std.specs.Ordering.{int_eq}
@@ -9,6 +9,7 @@ use Rattle.atom_record.specs.declared.log.LogFrame.{LogFrame}
 use Rattle.session_frames.specs.declared.frame.Frame.{Frame}
 use Rattle.session_frames.specs.declared.frame.Frame.TheVariants.{Log, Install, Remove, Report}
 use Rattle.session_frames.specs.declared.reply.Reply.{Reply}
+use Rattle.session_frames.specs.declared.reply.Refusal.{Refusal}
 use Rattle.session_frames.specs.declared.reply.ReplyBody.{ReplyBody}
 use Rattle.session_frames.specs.declared.reply.ReplyBody.TheVariants as answers
 use Rattle.session_frames.specs.Frames.{log_time, clock_behind, IsFaultlessLog}
@@ -17,7 +18,7 @@ use Rattle.instance_meaning.specs.History.{Step, History, with_steps}
 use Rattle.instance_meaning.specs.Report.{report_of}
 use Rattle.instance_meaning.specs.Spelling.{report_bytes}
 use Rattle.session_meaning.specs.Log.{is_own, own, clock_of}
-use Rattle.session_meaning.specs.Config.{config_of, linked_of}
+use Rattle.session_meaning.specs.Config.{linked_of_bytes, linked_of}
 use Rattle.session_meaning.specs.Live.{Installed, with_config, without_id, config_at, installed, live_behind, live, step_at, history_of}
 use Rattle.session_meaning.specs.Answers.{install_answer, remove_answer, report_answer, reply_of, reply_to}
 use Rattle.session_meaning.proofs.LogLaws.{own-push_own, own-push_other, clock_of-push, clock_of-own}
@@ -27,7 +28,7 @@ use Rattle.statsd_cli.specs.declared.hub.Live.{Live}
 use Rattle.statsd_cli.specs.declared.hub.Hub.{Hub}
 use Rattle.statsd_cli.specs.Instance.{fresh, logged, reported, shown_by, InstanceStandsFor}
 use Rattle.statsd_cli.specs.Report.{shown_tree}
-use Rattle.statsd_cli.specs.Reading.{found}
+use Rattle.statsd_cli.specs.Reading.{asked}
 use Rattle.statsd_cli.specs.Lives.{is_of, is_at, at_first, logged_live, reported_live, Installs, Removes, Reports}
 use Rattle.statsd_cli.specs.Hub.{LiveStandsFor, AllStand, HubStandsFor}
 use Rattle.statsd_cli.proofs.InstanceLemmas.{stands_fresh, stands_logged, stands_reported, asked_step, shows}
@@ -302,18 +303,18 @@ module _ (hub new : Hub) (frames : List Frame) (uid id : ℤ) (same_clock : new.
   installed_answer linked (Some config) = refl
 
   -- what an install leaves of the client's list, and what it answers, by what was read
-  install_case : (config : List ℕ) (body : ReplyBody) (read : Option CountConfig) → config_of config ≡ found read → Installs hub.clock uid id read hub.lives.items new.lives.items body
-      → AllStand uid (own uid frames ++ Install uid id config ∷ []) (filter (is_of uid) new.lives.items) (installed (length (own uid frames)) id (config_of config) (live (own uid frames)))
-      × (body ≡ install_answer (config_of config) (config_at id (live (own uid frames))))
+  install_case : (config : List ℕ) (body : ReplyBody) (read : Result CountConfig Refusal) → linked_of_bytes config ≡ asked read → Installs hub.clock uid id read hub.lives.items new.lives.items body
+      → AllStand uid (own uid frames ++ Install uid id config ∷ []) (filter (is_of uid) new.lives.items) (installed (length (own uid frames)) id (linked_of_bytes config) (live (own uid frames)))
+      × (body ≡ install_answer (linked_of_bytes config) (config_at id (live (own uid frames))))
       × ((n : ℤ) → int_eq uid n ≡ false → filter (is_of n) new.lives.items ≡ filter (is_of n) hub.lives.items)
-  install_case config body None is r =
+  install_case config body (Err refusal) is r =
       let mine = own uid frames in
       let still = all_idle uid mine (Install uid id config) (λ id linked. refl) (filter (is_of uid) hub.lives.items) (live mine) (live_placed mine) (h.configs uid) in (
         rw is (subst (λ lives. AllStand uid (mine ++ Install uid id config ∷ []) lives (live mine)) (sym (ap (filter (is_of uid)) r.0)) still),
         rw is r.1,
         λ n apart. ap (filter (is_of n)) r.0,
       )
-  install_case config body (Some count) is r =
+  install_case config body (Ok count) is r =
       let mine = own uid frames in
       let still = all_idle uid mine (Install uid id config) (λ id linked. refl) (filter (is_of uid) hub.lives.items) (live mine) (live_placed mine) (h.configs uid) in
       let held : Live = record { uid = uid; id = id; instance = fresh count hub.clock } in
@@ -333,7 +334,7 @@ module _ (hub new : Hub) (frames : List Frame) (uid id : ℤ) (same_clock : new.
         λ n apart. ap (filter (is_of n)) r.0 ∙ other_with n held apart hub.lives.items,
       )
 
-  pub serves_install : (config : List ℕ) (body : ReplyBody) (read : Option CountConfig) → config_of config ≡ found read → Installs hub.clock uid id read hub.lives.items new.lives.items body
+  pub serves_install : (config : List ℕ) (body : ReplyBody) (read : Result CountConfig Refusal) → linked_of_bytes config ≡ asked read → Installs hub.clock uid id read hub.lives.items new.lives.items body
       → Serves new frames (Install uid id config) (Some (record { uid = uid; id = id; body = body }))
   unfolding reply_to
   serves_install config body read is r =

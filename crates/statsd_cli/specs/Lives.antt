@@ -1,12 +1,12 @@
 -- The live configurations of all clients, as the hub holds them, and what a frame makes of them.
-use Rattle.std.specs.Prelude.{◌≡◌, ℕ, ℤ, Bool, not, ◌&&◌, List, [], ◌∷◌, filter, Option, Some, None, if◌then◌else◌}
+use Rattle.std.specs.Prelude.{◌≡◌, ℕ, ℤ, Bool, not, ◌&&◌, List, [], ◌∷◌, filter, Option, Some, None, Result, Ok, Err, if◌then◌else◌}
 use Rattle.std.specs.List.{list_any}
 use Rattle.std.specs.Ordering.{int_eq}
 use Rattle.atom_record.specs.declared.log.LogFrame.{LogFrame}
+use Rattle.session_frames.specs.declared.reply.Refusal.{Refusal}
 use Rattle.session_frames.specs.declared.reply.ReplyBody.{ReplyBody}
 use Rattle.session_frames.specs.declared.reply.ReplyBody.TheVariants as answers
 use Rattle.instance_meaning.specs.Spelling.{report_bytes}
-use Rattle.session_meaning.specs.Config.{other_form}
 use Rattle.statsd_cli.specs.declared.instance.CountConfig.{CountConfig}
 use Rattle.statsd_cli.specs.declared.hub.Live.{Live}
 use Rattle.statsd_cli.specs.Instance.{fresh, logged, reported, shown_by}
@@ -39,9 +39,9 @@ abbrev pub reported_live : Bool → ℕ → Live → Live
 reported_live include_current now live = record live { instance = reported include_current now live.instance }
 
 -- an install that read this, when the clock stood so: what it leaves of the old, and its answer
-abbrev pub Installs : ℕ → ℤ → ℤ → Option CountConfig → List Live → List Live → ReplyBody → Type 0
-Installs clock uid id None old new body = (new ≡ old) × (body ≡ answers.Refused other_form)
-Installs clock uid id (Some config) old new body =
+abbrev pub Installs : ℕ → ℤ → ℤ → Result CountConfig Refusal → List Live → List Live → ReplyBody → Type 0
+Installs clock uid id (Err refusal) old new body = (new ≡ old) × (body ≡ answers.Refused refusal)
+Installs clock uid id (Ok config) old new body =
     (new ≡ with_live (record { uid = uid; id = id; instance = fresh config clock }) old) × (body ≡ (if list_any (is_at uid id) old then answers.Replaced else answers.Installed))
 
 -- a remove: what it leaves of the old, and its answer

@@ -1,20 +1,31 @@
--- What is read of a configuration's bytes.
-use Rattle.std.specs.Prelude.{ℕ, length, ◌<◌, ◌^◌, Option, Some, None, Result, Ok, Err}
-use Rattle.proto_wire.specs.declared.field.Body.{Body}
-use Rattle.proto_wire.specs.Fields.{BodyOf, body_seen, inside_of}
+-- What is made of a configuration's bytes.
+use Rattle.std.specs.Prelude.{ℕ, length, ◌≤◌, Option, Some, None, Result, Ok, Err}
 use Rattle.session_frames.specs.declared.reply.Refusal.{Refusal}
+use Rattle.session_frames.specs.declared.reply.Refusal.TheVariants.{TooLarge, Wire, Unsupported, Link}
+use Rattle.session_frames.specs.declared.reply.ReplyBody.{ReplyBody}
+use Rattle.session_frames.specs.declared.reply.ReplyBody.TheVariants.{Refused}
 use Rattle.instance_meaning.specs.Linked.{Linked}
-use Rattle.session_meaning.specs.Config.{MatcherDef, CountDef, linked_of, other_form}
-use Rattle.statsd_cli.specs.declared.config.Matcher.{Matcher}
-use Rattle.statsd_cli.specs.declared.config.Count.{Count}
+use Rattle.session_meaning.specs.Config as meaning
+use Rattle.session_meaning.specs.Config.{linked_of, other_form}
+use Rattle.statsd_cli.specs.declared.config.AtomMatcher.{AtomMatcher}
+use Rattle.statsd_cli.specs.declared.config.CountMetric.{CountMetric}
 use Rattle.statsd_cli.specs.declared.instance.CountConfig.{CountConfig}
 
--- a configuration that was read, or that has another form
+-- what was asked for
+abbrev pub linked : CountConfig → Linked
+linked config = linked_of config.atom_id config.metric_id
+
+-- what was asked for, or why it was refused
+abbrev pub asked : Result CountConfig Refusal → Result Linked Refusal
+asked (Ok config) = Ok (linked config)
+asked (Err refusal) = Err refusal
+
+-- a configuration with the form that is understood, or with another
 abbrev pub found : Option CountConfig → Result Linked Refusal
-found (Some config) = Ok (linked_of config.atom_id config.metric_id)
+found (Some config) = Ok (linked config)
 found None = Err other_form
 
--- a part of a configuration that was read, as it is seen without where it lies in memory, or that has another form
+-- a part of a configuration with the form that is understood, or with another
 abbrev pub read_of : {X Y : Type 0} → (X → Y) → Option X → Result Y Refusal
 read_of view (Some part) = Ok (view part)
 read_of view None = Err other_form
@@ -23,22 +34,23 @@ read_of view None = Err other_form
 abbrev pub itself : ℕ → ℕ
 itself number = number
 
--- what two fields hold
-abbrev pub both_seen : Body × Body → BodyOf × BodyOf
-both_seen bodies = (body_seen bodies.0, body_seen bodies.1)
-
 -- a matcher, as its definition
-abbrev pub matcher_def : Matcher → MatcherDef
-matcher_def matcher = record { id = matcher.id; atom_id = matcher.atom_id }
+abbrev pub atom_matcher : AtomMatcher → meaning.AtomMatcher
+atom_matcher matcher = record { id = matcher.id; atom_id = matcher.atom_id }
 
 -- a metric, as its definition
-abbrev pub count_def : Count → CountDef
-count_def count = record { id = count.id; what = count.what }
+abbrev pub count_metric : CountMetric → meaning.CountMetric
+count_metric count = record { id = count.id; what = count.what }
 
--- the bytes in it are so few that places in them have 32 bits
-abbrev pub IsShort : BodyOf → Type 0
-IsShort body = length (inside_of body) < 2 ^ 32
+-- A path in it is no longer than messages are deep: a hundred numbers lead to the innermost message, and one more to a
+-- field of it.
+abbrev pub IsShallow : Refusal → Type 0
+IsShallow (Unsupported path) = length path ≤ 101
+IsShallow (TooLarge size) = Unit {0}
+IsShallow (Wire cause offset) = Unit {0}
+IsShallow (Link number reason value) = Unit {0}
 
--- in each of the two
-abbrev pub AreShort : BodyOf × BodyOf → Type 0
-AreShort bodies = IsShort bodies.0 × IsShort bodies.1
+-- a refusal that is answered is so
+abbrev pub HasShallowPath : ReplyBody → Type 0
+HasShallowPath (Refused refusal) = IsShallow refusal
+HasShallowPath _ = Unit {0}

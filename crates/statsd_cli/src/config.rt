@@ -1,152 +1,147 @@
-//! Configurations, read from their bytes.
-ghost use Rattle.std.specs.Prelude.{◌≡◌, ◌<◌, ◌≤◌, ◌^◌, length, None, Some, IfSome};
-ghost use Rattle.proto_wire.specs.Fields.{body_seen, inside_of};
-ghost use Rattle.proto_wire.specs.Reading.{fields_of};
+//! Configurations: what their bytes ask for.
+ghost use Rattle.std.specs.Prelude.{◌≡◌, IfOk, IfErr};
 ghost use Rattle.session_meaning.specs.Config as meaning;
-ghost use Rattle.session_meaning.specs.Config.{number_in, message_in, one_of, two_of, atom_id_of, matcher_of, count_of, config_of};
-ghost use Rattle.statsd_cli.specs.Reading.{read_of, itself, both_seen, matcher_def, count_def, IsShort, AreShort, found};
+ghost use Rattle.session_meaning.specs.Config.{linked_of_bytes, atom_id_in, simple_built, body_built, matcher_built, is_unconditional, is_unsliced, count_built, has_only_counts};
+ghost use Rattle.statsd_cli.specs.Reading.{found, asked, read_of, itself, atom_matcher, count_metric, IsShallow};
 
 use crate::instance::CountConfig;
-use proto_wire::{Body, Records};
-
-/// The most bytes of a configuration.
-const MOST_CONFIG: usize = 262_144;
+use config_decode::{DecodeFault, decode};
+use config_types::{Common, Config, CountDef, MatcherBody, MatcherDef, SimpleMatcher, Sliced};
+use sd_base::Seq;
+use session_frames::Refusal;
+use std::alloc::{AllocError, Global};
 
 /// A matcher of an atom's id.
 #[derive(Clone, Copy)]
-struct Matcher {
-    /// The matcher's own id, as 64 bits.
-    id: u64,
+struct AtomMatcher {
+    /// The matcher's own id.
+    id: i64,
     /// The id of the atoms for which it holds.
     atom_id: u32,
 }
 
-/// A count metric. Ids are of 64 bits, with no sign.
+/// A count metric.
 #[derive(Clone, Copy)]
-struct Count {
-    id: u64,
+struct CountMetric {
+    id: i64,
     /// The id of the matcher of what it counts.
-    what: u64,
+    what: i64,
 }
 
-/// What a configuration asks for, or none where it has another form than the one that is understood: one matcher of an
-/// atom's id, and then one metric that counts what it matches.
-#[tactic(auto, unfolding(session_meaning::specs::Config::config_of))]
-pub fn read_config(bytes: &[u8]) -> Option<CountConfig>
-    ensures { config_of bytes.now ≡ found result }
+/// What the bytes of a configuration ask for, or why they are refused: they have a fault, or another form than the one
+/// that is understood, which is one matcher of an atom's id and one metric that counts what it matches.
+#[tactic(auto, unfolding(session_meaning::specs::Config::linked_of_bytes, config_decode::specs::Config::config_of))]
+pub fn read_config(alloc: Global, bytes: &[u8]) -> Result<Result<CountConfig, Refusal>, AllocError>
+    ensures read { IfOk result (λ read. linked_of_bytes bytes.now ≡ asked read) }
+    ensures path { IfOk result (λ read. IfErr read IsShallow) }
 {
-    if bytes.len() > MOST_CONFIG {
+    if bytes.len() > u32::MAX as usize {
+        return Ok(Err(Refusal::TooLarge(u32::MAX)));
+    }
+    match decode(alloc, bytes) {
+        Ok(config) => match built(&config) {
+            Some(config) => Ok(Ok(config)),
+            None => Ok(Err(Refusal::Unsupported(Seq::new(alloc)))),
+        },
+        Err(DecodeFault::TooLarge(size)) => Ok(Err(Refusal::TooLarge(size))),
+        Err(DecodeFault::Wire(fault)) => Ok(Err(Refusal::Wire {
+            cause: fault.cause,
+            offset: fault.offset,
+        })),
+        Err(DecodeFault::Unsupported(path)) => Ok(Err(Refusal::Unsupported(path))),
+        Err(DecodeFault::Memory) => Err(AllocError),
+    }
+}
+
+/// The parts of a configuration, if it has the form that is understood.
+fn built(config: &Config) -> Option<CountConfig>
+    ensures { meaning.built config.now ≡ found result }
+{
+    if !has_only_counts(config) {
         return None;
     }
-    let (matcher, count) = two_fields(bytes, 7, 3)?;
-    let matcher = message(matcher)?;
-    let count = message(count)?;
-    let matcher = read_matcher(matcher)?;
-    let count = read_count(count)?;
+    let ([matcher], [count]) = (config.matchers.as_slice(), config.counts.as_slice()) else {
+        return None;
+    };
+    let matcher = built_matcher(matcher)?;
+    let count = built_count(count)?;
     joined(matcher, count)
 }
 
+/// There is nothing but matchers and metrics that count.
+fn has_only_counts(config: &Config) -> bool
+    ensures { result ≡ has_only_counts config.now }
+{
+    config.predicates.is_empty()
+        && config.states.is_empty()
+        && config.events.is_empty()
+        && config.values.is_empty()
+        && config.gauges.is_empty()
+        && config.durations.is_empty()
+        && config.no_report.is_empty()
+}
+
 /// The configuration, if the metric counts what the matcher matches.
-fn joined(matcher: Matcher, count: Count) -> Option<CountConfig>
-    ensures { meaning.joined (matcher_def matcher) (count_def count) ≡ found result }
+fn joined(matcher: AtomMatcher, count: CountMetric) -> Option<CountConfig>
+    ensures { meaning.joined (atom_matcher matcher) (count_metric count) ≡ found result }
 {
     if count.what != matcher.id {
         return None;
     }
     Some(CountConfig {
         atom_id: matcher.atom_id,
-        metric_id: count.id.cast_signed(),
+        metric_id: count.id,
     })
 }
 
-/// A matcher: its id, and the simple matcher that it is.
-#[tactic(auto, unfolding(session_meaning::specs::Config::matcher_of))]
-fn read_matcher(bytes: &[u8]) -> Option<Matcher>
-    requires { length bytes.now < 2 ^ 32 }
-    ensures { matcher_of bytes.now ≡ read_of matcher_def result }
+/// A matcher, if it is one of an atom's id.
+fn built_matcher(matcher: &MatcherDef) -> Option<AtomMatcher>
+    ensures { matcher_built matcher.now ≡ read_of atom_matcher result }
 {
-    let (id, simple) = two_fields(bytes, 1, 2)?;
-    let id = number(id)?;
-    let simple = message(simple)?;
-    let atom_id = read_atom_id(simple)?;
-    Some(Matcher { id, atom_id })
+    let id = matcher.id?;
+    let atom_id = match &matcher.body {
+        Some(MatcherBody::Simple(simple)) => built_simple(simple)?,
+        Some(MatcherBody::Combo(_)) | None => return None,
+    };
+    Some(AtomMatcher { id, atom_id })
 }
 
 /// The atom's id of a simple matcher without tests, from 1 to 2^31 - 1.
-#[tactic(auto, unfolding(session_meaning::specs::Config::atom_id_of))]
-fn read_atom_id(bytes: &[u8]) -> Option<u32>
-    requires { length bytes.now < 2 ^ 32 }
-    ensures { atom_id_of bytes.now ≡ read_of itself result }
+fn built_simple(simple: &SimpleMatcher) -> Option<u32>
+    ensures { simple_built simple.now ≡ read_of itself result }
 {
-    let atom_id = number(one_field(bytes, 1)?)?;
-    if atom_id == 0 || atom_id >= 1 << 31 {
-        return None;
-    }
-    Some(atom_id as u32)
-}
-
-/// A count metric with nothing but its id and what it counts.
-#[tactic(auto, unfolding(session_meaning::specs::Config::count_of))]
-fn read_count(bytes: &[u8]) -> Option<Count>
-    requires { length bytes.now < 2 ^ 32 }
-    ensures { count_of bytes.now ≡ read_of count_def result }
-{
-    let (id, what) = two_fields(bytes, 1, 2)?;
-    let id = number(id)?;
-    let what = number(what)?;
-    Some(Count { id, what })
-}
-
-/// The number that a field holds.
-fn number(body: Body<'_>) -> Option<u64>
-    ensures { number_in (body_seen body.entry) ≡ read_of itself result }
-{
-    match body {
-        Body::Varint(number) => Some(number),
+    match simple.atom_id {
+        Some(atom_id) if atom_id > 0 && simple.tests.is_empty() => Some(atom_id.unsigned_abs()),
         _ => None,
     }
 }
 
-/// The message that a field holds: its bytes, which are no more than stand in the field.
-fn message<'a>(body: Body<'a>) -> Option<&'a [u8]>
-    ensures message { message_in (body_seen body.entry) ≡ read_of (λ bytes. bytes.now) result }
-    ensures short { IfSome result (λ bytes. length bytes.now ≤ length (inside_of (body_seen body.entry))) }
+/// A count metric, if nothing but its id and what it counts is set.
+fn built_count(count: &CountDef) -> Option<CountMetric>
+    ensures { count_built count.now ≡ read_of count_metric result }
 {
-    match body {
-        Body::Bytes(bytes) => Some(bytes),
-        _ => None,
+    if !is_unconditional(&count.common) || !is_unsliced(&count.sliced) {
+        return None;
     }
+    let id = count.common.id?;
+    let what = count.common.what?;
+    Some(CountMetric { id, what })
 }
 
-/// What the one field of a message holds, if it has this number.
-fn one_field(bytes: &[u8], number: u32) -> Option<Body<'_>>
-    requires { length bytes.now < 2 ^ 32 }
-    ensures body { one_of number (fields_of bytes.now) ≡ read_of body_seen result }
-    ensures short { IfSome result (λ body. IsShort (body_seen body)) }
+/// It has no condition.
+fn is_unconditional(common: &Common) -> bool
+    ensures { result ≡ is_unconditional common.now }
 {
-    let mut fields = Records::new(bytes, 0, 0);
-    let (Ok(Some(field)), Ok(None)) = (fields.next(), fields.next()) else {
-        return None;
-    };
-    if field.number != number {
-        return None;
-    }
-    Some(field.body)
+    common.condition.is_none() && common.links.is_empty()
 }
 
-/// What the two fields of a message hold, if they have these numbers, in this order.
-fn two_fields(bytes: &[u8], first: u32, second: u32) -> Option<(Body<'_>, Body<'_>)>
-    requires { length bytes.now < 2 ^ 32 }
-    ensures bodies { two_of first second (fields_of bytes.now) ≡ read_of both_seen result }
-    ensures short { IfSome result (λ bodies. AreShort (both_seen bodies)) }
+/// It has no key, and says nothing of its buckets.
+fn is_unsliced(sliced: &Sliced) -> bool
+    ensures { result ≡ is_unsliced sliced.now }
 {
-    let mut fields = Records::new(bytes, 0, 0);
-    let (Ok(Some(one)), Ok(Some(two)), Ok(None)) = (fields.next(), fields.next(), fields.next())
-    else {
-        return None;
-    };
-    if one.number != first || two.number != second {
-        return None;
-    }
-    Some((one.body, two.body))
+    sliced.dims.is_none()
+        && sliced.bucket.is_none()
+        && sliced.bound.is_none()
+        && sliced.slices.is_empty()
+        && sliced.state_links.is_empty()
 }

@@ -1,11 +1,11 @@
 //! The hub: all live configurations of all clients, one frame at a time.
-ghost use Rattle.std.specs.Prelude.{◌≡◌, ℕ, List, [], ◌++◌, ◌∷◌, map, filter, not, find, if◌then◌else◌, OnOk, IfOk, IfSome};
+ghost use Rattle.std.specs.Prelude.{◌≡◌, ℕ, List, [], ◌++◌, ◌∷◌, map, filter, not, find, if◌then◌else◌, OnOk, IfOk, IfErr, IfSome};
 ghost use Rattle.std.specs.List.{position_from, list_any};
 ghost use Rattle.session_frames.specs.declared.frame.Frame.{Frame};
 ghost use Rattle.session_frames.specs.Frames.{log_time, IsFaultless, IsInTime};
-ghost use Rattle.session_frames.specs.Replies.{HasShortPath};
 ghost use Rattle.session_meaning.specs.Log.{clock_of};
 ghost use Rattle.session_meaning.specs.Answers.{reply_to};
+ghost use Rattle.statsd_cli.specs.Reading.{IsShallow, HasShallowPath};
 ghost use Rattle.statsd_cli.specs.Lives.{is_at, with_live, logged_live, Installs, Removes, Reports};
 ghost use Rattle.statsd_cli.specs.Hub.{HubStandsFor};
 
@@ -13,7 +13,6 @@ use crate::config::read_config;
 use crate::instance::{CountConfig, Instance};
 use crate::report::report_bytes;
 use atom_record::LogFrame;
-use sd_base::Seq;
 use session_frames::{Frame, Refusal, Reply, ReplyBody};
 use std::alloc::{AllocError, Global};
 
@@ -51,7 +50,9 @@ impl Hub {
         // The answer is what the frames so far mean, whatever they are, and the hub stands for them with this one.
         ensures serves { (frames : List Frame) → HubStandsFor self frames → IsFaultless frame → IsInTime (clock_of frames) frame
             → IfOk result (λ r. HubStandsFor r.0 (frames ++ frame ∷ []) × (r.1 ≡ reply_to frames frame)) }
-        ensures path { IfOk result (λ r. IfSome r.1 (λ reply. HasShortPath reply.body)) }
+
+        // A path in the answer has at most 101 numbers, whatever the hub.
+        ensures path { IfOk result (λ r. IfSome r.1 (λ reply. HasShallowPath reply.body)) }
     {
         match frame {
             Frame::Log(frame) => {
@@ -59,7 +60,7 @@ impl Hub {
                 Ok((self, None))
             }
             Frame::Install { uid, id, config } => {
-                let read = read_config(config.as_slice());
+                let read = read_config(self.alloc, config.as_slice())?;
                 let body = self.install(uid, id, read)?;
                 Ok((self, Some(Reply { uid, id, body })))
             }
@@ -92,14 +93,16 @@ impl Hub {
         &mut self,
         uid: i32,
         id: i64,
-        read: Option<CountConfig>,
+        read: Result<CountConfig, Refusal>,
     ) -> Result<ReplyBody, AllocError>
+        requires shallow { IfErr read IsShallow }
         ensures clock { OnOk result (self.new.clock ≡ self.old.clock) }
         ensures lives { IfOk result (Installs self.old.clock uid id read self.old.lives.items self.new.lives.items) }
-        ensures path { IfOk result HasShortPath }
+        ensures path { IfOk result HasShallowPath }
     {
-        let Some(config) = read else {
-            return Ok(ReplyBody::Refused(Refusal::Unsupported(Seq::new(self.alloc))));
+        let config = match read {
+            Ok(config) => config,
+            Err(refusal) => return Ok(ReplyBody::Refused(refusal)),
         };
         let instance = Instance::new(config, self.clock);
         let replaced = put(&mut self.lives, Live { uid, id, instance })?;
@@ -110,7 +113,7 @@ impl Hub {
     fn remove(&mut self, uid: i32, id: i64) -> ReplyBody
         ensures clock { self.new.clock ≡ self.old.clock }
         ensures lives { Removes uid id self.old.lives.items self.new.lives.items result }
-        ensures path { HasShortPath result }
+        ensures path { HasShallowPath result }
     {
         let there = place_of(&self.lives, uid, id).is_some();
         take_out(&mut self.lives, uid, id);
@@ -121,7 +124,7 @@ impl Hub {
     fn report(&mut self, uid: i32, id: i64, include_current: bool) -> Result<ReplyBody, AllocError>
         ensures clock { OnOk result (self.new.clock ≡ self.old.clock) }
         ensures lives { IfOk result (Reports self.old.clock uid id include_current (find (is_at uid id) self.old.lives.items) self.old.lives.items self.new.lives.items) }
-        ensures path { IfOk result HasShortPath }
+        ensures path { IfOk result HasShallowPath }
     {
         let Some(at) = place_of(&self.lives, uid, id) else {
             return Ok(ReplyBody::NoConfig);
@@ -194,7 +197,7 @@ fn put(lives: &mut Vec<Live>, new: Live) -> Result<bool, AllocError>
 /// The answer to an install that wasn't refused.
 fn install_answer(replaced: bool) -> ReplyBody
     ensures answer { result ≡ (if replaced then ReplyBody.Replaced else ReplyBody.Installed) }
-    ensures path { HasShortPath result }
+    ensures path { HasShallowPath result }
 {
     if replaced {
         ReplyBody::Replaced
@@ -206,7 +209,7 @@ fn install_answer(replaced: bool) -> ReplyBody
 /// The answer to a remove.
 fn remove_answer(there: bool) -> ReplyBody
     ensures answer { result ≡ (if there then ReplyBody.Removed else ReplyBody.NoConfig) }
-    ensures path { HasShortPath result }
+    ensures path { HasShallowPath result }
 {
     if there {
         ReplyBody::Removed

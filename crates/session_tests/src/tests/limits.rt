@@ -1,5 +1,5 @@
-//! The longest payload of an atom, and the most atoms of a recorded pull.
-use super::parts::{NO_CONFIG, REPORT};
+//! The longest payload of an atom, the most atoms of a recorded pull, and the deepest group of a configuration.
+use super::parts::{INSTALLED, NO_CONFIG, REPORT};
 use super::run::assert_replay;
 use std::alloc::{AllocError, Global};
 use std::test::Fail;
@@ -67,6 +67,67 @@ fn takes_a_pull_of_200_atoms(rt: HostRuntime) -> Result<(), Fail> {
         }
         let session = [pull.as_slice(), REPORT];
         assert_replay(&rt, note, &session, status, replies, note)?;
+    }
+    Ok(())
+}
+
+/// A frame that ends with so many groups inside one another. Their number is 1000, which no field has.
+fn with_groups(alloc: Global, front: &[u8], groups: usize) -> Result<Vec<u8>, AllocError> {
+    let mut frame = front.to_vec(alloc)?;
+    for _ in 0..groups {
+        frame.extend_from_slice(b"\xc3\x3e".as_slice())?;
+    }
+    for _ in 0..groups {
+        frame.extend_from_slice(b"\xc4\x3e".as_slice())?;
+    }
+    Ok(frame)
+}
+
+#[test]
+fn takes_a_group_of_depth_100(rt: HostRuntime) -> Result<(), Fail> {
+    let alloc = rt.alloc();
+    for (name, front, groups, reply) in [
+        (
+            "100 groups behind a configuration",
+            b"\xab\x01\0\0\x10\x0a\0\0\0\x07\0\0\0\0\0\0\0\x3a\x06\x08\x01\x12\x02\x08\x05\x1a\x04\x08\
+                \x64\x10\x01"
+                .as_slice(),
+            100,
+            INSTALLED,
+        ),
+        (
+            "101 groups, of which the last begins at 200",
+            b"\xa1\x01\0\0\x10\x0a\0\0\0\x07\0\0\0\0\0\0\0",
+            101,
+            b"\x13\0\0\0\0\0\0\0\x03\x0a\0\0\0\x07\0\0\0\0\0\0\0\x02\x06\xc8\0\0\0",
+        ),
+    ] {
+        let install = with_groups(alloc, front, groups)?;
+        assert_replay(&rt, name, &[install.as_slice()], 0, &[reply], "")?;
+    }
+    Ok(())
+}
+
+#[test]
+fn takes_a_configuration_of_262144_bytes(rt: HostRuntime) -> Result<(), Fail> {
+    let alloc = rt.alloc();
+    // Zeros are a record of the number 0, wherever they begin; too many of them aren't read.
+    for (name, front, zeros, reply) in [
+        (
+            "262144 zeros",
+            b"\x0d\0\x04\0\x10\x0a\0\0\0\x07\0\0\0\0\0\0\0".as_slice(),
+            262_144,
+            b"\x13\0\0\0\0\0\0\0\x03\x0a\0\0\0\x07\0\0\0\0\0\0\0\x02\x04\0\0\0\0".as_slice(),
+        ),
+        (
+            "a zero more",
+            b"\x0e\0\x04\0\x10\x0a\0\0\0\x07\0\0\0\0\0\0\0",
+            262_145,
+            b"\x12\0\0\0\0\0\0\0\x03\x0a\0\0\0\x07\0\0\0\0\0\0\0\x01\x01\0\x04\0",
+        ),
+    ] {
+        let install = with_zeros(alloc, front, zeros)?;
+        assert_replay(&rt, name, &[install.as_slice()], 0, &[reply], "")?;
     }
     Ok(())
 }

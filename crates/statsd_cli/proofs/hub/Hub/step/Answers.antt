@@ -3,8 +3,8 @@ use Rattle.std.proofs.Common.{◌≡◌, None, SFits, w32, w64, rules, subst, ap
 use Rattle.std.proofs.lemmas.Int.{to_z-of_z}
 use Rattle.session_frames.specs.declared.frame.Frame.TheVariants.{Log}
 use Rattle.session_frames.specs.Frames.{IsFaultless}
-use Rattle.session_meaning.specs.Config.{config_of}
-use Rattle.statsd_cli.specs.Reading.{found}
+use Rattle.session_meaning.specs.Config.{linked_of_bytes}
+use Rattle.statsd_cli.specs.Reading.{asked}
 use Rattle.statsd_cli.proofs.HubLemmas.{stands_log, no_reply, serves_as, serves_install, serves_remove, serves_report}
 use Rattle.statsd_cli.proofs.hub.Hub.step.Goals as goal
 
@@ -20,10 +20,10 @@ returns-in_ok-body-in-Install-clause-serves c =
     let uid_fits : SFits w32 c.in-Install.uid = search rules in
     let id_fits : SFits w64 c.in-Install.id = search rules in
     let installs = simp to_z-of_z at c.in_ok-body-in-Install.ensures.lives in
-    let read : config_of c.in-Install.config ≡ found c.read_config-read.result = ap config_of (sym c.as_slice.ensures) ∙ c.read_config-read.ensures in
+    let read : linked_of_bytes c.in-Install.config ≡ asked c.in_ok-read-in-Install.read = ap linked_of_bytes (sym c.as_slice.ensures) ∙ c.in_ok-read-in-Install.ensures.read in
     simp to_z-of_z (λ frames h fine in_time.
     serves_as c.install.new.self frames c.args.frame _ _ c.in-Install.is
-    (serves_install c.args.self c.install.new.self frames c.in-Install.uid c.in-Install.id c.in_ok-body-in-Install.ensures.clock h c.in-Install.config c.in_ok-body-in-Install.body c.read_config-read.result read installs))
+    (serves_install c.args.self c.install.new.self frames c.in-Install.uid c.in-Install.id c.in_ok-body-in-Install.ensures.clock h c.in-Install.config c.in_ok-body-in-Install.body c.in_ok-read-in-Install.read read installs))
 
 pub returns-in-Remove-clause-serves : goal.returns-in-Remove-clause-serves
 returns-in-Remove-clause-serves c =
