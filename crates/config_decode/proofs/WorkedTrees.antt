@@ -1,23 +1,16 @@
 -- Worked trees, by computing.
-use Rattle.std.proofs.Common.{◌≡◌, ℕ, pos, negsuc, List, [], ◌∷◌, Some, None, Ok, Err, true, false, refl}
-use Rattle.proto_wire.specs.Fields.{FieldOf}
+use Rattle.std.proofs.Common.{◌≡◌, pos, negsuc, [], ◌∷◌, Some, None, Ok, Err, refl}
 use Rattle.proto_wire.specs.Reading.{inside_at, walk_from, walk_in, field_at, field_with, head_at, head_of, varint_at, taken_at}
 use Rattle.config_types.specs.declared.config.Config.{Config}
 use Rattle.config_types.specs.declared.fields.FieldMatcher.TheViews.{roll-FieldMatcher}
 use Rattle.config_types.specs.declared.fields.Position.TheVariants.{First}
-use Rattle.config_types.specs.declared.matcher.Combo.{Combo}
-use Rattle.config_types.specs.declared.matcher.FieldTest.{FieldTest}
 use Rattle.config_types.specs.declared.matcher.MatcherBody.TheVariants as matcher
-use Rattle.config_types.specs.declared.matcher.MatcherDef.{MatcherDef}
 use Rattle.config_types.specs.declared.matcher.Operation.TheVariants.{Or}
-use Rattle.config_types.specs.declared.matcher.Test.TheVariants.{EqInt, LtInt}
-use Rattle.config_types.specs.declared.metric.Common.{Common}
-use Rattle.config_types.specs.declared.metric.Sliced.{Sliced}
-use Rattle.config_types.specs.declared.metric.CountDef.{CountDef}
+use Rattle.config_types.specs.declared.matcher.Test.TheVariants.{LtInt}
 use Rattle.config_decode.specs.declared.fault.DecodeFault.TheVariants.{Wire, Unsupported}
 use Rattle.config_decode.specs.Walk as whole
 use Rattle.config_decode.specs.Walk.{packed_at, packed_in, walk_of}
-use Rattle.config_decode.specs.Values.{records_of, chosen, longs}
+use Rattle.config_decode.specs.Values.{records_of, chosen}
 use Rattle.config_decode.specs.Profile.{position_of}
 use Rattle.config_decode.specs.Tree.{matcher_of, field_matcher_of, field_matcher_in, field_test_of, field_test_in}
 use Rattle.config_decode.specs.Config.{config_of}
