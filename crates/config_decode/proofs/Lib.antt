@@ -1,4 +1,6 @@
 mod Worked
+pub mod GroupLemmas
+pub mod JoinLemmas
 pub mod Levels
 pub mod PackedLemmas
 pub mod RunLemmas

@@ -6,3 +6,4 @@ pub mod Metrics
 pub mod Config
 pub mod Short
 pub mod Walks
+pub mod Laws

@@ -4,6 +4,7 @@
 mod fault;
 mod field_matcher;
 mod field_test;
+mod laws;
 mod listed;
 mod matcher;
 mod message;
@@ -16,6 +17,7 @@ mod walk;
 mod whole;
 
 pub use fault::{DecodeFault, Path};
+pub use laws::payloads_are_read_as_one;
 pub use whole::{MOST_BYTES, decode};
 
 #[cfg(test)]
