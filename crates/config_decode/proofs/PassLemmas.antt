@@ -112,7 +112,8 @@ module _ (above : List ℕ) (kind : Kind) (depth : ℕ) (field : FieldOf) where
       record { whole = (records_pass path inner_kind (payload_of payload) passed).whole; passed = passed }
 
 -- the payloads of a field that holds messages have no fault by themselves
-module _ (above : List ℕ) (kind : Kind) (depth number : ℕ) (inner : Kind) (shape : shape_of kind number ≡ Message inner) where
+module _ (above : List ℕ) (kind : Kind) (depth number : ℕ) (inner : Kind)
+    (shape : shape_of kind number ≡ Message inner) where
   -- what one record adds
   body_whole : (field : FieldOf) → PassesRecord above kind depth field → field.number ≡ number
       → (body : BodyOf) → field.body ≡ body → All HasNoFault (bytes_in body)
@@ -149,11 +150,14 @@ passed_is_whole above kind rest none =
     let inside : All (PassesRecord above kind rest.depth) (walk_from rest).fields =
     All-weaker (λ field. IsPassed (record_walked (inner_walk (100 - rest.depth)) kind above rest.depth field))
     (PassesRecord above kind rest.depth) (record_passes above kind rest.depth) (walk_from rest).fields records.each in
+    let alone : (number : ℕ) (inner : Kind) → shape_of kind number ≡ Message inner
+    → All HasNoFault (payloads number (walk_from rest).fields) =
+    λ number inner shape. payloads_whole above kind rest.depth number inner shape (walk_from rest).fields inside in
     record {
       whole = records.whole;
       inside = inside;
-      as_one = λ number inner shape. read_as_one (payloads number (walk_from rest).fields)
-          (payloads_whole above kind rest.depth number inner shape (walk_from rest).fields inside);
+      alone = alone;
+      as_one = λ number inner shape. read_as_one (payloads number (walk_from rest).fields) (alone number inner shape);
     }
 
 pub top_is_passed : TheTopIsPassed

@@ -67,11 +67,13 @@ PassesRecord above kind depth field = (inner : Kind) (payload : List ℕ)
     → shape_of kind field.number ≡ Message inner → field.body ≡ Bytes payload
     → PassesInside above depth field inner payload
 
--- A message has no fault, and neither has any listed message inside it. So the payloads of each field that holds
--- messages are read as one.
+-- A message has no fault, and neither has any listed message inside it. So the payloads of each of its fields that
+-- hold messages have no fault by themselves, and are read as one.
 pub record IsWhole (above : List ℕ) (kind : Kind) (rest : Rest) : Type 0 where
   pub whole : (walk_from rest).fault ≡ None
   pub inside : All (PassesRecord above kind rest.depth) (walk_from rest).fields
+  pub alone : (number : ℕ) (inner : Kind) → shape_of kind number ≡ Message inner
+      → All HasNoFault (payloads number (walk_from rest).fields)
   pub as_one : (number : ℕ) (inner : Kind) → shape_of kind number ≡ Message inner
       → AreReadAsOne (payloads number (walk_from rest).fields)
 
