@@ -1,10 +1,16 @@
 -- What holds of the records of any bytes. The payloads of messages, joined and read as one, say what each says by
--- itself; and a message says the same wherever it stands.
-use Rattle.std.specs.Prelude.{◌≡◌, ℕ, List, map, None, All}
+-- itself; and a message says the same wherever it stands. Where the walk of a configuration passes a message, that
+-- message and those inside it have no fault.
+use Rattle.std.specs.Prelude.{◌≡◌, ℕ, ◌+◌, ◌-◌, List, [], ◌∷◌, ◌++◌, map, None, All}
 use Rattle.std.specs.List.{concat}
-use Rattle.proto_wire.specs.Fields.{BodyOf, FieldOf}
+use Rattle.proto_wire.specs.Fields.{BodyOf, Bytes, FieldOf, Rest}
 use Rattle.proto_wire.specs.Reading.{Walk, walk_from}
-use Rattle.config_decode.specs.Values.{records_of, joined}
+use Rattle.config_decode.specs.declared.profile.Kind.{Kind}
+use Rattle.config_decode.specs.declared.profile.Kind.TheVariants.{Config}
+use Rattle.config_decode.specs.declared.profile.Shape.TheVariants.{Message}
+use Rattle.config_decode.specs.Profile.{shape_of}
+use Rattle.config_decode.specs.Walk.{walk_in, walk_of}
+use Rattle.config_decode.specs.Values.{records_of, joined, payloads}
 
 -- what a record says, but not where it stands: its number, and what it holds
 abbrev pub content : FieldOf → ℕ × BodyOf
@@ -42,3 +48,40 @@ pub record SaysTheSame (at depth : ℕ) (bytes : List ℕ) : Type 0 where
 -- it is so for any bytes that have no fault at that place and so deep
 abbrev pub MessagesSayTheSameAnywhere : Type 0
 MessagesSayTheSameAnywhere = (bytes : List ℕ) (at depth : ℕ) → HasNoFaultAt at depth bytes → SaysTheSame at depth bytes
+
+-- The walk goes without a fault through this message, to which these numbers lead. It may go as many levels further as
+-- the message's depth leaves of a hundred.
+abbrev pub Passes : List ℕ → Kind → Rest → Type 0
+Passes above kind rest = (walk_in (100 - rest.depth) above kind rest).fault ≡ None
+
+-- The payload of a record of a message so deep, as a message of such a kind: read where it stands, it has no fault, and
+-- the walk goes through it without one.
+pub record PassesInside (above : List ℕ) (depth : ℕ) (field : FieldOf) (inner : Kind) (payload : List ℕ) : Type 0 where
+  pub whole : HasNoFaultAt field.payload_at (depth + 1) payload
+  pub passed : Passes (above ++ field.number ∷ []) inner
+      (record { bytes = payload; at = field.payload_at; depth = depth + 1 })
+
+-- if the profile lists a message for this record of such a message, it is so for the record's payload
+abbrev pub PassesRecord : List ℕ → Kind → ℕ → FieldOf → Type 0
+PassesRecord above kind depth field = (inner : Kind) (payload : List ℕ)
+    → shape_of kind field.number ≡ Message inner → field.body ≡ Bytes payload
+    → PassesInside above depth field inner payload
+
+-- A message has no fault, and neither has any listed message inside it. So the payloads of each of its fields that
+-- hold messages have no fault by themselves, and are read as one.
+pub record IsWhole (above : List ℕ) (kind : Kind) (rest : Rest) : Type 0 where
+  pub whole : (walk_from rest).fault ≡ None
+  pub inside : All (PassesRecord above kind rest.depth) (walk_from rest).fields
+  pub alone : (number : ℕ) (inner : Kind) → shape_of kind number ≡ Message inner
+      → All HasNoFault (payloads number (walk_from rest).fields)
+  pub as_one : (number : ℕ) (inner : Kind) → shape_of kind number ≡ Message inner
+      → AreReadAsOne (payloads number (walk_from rest).fields)
+
+-- it is so for any message that the walk passes
+abbrev pub PassedMessagesAreWhole : Type 0
+PassedMessagesAreWhole = (above : List ℕ) (kind : Kind) (rest : Rest) → Passes above kind rest → IsWhole above kind rest
+
+-- where the walk of a configuration has no fault, it passes the message at the top
+abbrev pub TheTopIsPassed : Type 0
+TheTopIsPassed = (bytes : List ℕ) → (walk_of bytes).fault ≡ None
+    → Passes [] Config (record { bytes = bytes; at = 0; depth = 0 })
