@@ -19,6 +19,3 @@ mod whole;
 pub use fault::{DecodeFault, Path};
 pub use laws::{payloads_are_read_as_one, the_walk_passes_whole_messages};
 pub use whole::{MOST_BYTES, decode};
-
-#[cfg(test)]
-mod tests;

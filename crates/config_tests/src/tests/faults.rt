@@ -2,7 +2,7 @@
 ghost use Rattle.std.specs.Prelude.{◌≤◌, ◌<◌, ◌^◌, length};
 
 use super::trees::nothing;
-use crate::{DecodeFault, decode};
+use config_decode::{DecodeFault, decode};
 use proto_wire::{CUT, LONG_VARINT, TOO_DEEP, UNKNOWN_WIRE_TYPE, WireFault, Writer, ZERO_NUMBER};
 use std::alloc::{AllocError, Global};
 use std::test::*;

@@ -3,7 +3,7 @@ use super::samples::{
     ONE_COUNT, ORDINARY_USE, ORDINARY_USE_BY_HAND, PACKED, SPARSE_WITH_LINKS, STATES_BY_HAND,
     STATES_IN_GROUPS, TESTS_OF_FIELDS, UNPACKED, VALUES_AND_GAUGES,
 };
-use crate::decode;
+use config_decode::decode;
 use config_types::*;
 use sd_base::Seq;
 use std::alloc::{AllocError, Global};

@@ -1,6 +1,6 @@
 //! How records of one number come together.
 use super::trees::{equals, list, nothing, simple};
-use crate::decode;
+use config_decode::decode;
 use config_types::*;
 use sd_base::Seq;
 use std::alloc::{AllocError, Global};

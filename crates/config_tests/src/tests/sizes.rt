@@ -2,7 +2,7 @@
 ghost use Rattle.std.specs.Prelude.{◌≤◌, ◌<◌, ◌^◌};
 
 use super::trees::nothing;
-use crate::{DecodeFault, MOST_BYTES, decode};
+use config_decode::{DecodeFault, MOST_BYTES, decode};
 use proto_wire::Writer;
 use std::alloc::{AllocError, Global};
 use std::test::*;

@@ -1,0 +1,5 @@
+//! Configurations by their bytes, and the trees that they mean. There is nothing here but tests.
+#![tactic(auto)]
+
+#[cfg(test)]
+mod tests;
