@@ -1,8 +1,9 @@
 //! The most bytes of a configuration, and shapes that ask for much work.
-ghost use Rattle.std.specs.Prelude.{◌≤◌, ◌<◌, ◌^◌};
+ghost use Rattle.std.specs.Prelude.{◌≤◌, ◌<◌, ◌^◌, length};
 
-use super::trees::nothing;
+use super::trees::{nothing, reads_as};
 use config_decode::{DecodeFault, MOST_BYTES, decode};
+use config_types::Config;
 use proto_wire::Writer;
 use std::alloc::{AllocError, Global};
 use std::test::*;
@@ -16,19 +17,55 @@ fn repeated(alloc: Global, piece: &[u8], times: usize) -> Result<Vec<u8>, AllocE
     Ok(bytes)
 }
 
+fn is_too_large(alloc: Global, bytes: &[u8], size: u32) -> bool
+    requires { length bytes.now < 2 ^ 32 }
+{
+    match decode(alloc, bytes) {
+        Err(DecodeFault::TooLarge(found)) => found == size,
+        _ => false,
+    }
+}
+
+/// How many matchers there are.
+fn matchers_of(alloc: Global, bytes: &[u8]) -> usize
+    requires { length bytes.now < 2 ^ 32 }
+{
+    match decode(alloc, bytes) {
+        Ok(tree) => tree.matchers.len(),
+        Err(_) => 0,
+    }
+}
+
+/// How many children the key of the first count has.
+fn children_of(alloc: Global, bytes: &[u8]) -> usize
+    requires { length bytes.now < 2 ^ 32 }
+{
+    match decode(alloc, bytes) {
+        Ok(tree) => key_children(&tree),
+        Err(_) => 0,
+    }
+}
+
+fn key_children(tree: &Config) -> usize {
+    match tree.counts.get(0) {
+        Some(count) => match &count.sliced.dims {
+            Some(dims) => dims.children.len(),
+            None => 0,
+        },
+        None => 0,
+    }
+}
+
 #[test]
 fn reads_262144_bytes_and_no_more(rt: HostRuntime) -> Result<(), Fail> {
     // Ids, which have no place in the tree.
     let mut bytes = repeated(rt.alloc(), b"\x08\x01", MOST_BYTES / 2)?;
     assert!(rt; bytes.len() == MOST_BYTES);
-    assert_eq!(rt; decode(rt.alloc(), bytes.as_slice())?, nothing(rt.alloc()));
+    assert!(rt; reads_as(rt.alloc(), bytes.as_slice(), &nothing(rt.alloc())));
 
     bytes.push(0)?;
     assert!(rt; bytes.len() == MOST_BYTES + 1);
-    assert_eq!(rt;
-        decode(rt.alloc(), bytes.as_slice()),
-        Err(DecodeFault::TooLarge(262_145))
-    );
+    assert!(rt; is_too_large(rt.alloc(), bytes.as_slice(), 262_145));
     Ok(())
 }
 
@@ -48,14 +85,7 @@ fn reads_a_field_matcher_of_131060_children(rt: HostRuntime) -> Result<(), Fail>
     let count = in_field(rt.alloc(), 4, children.as_slice())?;
     let bytes = in_field(rt.alloc(), 3, count.as_slice())?;
     assert!(rt; bytes.len() <= MOST_BYTES);
-    let tree = decode(rt.alloc(), bytes.as_slice())?;
-    let mut children = 0;
-    for count in tree.counts.as_slice() {
-        if let Some(dims) = &count.sliced.dims {
-            children = dims.children.len();
-        }
-    }
-    assert_eq!(rt; children, 131_060);
+    assert_eq!(rt; children_of(rt.alloc(), bytes.as_slice()), 131_060);
     Ok(())
 }
 
@@ -64,7 +94,6 @@ fn joins_a_message_of_131060_records(rt: HostRuntime) -> Result<(), Fail> {
     let records = repeated(rt.alloc(), b"\x12\0", 131_060)?;
     let bytes = in_field(rt.alloc(), 7, records.as_slice())?;
     assert!(rt; bytes.len() <= MOST_BYTES);
-    let tree = decode(rt.alloc(), bytes.as_slice())?;
-    assert_eq!(rt; tree.matchers.len(), 1);
+    assert_eq!(rt; matchers_of(rt.alloc(), bytes.as_slice()), 1);
     Ok(())
 }
