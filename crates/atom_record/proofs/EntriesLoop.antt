@@ -12,7 +12,7 @@ use Rattle.atom_record.specs.declared.parse.Place.{Place}
 use Rattle.atom_record.specs.declared.parse.Kind.{Kind}
 use Rattle.atom_record.specs.declared.parse.Kind.TheVariants as kinds
 use Rattle.atom_record.specs.Flags.{is_exclusive}
-use Rattle.atom_record.specs.Reading.{reason_of, number_at, text_at, bool_at, kind_at, value_at, is_in_range, is_behind, may_have, entry_at, entries_in, entries_at}
+use Rattle.atom_record.specs.AtomReading.{reason_of, number_at, text_at, bool_at, kind_at, value_at, is_in_range, is_behind, may_have, entry_at, entries_in, entries_at}
 
 -- what was read leaves so many bytes at most
 abbrev pub Leaves : {X F : Type 0} → ℕ → Result (X × List ℕ) F → Type 0

@@ -12,7 +12,7 @@ use Rattle.atom_record.specs.declared.fault.TheConstants.{BAD_PLACE, NOT_ABOVE, 
 use Rattle.atom_record.specs.declared.parse.Place.{Place}
 use Rattle.atom_record.specs.declared.parse.Kind.{Kind}
 use Rattle.atom_record.specs.Flags.{is_exclusive}
-use Rattle.atom_record.specs.Reading.{kind_at, value_at, is_in_range, is_behind, may_have, place_of, entry_at}
+use Rattle.atom_record.specs.AtomReading.{kind_at, value_at, is_in_range, is_behind, may_have, place_of, entry_at}
 use Rattle.atom_record.specs.Spelling.{type_of, value_bytes, entry_bytes}
 use Rattle.atom_record.specs.Sound.{IsInRange, IsEntry, IsBelow, AreEntries}
 use Rattle.atom_record.proofs.PartLaws.{IsBytes, bind_ok, passed, ok_is, Takes}

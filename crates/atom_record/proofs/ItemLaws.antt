@@ -17,7 +17,7 @@ use Rattle.atom_record.specs.declared.value.Slice.TheVariants.{Plain, Group}
 use Rattle.atom_record.specs.declared.item.Item.{Item}
 use Rattle.atom_record.specs.declared.item.Item.TheVariants.{Num, Dims, Slices, AtomItem, Chunk}
 use Rattle.atom_record.specs.declared.fault.TheConstants.{CUT, BAD_TYPE}
-use Rattle.atom_record.specs.Reading.{number_at, text_at, kind_at, value_at, atom_at}
+use Rattle.atom_record.specs.AtomReading.{number_at, text_at, kind_at, value_at, atom_at}
 use Rattle.atom_record.specs.ItemReading.{typed_at, values_at, leaf_at, slice_at, slices_at, dims_at, chunk_at, item_at}
 use Rattle.atom_record.specs.Spelling.{type_of, counted, payload_of}
 use Rattle.atom_record.specs.ItemSpelling.{typed_bytes, leaf_bytes, slice_bytes, spelled_item}

@@ -4,7 +4,7 @@ use Rattle.std.proofs.lemmas.List.{append-nil}
 use Rattle.sd_base.specs.Reads.{◌>>=◌, FailsBy, many, with_front}
 use Rattle.atom_record.specs.declared.fault.AtomFault.{AtomFault}
 use Rattle.atom_record.specs.declared.fault.AtomFault.TheVariants.{Bad, Memory}
-use Rattle.atom_record.specs.Reading.{reason_of}
+use Rattle.atom_record.specs.AtomReading.{reason_of}
 
 module _ {X : Type 0} (at : List ℕ → Result (X × List ℕ) ℕ) where
   -- one more in front

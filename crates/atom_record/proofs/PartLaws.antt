@@ -8,7 +8,7 @@ use Rattle.std.proofs.lemmas.List.Elements.{All-from_get_or}
 use Rattle.std.proofs.lemmas.Nat.{le_bytes_2, le_bytes_4, le_bytes_8, from_le_bytes-to_le_bytes_2, from_le_bytes-to_le_bytes_4, from_le_bytes-to_le_bytes_8}
 use Rattle.sd_base.specs.Reads.{◌>>=◌}
 use Rattle.atom_record.specs.declared.fault.TheConstants.{CUT, BAD_TYPE}
-use Rattle.atom_record.specs.Reading.{number_at, text_at, bool_at}
+use Rattle.atom_record.specs.AtomReading.{number_at, text_at, bool_at}
 use Rattle.atom_record.specs.Spelling.{truth_byte, counted}
 use Rattle.atom_record.specs.Sound.{IsText}
 

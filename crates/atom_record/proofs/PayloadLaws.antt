@@ -11,9 +11,9 @@ use Rattle.atom_record.specs.declared.atom.Atom.{Atom}
 use Rattle.atom_record.specs.declared.atom.AtomField.{AtomField}
 use Rattle.atom_record.specs.declared.fault.AtomFault.{AtomFault}
 use Rattle.atom_record.specs.declared.fault.TheConstants.{TOO_LONG, BAD_ID}
-use Rattle.atom_record.specs.declared.parse.TheConstants.{MOST_BYTES}
+use Rattle.atom_record.specs.declared.parse.TheConstants.{MAX_BYTES}
 use Rattle.atom_record.specs.Id.{IsAtomId, is_atom_id}
-use Rattle.atom_record.specs.Reading.{reason_of, entry_at, entries_in, entries_at, id_at, atom_at}
+use Rattle.atom_record.specs.AtomReading.{reason_of, entry_at, entries_in, entries_at, id_at, atom_at}
 use Rattle.atom_record.specs.Spelling.{entry_bytes, payload_of}
 use Rattle.atom_record.specs.Sound.{IsEntry, AreEntries, HasNoFault}
 use Rattle.atom_record.proofs.PartLaws.{IsBytes, bind_ok, passed, ok_is, Takes, wide32, front_takes}
@@ -87,21 +87,21 @@ no_entries = record { each = All-nil IsEntry; rising = λ i j d less below. absu
 pub atom_takes : (bytes : List ℕ) (atom : Atom) → IsBytes bytes → atom_at bytes ≡ Ok atom → HasNoFault atom × (bytes ≡ payload_of atom)
 unfolding atom_at
 atom_takes bytes atom fits read =
-    let short = passed (nat_lt MOST_BYTES (length bytes)) TOO_LONG (id_at bytes >>= λ id. entries_at [] id.1 >>= λ fields. Ok (record { id = id.0; fields = fields })) atom read in
+    let short = passed (nat_lt MAX_BYTES (length bytes)) TOO_LONG (id_at bytes >>= λ id. entries_at [] id.1 >>= λ fields. Ok (record { id = id.0; fields = fields })) atom read in
     let id = bind_ok (id_at bytes) (λ id. entries_at [] id.1 >>= λ fields. Ok (record { id = id.0; fields = fields })) atom short.1 in
     let fields = bind_ok (entries_at [] id.0.1) (λ fields. Ok (record { id = id.0.0; fields = fields })) atom id.2 in
     let front = id_takes bytes id.0 fits id.1 in
     let all = entries_take (length id.0.1) [] id.0.1 fields.0 front.0.fits no_entries fields.1 in
     let made : Atom = record { id = id.0.0; fields = fields.0 } in
     let spelled : bytes ≡ payload_of made = front.0.parts ∙ ap (λ (t : List ℕ). to_le_bytes w32 id.0.0 ++ t) (all.spelled ∙ ap (flat_map entry_bytes) (sym all.all_is)) in
-    let sound : HasNoFault made = record { id = front.1; entries = all.are; fits = subst (λ (t : List ℕ). length t ≤ MOST_BYTES) spelled (ltb-false MOST_BYTES (length bytes) short.0) } in
+    let sound : HasNoFault made = record { id = front.1; entries = all.are; fits = subst (λ (t : List ℕ). length t ≤ MAX_BYTES) spelled (ltb-false MAX_BYTES (length bytes) short.0) } in
     subst (λ (a : Atom). HasNoFault a × (bytes ≡ payload_of a)) (ok_is made atom fields.2) (sound, spelled)
 
 pub atom_again : (atom : Atom) → HasNoFault atom → atom_at (payload_of atom) ≡ Ok atom
 unfolding atom_at
 atom_again atom sound =
     let rest = flat_map entry_bytes atom.fields in
-    let short : nat_lt MOST_BYTES (length (payload_of atom)) ≡ false = le-ltb _ _ sound.fits in
+    let short : nat_lt MAX_BYTES (length (payload_of atom)) ≡ false = le-ltb _ _ sound.fits in
     let fields : entries_at [] rest ≡ Ok atom.fields = entries_again (length rest) [] atom.fields (omega arith) sound.entries in
     rw (short, id_again atom.id rest sound.id, fields) refl
 

@@ -14,7 +14,7 @@ use Rattle.atom_record.specs.declared.parse.Place.{Place}
 use Rattle.atom_record.specs.declared.parse.Kind.{Kind}
 use Rattle.atom_record.specs.declared.parse.Kind.TheVariants as kinds
 use Rattle.atom_record.specs.Flags.{is_exclusive, is_reset}
-use Rattle.atom_record.specs.Reading.{is_in_range, is_behind, is_above, is_state, may_have, place_of}
+use Rattle.atom_record.specs.AtomReading.{is_in_range, is_behind, is_above, is_state, may_have, place_of}
 use Rattle.atom_record.specs.Sound.{IsInt, IsState, IsEntry, IsBelow}
 use Rattle.atom_record.proofs.ValueLaws.{kind_of}
 

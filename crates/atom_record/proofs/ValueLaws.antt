@@ -9,7 +9,7 @@ use Rattle.atom_record.specs.declared.value.Value.{Value}
 use Rattle.atom_record.specs.declared.value.Value.TheVariants as values
 use Rattle.atom_record.specs.declared.parse.Kind.{Kind}
 use Rattle.atom_record.specs.declared.parse.Kind.TheVariants as kinds
-use Rattle.atom_record.specs.Reading.{number_at, text_at, bool_at, kind_at, value_at}
+use Rattle.atom_record.specs.AtomReading.{number_at, text_at, bool_at, kind_at, value_at}
 use Rattle.atom_record.specs.Spelling.{type_of, value_bytes}
 use Rattle.atom_record.specs.Sound.{IsInRange}
 use Rattle.atom_record.proofs.PartLaws.{IsBytes, bind_ok, ok_is, chosen, Takes, wide32, wide64, number_takes, number_again, bool_takes, bool_again, text_takes, text_again}

@@ -10,7 +10,7 @@ use Rattle.atom_record.specs.declared.value.Slice.TheVariants.{Plain, Group}
 use Rattle.atom_record.specs.declared.item.Item.{Item}
 use Rattle.atom_record.specs.declared.item.Item.TheVariants.{Num, Dims, Slices, AtomItem, Chunk}
 use Rattle.atom_record.specs.declared.fault.TheConstants.{CUT, BAD_TYPE}
-use Rattle.atom_record.specs.Reading.{number_at, text_at, kind_at, value_at, atom_at}
+use Rattle.atom_record.specs.AtomReading.{number_at, text_at, kind_at, value_at, atom_at}
 
 -- a value behind its type
 unfoldable pub typed_at : List ℕ → Result (Value × List ℕ) ℕ

@@ -7,7 +7,7 @@ pub mod ItemRange
 pub mod ItemReading
 pub mod ItemSpelling
 pub mod Pulled
-pub mod Reading
+pub mod AtomReading
 pub mod Savable
 pub mod Sound
 pub mod Spelling

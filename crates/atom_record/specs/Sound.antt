@@ -5,7 +5,7 @@ use Rattle.atom_record.specs.declared.atom.Atom.{Atom}
 use Rattle.atom_record.specs.declared.atom.AtomField.{AtomField}
 use Rattle.atom_record.specs.declared.value.Value.{Value}
 use Rattle.atom_record.specs.declared.value.Value.TheVariants as values
-use Rattle.atom_record.specs.declared.parse.TheConstants.{MOST_BYTES}
+use Rattle.atom_record.specs.declared.parse.TheConstants.{MAX_BYTES}
 use Rattle.atom_record.specs.Id.{IsAtomId}
 use Rattle.atom_record.specs.Flags.{is_exclusive, is_reset}
 use Rattle.atom_record.specs.Spelling.{payload_of}
@@ -64,4 +64,4 @@ pub record AreEntries (entries : List AtomField) : Type 0 where
 pub record HasNoFault (atom : Atom) : Type 0 where
   pub id : IsAtomId atom.id
   pub entries : AreEntries atom.fields
-  pub fits : length (payload_of atom) ≤ MOST_BYTES
+  pub fits : length (payload_of atom) ≤ MAX_BYTES

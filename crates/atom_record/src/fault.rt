@@ -4,7 +4,7 @@ ghost use Rattle.std.specs.Prelude.{◌≡◌};
 use std::alloc::{AllocError, AllocFailed};
 use thiserror::Error;
 
-/// The payload is longer than [`crate::MOST_BYTES`].
+/// The payload is longer than [`crate::MAX_BYTES`].
 pub const TOO_LONG: u8 = 1;
 
 /// There are no four bytes of an id, or it isn't from 1 to 2^31 - 1.

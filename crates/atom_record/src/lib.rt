@@ -20,7 +20,7 @@ pub use flat::Flat;
 pub use flat_error::FlatError;
 pub use item::{Item, Items};
 pub use log::{LogFrame, PullOutcome, is_pulled};
-pub use parse::{MOST_BYTES, parse_atom};
+pub use parse::{MAX_BYTES, parse_atom};
 pub use spell::item_bytes;
 pub use unspell::items_of;
 pub use value::{Bytes, CloneKey, DimKey, Leaf, MetricKey, Slice, Value};

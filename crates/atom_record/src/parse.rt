@@ -6,9 +6,9 @@ ghost use Rattle.sd_base.specs.Reads.{GivesBy};
 ghost use Rattle.atom_record.specs.Flags.{is_exclusive};
 ghost use Rattle.atom_record.specs.Spelling.{payload_of};
 ghost use Rattle.atom_record.specs.Sound.{HasNoFault};
-ghost use Rattle.atom_record.specs.Reading.{reason_of, entry_at, entries_at, id_at, atom_at};
-ghost use Rattle.atom_record.specs.Reading.{number_at, text_at, bool_at, kind_at, value_at};
-ghost use Rattle.atom_record.specs.Reading.{place_of, is_in_range, is_above, is_behind, is_state, may_have};
+ghost use Rattle.atom_record.specs.AtomReading.{reason_of, entry_at, entries_at, id_at, atom_at};
+ghost use Rattle.atom_record.specs.AtomReading.{number_at, text_at, bool_at, kind_at, value_at};
+ghost use Rattle.atom_record.specs.AtomReading.{place_of, is_in_range, is_above, is_behind, is_state, may_have};
 
 use crate::atom::{EXCLUSIVE, PRIMARY, RESET, has_flag, is_atom_id};
 use crate::fault::{BAD_FLAGS, BAD_ID, BAD_PLACE, BAD_TYPE, CUT, NOT_ABOVE, TOO_LONG};
@@ -17,7 +17,7 @@ use sd_base::Seq;
 use std::alloc::Global;
 
 /// The most bytes of a payload.
-pub const MOST_BYTES: usize = 4096;
+pub const MAX_BYTES: usize = 4096;
 
 /// All flags together.
 const ALL_FLAGS: u8 = EXCLUSIVE | PRIMARY | RESET;
@@ -154,7 +154,7 @@ fn bool_of(bytes: &[u8]) -> Result<(bool, &[u8]), AtomFault>
 }
 
 /// A length in two bytes, and so many bytes.
-#[tactic(auto, unfolding(crate::specs::Reading::text_at))]
+#[tactic(auto, unfolding(crate::specs::AtomReading::text_at))]
 pub(crate) fn text_of(alloc: Global, bytes: &[u8]) -> Result<(Bytes, &[u8]), AtomFault>
     ensures { GivesBy reason_of (λ x. (x.0, x.1.now)) result (text_at bytes.now) }
 {
@@ -167,7 +167,7 @@ pub(crate) fn text_of(alloc: Global, bytes: &[u8]) -> Result<(Bytes, &[u8]), Ato
     Ok((Seq::from_slice(alloc, text)?, rest))
 }
 
-#[tactic(auto, unfolding(crate::specs::Reading::value_at))]
+#[tactic(auto, unfolding(crate::specs::AtomReading::value_at))]
 pub(crate) fn value_of(alloc: Global, kind: Kind, bytes: &[u8]) -> Result<(Value, &[u8]), AtomFault>
     ensures { GivesBy reason_of (λ x. (x.0, x.1.now)) result (value_at kind bytes.now) }
 {
@@ -200,7 +200,7 @@ pub(crate) fn value_of(alloc: Global, kind: Kind, bytes: &[u8]) -> Result<(Value
 }
 
 /// The entry at the front, behind these entries.
-#[tactic(auto, unfolding(crate::specs::Reading::entry_at))]
+#[tactic(auto, unfolding(crate::specs::AtomReading::entry_at))]
 fn entry_of<'a>(
     alloc: Global,
     before: &[AtomField],
@@ -255,7 +255,7 @@ fn entries_of(alloc: Global, bytes: &[u8]) -> Result<Seq<AtomField>, AtomFault>
     Ok(entries)
 }
 
-#[tactic(auto, unfolding(crate::specs::Reading::id_at))]
+#[tactic(auto, unfolding(crate::specs::AtomReading::id_at))]
 fn id_of(bytes: &[u8]) -> Result<(u32, &[u8]), AtomFault>
     ensures { GivesBy reason_of (λ x. (x.0, x.1.now)) result (id_at bytes.now) }
 {
@@ -269,11 +269,11 @@ fn id_of(bytes: &[u8]) -> Result<(u32, &[u8]), AtomFault>
     Ok((id, rest))
 }
 
-#[tactic(auto, unfolding(crate::specs::Reading::atom_at))]
+#[tactic(auto, unfolding(crate::specs::AtomReading::atom_at))]
 pub(crate) fn atom_of(alloc: Global, bytes: &[u8]) -> Result<Atom, AtomFault>
     ensures { GivesBy reason_of (λ atom. atom) result (atom_at bytes.now) }
 {
-    if MOST_BYTES < bytes.len() {
+    if MAX_BYTES < bytes.len() {
         return Err(AtomFault::Bad(TOO_LONG));
     }
     let (id, rest) = id_of(bytes)?;

@@ -113,7 +113,7 @@ fn refuses_ids_and_lengths(rt: HostRuntime) -> Result<(), Fail> {
     }
     let mut payload = Vec::from_slice(rt.alloc(), b"\x05\0\0\0\x01\0\0\0\x05\xf5\x0f")?;
     payload.extend_from_slice(&[7; 4085])?;
-    assert_eq!(rt; payload.len(), MOST_BYTES);
+    assert_eq!(rt; payload.len(), MAX_BYTES);
     assert_eq!(rt; answer_of(parse_atom(rt.alloc(), &payload)), 0);
     payload.push(7)?;
     assert_eq!(rt; answer_of(parse_atom(rt.alloc(), &payload)), TOO_LONG);

@@ -1,7 +1,7 @@
 //! From bytes to items.
 ghost use Rattle.std.specs.Prelude.{◌≡◌, ℕ, List, Result, Ok, Err, IfOk};
 ghost use Rattle.sd_base.specs.Reads.{GivesBy, many};
-ghost use Rattle.atom_record.specs.Reading.{reason_of};
+ghost use Rattle.atom_record.specs.AtomReading.{reason_of};
 ghost use Rattle.atom_record.specs.ItemReading.{values_at, slices_at, dims_at, chunk_at, item_at};
 ghost use Rattle.atom_record.specs.ItemRange.{Reads};
 

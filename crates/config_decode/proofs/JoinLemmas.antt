@@ -6,7 +6,7 @@ use Rattle.std.proofs.lemmas.List.{length-append, map-append, append-nil}
 use Rattle.std.proofs.lemmas.List.Elements.{All-head, All-tail}
 use Rattle.proto_wire.specs.declared.fault.WireFault.{WireFault}
 use Rattle.proto_wire.specs.Fields.{BodyOf, FieldOf, Rest}
-use Rattle.proto_wire.specs.Reading.{Walk, with_field, stopped, walk_on, walk_from, field_at}
+use Rattle.proto_wire.specs.WireReading.{Walk, with_field, stopped, walk_on, walk_from, field_at}
 use Rattle.proto_wire.specs.Grammar.{IsGroup, StartsWith}
 use Rattle.proto_wire.proofs.RestReading.{field_at-read, field_at-only, shorter, walk_from-some, walk_from-none}
 use Rattle.config_decode.specs.Values.{records_of, joined}

@@ -5,7 +5,7 @@ use Rattle.std.specs.Result.{IfOk}
 use Rattle.std.proofs.lemmas.Bool.{ne_eqb}
 use Rattle.std.proofs.lemmas.List.{length-append}
 use Rattle.proto_wire.specs.declared.fault.WireFault.{WireFault}
-use Rattle.proto_wire.specs.Reading.{varint_at}
+use Rattle.proto_wire.specs.WireReading.{varint_at}
 use Rattle.proto_wire.proofs.VarintReading.{VarintRead, varint_at-read}
 use Rattle.config_decode.specs.Walk.{Packed, packed_on, packed_in, packed_at}
 

@@ -8,7 +8,7 @@ use Rattle.std.proofs.lemmas.List.Elements.{All-nil, All-cons, All-head, All-tai
 use Rattle.proto_wire.specs.declared.fault.WireFault.{WireFault}
 use Rattle.proto_wire.specs.declared.fault.TheConstants.{TOO_DEEP}
 use Rattle.proto_wire.specs.Fields.{BodyOf, Varint, Fixed64, Bytes, Group, Fixed32, FieldOf, Rest, inside_of}
-use Rattle.proto_wire.specs.Reading.{fault_at, inside_at, walk_from}
+use Rattle.proto_wire.specs.WireReading.{fault_at, inside_at, walk_from}
 use Rattle.config_decode.specs.declared.profile.Kind.{Kind}
 use Rattle.config_decode.specs.declared.profile.Shape.{Shape}
 use Rattle.config_decode.specs.declared.profile.Shape.TheVariants.{Message}

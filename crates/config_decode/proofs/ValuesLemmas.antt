@@ -10,7 +10,7 @@ use Rattle.std.proofs.lemmas.List.Elements.{filter-append}
 use Rattle.proto_wire.specs.declared.field.Field.{Field}
 use Rattle.proto_wire.specs.declared.fault.WireFault.{WireFault}
 use Rattle.proto_wire.specs.Fields.{FieldOf, seen, inside_of}
-use Rattle.proto_wire.specs.Reading.{varint_at}
+use Rattle.proto_wire.specs.WireReading.{varint_at}
 use Rattle.config_decode.specs.Walk.{Packed, packed_at}
 use Rattle.config_decode.specs.Short.{AreShort}
 use Rattle.config_decode.specs.Values.{singles, payloads, numbers, listed, last, joined, joined_if_any, records_of}

@@ -8,7 +8,7 @@ use Rattle.proto_wire.specs.declared.fault.WireFault.{WireFault}
 use Rattle.proto_wire.specs.declared.fault.TheConstants.{TOO_DEEP}
 use Rattle.proto_wire.specs.declared.field.Field.{Field}
 use Rattle.proto_wire.specs.Fields.{FieldOf, Rest, seen, inside_of, IsWithin, StepsOver}
-use Rattle.proto_wire.specs.Reading.{fault_at, Walk, with_field, stopped, inside_at, walk_from, walk_by, AnswersNext}
+use Rattle.proto_wire.specs.WireReading.{fault_at, Walk, with_field, stopped, inside_at, walk_from, walk_by, AnswersNext}
 use Rattle.proto_wire.specs.Grammar.{StartsWith}
 use Rattle.proto_wire.proofs.RestReading.{field_at-read}
 use Rattle.config_decode.specs.declared.fault.DecodeFault.{DecodeFault}

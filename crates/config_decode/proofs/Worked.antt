@@ -1,6 +1,6 @@
 -- Worked walks, by computing.
 use Rattle.std.proofs.Common.{◌≡◌, [], ◌∷◌, Some, None, refl}
-use Rattle.proto_wire.specs.Reading.{inside_at, walk_from, walk_in, field_at, field_with, head_at, head_of, varint_at, taken_at}
+use Rattle.proto_wire.specs.WireReading.{inside_at, walk_from, walk_in, field_at, field_with, head_at, head_of, varint_at, taken_at}
 use Rattle.config_decode.specs.Walk as whole
 use Rattle.config_decode.specs.Walk.{packed_at, packed_in, walk_of, first_refused}
 

@@ -1,6 +1,6 @@
 -- Worked trees, by computing.
 use Rattle.std.proofs.Common.{◌≡◌, pos, negsuc, [], ◌∷◌, Some, None, Ok, Err, refl}
-use Rattle.proto_wire.specs.Reading.{inside_at, walk_from, walk_in, field_at, field_with, head_at, head_of, varint_at, taken_at}
+use Rattle.proto_wire.specs.WireReading.{inside_at, walk_from, walk_in, field_at, field_with, head_at, head_of, varint_at, taken_at}
 use Rattle.config_types.specs.declared.config.Config.{Config}
 use Rattle.config_types.specs.declared.fields.FieldMatcher.TheViews.{roll-FieldMatcher}
 use Rattle.config_types.specs.declared.fields.Position.TheVariants.{First}

@@ -4,7 +4,7 @@
 use Rattle.std.specs.Prelude.{◌≡◌, ℕ, ◌+◌, ◌-◌, List, [], ◌∷◌, ◌++◌, map, None, All}
 use Rattle.std.specs.List.{concat}
 use Rattle.proto_wire.specs.Fields.{BodyOf, Bytes, FieldOf, Rest}
-use Rattle.proto_wire.specs.Reading.{Walk, walk_from}
+use Rattle.proto_wire.specs.WireReading.{Walk, walk_from}
 use Rattle.config_decode.specs.declared.profile.Kind.{Kind}
 use Rattle.config_decode.specs.declared.profile.Kind.TheVariants.{Config}
 use Rattle.config_decode.specs.declared.profile.Shape.TheVariants.{Message}

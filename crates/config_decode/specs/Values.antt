@@ -4,7 +4,7 @@ use Rattle.std.specs.Int.{w32, w64, cast_signed}
 use Rattle.std.specs.Option.{option_map}
 use Rattle.std.specs.List.{filter, list_any, list_all, last_or, flat_map, cons_option}
 use Rattle.proto_wire.specs.Fields.{BodyOf, Varint, Bytes, FieldOf}
-use Rattle.proto_wire.specs.Reading.{walk_from}
+use Rattle.proto_wire.specs.WireReading.{walk_from}
 use Rattle.config_decode.specs.Profile.{low_half}
 use Rattle.config_decode.specs.Walk.{packed_at}
 

@@ -4,7 +4,7 @@ use Rattle.std.specs.Prelude.{ℕ, zero, suc, List, [], ◌∷◌, ◌++◌, ◌
 use Rattle.std.specs.Option.{option_or}
 use Rattle.proto_wire.specs.declared.fault.WireFault.{WireFault}
 use Rattle.proto_wire.specs.Fields.{BodyOf, Bytes, FieldOf, Rest}
-use Rattle.proto_wire.specs.Reading.{varint_at, inside_at, walk_from}
+use Rattle.proto_wire.specs.WireReading.{varint_at, inside_at, walk_from}
 use Rattle.config_decode.specs.declared.profile.Kind.{Kind}
 use Rattle.config_decode.specs.declared.profile.Kind.TheVariants.{Config}
 use Rattle.config_decode.specs.declared.profile.Shape.{Shape}

@@ -12,7 +12,7 @@ pub type Path = Seq<u32>;
 /// Why there is no tree.
 #[derive(Debug, Drop, PartialEq, Eq, Error)]
 pub enum DecodeFault {
-    /// There are more than [`crate::MOST_BYTES`] bytes, so many.
+    /// There are more than [`crate::MAX_BYTES`] bytes, so many.
     #[error("too large: {0} bytes")]
     TooLarge(u32),
     /// The first fault of the wire format.

@@ -10,7 +10,7 @@ use sd_base::Seq;
 use std::alloc::{AllocError, Global};
 
 /// How many messages may stand inside one another. What is deeper was refused before.
-pub const MOST_LEVELS: u32 = 100;
+pub const MAX_LEVELS: u32 = 100;
 
 impl FromMessage for FieldMatcher {
     ghost use Rattle.config_decode.specs.Tree.{field_matcher_of};
@@ -18,7 +18,7 @@ impl FromMessage for FieldMatcher {
     ghost tree = { field_matcher_of };
 
     fn from_message(alloc: Global, message: &Message<'_>) -> Result<FieldMatcher, AllocError> {
-        field_matcher(alloc, MOST_LEVELS, message)
+        field_matcher(alloc, MAX_LEVELS, message)
     }
 }
 

@@ -3,7 +3,7 @@ ghost use Rattle.std.specs.Prelude.{◌≡◌, IfOk, Some};
 ghost use Rattle.config_decode.specs.Tree as tree;
 ghost use Rattle.config_decode.specs.Values as values;
 
-use crate::field_matcher::MOST_LEVELS;
+use crate::field_matcher::MAX_LEVELS;
 use crate::message::Message;
 use crate::tree::FromMessage;
 use config_types::{Bytes, FieldTest, Test};
@@ -19,7 +19,7 @@ impl FromMessage for FieldTest {
     ghost tree = { field_test_of };
 
     fn from_message(alloc: Global, message: &Message<'_>) -> Result<FieldTest, AllocError> {
-        field_test(alloc, MOST_LEVELS, message)
+        field_test(alloc, MAX_LEVELS, message)
     }
 }
 

@@ -18,4 +18,4 @@ mod whole;
 
 pub use fault::{DecodeFault, Path};
 pub use laws::{payloads_are_read_as_one, the_walk_passes_whole_messages};
-pub use whole::{MOST_BYTES, decode};
+pub use whole::{MAX_BYTES, decode};

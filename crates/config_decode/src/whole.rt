@@ -11,7 +11,7 @@ use config_types::Config;
 use std::alloc::{AllocError, Global};
 
 /// The most bytes of a configuration.
-pub const MOST_BYTES: usize = 262_144;
+pub const MAX_BYTES: usize = 262_144;
 
 /// The tree of a configuration, or its one fault: too many bytes, the first fault of the wire format, or, where there is
 /// none, the first record that isn't supported. A path has at most 101 numbers.
@@ -21,7 +21,7 @@ pub fn decode(alloc: Global, bytes: &[u8]) -> Result<Config, DecodeFault>
     ensures read { GivesBy fault_of (λ config. config) result (config_of bytes.now) }
     ensures path { IfErr result HasShortPath }
 {
-    if bytes.len() > MOST_BYTES {
+    if bytes.len() > MAX_BYTES {
         return Err(DecodeFault::TooLarge(bytes.len() as u32));
     }
     if let Some(path) = first_unsupported(alloc, bytes)? {

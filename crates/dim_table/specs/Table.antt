@@ -6,7 +6,7 @@ use Rattle.bucket_meaning.specs.Guard.{admitted, dropped}
 use Rattle.bucket_meaning.specs.Kept.{counted}
 use Rattle.dim_table.specs.declared.answer.Admit.{Admit}
 use Rattle.dim_table.specs.declared.answer.Admit.TheVariants.{At, Full}
-use Rattle.dim_table.specs.declared.TheConstants.{MOST_KEYS}
+use Rattle.dim_table.specs.declared.TheConstants.{MAX_KEYS}
 
 pub record Table (K V : Type 0) : Type 0 where
   pub rows : List (K × V)
@@ -16,7 +16,7 @@ pub record Table (K V : Type 0) : Type 0 where
 -- so many rows under such a bound are what a table may hold
 pub record IsBounded (rows bound : ℕ) : Type 0 where
   pub least : 1 ≤ bound
-  pub most : bound ≤ MOST_KEYS
+  pub most : bound ≤ MAX_KEYS
   pub within : rows ≤ bound
 
 module _ {K V : Type 0} where

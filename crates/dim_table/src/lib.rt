@@ -10,4 +10,4 @@ pub use answer::Admit;
 pub use table::Guarded;
 
 /// The most keys that a table may be asked to hold.
-pub const MOST_KEYS: usize = 3000;
+pub const MAX_KEYS: usize = 3000;

@@ -7,7 +7,7 @@ ghost use Rattle.std.specs.Option.{option_map, option_copied_mut};
 ghost use Rattle.dim_table.specs.Table.{keys, without, Admits, IsBounded, TableStandsFor, TakesArrival};
 ghost use Rattle.dim_table.specs.Lent.{lends_value};
 
-use crate::{Admit, MOST_KEYS};
+use crate::{Admit, MAX_KEYS};
 use indexmap::IndexMap;
 use sd_base::Exact;
 use std::alloc::{AllocError, Global};
@@ -39,7 +39,7 @@ impl<K: Exact + Hash + Drop, V: Drop> Guarded<K, V> {
     /// An empty table of at most so many keys.
     pub fn new(alloc: Global, bound: usize) -> Guarded<K, V>
         requires least { 1 ≤ bound }
-        requires most { bound ≤ MOST_KEYS }
+        requires most { bound ≤ MAX_KEYS }
         ensures empty { result ≡ record { rows = []; bound = bound; dropped = 0 } }
         ensures stands { TableStandsFor K.eq result [] }
     {
@@ -49,7 +49,7 @@ impl<K: Exact + Hash + Drop, V: Drop> Guarded<K, V> {
     /// An empty table of at most so many keys, which counts on from so many dropped arrivals.
     pub fn restore(alloc: Global, bound: usize, dropped: u64) -> Guarded<K, V>
         requires least { 1 ≤ bound }
-        requires most { bound ≤ MOST_KEYS }
+        requires most { bound ≤ MAX_KEYS }
         ensures { result ≡ record { rows = []; bound = bound; dropped = dropped } }
     {
         Guarded {

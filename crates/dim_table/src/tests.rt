@@ -1,6 +1,6 @@
 //! Arrivals that were fed by hand.
 use crate::Admit::{At, Full};
-use crate::{Admit, Guarded, MOST_KEYS};
+use crate::{Admit, Guarded, MAX_KEYS};
 use std::alloc::AllocError;
 use std::test::Fail;
 
@@ -82,16 +82,16 @@ fn closes_up_after_a_removal(rt: HostRuntime) -> Result<(), Fail> {
 
 #[test]
 fn a_million_arrivals_of_known_keys_take_little_time(rt: HostRuntime) -> Result<(), Fail> {
-    let mut table = Guarded::new(rt.alloc(), MOST_KEYS);
+    let mut table = Guarded::new(rt.alloc(), MAX_KEYS);
     for arrival in 0..1_000_000u32 {
         assert_eq!(rt;
             count(&mut table, arrival % 3000)?,
-            At(arrival as usize % MOST_KEYS)
+            At(arrival as usize % MAX_KEYS)
         );
     }
     assert_eq!(rt;
         (table.len(), table.dropped(), row(&table, 2999)),
-        (MOST_KEYS, 0, Some((2999, 333)))
+        (MAX_KEYS, 0, Some((2999, 333)))
     );
     Ok(())
 }

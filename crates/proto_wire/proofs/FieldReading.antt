@@ -10,7 +10,7 @@ use Rattle.proto_wire.specs.declared.fault.WireFault.{WireFault}
 use Rattle.proto_wire.specs.declared.head.WireType.{WireType}
 use Rattle.proto_wire.specs.declared.head.WireType.TheVariants as wire
 use Rattle.proto_wire.specs.Fields.{BodyOf, Varint, Fixed64, Bytes, Group, Fixed32, FieldOf}
-use Rattle.proto_wire.specs.Reading.{varint_at, taken_at, fixed_at, Inside, field_with}
+use Rattle.proto_wire.specs.WireReading.{varint_at, taken_at, fixed_at, Inside, field_with}
 use Rattle.proto_wire.specs.Grammar.{IsVarint, wire_type_for, IsCount, IsPayload}
 use Rattle.proto_wire.proofs.Results.{IfOk-then, of-if}
 use Rattle.proto_wire.proofs.VarintReading.{VarintRead, varint_at-read, varint_at-only}

@@ -7,7 +7,7 @@ use Rattle.std.proofs.lemmas.List.{length-append}
 use Rattle.proto_wire.specs.declared.head.Head.{Head}
 use Rattle.proto_wire.specs.declared.head.WireType.TheVariants as wire
 use Rattle.proto_wire.specs.Fields.{BodyOf, Varint, Fixed64, Bytes, Group, Fixed32, FieldOf}
-use Rattle.proto_wire.specs.Reading.{head_at, Inside, field_with, ends, until_end, group_at}
+use Rattle.proto_wire.specs.WireReading.{head_at, Inside, field_with, ends, until_end, group_at}
 use Rattle.proto_wire.specs.Grammar.{wire_type_for, IsTag, IsRecord, IsGroup}
 use Rattle.proto_wire.proofs.HeadReading.{head_at-only}
 use Rattle.proto_wire.proofs.FieldReading.{GivesGroups, field_with-only}

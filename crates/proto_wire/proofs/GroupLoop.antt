@@ -6,7 +6,7 @@ use Rattle.proto_wire.specs.declared.fault.WireFault.{WireFault}
 use Rattle.proto_wire.specs.declared.fault.TheConstants.{CUT}
 use Rattle.proto_wire.specs.declared.head.Head.{Head}
 use Rattle.proto_wire.specs.Fields.{FieldOf}
-use Rattle.proto_wire.specs.Reading.{fault_at, head_at, field_with, ends, until_end, group_at}
+use Rattle.proto_wire.specs.WireReading.{fault_at, head_at, field_with, ends, until_end, group_at}
 use Rattle.proto_wire.specs.Grammar.{IsGroup}
 use Rattle.proto_wire.proofs.GroupReading.{group_at-read, until_end-some, until_end-none, group_at-open}
 

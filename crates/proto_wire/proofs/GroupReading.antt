@@ -14,7 +14,7 @@ use Rattle.proto_wire.specs.declared.head.Head.{Head}
 use Rattle.proto_wire.specs.declared.head.WireType.{WireType}
 use Rattle.proto_wire.specs.declared.head.WireType.TheVariants as wire
 use Rattle.proto_wire.specs.Fields.{FieldOf}
-use Rattle.proto_wire.specs.Reading.{fault_at, head_at, Inside, field_with, is_group_end, ends, until_end, group_at}
+use Rattle.proto_wire.specs.WireReading.{fault_at, head_at, Inside, field_with, is_group_end, ends, until_end, group_at}
 use Rattle.proto_wire.specs.Grammar.{IsTag, IsRecord, IsGroup}
 use Rattle.proto_wire.proofs.Results.{IfOk-then, of-if, then-agree, if-agree}
 use Rattle.proto_wire.proofs.HeadReading.{HeadRead, head_at-read}

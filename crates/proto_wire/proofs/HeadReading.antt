@@ -7,7 +7,7 @@ use Rattle.proto_wire.specs.declared.fault.WireFault.{WireFault}
 use Rattle.proto_wire.specs.declared.head.Head.{Head}
 use Rattle.proto_wire.specs.declared.head.WireType.{WireType}
 use Rattle.proto_wire.specs.declared.head.WireType.TheVariants as wire
-use Rattle.proto_wire.specs.Reading.{varint_at, wire_type_of, head_with, head_of, head_at}
+use Rattle.proto_wire.specs.WireReading.{varint_at, wire_type_of, head_with, head_of, head_at}
 use Rattle.proto_wire.specs.Grammar.{IsVarint, code_of, IsTag}
 use Rattle.proto_wire.proofs.Results.{IfOk-then, of-if}
 use Rattle.proto_wire.proofs.VarintReading.{VarintRead, varint_at-read, varint_at-only}

@@ -3,7 +3,7 @@ use Rattle.std.proofs.Common.{◌≡◌, ℕ, ◌+◌, ◌-◌, ◌<◌, ◌≤�
 use Rattle.std.proofs.lemmas.Result.{IfOk-at_ok}
 use Rattle.proto_wire.specs.declared.fault.WireFault.{WireFault}
 use Rattle.proto_wire.specs.Fields.{FieldOf, Rest, StepsOver}
-use Rattle.proto_wire.specs.Reading.{behind_of, field_at, with_field, stopped, walk_on, walk_from}
+use Rattle.proto_wire.specs.WireReading.{behind_of, field_at, with_field, stopped, walk_on, walk_from}
 use Rattle.proto_wire.specs.Grammar.{StartsWith, Written, spelling, number_of, body_of, IsWritable}
 use Rattle.proto_wire.proofs.RestReading.{field_at-read, field_at-only, shorter, within, walk_from-some, walk_from-none}
 use Rattle.proto_wire.proofs.WrittenReading.{field_there, written-starts}

@@ -7,7 +7,7 @@ use Rattle.std.proofs.lemmas.List.{length-append}
 use Rattle.proto_wire.specs.declared.fault.WireFault.{WireFault}
 use Rattle.proto_wire.specs.declared.head.Head.{Head}
 use Rattle.proto_wire.specs.Fields.{BodyOf, Varint, Fixed64, Bytes, Group, Fixed32, FieldOf, Rest, inside_of}
-use Rattle.proto_wire.specs.Reading.{head_at, field_with, group_at, field_at, Walk, with_field, stopped, walk_on, walk_in, walk_from}
+use Rattle.proto_wire.specs.WireReading.{head_at, field_with, group_at, field_at, Walk, with_field, stopped, walk_on, walk_in, walk_from}
 use Rattle.proto_wire.specs.Grammar.{IsPayload, IsLaidOut, IsGroup, StartsWith, wire_type_for, IsTag}
 use Rattle.proto_wire.proofs.Results.{IfOk-then, if-agree}
 use Rattle.proto_wire.proofs.HeadReading.{HeadRead, head_at-read, head_at-only}

@@ -8,7 +8,7 @@ use Rattle.std.proofs.lemmas.Bool.{ltb-true, ltb-false, lt-ltb, le-ltb}
 use Rattle.std.proofs.lemmas.List.{take-append-drop, get_or-take, length-take-le, length-take, length-append, get_or_append_left}
 use Rattle.std.proofs.Math.Seq.{take-append_seam, drop-append_seam}
 use Rattle.std.proofs.lemmas.List.Quantifiers.{position-Some}
-use Rattle.proto_wire.specs.Reading.{varint_at, varint_to, groups_value}
+use Rattle.proto_wire.specs.WireReading.{varint_at, varint_to, groups_value}
 use Rattle.proto_wire.specs.Grammar.{IsVarint}
 
 -- the front is a varint of this value, and this is behind it

@@ -2,7 +2,7 @@
 use Rattle.std.proofs.Common.{◌≡◌, [], ◌∷◌, ◌-◌, ◌^◌, Ok, Err, refl}
 use Rattle.proto_wire.specs.declared.fault.TheConstants.{LONG_VARINT, CUT, UNKNOWN_WIRE_TYPE, ZERO_NUMBER, STRAY_GROUP_END, TOO_DEEP, LONG_TAG}
 use Rattle.proto_wire.specs.Fields.{Varint, Bytes, Group}
-use Rattle.proto_wire.specs.Reading.{fault_at, varint_at, taken_at, head_of, head_at, field_with, until_end, group_at, field_at, walk_in, walk_from, fields_of}
+use Rattle.proto_wire.specs.WireReading.{fault_at, varint_at, taken_at, head_of, head_at, field_with, until_end, group_at, field_at, walk_in, walk_from, fields_of}
 use Rattle.proto_wire.specs.Spelling.{varint, varint_field, bytes_field, fixed32_field}
 
 -- an hour in nanoseconds, as field 10

@@ -6,7 +6,7 @@ use Rattle.std.proofs.lemmas.Bool.{cases_lt}
 use Rattle.std.proofs.lemmas.Nat.{from_le_bytes-to_le_bytes_4}
 use Rattle.proto_wire.specs.Spelling.{varint, varint_in, tag}
 use Rattle.proto_wire.specs.Fields.{FieldOf, Rest}
-use Rattle.proto_wire.specs.Reading.{groups_value}
+use Rattle.proto_wire.specs.WireReading.{groups_value}
 use Rattle.proto_wire.specs.Grammar.{IsVarint, StartsWith, Written, AsVarint, AsBytes, AsFixed32, spelling, number_of, body_of, IsWritable}
 use Rattle.proto_wire.proofs.VarintLemmas.{in-last, in-step}
 

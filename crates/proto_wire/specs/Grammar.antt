@@ -7,7 +7,7 @@ use Rattle.proto_wire.specs.declared.field.Field.{Field}
 use Rattle.proto_wire.specs.declared.head.WireType.{WireType}
 use Rattle.proto_wire.specs.declared.head.WireType.TheVariants as wire
 use Rattle.proto_wire.specs.Fields.{BodyOf, Varint, Fixed64, Bytes, Group, Fixed32, FieldOf, Rest, seen}
-use Rattle.proto_wire.specs.Reading.{groups_value}
+use Rattle.proto_wire.specs.WireReading.{groups_value}
 use Rattle.proto_wire.specs.Spelling.{varint_field, bytes_field, fixed32_field}
 
 -- a varint of this value: each byte but the last has its high bit set; bits past the 64th are dropped

@@ -1,4 +1,4 @@
 pub mod Spelling
 pub mod Fields
-pub mod Reading
+pub mod WireReading
 pub mod Grammar

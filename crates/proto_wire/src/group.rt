@@ -2,7 +2,7 @@
 ghost use Rattle.std.specs.Prelude.{◌≡◌, ◌+◌, ◌<◌, ◌≤◌, length, IfOk};
 ghost use Rattle.std.specs.Int.{w32, w64};
 ghost use Rattle.proto_wire.specs.Fields.{seen};
-ghost use Rattle.proto_wire.specs.Reading.{Gives, taken_at, fixed_at, field_with, group_at};
+ghost use Rattle.proto_wire.specs.WireReading.{Gives, taken_at, fixed_at, field_with, group_at};
 
 use crate::fault::{CUT, STRAY_GROUP_END, TOO_DEEP, WireFault};
 use crate::field::{Body, Field};
@@ -10,7 +10,7 @@ use crate::head::{Head, WireType, next_head};
 use crate::varint::varint_of;
 
 /// So many bytes, and what is behind them.
-#[tactic(auto, unfolding(crate::specs::Reading::taken_at))]
+#[tactic(auto, unfolding(crate::specs::WireReading::taken_at))]
 fn take(at: u32, count: u64, bytes: &[u8]) -> Result<(&[u8], &[u8]), WireFault>
     ensures taken { Gives (λ x. (x.0.now, x.1.now)) result (taken_at at count bytes.now) }
     ensures shorter { IfOk result (λ x. length x.0.now + length x.1.now ≡ length bytes.now) }
@@ -26,7 +26,7 @@ fn take(at: u32, count: u64, bytes: &[u8]) -> Result<(&[u8], &[u8]), WireFault>
 }
 
 /// Four bytes as a number, the low ones first.
-#[tactic(auto, unfolding(crate::specs::Reading::taken_at))]
+#[tactic(auto, unfolding(crate::specs::WireReading::taken_at))]
 fn fixed32_of(at: u32, bytes: &[u8]) -> Result<(u32, &[u8]), WireFault>
     ensures number { Gives (λ x. (x.0, x.1.now)) result (fixed_at w32 at 4 bytes.now) }
     ensures shorter { IfOk result (λ x. length x.1.now ≤ length bytes.now) }
@@ -37,7 +37,7 @@ fn fixed32_of(at: u32, bytes: &[u8]) -> Result<(u32, &[u8]), WireFault>
 }
 
 /// Eight bytes as a number, the low ones first.
-#[tactic(auto, unfolding(crate::specs::Reading::taken_at))]
+#[tactic(auto, unfolding(crate::specs::WireReading::taken_at))]
 fn fixed64_of(at: u32, bytes: &[u8]) -> Result<(u64, &[u8]), WireFault>
     ensures number { Gives (λ x. (x.0, x.1.now)) result (fixed_at w64 at 8 bytes.now) }
     ensures shorter { IfOk result (λ x. length x.1.now ≤ length bytes.now) }
@@ -51,7 +51,7 @@ fn fixed64_of(at: u32, bytes: &[u8]) -> Result<(u64, &[u8]), WireFault>
 
 /// The field of a tag, from what is behind the tag, and what is behind the field.
 #[cycle(group)]
-#[tactic(auto, unfolding(crate::specs::Reading::field_with))]
+#[tactic(auto, unfolding(crate::specs::WireReading::field_with))]
 pub fn field_of<'a>(
     head: Head,
     at: u32,
@@ -145,7 +145,7 @@ pub fn field_of<'a>(
 /// Reads the records of the group that begins at `at`, from behind its tag.
 /// What comes begins with the group's end, and then what is behind that.
 #[cycle(group)]
-#[tactic(auto, unfolding(crate::specs::Reading::group_at))]
+#[tactic(auto, unfolding(crate::specs::WireReading::group_at))]
 fn group_of<'a>(
     number: u32,
     at: u32,

@@ -1,7 +1,7 @@
 //! Tags: the number of a field, and how its payload is laid out.
 ghost use Rattle.std.specs.Prelude.{◌≡◌, ◌<◌, length, IfOk};
-ghost use Rattle.proto_wire.specs.Reading as spec;
-ghost use Rattle.proto_wire.specs.Reading.{Gives, head_at};
+ghost use Rattle.proto_wire.specs.WireReading as spec;
+ghost use Rattle.proto_wire.specs.WireReading.{Gives, head_at};
 
 use crate::fault::{LONG_TAG, UNKNOWN_WIRE_TYPE, WireFault, ZERO_NUMBER};
 use crate::varint::varint_of;
@@ -40,7 +40,7 @@ fn wire_type_of(code: u32) -> Option<WireType>
 }
 
 /// What a tag says, or its first fault.
-#[tactic(auto, unfolding(crate::specs::Reading::head_of))]
+#[tactic(auto, unfolding(crate::specs::WireReading::head_of))]
 fn head_of(at: u32, tag: u64) -> Result<Head, WireFault>
     ensures { result ≡ spec.head_of at tag }
 {
@@ -67,7 +67,7 @@ fn head_of(at: u32, tag: u64) -> Result<Head, WireFault>
 }
 
 /// The tag in front, and what is behind it.
-#[tactic(auto, unfolding(crate::specs::Reading::head_at))]
+#[tactic(auto, unfolding(crate::specs::WireReading::head_at))]
 pub fn next_head(at: u32, bytes: &[u8]) -> Result<(Head, &[u8]), WireFault>
     ensures head { Gives (λ x. (x.0, x.1.now)) result (head_at at bytes.now) }
     ensures shorter { IfOk result (λ x. length x.1.now < length bytes.now) }
@@ -78,7 +78,7 @@ pub fn next_head(at: u32, bytes: &[u8]) -> Result<(Head, &[u8]), WireFault>
 }
 
 impl Head {
-    ghost use Rattle.proto_wire.specs.Reading as spec;
+    ghost use Rattle.proto_wire.specs.WireReading as spec;
 
     /// Whether this is the end of the group with that number.
     pub fn ends(self, number: u32) -> bool

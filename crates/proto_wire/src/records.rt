@@ -1,7 +1,7 @@
 //! A reader of the records of a message, in one pass and without a copy.
 ghost use Rattle.std.specs.Prelude.{◌≡◌, ◌+◌, ◌<◌, ◌≤◌, ◌^◌, ◌↔◌, ◌++◌, ℕ, List, [], length, Ok, None, IfOk, IfSome, IsTrue};
 ghost use Rattle.proto_wire.specs.Fields.{FieldOf, Rest, seen, has_inside, IsWithin, StepsOver};
-ghost use Rattle.proto_wire.specs.Reading.{Gives, field_at, behind_of, AnswersNext, inside_at, walk_from, walk_by};
+ghost use Rattle.proto_wire.specs.WireReading.{Gives, field_at, behind_of, AnswersNext, inside_at, walk_from, walk_by};
 ghost use Rattle.proto_wire.specs.Grammar.{StartsWith, GaveField, Written, spelling, IsWritable, GaveBack};
 
 use crate::fault::{TOO_DEEP, WireFault};
@@ -72,7 +72,7 @@ impl<'a> Records<'a> {
     }
 
     /// The records inside a field that this reader gave, one level deeper.
-    #[tactic(auto, unfolding(crate::specs::Reading::inside_at))]
+    #[tactic(auto, unfolding(crate::specs::WireReading::inside_at))]
     pub fn enter(&self, f: &Field<'a>) -> Result<Records<'a>, WireFault>
         requires inside { IsTrue (has_inside (seen f.now).body) }
         requires within { IsWithin (seen f.now) }
@@ -95,7 +95,7 @@ impl<'a> Records<'a> {
     }
 
     /// The field in front, and what is behind it.
-    #[tactic(auto, unfolding(crate::specs::Reading::field_at))]
+    #[tactic(auto, unfolding(crate::specs::WireReading::field_at))]
     fn first(&self) -> Result<(Field<'a>, &'a [u8]), WireFault>
         ensures { Gives (λ x. (seen x.0, behind_of self.now x.1.now)) result (field_at self.now) }
     {

@@ -1,6 +1,6 @@
 //! Numbers of varying length.
 ghost use Rattle.std.specs.Prelude.{◌≡◌, ◌<◌, ◌%◌, ◌^◌, length, nat_lt, position, IfSome, IfOk};
-ghost use Rattle.proto_wire.specs.Reading.{Gives, varint_at, groups_value};
+ghost use Rattle.proto_wire.specs.WireReading.{Gives, varint_at, groups_value};
 
 use crate::fault::{CUT, LONG_VARINT, WireFault};
 
@@ -27,7 +27,7 @@ fn last_of(bytes: &[u8]) -> Option<usize>
 }
 
 /// The varint in front, and what is behind it. A fault is told of the record that begins at `at`.
-#[tactic(auto, unfolding(crate::specs::Reading::varint_at))]
+#[tactic(auto, unfolding(crate::specs::WireReading::varint_at))]
 pub fn varint_of(at: u32, bytes: &[u8]) -> Result<(u64, &[u8]), WireFault>
     ensures number { Gives (λ x. (x.0, x.1.now)) result (varint_at at bytes.now) }
     ensures shorter { IfOk result (λ x. length x.1.now < length bytes.now) }

@@ -4,8 +4,8 @@ use Rattle.std.proofs.lemmas.Bool.Decides.{nat_tests}
 use Rattle.std.proofs.lemmas.List.{append-nil}
 use Rattle.sd_base.specs.Reads.{◌>>=◌, GivesBy, FailsBy, many, with_front}
 use Rattle.atom_record.specs.declared.atom.Atom.{Atom}
-use Rattle.atom_record.specs.declared.parse.TheConstants.{MOST_BYTES}
-use Rattle.atom_record.specs.Reading.{id_at, entries_at, atom_at}
+use Rattle.atom_record.specs.declared.parse.TheConstants.{MAX_BYTES}
+use Rattle.atom_record.specs.AtomReading.{id_at, entries_at, atom_at}
 use Rattle.atom_record.specs.Sound.{HasNoFault}
 use Rattle.session_frames.specs.declared.body.BodyError.{BodyError}
 use Rattle.session_frames.specs.declared.body.BodyError.TheVariants.{Fault, Memory}
@@ -36,11 +36,11 @@ is_own id false (Ok found) own short e other = let same : found ≡ own = cc in 
 has_id : (id : ℕ) (bytes : List ℕ) (atom : Atom) → is_of_other id bytes ≡ false → atom_at bytes ≡ Ok atom → atom.id ≡ id
 unfolding atom_at
 has_id id bytes atom other read =
-    let short = other_branch (nat_lt MOST_BYTES (length bytes)) _ _ (Ok atom) (λ p. cc) read in
+    let short = other_branch (nat_lt MAX_BYTES (length bytes)) _ _ (Ok atom) (λ p. cc) read in
     let own = bound (id_at bytes) _ atom short.1 in
     let fields = bound (entries_at [] own.0.1) _ atom own.2 in
     let made : (let a : Atom = record { id = own.0.0; fields = fields.0 } in a) ≡ atom = cc (fields.2) in
-    ap (λ (a : Atom). a.id) (sym made) ∙ is_own id (nat_lt MOST_BYTES (length bytes)) (id_at bytes) own.0 short.0 own.1 other
+    ap (λ (a : Atom). a.id) (sym made) ∙ is_own id (nat_lt MAX_BYTES (length bytes)) (id_at bytes) own.0 short.0 own.1 other
 
 payload_good : (read : Result Atom ℕ) (atom : Atom) → of_payload read ≡ Ok atom → read ≡ Ok atom
 payload_good (Ok found) atom e = cc

@@ -7,7 +7,7 @@ use Rattle.sd_base.specs.Reads.{◌>>=◌, many}
 use Rattle.atom_record.specs.declared.log.LogFrame.TheVariants.{Tick, Pull}
 use Rattle.atom_record.specs.declared.log.PullOutcome.{PullOutcome}
 use Rattle.atom_record.specs.Id.{is_atom_id}
-use Rattle.atom_record.specs.Reading.{atom_at}
+use Rattle.atom_record.specs.AtomReading.{atom_at}
 use Rattle.session_frames.specs.declared.frame.Frame.{Frame}
 use Rattle.session_frames.specs.declared.frame.Frame.TheVariants.{Log, Install, Remove, Report}
 use Rattle.session_frames.specs.declared.frame.SessionFault.{SessionFault}

@@ -9,7 +9,7 @@ use Rattle.session_frames.specs.declared.frame.FrameError.TheVariants.{Session, 
 use Rattle.session_frames.specs.declared.frame.SessionFault.{SessionFault}
 use Rattle.session_frames.specs.declared.frame.SessionFault.TheVariants.{Cut, TooLong, BadLength, UnknownKind, BadBody, BadAtom, TimeBackwards, TooManyFrames}
 use Rattle.session_frames.specs.Frames.{most_input, clock_behind, size_at, next_frame, Next, Whole, Place, past}
-use Rattle.session_frames.specs.Reading.{Reading, IsDone, unread, Gives, Refuses, HasFault, IsFaultNext, IsWithin}
+use Rattle.session_frames.specs.Reader.{Reading, IsDone, unread, Gives, Refuses, HasFault, IsFaultNext, IsWithin}
 use Rattle.session_frames.specs.Bodies.{Fills, Judges}
 use Rattle.session_frames.proofs.FrameLaws.{IsWhole-from_next, whole_takes, next_not_too_many, next_ended}
 

@@ -4,7 +4,7 @@ use Rattle.sd_base.specs.Reads.{many}
 use Rattle.atom_record.specs.declared.log.LogFrame.TheVariants.{Tick, AtomAt, Pull}
 use Rattle.atom_record.specs.declared.log.PullOutcome.TheVariants.{Atoms, Failed}
 use Rattle.atom_record.specs.declared.value.Value.TheVariants.{Int}
-use Rattle.atom_record.specs.Reading.{atom_at, id_at, entries_in, entry_at, value_at}
+use Rattle.atom_record.specs.AtomReading.{atom_at, id_at, entries_in, entry_at, value_at}
 use Rattle.session_frames.specs.declared.frame.Frame.{Frame}
 use Rattle.session_frames.specs.declared.frame.Frame.TheVariants.{Log, Install, Remove, Report}
 use Rattle.session_frames.specs.declared.frame.SessionFault.TheVariants.{Cut, TooLong, BadLength, UnknownKind, BadBody, BadAtom, TimeBackwards}

@@ -9,7 +9,7 @@ use Rattle.session_frames.specs.declared.frame.FrameError.{FrameError}
 use Rattle.session_frames.specs.declared.frame.FrameError.TheVariants as failed
 use Rattle.session_frames.specs.declared.frame.SessionFault.{SessionFault}
 use Rattle.session_frames.specs.Frames.{HasSoundAtoms, Next, Ended, Broken, Whole, next_frame, past}
-use Rattle.session_frames.specs.Reading.{Reading, IsWithin}
+use Rattle.session_frames.specs.Reader.{Reading, IsWithin}
 
 -- the fault that an error names; want of memory names none
 abbrev pub fault_of : BodyError → Option SessionFault

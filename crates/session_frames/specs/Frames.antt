@@ -8,9 +8,9 @@ use Rattle.atom_record.specs.declared.log.LogFrame.{LogFrame}
 use Rattle.atom_record.specs.declared.log.LogFrame.TheVariants.{Tick, AtomAt, Pull}
 use Rattle.atom_record.specs.declared.log.PullOutcome.{PullOutcome}
 use Rattle.atom_record.specs.declared.log.PullOutcome.TheVariants.{Atoms, Failed}
-use Rattle.atom_record.specs.declared.parse.TheConstants.{MOST_BYTES}
+use Rattle.atom_record.specs.declared.parse.TheConstants.{MAX_BYTES}
 use Rattle.atom_record.specs.Id.{IsAtomId, is_atom_id}
-use Rattle.atom_record.specs.Reading.{id_at, atom_at}
+use Rattle.atom_record.specs.AtomReading.{id_at, atom_at}
 use Rattle.atom_record.specs.Sound.{HasNoFault}
 use Rattle.session_frames.specs.declared.frame.Frame.{Frame}
 use Rattle.session_frames.specs.declared.frame.Frame.TheVariants.{Log, Install, Remove, Report}
@@ -117,7 +117,7 @@ is_other id (Err reason) = false
 
 -- the payload isn't too long, and is that of an atom of another id
 abbrev pub is_of_other : ℕ → List ℕ → Bool
-is_of_other id bytes = not (nat_lt MOST_BYTES (length bytes)) && is_other id (id_at bytes)
+is_of_other id bytes = not (nat_lt MAX_BYTES (length bytes)) && is_other id (id_at bytes)
 
 -- the payload of an atom in a pull of this id: that it has another id is told before every fault of an entry
 abbrev pub pulled_atom : ℕ → List ℕ → Result Atom ℕ

@@ -1,5 +1,5 @@
 pub mod Frames
 pub mod Bodies
-pub mod Reading
+pub mod Reader
 pub mod Replies
 pub mod ReplyLayout

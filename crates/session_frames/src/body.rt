@@ -4,7 +4,7 @@ ghost use Rattle.std.specs.Int.{w16, w32, w64};
 ghost use Rattle.sd_base.specs.Reads.{GivesBy, many};
 ghost use Rattle.atom_record.specs.Id.{IsAtomId};
 ghost use Rattle.atom_record.specs.Sound.{HasNoFault};
-ghost use Rattle.atom_record.specs.Reading.{atom_at};
+ghost use Rattle.atom_record.specs.AtomReading.{atom_at};
 ghost use Rattle.session_frames.specs.Frames as frames;
 ghost use Rattle.session_frames.specs.Frames.{IsFaultless, IsInTime, IsPulledAtom, IsOutcome};
 ghost use Rattle.session_frames.specs.Bodies.{fault_of, HasSoundBody};
@@ -12,7 +12,7 @@ ghost use Rattle.session_frames.specs.Bodies.{fault_of, HasSoundBody};
 use crate::frame::{BAD_FLAG, LATE, LEFT_OVER, TOO_MANY_ATOMS, TOO_SHORT};
 use crate::{Frame, SessionFault};
 use atom_record::{
-    Atom, AtomFault, BAD_ID, LogFrame, MOST_BYTES, OTHER_ID, PullOutcome, is_atom_id, parse_atom,
+    Atom, AtomFault, BAD_ID, LogFrame, MAX_BYTES, OTHER_ID, PullOutcome, is_atom_id, parse_atom,
 };
 use sd_base::Seq;
 use std::alloc::{AllocError, Global};
@@ -24,7 +24,7 @@ const HOUR: u64 = 3_600_000_000_000;
 const NO_TIME: u64 = 1 << 63;
 
 // The most atoms of a recorded pull.
-const MOST_ATOMS: u16 = 200;
+const MAX_ATOMS: u16 = 200;
 
 // The kinds of frames.
 const TICK: u8 = 1;
@@ -163,12 +163,12 @@ fn read_atom(alloc: Global, body: &[u8]) -> Result<Frame, BodyError>
 }
 
 // Whether a payload that isn't too long begins with the id of another atom.
-#[tactic(auto, unfolding(atom_record::specs::Reading::id_at))]
+#[tactic(auto, unfolding(atom_record::specs::AtomReading::id_at))]
 fn is_of_other(id: u32, payload: &[u8]) -> bool
     ensures { result ≡ frames.is_of_other id payload.now }
 {
     match payload.split_first_chunk::<4>() {
-        Some((front, _)) if payload.len() <= MOST_BYTES => {
+        Some((front, _)) if payload.len() <= MAX_BYTES => {
             let own = u32::from_le_bytes(*front);
             is_atom_id(own) && own != id
         }
@@ -238,7 +238,7 @@ fn snapshot_at(alloc: Global, id: u32, bytes: &[u8]) -> Result<(Seq<Atom>, &[u8]
     ensures sound { IfOk result (λ x. IsOutcome id (PullOutcome.Atoms x.0)) }
 {
     let (count, rest) = u16_at(bytes)?;
-    if count > MOST_ATOMS {
+    if count > MAX_ATOMS {
         return Err(bad_body(TOO_MANY_ATOMS));
     }
     atoms_at(alloc, id, count, rest)

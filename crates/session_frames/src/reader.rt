@@ -3,7 +3,7 @@ ghost use Rattle.std.specs.Prelude.{◌≡◌, ◌<◌, ◌≤◌, length, vec_l
 ghost use Rattle.sd_io.specs.Causes.{Rose, Consumes, IsAtEnd};
 ghost use Rattle.session_frames.specs.Frames as frames;
 ghost use Rattle.session_frames.specs.Frames.{IsFaultless, IsInTime};
-ghost use Rattle.session_frames.specs.Reading.{unread, IsInStep, Gives, IsDone, Refuses};
+ghost use Rattle.session_frames.specs.Reader.{unread, IsInStep, Gives, IsDone, Refuses};
 ghost use Rattle.session_frames.specs.Bodies.{GivesNext, Fills, Judges};
 
 use crate::body::{BodyError, clock_behind, read_frame};
@@ -13,7 +13,7 @@ use std::alloc::{AllocError, Global};
 use std::marker::Model;
 
 // The most bytes of a frame behind its length.
-const MOST_BODY: u32 = 1 << 20;
+const MAX_BODY: u32 = 1 << 20;
 
 // What stands next in what is left: a frame and the bytes behind it, or nothing at the end.
 #[tactic(auto, unfolding(crate::specs::Frames::next_frame))]
@@ -32,7 +32,7 @@ fn next_in(alloc: Global, clock: u64, left: &[u8]) -> Result<Option<(Frame, &[u8
     if size == 0 {
         return Err(BodyError::Fault(SessionFault::BadLength));
     }
-    if size > MOST_BODY {
+    if size > MAX_BODY {
         return Err(BodyError::Fault(SessionFault::TooLong(size)));
     }
     let size = size as usize;
@@ -45,7 +45,7 @@ fn next_in(alloc: Global, clock: u64, left: &[u8]) -> Result<Option<(Frame, &[u8
 }
 
 // The most bytes of a session.
-const MOST_INPUT: usize = 1 << 30;
+const MAX_INPUT: usize = 1 << 30;
 
 // How many bytes are asked of a source at once.
 const PIECE: usize = 65_536;
@@ -96,9 +96,9 @@ fn read_all<S: Source>(alloc: Global, src: &mut S) -> Result<Vec<u8>, FrameError
             return Ok(bytes);
         }
         bytes.extend_from_slice(&piece[..count])?;
-        if bytes.len() > MOST_INPUT {
+        if bytes.len() > MAX_INPUT {
             return Err(FrameError::Session {
-                at: MOST_INPUT as u64,
+                at: MAX_INPUT as u64,
                 fault: SessionFault::TooManyFrames,
             });
         }
@@ -117,7 +117,7 @@ pub struct FrameReader {
 
 impl Model for FrameReader {
     ghost use Rattle.std.specs.Prelude.{drop};
-    ghost use Rattle.session_frames.specs.Reading.{Reading, IsHeld};
+    ghost use Rattle.session_frames.specs.Reader.{Reading, IsHeld};
 
     ghost Value = { Reading };
 

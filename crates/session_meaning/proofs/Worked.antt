@@ -8,7 +8,7 @@ use Rattle.session_frames.specs.declared.reply.ReplyBody.{ReplyBody}
 use Rattle.session_frames.specs.declared.reply.ReplyBody.TheVariants as answers
 use Rattle.session_frames.specs.declared.reply.Refusal.TheVariants.{Wire, Unsupported}
 use Rattle.proto_wire.specs.Spelling.{varint}
-use Rattle.proto_wire.specs.Reading.{walk_from, walk_in, inside_at, field_at, field_with, head_at, head_of, varint_at, taken_at}
+use Rattle.proto_wire.specs.WireReading.{walk_from, walk_in, inside_at, field_at, field_with, head_at, head_of, varint_at, taken_at}
 use Rattle.config_decode.specs.Walk.{walk_of, walk_in as all_levels}
 use Rattle.config_decode.specs.Config.{config_of}
 use Rattle.instance_meaning.specs.Report.{report_of}

@@ -13,7 +13,7 @@ use Rattle.session_frames.specs.declared.frame.FrameError.TheVariants as errors
 use Rattle.session_frames.specs.declared.frame.SessionFault.{SessionFault}
 use Rattle.session_frames.specs.declared.frame.SessionFault.TheVariants.{Cut, TooLong, BadLength, UnknownKind, BadBody, BadAtom, TimeBackwards, TooManyFrames}
 use Rattle.session_frames.specs.Frames.{most_input, clock_behind, Place, start, End, Clean, Bad, Reads, Begins, is_too_much, frames_of}
-use Rattle.session_frames.specs.Reading.{Reading, unread, IsInStep, IsWithin, Gives, IsFaultNext, IsTooMuch, Refuses}
+use Rattle.session_frames.specs.Reader.{Reading, unread, IsInStep, IsWithin, Gives, IsFaultNext, IsTooMuch, Refuses}
 use Rattle.session_frames.proofs.FrameLaws.{whole_takes, Begins-more, Begins-push, Reads-from_Begins, Begins_clock, Begins_bytes, some_reading, some_frames, one_frames, frames_of-Reads, frames_of-too_much, Begins-from_Reads, next_not_too_many}
 use Rattle.session_frames.specs.declared.reply.Reply.{Reply}
 use Rattle.session_frames.specs.Replies.{reply_bytes}

@@ -2,7 +2,7 @@
 ghost use Rattle.std.specs.Prelude.{◌≤◌, ◌<◌, ◌^◌, length};
 
 use super::trees::{nothing, reads_as};
-use config_decode::{DecodeFault, MOST_BYTES, decode};
+use config_decode::{DecodeFault, MAX_BYTES, decode};
 use config_types::Config;
 use proto_wire::Writer;
 use std::alloc::{AllocError, Global};
@@ -59,12 +59,12 @@ fn key_children(tree: &Config) -> usize {
 #[test]
 fn reads_262144_bytes_and_no_more(rt: HostRuntime) -> Result<(), Fail> {
     // Ids, which have no place in the tree.
-    let mut bytes = repeated(rt.alloc(), b"\x08\x01", MOST_BYTES / 2)?;
-    assert!(rt; bytes.len() == MOST_BYTES);
+    let mut bytes = repeated(rt.alloc(), b"\x08\x01", MAX_BYTES / 2)?;
+    assert!(rt; bytes.len() == MAX_BYTES);
     assert!(rt; reads_as(rt.alloc(), bytes.as_slice(), &nothing(rt.alloc())));
 
     bytes.push(0)?;
-    assert!(rt; bytes.len() == MOST_BYTES + 1);
+    assert!(rt; bytes.len() == MAX_BYTES + 1);
     assert!(rt; is_too_large(rt.alloc(), bytes.as_slice(), 262_145));
     Ok(())
 }
@@ -84,7 +84,7 @@ fn reads_a_field_matcher_of_131060_children(rt: HostRuntime) -> Result<(), Fail>
     let children = repeated(rt.alloc(), b"\x1a\0", 131_060)?;
     let count = in_field(rt.alloc(), 4, children.as_slice())?;
     let bytes = in_field(rt.alloc(), 3, count.as_slice())?;
-    assert!(rt; bytes.len() <= MOST_BYTES);
+    assert!(rt; bytes.len() <= MAX_BYTES);
     assert_eq!(rt; children_of(rt.alloc(), bytes.as_slice()), 131_060);
     Ok(())
 }
@@ -93,7 +93,7 @@ fn reads_a_field_matcher_of_131060_children(rt: HostRuntime) -> Result<(), Fail>
 fn joins_a_message_of_131060_records(rt: HostRuntime) -> Result<(), Fail> {
     let records = repeated(rt.alloc(), b"\x12\0", 131_060)?;
     let bytes = in_field(rt.alloc(), 7, records.as_slice())?;
-    assert!(rt; bytes.len() <= MOST_BYTES);
+    assert!(rt; bytes.len() <= MAX_BYTES);
     assert_eq!(rt; matchers_of(rt.alloc(), bytes.as_slice()), 1);
     Ok(())
 }

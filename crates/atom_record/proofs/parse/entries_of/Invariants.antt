@@ -2,7 +2,7 @@
 use Rattle.std.proofs.Common.{◌≡◌, [], length}
 use Rattle.std.specs.List.{list_any}
 use Rattle.atom_record.specs.Flags.{is_exclusive}
-use Rattle.atom_record.specs.Reading.{entries_at}
+use Rattle.atom_record.specs.AtomReading.{entries_at}
 use Rattle.atom_record.proofs.parse.entries_of.Given as goal
 
 abbrev pub invariant-loop-rest : goal.invariant-loop-rest

@@ -1,6 +1,6 @@
 -- A group's records are one level deeper; what is left of them leads to the same end.
 use Rattle.std.proofs.Common.{◌≡◌, ◌≤◌, length, ◌+◌, ◌-◌, ◌*◌}
-use Rattle.proto_wire.specs.Reading.{until_end, group_at}
+use Rattle.proto_wire.specs.WireReading.{until_end, group_at}
 use Rattle.proto_wire.proofs.group.+group.Given as goal
 
 abbrev pub decreases-field_of : goal.decreases-field_of

@@ -1,6 +1,6 @@
 -- The groups that were taken, from the high one down, make the value so far.
 use Rattle.std.proofs.Common.{◌≡◌, ◌%◌, ◌^◌, reverse, map}
-use Rattle.proto_wire.specs.Reading.{groups_value}
+use Rattle.proto_wire.specs.WireReading.{groups_value}
 use Rattle.proto_wire.proofs.varint.value_of.Given as goal
 
 abbrev pub invariant-loop-byte : goal.invariant-loop-byte

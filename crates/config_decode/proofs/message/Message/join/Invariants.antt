@@ -1,7 +1,7 @@
 -- The records so far and those that are left are all of them.
 use Rattle.std.proofs.Common.{◌≡◌, ◌++◌, length, map}
 use Rattle.proto_wire.specs.Fields.{seen}
-use Rattle.proto_wire.specs.Reading.{walk_from}
+use Rattle.proto_wire.specs.WireReading.{walk_from}
 use Rattle.config_decode.specs.Short.{AreShort}
 use Rattle.config_decode.specs.Values.{records_of}
 use Rattle.config_decode.proofs.message.Message.join.Given as goal

@@ -1,7 +1,7 @@
 -- The frame that was found stands next in what the reader holds, and what is behind it begins at the new place.
 use Rattle.std.proofs.Common.{◌-◌, length, drop, Ok, Some, IsTrue, sym, ap, ◌∙◌, subst}
 use Rattle.session_frames.specs.Frames.{Whole}
-use Rattle.session_frames.specs.Reading.{Reading}
+use Rattle.session_frames.specs.Reader.{Reading}
 use Rattle.session_frames.specs.Bodies.{Judges}
 use Rattle.session_frames.proofs.ReaderLemmas.{on_rest, rest_within, Judges-frame}
 use Rattle.session_frames.proofs.reader.FrameReader.judge.Goals as goal

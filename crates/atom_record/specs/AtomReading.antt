@@ -12,7 +12,7 @@ use Rattle.atom_record.specs.declared.value.Value.TheVariants as values
 use Rattle.atom_record.specs.declared.fault.AtomFault.{AtomFault}
 use Rattle.atom_record.specs.declared.fault.AtomFault.TheVariants.{Bad, Memory}
 use Rattle.atom_record.specs.declared.fault.TheConstants.{TOO_LONG, BAD_ID, CUT, BAD_PLACE, NOT_ABOVE, BAD_TYPE, BAD_FLAGS}
-use Rattle.atom_record.specs.declared.parse.TheConstants.{MOST_BYTES, ALL_FLAGS}
+use Rattle.atom_record.specs.declared.parse.TheConstants.{MAX_BYTES, ALL_FLAGS}
 use Rattle.atom_record.specs.declared.parse.Place.{Place}
 use Rattle.atom_record.specs.declared.parse.Kind.{Kind}
 use Rattle.atom_record.specs.declared.parse.Kind.TheVariants as kinds
@@ -125,5 +125,5 @@ id_at bytes =
 -- a whole payload
 unfoldable pub atom_at : List ℕ → Result Atom ℕ
 atom_at bytes =
-    if nat_lt MOST_BYTES (length bytes) then Err TOO_LONG
+    if nat_lt MAX_BYTES (length bytes) then Err TOO_LONG
     else (id_at bytes >>= λ id. entries_at [] id.1 >>= λ fields. Ok (record { id = id.0; fields = fields }))
