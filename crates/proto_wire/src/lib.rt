@@ -4,8 +4,8 @@
 mod fault;
 mod field;
 mod group;
-mod head;
 mod records;
+mod tag;
 mod varint;
 mod writer;
 
