@@ -9,7 +9,7 @@ use Rattle.std.proofs.lemmas.List.{length-append}
 use Rattle.std.proofs.Math.Seq.{take-append_seam}
 use Rattle.sd_base.specs.Reads.{◌>>=◌}
 use Rattle.proto_wire.specs.declared.fault.WireFault.{WireFault}
-use Rattle.proto_wire.specs.WireCauses.{cause_cut, cause_too_deep}
+use Rattle.proto_wire.specs.WireCauses.{cause_cut}
 use Rattle.proto_wire.specs.declared.tag.Tag.{Tag}
 use Rattle.proto_wire.specs.declared.tag.WireType.{WireType}
 use Rattle.proto_wire.specs.declared.tag.WireType.TheVariants as wire
@@ -227,7 +227,3 @@ pub group_at-open : (end levels number at : ℕ) (bytes : List ℕ) → 0 < leve
 unfolding group_at
 group_at-open end zero number at bytes some = absurd (omega arith)
 group_at-open end (suc levels) number at bytes some = let is : suc levels - 1 ≡ levels = omega arith in rw is refl
-
-pub group_at-closed : (end number at : ℕ) (bytes : List ℕ) → group_at end 0 number at bytes ≡ Err (fault_at at cause_too_deep)
-unfolding group_at
-group_at-closed end number at bytes = refl

@@ -52,7 +52,8 @@ unfolding walk_from walk_turns field_at tag_at tag_of varint_at field_with taken
 group_read = refl
 
 -- a varint of ten bytes whose last has its high bit set
-long_varint : fields_of (128 ∷ 128 ∷ 128 ∷ 128 ∷ 128 ∷ 128 ∷ 128 ∷ 128 ∷ 128 ∷ 128 ∷ []) ≡ Err (fault_at 0 cause_long_varint)
+long_varint : fields_of (128 ∷ 128 ∷ 128 ∷ 128 ∷ 128 ∷ 128 ∷ 128 ∷ 128 ∷ 128 ∷ 128 ∷ [])
+    ≡ Err (fault_at 0 cause_long_varint)
 unfolding walk_from walk_turns field_at tag_at tag_of varint_at field_with
 long_varint = refl
 

@@ -5,7 +5,7 @@ use Rattle.std.specs.Prelude.{◌≡◌, ℕ, zero, suc, ◌+◌, ◌-◌, ◌*�
 use Rattle.std.specs.Option.{ok_or}
 use Rattle.std.specs.Int.{Width, w32, w64}
 use Rattle.sd_base.specs.Reads.{◌>>=◌}
-use Rattle.sd_base.specs.Numbers.{first_bytes, first_number}
+use Rattle.sd_base.specs.Numbers.{front_bytes, front_number}
 use Rattle.proto_wire.specs.declared.fault.WireFault.{WireFault}
 use Rattle.proto_wire.specs.declared.tag.Tag.{Tag}
 use Rattle.proto_wire.specs.declared.tag.WireType.{WireType}
@@ -34,11 +34,11 @@ varint_at at bytes = varint_to at bytes (position (λ byte. nat_lt byte 128) (ta
 
 -- so many bytes
 unfoldable pub taken_at : ℕ → ℕ → List ℕ → Result (List ℕ × List ℕ) WireFault
-taken_at at count bytes = ok_or (first_bytes count bytes) (fault_at at cause_cut)
+taken_at at count bytes = ok_or (front_bytes count bytes) (fault_at at cause_cut)
 
 -- a number of this width, its low byte first
 abbrev pub fixed_at : Width → ℕ → List ℕ → Result (ℕ × List ℕ) WireFault
-fixed_at width at bytes = ok_or (first_number width bytes) (fault_at at cause_cut)
+fixed_at width at bytes = ok_or (front_number width bytes) (fault_at at cause_cut)
 
 abbrev pub tag_with : ℕ → ℕ → Option WireType → Result Tag WireFault
 tag_with at number None = Err (fault_at at cause_unknown_wire_type)
@@ -137,8 +137,9 @@ rest_with rest bytes = record { bytes = bytes; at = rest.at + length rest.bytes 
 unfoldable pub field_at : Rest → Result (FieldOf × Rest) WireFault
 field_at rest =
     let end = rest.at + length rest.bytes in
+    let levels = most_depth - rest.depth in
     tag_at rest.at rest.bytes >>= λ tag.
-    field_with (group_at end (most_depth - rest.depth)) end rest.at tag.0.number tag.0.wire_type tag.1 >>= λ field.
+    field_with (group_at end levels) end rest.at tag.0.number tag.0.wire_type tag.1 >>= λ field.
     Ok (field.0, rest_with rest field.1)
 
 -- What a call for the next field answers, by what is read: a field and what is left then, the end, or the first fault.

@@ -28,7 +28,8 @@ fn varint_field<'a>(
     end: u32,
 ) -> Result<(Field<'a>, &'a [u8]), WireFault>
     requires { length bytes.now ≤ end }
-    ensures field { GivesBy Some (λ x. (seen x.0, x.1.now)) result (varint_record end at number bytes.now) }
+    ensures field { GivesBy Some (λ x. (seen x.0, x.1.now)) result
+        (varint_record end at number bytes.now) }
     ensures shorter { IfOk result (λ x. length x.1.now ≤ length bytes.now) }
 {
     let payload_at = end - bytes.len() as u32;
@@ -53,7 +54,8 @@ fn fixed64_field<'a>(
     end: u32,
 ) -> Result<(Field<'a>, &'a [u8]), WireFault>
     requires { length bytes.now ≤ end }
-    ensures field { GivesBy Some (λ x. (seen x.0, x.1.now)) result (fixed64_record end at number bytes.now) }
+    ensures field { GivesBy Some (λ x. (seen x.0, x.1.now)) result
+        (fixed64_record end at number bytes.now) }
     ensures shorter { IfOk result (λ x. length x.1.now ≤ length bytes.now) }
 {
     let payload_at = end - bytes.len() as u32;
@@ -78,7 +80,8 @@ fn bytes_field<'a>(
     end: u32,
 ) -> Result<(Field<'a>, &'a [u8]), WireFault>
     requires { length bytes.now ≤ end }
-    ensures field { GivesBy Some (λ x. (seen x.0, x.1.now)) result (bytes_record end at number bytes.now) }
+    ensures field { GivesBy Some (λ x. (seen x.0, x.1.now)) result
+        (bytes_record end at number bytes.now) }
     ensures shorter { IfOk result (λ x. length x.1.now ≤ length bytes.now) }
 {
     let (count, counted) = varint_of(at, bytes)?;
@@ -104,7 +107,8 @@ fn fixed32_field<'a>(
     end: u32,
 ) -> Result<(Field<'a>, &'a [u8]), WireFault>
     requires { length bytes.now ≤ end }
-    ensures field { GivesBy Some (λ x. (seen x.0, x.1.now)) result (fixed32_record end at number bytes.now) }
+    ensures field { GivesBy Some (λ x. (seen x.0, x.1.now)) result
+        (fixed32_record end at number bytes.now) }
     ensures shorter { IfOk result (λ x. length x.1.now ≤ length bytes.now) }
 {
     let payload_at = end - bytes.len() as u32;
@@ -187,7 +191,8 @@ fn group_of<'a>(
     levels: u32,
 ) -> Result<(&'a [u8], &'a [u8]), WireFault>
     requires { length bytes.now ≤ end }
-    ensures ended { GivesBy Some (λ x. (x.0.now, x.1.now)) result (group_at end levels number at bytes.now) }
+    ensures ended { GivesBy Some (λ x. (x.0.now, x.1.now)) result
+        (group_at end levels number at bytes.now) }
     ensures whole { IfOk result (λ x. length x.0.now ≤ length bytes.now) }
     ensures shorter { IfOk result (λ x. length x.1.now ≤ length x.0.now) }
 {
@@ -198,7 +203,7 @@ fn group_of<'a>(
     while !rest.is_empty() {
         let here = end - rest.len() as u32;
         let (tag, after) = next_tag(here, rest)?;
-        if tag.ends(number) {
+        if tag.is_end_of(number) {
             return Ok((rest, after));
         }
         let (_, after) = field_of(tag, here, after, end, levels - 1)?;

@@ -66,7 +66,8 @@ impl<'a> Records<'a> {
 
         // One step of a walk.
         ensures walk { walk_from self.old ≡ walk_by result self.new }
-        ensures step { IfOk result (λ found. IfSome found (λ f. StepsOver self.old (seen f) self.new)) }
+        ensures step { IfOk result
+            (λ found. IfSome found (λ f. StepsOver self.old (seen f) self.new)) }
     {
         if self.bytes.is_empty() {
             return Ok(None);
@@ -99,7 +100,8 @@ impl<'a> Records<'a> {
     // The field in front, and what is after it.
     #[tactic(auto, unfolding(crate::specs::WireReading::field_at))]
     fn first(&self) -> Result<(Field<'a>, &'a [u8]), WireFault>
-        ensures { GivesBy Some (λ x. (seen x.0, rest_with self.now x.1.now)) result (field_at self.now) }
+        ensures { GivesBy Some (λ x. (seen x.0, rest_with self.now x.1.now)) result
+            (field_at self.now) }
     {
         let at = self.end - self.bytes.len() as u32;
         let (tag, after) = next_tag(at, self.bytes)?;

@@ -1,12 +1,12 @@
 -- Lemmas on `specs/Numbers.antt`, for callers: what is read in front is spelled so, and what is spelled is read again.
-use Rattle.std.proofs.Common.{◌≡◌, ℕ, suc, ◌+◌, ◌^◌, ◌≤◌, ◌<◌, false, List, [], ◌∷◌, ◌++◌, length, get_or, take, drop, Option, None, Some, refl, sym, ap, subst, ◌∙◌, append_assoc, arith, inl, inr}
+use Rattle.std.proofs.Common.{◌≡◌, ℕ, suc, ◌+◌, ◌^◌, ◌≤◌, ◌<◌, false, List, ◌∷◌, ◌++◌, length, get_or, take, drop, Option, None, Some, refl, sym, ap, subst, ◌∙◌, append_assoc, arith, inl, inr}
 use Rattle.std.specs.Prelude.{nat_lt}
 use Rattle.std.specs.Option.{option_and_then}
 use Rattle.std.specs.Int.{Width, w16, w32, w64, byte_len, from_le_bytes, to_le_bytes}
 use Rattle.std.proofs.lemmas.Bool.{cases_lt, ltb-false, le-ltb}
 use Rattle.std.proofs.lemmas.List.{take_at, drop_at, take-append-drop, length-append, length-take, get_or-drop, get_or-take, get_or_past}
 use Rattle.std.proofs.lemmas.Nat.{le_bytes_2, le_bytes_4, le_bytes_8, from_le_bytes-to_le_bytes_2, from_le_bytes-to_le_bytes_4, from_le_bytes-to_le_bytes_8}
-use Rattle.sd_base.specs.Numbers.{first_bytes, first_number, first_counted}
+use Rattle.sd_base.specs.Numbers.{front_bytes, front_number, front_counted}
 use Rattle.sd_base.proofs.ReadsLemmas.{choice-second}
 
 -- each number is a byte
@@ -80,10 +80,10 @@ wide64 = record {
 }
 
 -- what is read in front stands there, and as many bytes as were asked for
-pub first_bytes-takes : (count : ℕ) (bytes : List ℕ) (x : List ℕ × List ℕ) → IsBytes bytes
-    → first_bytes count bytes ≡ Some x
+pub front_bytes-takes : (count : ℕ) (bytes : List ℕ) (x : List ℕ × List ℕ) → IsBytes bytes
+    → front_bytes count bytes ≡ Some x
     → Takes bytes x.0 x.1 × (length x.0 ≡ count) × IsBytes x.0
-first_bytes-takes count bytes x fits read =
+front_bytes-takes count bytes x fits read =
     let there = choice-second (nat_lt (length bytes) count) None (Some (take count bytes, drop count bytes)) (Some x)
     (λ e. cc e) read in
     let long : count ≤ length bytes = ltb-false _ _ there.0 in
@@ -95,8 +95,8 @@ first_bytes-takes count bytes x fits read =
     )
 
 -- bytes in front are read, whatever stands after them
-pub first_bytes-again : (front rest : List ℕ) → first_bytes (length front) (front ++ rest) ≡ Some (front, rest)
-first_bytes-again front rest =
+pub front_bytes-again : (front rest : List ℕ) → front_bytes (length front) (front ++ rest) ≡ Some (front, rest)
+front_bytes-again front rest =
     let long : nat_lt (length (front ++ rest)) (length front) ≡ false = le-ltb _ _ (omega (
       arith,
       length-append front rest,
@@ -105,10 +105,10 @@ first_bytes-again front rest =
 
 module _ (width : Width) (limit : ℕ) (wide : IsWide width limit) where
   -- a number that is read is below the limit, and stands spelled in front
-  pub first_number-takes : (bytes : List ℕ) (x : ℕ × List ℕ) → IsBytes bytes
-      → first_number width bytes ≡ Some x
+  pub front_number-takes : (bytes : List ℕ) (x : ℕ × List ℕ) → IsBytes bytes
+      → front_number width bytes ≡ Some x
       → Takes bytes (to_le_bytes width x.0) x.1 × (x.0 < limit)
-  first_number-takes bytes x fits read =
+  front_number-takes bytes x fits read =
       let size = byte_len width in
       let value = from_le_bytes width (take size bytes) in
       let there = choice-second (nat_lt (length bytes) size) None (Some (value, drop size bytes)) (Some x)
@@ -125,9 +125,9 @@ module _ (width : Width) (limit : ℕ) (wide : IsWide width limit) where
       )
 
   -- a spelled number is read again, whatever stands after it
-  pub first_number-again : (n : ℕ) (rest : List ℕ) → n < limit
-      → first_number width (to_le_bytes width n ++ rest) ≡ Some (n, rest)
-  first_number-again n rest below =
+  pub front_number-again : (n : ℕ) (rest : List ℕ) → n < limit
+      → front_number width (to_le_bytes width n ++ rest) ≡ Some (n, rest)
+  front_number-again n rest below =
       let len = wide.len n in
       let long : nat_lt (length (to_le_bytes width n ++ rest)) (byte_len width) ≡ false = le-ltb _ _ (omega (
         arith,
@@ -148,13 +148,13 @@ and_then-some None next y e = absurd cc
 and_then-some (Some x) next y e = (x, refl, e)
 
 -- counted bytes that are read stand in front after their count, which has two bytes
-pub first_counted-takes : (bytes : List ℕ) (x : List ℕ × List ℕ) → IsBytes bytes
-    → first_counted bytes ≡ Some x
+pub front_counted-takes : (bytes : List ℕ) (x : List ℕ × List ℕ) → IsBytes bytes
+    → front_counted bytes ≡ Some x
     → Takes bytes (to_le_bytes w16 (length x.0) ++ x.0) x.1 × (length x.0 < 2 ^ 16) × IsBytes x.0
-first_counted-takes bytes x fits read =
-    let step = and_then-some (first_number w16 bytes) (λ c. first_bytes c.0 c.1) x read in
-    let count = first_number-takes w16 (2 ^ 16) wide16 bytes step.0 fits step.1 in
-    let text = first_bytes-takes step.0.0 step.0.1 x count.0.fits step.2 in
+front_counted-takes bytes x fits read =
+    let step = and_then-some (front_number w16 bytes) (λ c. front_bytes c.0 c.1) x read in
+    let count = front_number-takes w16 (2 ^ 16) wide16 bytes step.0 fits step.1 in
+    let text = front_bytes-takes step.0.0 step.0.1 x count.0.fits step.2 in
     let both = Takes-then bytes (to_le_bytes w16 step.0.0) step.0.1 x.0 x.1 count.0 text.0 in (
       subst (λ (n : ℕ). Takes bytes (to_le_bytes w16 n ++ x.0) x.1) (sym text.1) both,
       omega (arith, count.1, text.1),
@@ -162,10 +162,10 @@ first_counted-takes bytes x fits read =
     )
 
 -- counted bytes are read again, whatever stands after them
-pub first_counted-again : (text rest : List ℕ) → length text < 2 ^ 16
-    → first_counted ((to_le_bytes w16 (length text) ++ text) ++ rest) ≡ Some (text, rest)
-first_counted-again text rest below =
-    ap first_counted (append_assoc (to_le_bytes w16 (length text)) text rest)
-    ∙ ap (option_and_then (λ (c : ℕ × List ℕ). first_bytes c.0 c.1)) (first_number-again w16 (2 ^ 16) wide16
+pub front_counted-again : (text rest : List ℕ) → length text < 2 ^ 16
+    → front_counted ((to_le_bytes w16 (length text) ++ text) ++ rest) ≡ Some (text, rest)
+front_counted-again text rest below =
+    ap front_counted (append_assoc (to_le_bytes w16 (length text)) text rest)
+    ∙ ap (option_and_then (λ (c : ℕ × List ℕ). front_bytes c.0 c.1)) (front_number-again w16 (2 ^ 16) wide16
     (length text) (text ++ rest) below)
-    ∙ first_bytes-again text rest
+    ∙ front_bytes-again text rest

@@ -1,4 +1,4 @@
--- Lemmas on `specs/Reads.antt`, for callers: readings one after another, choices in a reading, and loops that read so many.
+-- Lemmas on `specs/Reads.antt`, for callers: readings one after another, choices in a reading, loops that read so many.
 use Rattle.std.proofs.Common.{◌≡◌, ℕ, zero, suc, ◌+◌, ◌-◌, ◌<◌, ◌≤◌, Bool, true, false, List, [], ◌∷◌, ◌++◌, Option, None, Some, Result, Ok, Err, refl, sym, ap, ◌∙◌, append_assoc, arith, inl, inr, ◌⊎◌}
 use Rattle.std.proofs.lemmas.List.{append-nil}
 use Rattle.std.specs.Prelude.{if◌then◌else◌}
@@ -39,8 +39,8 @@ bind-agree (Ok x) next other P told same = same x told
 bind-agree (Err fault) next other P told same = refl
 
 -- what the call answers is what the definition reads, where both put a fault in the place of what isn't there
-pub GivesBy-ok_or : {X Y E F : Type 0} (fault_of : E → Option F) (view : X → Y) (found : Option X) (e : E) (read : Option Y)
-    (fault : F)
+pub GivesBy-ok_or : {X Y E F : Type 0} (fault_of : E → Option F) (view : X → Y) (found : Option X) (e : E)
+    (read : Option Y) (fault : F)
     → option_map view found ≡ read
     → fault_of e ≡ Some fault
     → GivesBy fault_of view (ok_or found e) (ok_or read fault)

@@ -5,17 +5,17 @@ use Rattle.std.specs.Option.{option_and_then}
 use Rattle.std.specs.Int.{Width, byte_len, w16, from_le_bytes}
 
 -- so many bytes
-abbrev pub first_bytes : ℕ → List ℕ → Option (List ℕ × List ℕ)
-first_bytes count bytes =
+abbrev pub front_bytes : ℕ → List ℕ → Option (List ℕ × List ℕ)
+front_bytes count bytes =
     if nat_lt (length bytes) count then None
     else Some (take count bytes, drop count bytes)
 
 -- a number of this width, its low byte first
-abbrev pub first_number : Width → List ℕ → Option (ℕ × List ℕ)
-first_number width bytes =
+abbrev pub front_number : Width → List ℕ → Option (ℕ × List ℕ)
+front_number width bytes =
     if nat_lt (length bytes) (byte_len width) then None
     else Some (from_le_bytes width (take (byte_len width) bytes), drop (byte_len width) bytes)
 
 -- a count in two bytes, and so many bytes
-abbrev pub first_counted : List ℕ → Option (List ℕ × List ℕ)
-first_counted bytes = option_and_then (λ count. first_bytes count.0 count.1) (first_number w16 bytes)
+abbrev pub front_counted : List ℕ → Option (List ℕ × List ℕ)
+front_counted bytes = option_and_then (λ count. front_bytes count.0 count.1) (front_number w16 bytes)

@@ -17,11 +17,11 @@ group_of-returns-in_err-tag-clause-ended t c =
     c.loop-rest.rest.now (omega arith) c.loop-rest.invariant.leads _
     (some c.loop-rest.rest.now c.loop-rest-test.ensures) c.in_err-tag.ensures.tag)
 
-pub group_of-returns-then-ends-clause-ended : goal.group_of-returns-then-ends-clause-ended
-group_of-returns-then-ends-clause-ended t c =
+pub group_of-returns-then-is_end_of-clause-ended : goal.group_of-returns-then-is_end_of-clause-ended
+group_of-returns-then-is_end_of-clause-ended t c =
     reading.its_end c.args.end c.args.levels c.args.number c.args.at c.args.bytes.now c.loop-rest.rest.now
     (omega arith) c.loop-rest.invariant.leads _ _
-    (some c.loop-rest.rest.now c.loop-rest-test.ensures) c.in_ok-tag.ensures.tag (sym c.if-ends.ensures)
+    (some c.loop-rest.rest.now c.loop-rest-test.ensures) c.in_ok-tag.ensures.tag (sym c.if-is_end_of.ensures)
 
 pub group_of-returns-in_err-after-clause-ended : goal.group_of-returns-in_err-after-clause-ended
 group_of-returns-in_err-after-clause-ended t c =
@@ -29,7 +29,7 @@ group_of-returns-in_err-after-clause-ended t c =
     rw (p.1, p.2) (reading.bad_field c.args.end c.args.levels c.args.number c.args.at c.args.bytes.now
     c.loop-rest.rest.now (omega arith) c.loop-rest.invariant.leads _ _ _
     (some c.loop-rest.rest.now c.loop-rest-test.ensures) c.in_ok-tag.ensures.tag
-    (sym c.if-ends.ensures) c.in_err-after.ensures.field)
+    (sym c.if-is_end_of.ensures) c.in_err-after.ensures.field)
 
 pub group_of-loop-rest-preserved : goal.group_of-loop-rest-preserved
 group_of-loop-rest-preserved t c = record {
@@ -37,11 +37,10 @@ group_of-loop-rest-preserved t c = record {
   leads = reading.leads_on c.args.end c.args.levels c.args.number c.args.at c.args.bytes.now c.loop-rest.rest.now
       (omega arith) c.loop-rest.invariant.leads _ _ _ _
       (some c.loop-rest.rest.now c.loop-rest-test.ensures) c.in_ok-tag.ensures.tag
-      (sym c.if-ends.ensures) c.in_ok-after.ensures.field;
+      (sym c.if-is_end_of.ensures) c.in_ok-after.ensures.field;
 }
 
 pub group_of-returns-clause-ended : goal.group_of-returns-clause-ended
 group_of-returns-clause-ended t c =
-    rw c.fault-2.ensures (reading.cut c.args.end c.args.levels c.args.number c.args.at c.args.bytes.now c.loop-rest.rest.now
-    (omega arith) c.loop-rest.invariant.leads
-    (eqb-true _ _ (sym c.loop-rest-test.ensures)))
+    rw c.fault-2.ensures (reading.cut c.args.end c.args.levels c.args.number c.args.at c.args.bytes.now
+    c.loop-rest.rest.now (omega arith) c.loop-rest.invariant.leads (eqb-true _ _ (sym c.loop-rest-test.ensures)))
