@@ -33,7 +33,7 @@ impl fmt::Display for WireFault {
     fn fmt<W: fmt::Write>(&self, f: &mut fmt::Formatter<W>) -> fmt::Result {
         write!(
             f,
-            "the record at byte {} is no field, by cause {}",
+            "the record at byte {} can't be read, by cause {}",
             self.offset, self.cause
         )
     }

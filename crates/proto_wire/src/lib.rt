@@ -18,5 +18,3 @@ pub use records::Records;
 pub use varint::varint_of;
 pub use writer::Writer;
 
-#[cfg(test)]
-mod tests;
