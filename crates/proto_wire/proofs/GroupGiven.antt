@@ -30,22 +30,22 @@ regroup tag count payload records after = simp append_assoc
 module _ (IsGroupOf : ℕ → List ℕ → List ℕ → Type 0) (inside : Inside) (groups : GivesGroups IsGroupOf inside)
     (end : ℕ) where
   -- one turn over a field
-  over_field : (turns number at : ℕ) (bytes : List ℕ) (head : Tag) (after left : List ℕ) (field : FieldOf)
+  over_field : (turns number at : ℕ) (bytes : List ℕ) (tag : Tag) (after left : List ℕ) (field : FieldOf)
       → 0 < length bytes
-      → tag_at (end - length bytes) bytes ≡ Ok (head, after) → ends number head ≡ false
-      → field_with inside end (end - length bytes) head.number head.wire_type after ≡ Ok (field, left)
+      → tag_at (end - length bytes) bytes ≡ Ok (tag, after) → ends number tag ≡ false
+      → field_with inside end (end - length bytes) tag.number tag.wire_type after ≡ Ok (field, left)
       → until_end inside end (suc turns) number at bytes ≡ until_end inside end turns number at left
   unfolding until_end
-  over_field turns number at bytes head after left field some tag_is stays field_is =
+  over_field turns number at bytes tag after left field some tag_is stays field_is =
       let full : (length bytes == 0) ≡ false = ne_eqb _ _ (λ none. absurd (omega (arith, none))) in
       rw (full, tag_is, stays, field_is) refl
 
   -- one turn over the group's end
-  at_end : (turns number at : ℕ) (bytes : List ℕ) (head : Tag) (after : List ℕ) → 0 < length bytes
-      → tag_at (end - length bytes) bytes ≡ Ok (head, after) → ends number head ≡ true
+  at_end : (turns number at : ℕ) (bytes : List ℕ) (tag : Tag) (after : List ℕ) → 0 < length bytes
+      → tag_at (end - length bytes) bytes ≡ Ok (tag, after) → ends number tag ≡ true
       → until_end inside end (suc turns) number at bytes ≡ Ok (bytes, after)
   unfolding until_end
-  at_end turns number at bytes head after some tag_is closes =
+  at_end turns number at bytes tag after some tag_is closes =
       let full : (length bytes == 0) ≡ false = ne_eqb _ _ (λ none. absurd (omega (arith, none))) in
       rw (full, tag_is, closes) refl
 

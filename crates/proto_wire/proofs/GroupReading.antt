@@ -39,12 +39,12 @@ group_end_is wire.GroupStart closes = absurd (false≢true closes)
 group_end_is wire.Fixed32 closes = absurd (false≢true closes)
 
 -- a tag that ends the group
-end_tag : (tag : List ℕ) (number : ℕ) (head : Tag) → ends number head ≡ true → IsTag tag head.number head.wire_type
-    → IsTag tag number wire.GroupEnd
-end_tag tag number head closes tagged =
-    let both = and_parts (is_group_end head.wire_type) (head.number == number) closes in
-    subst (λ n. IsTag tag n wire.GroupEnd) (eqb-true head.number number both.1) (subst (IsTag tag head.number)
-    (group_end_is head.wire_type both.0) tagged)
+end_tag : (bytes : List ℕ) (number : ℕ) (tag : Tag) → ends number tag ≡ true → IsTag bytes tag.number tag.wire_type
+    → IsTag bytes number wire.GroupEnd
+end_tag bytes number tag closes tagged =
+    let both = and_parts (is_group_end tag.wire_type) (tag.number == number) closes in
+    subst (λ n. IsTag bytes n wire.GroupEnd) (eqb-true tag.number number both.1) (subst (IsTag bytes tag.number)
+    (group_end_is tag.wire_type both.0) tagged)
 
 regroup : (tag count payload records after : List ℕ) → tag ++ (count ++ (payload ++ (records ++ after))) ≡ ((tag ++
     (count ++ payload)) ++ records) ++ after
@@ -53,29 +53,29 @@ regroup tag count payload records after = simp append_assoc
 module _ (IsGroupOf : ℕ → List ℕ → List ℕ → Type 0) (inside : Inside) (groups : ReadsGroups IsGroupOf inside)
     (end : ℕ) where
   -- one record, and then others
-  one_more : (number at : ℕ) (bytes : List ℕ) (head : Tag × List ℕ) (field : FieldOf × List ℕ) (read : List ℕ × List ℕ)
-      → TagRead bytes head → FieldRead IsGroupOf end at head.0.number head.0.wire_type head.1 field
+  one_more : (number at : ℕ) (bytes : List ℕ) (tag : Tag × List ℕ) (field : FieldOf × List ℕ) (read : List ℕ × List ℕ)
+      → TagRead bytes tag → FieldRead IsGroupOf end at tag.0.number tag.0.wire_type tag.1 field
       → EndRead IsGroupOf number field.1 read
       → EndRead IsGroupOf number bytes read
-  one_more number at bytes head field read tag body others =
-      let piece : List ℕ = tag.tag ++ (body.count ++ body.payload) in
+  one_more number at bytes tag field read there body others =
+      let piece : List ℕ = there.front ++ (body.count ++ body.payload) in
       record {
         records = piece ∷ others.records;
         last = others.last;
-        parts = tag.parts ∙ ap (λ l. tag.tag ++ l) (body.parts ∙ ap (λ l. body.count ++
+        parts = there.parts ∙ ap (λ l. there.front ++ l) (body.parts ∙ ap (λ l. body.count ++
             (body.payload ++ l)) others.parts)
-            ∙ regroup tag.tag body.count body.payload (concat others.records) read.0;
+            ∙ regroup there.front body.count body.payload (concat others.records) read.0;
         end_parts = others.end_parts;
         each = (
           record {
-            number = head.0.number;
+            number = tag.0.number;
             body = field.0.body;
-            tag = tag.tag;
+            tag = there.front;
             count = body.count;
             payload = body.payload;
             parts = refl;
             laid_out = record {
-              tagged = subst (IsTag tag.tag head.0.number) (sym body.laid_out) tag.tagged;
+              tagged = subst (IsTag there.front tag.0.number) (sym body.laid_out) there.tagged;
               counted = body.counted;
               filled = body.filled;
             };
@@ -95,22 +95,22 @@ module _ (IsGroupOf : ℕ → List ℕ → List ℕ → Type 0) (inside : Inside
       let P : Result (List ℕ × List ℕ) WireFault → Type 0 = λ r. IfOk r (EndRead IsGroupOf number bytes) in
       choice-holds P (length bytes == 0) _ _ (λ _. tt) (λ _.
       IfOk-bind (tag_at here bytes) _ (TagRead bytes) (EndRead IsGroupOf number bytes) (tag_at-read here bytes)
-      (λ head tag.
-      choice-holds P (ends number head.0) _ _
+      (λ tag there.
+      choice-holds P (ends number tag.0) _ _
       (λ closes. record {
         records = [];
-        last = tag.tag;
+        last = there.front;
         parts = refl;
-        end_parts = tag.parts;
+        end_parts = there.parts;
         each = tt;
-        ended = end_tag tag.tag number head.0 closes tag.tagged;
+        ended = end_tag there.front number tag.0 closes there.tagged;
       })
-      (λ _. IfOk-bind (field_with inside end here head.0.number head.0.wire_type head.1) _
-      (FieldRead IsGroupOf end here head.0.number head.0.wire_type head.1) (EndRead IsGroupOf number bytes)
-      (field_with-read IsGroupOf inside groups end here head.0.number head.0.wire_type head.1) (λ field body.
+      (λ _. IfOk-bind (field_with inside end here tag.0.number tag.0.wire_type tag.1) _
+      (FieldRead IsGroupOf end here tag.0.number tag.0.wire_type tag.1) (EndRead IsGroupOf number bytes)
+      (field_with-read IsGroupOf inside groups end here tag.0.number tag.0.wire_type tag.1) (λ field body.
       IfOk-weaker (until_end inside end turns number at field.1) (EndRead IsGroupOf number field.1)
       (EndRead IsGroupOf number bytes)
-      (λ read others. one_more number here bytes head field read tag body others)
+      (λ read others. one_more number here bytes tag field read there body others)
       (until_end-read turns number at field.1)))))
 
 -- what stands before the end of a list
@@ -147,14 +147,14 @@ group_at-read end (suc levels) number at bytes =
 
 -- a field leaves less than there was before its tag
 pub field-shorter : (IsGroupOf : ℕ → List ℕ → List ℕ → Type 0) (end at number : ℕ) (wire_type : WireType)
-    (bytes : List ℕ) (head : Tag × List ℕ) (field : FieldOf × List ℕ)
-    → TagRead bytes head → FieldRead IsGroupOf end at number wire_type head.1 field → length field.1 < length bytes
-field-shorter IsGroupOf end at number wire_type bytes head field tag body =
+    (bytes : List ℕ) (tag : Tag × List ℕ) (field : FieldOf × List ℕ)
+    → TagRead bytes tag → FieldRead IsGroupOf end at number wire_type tag.1 field → length field.1 < length bytes
+field-shorter IsGroupOf end at number wire_type bytes tag field there body =
     omega (
       arith,
-      tag.tagged.spelled.some,
-      ap length tag.parts,
-      length-append tag.tag head.1,
+      there.tagged.spelled.some,
+      ap length there.parts,
+      length-append there.front tag.1,
       ap length body.parts,
       length-append body.count (body.payload ++ field.1),
       length-append body.payload field.1,
@@ -174,40 +174,40 @@ module _ (IsGroupOf : ℕ → List ℕ → List ℕ → Type 0) (inside : Inside
   until_end_turns (suc turns) (suc others) number at bytes enough also =
       let here : ℕ = end - length bytes in
       choice-agree (length bytes == 0) _ _ _ _ (λ _. refl) (λ _.
-      bind-agree (tag_at here bytes) _ _ (TagRead bytes) (tag_at-read here bytes) (λ head tag.
-      choice-agree (ends number head.0) _ _ _ _ (λ _. refl) (λ _.
-      bind-agree (field_with inside end here head.0.number head.0.wire_type head.1) _ _
-      (FieldRead IsGroupOf end here head.0.number head.0.wire_type head.1)
-      (field_with-read IsGroupOf inside groups end here head.0.number head.0.wire_type head.1) (λ field body.
-      let less : length field.1 < length bytes = field-shorter IsGroupOf end here head.0.number head.0.wire_type bytes
-      head field tag body in
+      bind-agree (tag_at here bytes) _ _ (TagRead bytes) (tag_at-read here bytes) (λ tag there.
+      choice-agree (ends number tag.0) _ _ _ _ (λ _. refl) (λ _.
+      bind-agree (field_with inside end here tag.0.number tag.0.wire_type tag.1) _ _
+      (FieldRead IsGroupOf end here tag.0.number tag.0.wire_type tag.1)
+      (field_with-read IsGroupOf inside groups end here tag.0.number tag.0.wire_type tag.1) (λ field body.
+      let less : length field.1 < length bytes = field-shorter IsGroupOf end here tag.0.number tag.0.wire_type bytes
+      tag field there body in
       until_end_turns turns others number at field.1 (omega arith) (omega arith)))))
 
   in_turns : (turns number at : ℕ) (bytes : List ℕ) → length bytes ≡ suc turns
       → until_end inside end (suc turns) number at bytes
-      ≡ (tag_at (end - length bytes) bytes >>= λ head.
-      if ends number head.0 then Ok (bytes, head.1)
-      else (field_with inside end (end - length bytes) head.0.number head.0.wire_type head.1 >>= λ field.
+      ≡ (tag_at (end - length bytes) bytes >>= λ tag.
+      if ends number tag.0 then Ok (bytes, tag.1)
+      else (field_with inside end (end - length bytes) tag.0.number tag.0.wire_type tag.1 >>= λ field.
       until_end inside end (length field.1) number at field.1))
   unfolding until_end
   in_turns turns number at bytes len =
       let here : ℕ = end - length bytes in
       let some : (length bytes == 0) ≡ false = ne_eqb _ _ (λ none. absurd (omega (arith, none))) in
-      rw some (bind-agree (tag_at here bytes) _ _ (TagRead bytes) (tag_at-read here bytes) (λ head tag.
-      choice-agree (ends number head.0) _ _ _ _ (λ _. refl) (λ _.
-      bind-agree (field_with inside end here head.0.number head.0.wire_type head.1) _ _
-      (FieldRead IsGroupOf end here head.0.number head.0.wire_type head.1)
-      (field_with-read IsGroupOf inside groups end here head.0.number head.0.wire_type head.1) (λ field body.
-      let less : length field.1 < length bytes = field-shorter IsGroupOf end here head.0.number head.0.wire_type bytes
-      head field tag body in
+      rw some (bind-agree (tag_at here bytes) _ _ (TagRead bytes) (tag_at-read here bytes) (λ tag there.
+      choice-agree (ends number tag.0) _ _ _ _ (λ _. refl) (λ _.
+      bind-agree (field_with inside end here tag.0.number tag.0.wire_type tag.1) _ _
+      (FieldRead IsGroupOf end here tag.0.number tag.0.wire_type tag.1)
+      (field_with-read IsGroupOf inside groups end here tag.0.number tag.0.wire_type tag.1) (λ field body.
+      let less : length field.1 < length bytes = field-shorter IsGroupOf end here tag.0.number tag.0.wire_type bytes
+      tag field there body in
       until_end_turns turns (length field.1) number at field.1 (omega arith) (omega arith)))))
 
   -- one turn, where bytes are left
   pub until_end-some : (number at : ℕ) (bytes : List ℕ) → 0 < length bytes
       → until_end inside end (length bytes) number at bytes
-      ≡ (tag_at (end - length bytes) bytes >>= λ head.
-      if ends number head.0 then Ok (bytes, head.1)
-      else (field_with inside end (end - length bytes) head.0.number head.0.wire_type head.1 >>= λ field.
+      ≡ (tag_at (end - length bytes) bytes >>= λ tag.
+      if ends number tag.0 then Ok (bytes, tag.1)
+      else (field_with inside end (end - length bytes) tag.0.number tag.0.wire_type tag.1 >>= λ field.
       until_end inside end (length field.1) number at field.1))
   until_end-some number at bytes some =
       let len : length bytes ≡ suc (length bytes - 1) = omega arith in

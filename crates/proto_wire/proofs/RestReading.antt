@@ -17,35 +17,35 @@ use Rattle.proto_wire.proofs.GroupReading.{group_at-read}
 use Rattle.proto_wire.proofs.GroupGiven.{group_at-only}
 
 -- a tag and what is after it are the field in front
-starts : (rest : Rest) (head : Tag × List ℕ) (field : FieldOf × List ℕ) → TagRead rest.bytes head
-    → FieldRead (IsGroup (most_depth - rest.depth)) (rest.at + length rest.bytes) rest.at head.0.number head.0.wire_type
-    head.1 field
+starts : (rest : Rest) (tag : Tag × List ℕ) (field : FieldOf × List ℕ) → TagRead rest.bytes tag
+    → FieldRead (IsGroup (most_depth - rest.depth)) (rest.at + length rest.bytes) rest.at tag.0.number tag.0.wire_type
+    tag.1 field
     → StartsWith rest field.0 (record {
       bytes = field.1;
       at = rest.at + length rest.bytes - length field.1;
       depth = rest.depth;
     })
-starts rest head field tag body =
-    let long : length rest.bytes ≡ length tag.tag + (length body.count + (length body.payload + length field.1)) =
+starts rest tag field there body =
+    let long : length rest.bytes ≡ length there.front + (length body.count + (length body.payload + length field.1)) =
     omega (
       arith,
-      ap length tag.parts,
-      length-append tag.tag head.1,
+      ap length there.parts,
+      length-append there.front tag.1,
       ap length body.parts,
       length-append body.count
           (body.payload ++ field.1),
       length-append body.payload field.1,
     ) in
-    let at_is : rest.at + length rest.bytes - length field.1 ≡ rest.at + length tag.tag + length body.count + length
+    let at_is : rest.at + length rest.bytes - length field.1 ≡ rest.at + length there.front + length body.count + length
     body.payload = omega arith in
     record {
-      tag = tag.tag;
+      tag = there.front;
       count = body.count;
       payload = body.payload;
-      parts = tag.parts ∙ ap (λ l. tag.tag ++ l) body.parts;
+      parts = there.parts ∙ ap (λ l. there.front ++ l) body.parts;
       laid_out = record {
-        tagged = subst (λ n. IsTag tag.tag n (wire_type_for field.0.body)) (sym body.number_is) (subst
-            (IsTag tag.tag head.0.number) (sym body.laid_out) tag.tagged);
+        tagged = subst (λ n. IsTag there.front n (wire_type_for field.0.body)) (sym body.number_is) (subst
+            (IsTag there.front tag.0.number) (sym body.laid_out) there.tagged);
         counted = body.counted;
         filled = subst (λ n. IsPayload (IsGroup (most_depth - rest.depth)) n body.payload field.0.body)
             (sym body.number_is) body.filled;
@@ -61,13 +61,13 @@ unfolding field_at
 field_at-read rest =
     let end : ℕ = rest.at + length rest.bytes in
     IfOk-bind (tag_at rest.at rest.bytes) _ (TagRead rest.bytes) (λ read. StartsWith rest read.0 read.1)
-    (tag_at-read rest.at rest.bytes) (λ head tag.
-    IfOk-bind (field_with (group_at end (most_depth - rest.depth)) end rest.at head.0.number head.0.wire_type head.1) _
-    (FieldRead (IsGroup (most_depth - rest.depth)) end rest.at head.0.number head.0.wire_type head.1)
+    (tag_at-read rest.at rest.bytes) (λ tag there.
+    IfOk-bind (field_with (group_at end (most_depth - rest.depth)) end rest.at tag.0.number tag.0.wire_type tag.1) _
+    (FieldRead (IsGroup (most_depth - rest.depth)) end rest.at tag.0.number tag.0.wire_type tag.1)
     (λ read. StartsWith rest read.0 read.1)
     (field_with-read (IsGroup (most_depth - rest.depth)) (group_at end (most_depth - rest.depth)) (group_at-read end
-    (most_depth - rest.depth)) end rest.at head.0.number head.0.wire_type head.1)
-    (λ field body. starts rest head field tag body))
+    (most_depth - rest.depth)) end rest.at tag.0.number tag.0.wire_type tag.1)
+    (λ field body. starts rest tag field there body))
 
 -- a field laid out so is read so
 laid_out-read : (at depth number : ℕ) (body : BodyOf) (tag count payload left : List ℕ)

@@ -13,17 +13,17 @@ use Rattle.proto_wire.specs.Grammar.{IsVarint, IsTag}
 use Rattle.sd_base.proofs.ReadsLemmas.{IfOk-bind, choice-holds}
 use Rattle.proto_wire.proofs.VarintReading.{VarintRead, varint_at-read, varint_at-only}
 
--- the tag's number is made of these
-record TagOf (tag : ℕ) (head : Tag) : Type 0 where
-  is : tag ≡ head.number * 8 + code_of head.wire_type
-  named : 1 ≤ head.number
-  fits : head.number < 2 ^ 29
+-- the value of a tag is made of these
+record TagOf (value : ℕ) (tag : Tag) : Type 0 where
+  is : value ≡ tag.number * 8 + code_of tag.wire_type
+  named : 1 ≤ tag.number
+  fits : tag.number < 2 ^ 29
 
 -- the front is such a tag, and this is after it
 pub record TagRead (bytes : List ℕ) (read : Tag × List ℕ) : Type 0 where
-  pub tag : List ℕ
-  pub parts : bytes ≡ tag ++ read.1
-  pub tagged : IsTag tag read.0.number read.0.wire_type
+  pub front : List ℕ
+  pub parts : bytes ≡ front ++ read.1
+  pub tagged : IsTag front read.0.number read.0.wire_type
 
 wire_type_of-code : (code : ℕ) → IfSome (wire_type_of code) (λ wire_type. code ≡ code_of wire_type)
 wire_type_of-code code =
@@ -35,24 +35,24 @@ wire_type_of-code code =
     choice-holds P (code == 4) _ _ (eqb-true code 4) (λ _.
     choice-holds P (code == 5) _ _ (eqb-true code 5) (λ _. tt))))))
 
-tag_with-read : (at tag : ℕ) (o : Option WireType) → IfSome o (λ wire_type. tag % 8 ≡ code_of wire_type)
-    → 1 ≤ tag / 8 → tag < 2 ^ 32
-    → IfOk (tag_with at (tag / 8) o) (TagOf tag)
-tag_with-read at tag None code named fits = tt
-tag_with-read at tag (Some wire_type) code named fits = record {
+tag_with-read : (at value : ℕ) (o : Option WireType) → IfSome o (λ wire_type. value % 8 ≡ code_of wire_type)
+    → 1 ≤ value / 8 → value < 2 ^ 32
+    → IfOk (tag_with at (value / 8) o) (TagOf value)
+tag_with-read at value None code named fits = tt
+tag_with-read at value (Some wire_type) code named fits = record {
   is = omega (arith, code);
   named = named;
   fits = omega arith;
 }
 
-tag_of-read : (at tag : ℕ) → IfOk (tag_of at tag) (TagOf tag)
+tag_of-read : (at value : ℕ) → IfOk (tag_of at value) (TagOf value)
 unfolding tag_of
-tag_of-read at tag =
-    choice-holds (λ (r : Result Tag WireFault). IfOk r (TagOf tag)) (nat_lt (2 ^ 32 - 1) tag) _ _ (λ _. tt) (λ small.
-    choice-holds (λ (r : Result Tag WireFault). IfOk r (TagOf tag)) (tag / 8 == 0) _ _ (λ _. tt) (λ named.
-    let some : tag / 8 ≡ 0 → ⊥ = eqb-false (tag / 8) 0 named in
-    let below : tag ≤ 2 ^ 32 - 1 = ltb-false (2 ^ 32 - 1) tag small in
-    tag_with-read at tag (wire_type_of (tag % 8)) (wire_type_of-code (tag % 8)) (omega (arith, some)) (omega (
+tag_of-read at value =
+    choice-holds (λ (r : Result Tag WireFault). IfOk r (TagOf value)) (nat_lt (2 ^ 32 - 1) value) _ _ (λ _. tt) (λ small.
+    choice-holds (λ (r : Result Tag WireFault). IfOk r (TagOf value)) (value / 8 == 0) _ _ (λ _. tt) (λ named.
+    let some : value / 8 ≡ 0 → ⊥ = eqb-false (value / 8) 0 named in
+    let below : value ≤ 2 ^ 32 - 1 = ltb-false (2 ^ 32 - 1) value small in
+    tag_with-read at value (wire_type_of (value % 8)) (wire_type_of-code (value % 8)) (omega (arith, some)) (omega (
       arith,
       below,
     ))))
@@ -61,10 +61,10 @@ tag_of-read at tag =
 pub tag_at-read : (at : ℕ) (bytes : List ℕ) → IfOk (tag_at at bytes) (TagRead bytes)
 unfolding tag_at
 tag_at-read at bytes =
-    IfOk-bind (varint_at at bytes) _ (VarintRead bytes) (TagRead bytes) (varint_at-read at bytes) (λ tag read.
-    IfOk-bind (tag_of at tag.0) _ (TagOf tag.0) (TagRead bytes) (tag_of-read at tag.0) (λ head told.
+    IfOk-bind (varint_at at bytes) _ (VarintRead bytes) (TagRead bytes) (varint_at-read at bytes) (λ value read.
+    IfOk-bind (tag_of at value.0) _ (TagOf value.0) (TagRead bytes) (tag_of-read at value.0) (λ tag told.
     record {
-      tag = read.front;
+      front = read.front;
       parts = read.parts;
       tagged = record {
         spelled = subst

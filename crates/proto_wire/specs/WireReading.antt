@@ -152,7 +152,8 @@ AnswersNext old (Err fault) new = (field_at old ≡ Err fault) × (new ≡ old)
 -- the records inside a field of a message so deep
 unfoldable pub inside_at : ℕ → FieldOf → Result Rest WireFault
 inside_at depth field =
-    if nat_lt depth most_depth then Ok (record { bytes = inside_of field.body; at = field.payload_at; depth = depth + 1 })
+    if nat_lt depth most_depth
+    then Ok (record { bytes = inside_of field.body; at = field.payload_at; depth = depth + 1 })
     else Err (fault_at field.at cause_too_deep)
 
 -- the fields up to the end or the first fault
@@ -174,7 +175,9 @@ walk_on after (Err fault) = stopped (Some fault)
 -- in at most so many turns
 unfoldable pub walk_turns : ℕ → Rest → Walk
 walk_turns zero rest = stopped None
-walk_turns (suc turns) rest = if length rest.bytes == 0 then stopped None else walk_on (walk_turns turns) (field_at rest)
+walk_turns (suc turns) rest =
+    if length rest.bytes == 0 then stopped None
+    else walk_on (walk_turns turns) (field_at rest)
 
 -- all fields of what is left
 unfoldable pub walk_from : Rest → Walk

@@ -28,6 +28,8 @@ module _ (old mid new : Option (List ℕ)) (piece left : List ℕ) (h : IsUnderW
   AppendsFront-under_way kept = (h.front, (left, h.parts), Appends-kept old mid new h.front h.appended kept)
 
 -- nothing is left
-pub Appends-under_way : (old new : Option (List ℕ)) (piece : List ℕ) → IsUnderWay old new piece [] → Appends old new piece
+pub Appends-under_way : (old new : Option (List ℕ)) (piece : List ℕ)
+    → IsUnderWay old new piece []
+    → Appends old new piece
 Appends-under_way old new piece h =
     subst (Appends old new) (sym (h.parts ∙ append-nil h.front)) h.appended

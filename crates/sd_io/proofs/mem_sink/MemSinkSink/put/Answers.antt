@@ -8,6 +8,7 @@ pub returns-clause-bytes : goal.returns-clause-bytes
 returns-clause-bytes c =
     elim c.else-not-fails.branch [
       | else-not-fails-via-then-not-fails+else-append w ↦
-          AppendsFront-take _ _ (c.self.inside.room - vec_len c.self.inside.bytes) _ (grind (arith, w.append.ensures.front))
+          let left = c.self.inside.room - vec_len c.self.inside.bytes in
+          AppendsFront-take _ _ left _ (grind (arith, w.append.ensures.front))
       | else-not-fails-via-else-not-fails w ↦ AppendsFront-nil _ _ _ (grind arith)
     ]
