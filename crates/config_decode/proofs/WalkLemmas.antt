@@ -5,9 +5,9 @@ use Rattle.std.specs.Option.{option_or, IfSome}
 use Rattle.std.proofs.lemmas.Bool.{ltb-true}
 use Rattle.std.proofs.lemmas.Result.{IfOk-at_ok}
 use Rattle.proto_wire.specs.declared.fault.WireFault.{WireFault}
-use Rattle.proto_wire.specs.declared.fault.TheConstants.{TOO_DEEP}
+use Rattle.proto_wire.specs.WireCauses.{cause_too_deep}
 use Rattle.proto_wire.specs.declared.field.Field.{Field}
-use Rattle.proto_wire.specs.Fields.{FieldOf, Rest, seen, inside_of, IsWithin, StepsOver}
+use Rattle.proto_wire.specs.Fields.{FieldOf, Rest, seen, inside_of, FitsOffsets, StepsOver}
 use Rattle.proto_wire.specs.WireReading.{fault_at, Walk, with_field, stopped, inside_at, walk_from, walk_by, AnswersNext}
 use Rattle.proto_wire.specs.Grammar.{StartsWith}
 use Rattle.proto_wire.proofs.RestReading.{field_at-read}
@@ -117,7 +117,7 @@ pub record Takes (rest : Rest) (field : FieldOf) (new : Rest) : Type 0 where
   pub walk : walk_from rest ≡ with_field field (walk_from new)
   pub depth : new.depth ≡ rest.depth
   pub shorter : length new.bytes < length rest.bytes
-  pub within : IsWithin field
+  pub within : FitsOffsets field
 
 pub takes : (rest new : Rest) (found : Option Field) (field : Field) → found ≡ Some field
     → AnswersNext rest (Ok found) new → walk_from rest ≡ walk_by (Ok found) new
@@ -183,7 +183,7 @@ unfolding inside_at
 enters depth field inside is = by_test (nat_lt depth 100) refl is
   where
     by_test : (test : Bool) → nat_lt depth 100 ≡ test
-        → Ok inside ≡ (if test then Ok (inside_of_field depth field) else Err (fault_at field.at TOO_DEEP))
+        → Ok inside ≡ (if test then Ok (inside_of_field depth field) else Err (fault_at field.at cause_too_deep))
         → Enters depth field inside
     by_test true low is = let there : inside ≡ inside_of_field depth field = cc is in record {
       deeper = ap (λ (r : Rest). r.depth) there;

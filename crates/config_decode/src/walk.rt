@@ -1,7 +1,7 @@
 //! The walk over a configuration, which looks for the first fault of the wire format and for the first record that isn't
 //! supported.
 ghost use Rattle.std.specs.Prelude.{◌≡◌, ◌≤◌, ◌<◌, ◌+◌, ◌-◌, ◌^◌, length, OnOk, IfOk, IfSome};
-ghost use Rattle.proto_wire.specs.Fields.{seen, IsWithin};
+ghost use Rattle.proto_wire.specs.Fields.{seen, FitsOffsets};
 ghost use Rattle.config_decode.specs.Walk.{packed_at, walk_in, record_walked, inside_walked, inner_walk, walk_of};
 ghost use Rattle.config_decode.specs.Walks.{Walks, GoesTo, IsUnsupported, PacksWell};
 
@@ -62,7 +62,7 @@ impl Walker {
     ) -> Result<(), DecodeFault>
         requires depth { length self.old.path.items ≡ records.now.depth }
         requires shallow { records.now.depth ≤ 100 }
-        requires within { IsWithin (seen field.now) }
+        requires within { FitsOffsets (seen field.now) }
         ensures walked { Walks (record_walked (inner_walk (100 - records.now.depth)) kind self.old.path.items
             records.now.depth (seen field.now)) self.old self.new result }
     {
@@ -93,7 +93,7 @@ impl Walker {
         field: &Field<'_>,
     ) -> Result<(), DecodeFault>
         requires depth { length self.old.path.items ≡ records.now.depth + 1 }
-        requires within { IsWithin (seen field.now) }
+        requires within { FitsOffsets (seen field.now) }
         ensures walked { Walks (inside_walked (inner_walk (100 - records.now.depth) self.old.path.items)
             records.now.depth (seen field.now) shape (seen field.now).body) self.old self.new result }
     {

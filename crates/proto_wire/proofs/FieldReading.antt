@@ -1,18 +1,19 @@
--- A field is read from behind its tag where one stands, and only there, if so is the inside of a group.
-use Rattle.std.proofs.Common.{◌≡◌, ℕ, ◌-◌, List, [], ◌++◌, length, take, Result, Ok, false, refl, sym, ap, ◌∙◌, arith, subst, append_assoc}
+-- A field is read from after its tag where one stands, and only there, if so is the inside of a group.
+use Rattle.std.proofs.Common.{◌≡◌, ℕ, ◌-◌, List, [], ◌++◌, length, take, Option, Ok, false, refl, sym, ap, ◌∙◌, arith, subst, append_assoc}
 use Rattle.std.specs.Prelude.{nat_lt}
 use Rattle.std.specs.Result.{IfOk}
-use Rattle.std.specs.Int.{Width, w32, w64, from_le_bytes}
+use Rattle.std.specs.Option.{ok_or}
+use Rattle.std.specs.Int.{Width, w32, w64, byte_len, from_le_bytes}
 use Rattle.std.proofs.lemmas.Bool.{ltb-false, le-ltb}
 use Rattle.std.proofs.lemmas.List.{take-append-drop, length-take-le, length-append}
 use Rattle.std.proofs.Math.Seq.{take-append_seam, drop-append_seam}
-use Rattle.proto_wire.specs.declared.fault.WireFault.{WireFault}
-use Rattle.proto_wire.specs.declared.head.WireType.{WireType}
-use Rattle.proto_wire.specs.declared.head.WireType.TheVariants as wire
+use Rattle.proto_wire.specs.declared.tag.WireType.{WireType}
+use Rattle.proto_wire.specs.declared.tag.WireType.TheVariants as wire
 use Rattle.proto_wire.specs.Fields.{BodyOf, Varint, Fixed64, Bytes, Group, Fixed32, FieldOf}
-use Rattle.proto_wire.specs.WireReading.{varint_at, taken_at, fixed_at, Inside, field_with}
+use Rattle.proto_wire.specs.WireCauses.{cause_cut}
+use Rattle.proto_wire.specs.WireReading.{fault_at, varint_at, taken_at, fixed_at, Inside, field_with}
 use Rattle.proto_wire.specs.Grammar.{IsVarint, wire_type_for, IsCount, IsPayload}
-use Rattle.proto_wire.proofs.Results.{IfOk-then, of-if}
+use Rattle.sd_base.proofs.ReadsLemmas.{IfOk-bind, choice-holds}
 use Rattle.proto_wire.proofs.VarintReading.{VarintRead, varint_at-read, varint_at-only}
 
 -- so many bytes stand in front
@@ -23,39 +24,49 @@ record TakenRead (count : ℕ) (bytes : List ℕ) (read : List ℕ × List ℕ) 
 taken_at-read : (at count : ℕ) (bytes : List ℕ) → IfOk (taken_at at count bytes) (TakenRead count bytes)
 unfolding taken_at
 taken_at-read at count bytes =
-    of-if (λ (r : Result (List ℕ × List ℕ) WireFault). IfOk r (TakenRead count bytes)) (nat_lt
-    (length bytes) count) _ _ (λ _. tt) (λ enough.
+    choice-holds (λ (o : Option (List ℕ × List ℕ)). IfOk (ok_or o (fault_at at cause_cut)) (TakenRead count bytes))
+    (nat_lt (length bytes) count) _ _ (λ _. tt) (λ enough.
     record { len = length-take-le count bytes (ltb-false _ _ enough); parts = sym (take-append-drop count bytes) })
 
-taken_at-only : (at count : ℕ) (bytes behind : List ℕ) → length bytes ≡ count
-    → taken_at at count (bytes ++ behind) ≡ Ok (bytes, behind)
+taken_at-only : (at count : ℕ) (bytes after : List ℕ) → length bytes ≡ count
+    → taken_at at count (bytes ++ after) ≡ Ok (bytes, after)
 unfolding taken_at
-taken_at-only at count bytes behind len =
-    let enough : nat_lt (length (bytes ++ behind)) count ≡ false = le-ltb _ _ (omega (
+taken_at-only at count bytes after len =
+    let enough : nat_lt (length (bytes ++ after)) count ≡ false = le-ltb _ _ (omega (
       arith,
-      length-append bytes behind,
+      length-append bytes after,
     )) in
-    rw (enough, ← len, take-append_seam bytes behind, drop-append_seam bytes behind) refl
+    rw (enough, ← len, take-append_seam bytes after, drop-append_seam bytes after) refl
 
--- a number of so many bytes stands in front
-record FixedRead (width : Width) (count : ℕ) (bytes : List ℕ) (read : ℕ × List ℕ) : Type 0 where
+-- a number of this width stands in front
+record FixedRead (width : Width) (bytes : List ℕ) (read : ℕ × List ℕ) : Type 0 where
   front : List ℕ
-  len : length front ≡ count
+  len : length front ≡ byte_len width
   parts : bytes ≡ front ++ read.1
   value : read.0 ≡ from_le_bytes width front
 
-fixed_at-read : (width : Width) (at count : ℕ) (bytes : List ℕ) → IfOk (fixed_at width at count bytes)
-    (FixedRead width count bytes)
-fixed_at-read width at count bytes =
-    IfOk-then (taken_at at count bytes) _ (TakenRead count bytes) (FixedRead width count bytes)
-    (taken_at-read at count bytes) (λ taken read.
-    record { front = taken.0; len = read.len; parts = read.parts; value = refl })
+fixed_at-read : (width : Width) (at : ℕ) (bytes : List ℕ) → IfOk (fixed_at width at bytes) (FixedRead width bytes)
+fixed_at-read width at bytes =
+    let size = byte_len width in
+    choice-holds (λ (o : Option (ℕ × List ℕ)). IfOk (ok_or o (fault_at at cause_cut)) (FixedRead width bytes))
+    (nat_lt (length bytes) size) _ _ (λ _. tt) (λ enough.
+    record {
+      front = take size bytes;
+      len = length-take-le size bytes (ltb-false _ _ enough);
+      parts = sym (take-append-drop size bytes);
+      value = refl;
+    })
 
-fixed_at-only : (width : Width) (at count : ℕ) (bytes behind : List ℕ) → length bytes ≡ count
-    → fixed_at width at count (bytes ++ behind) ≡ Ok (from_le_bytes width bytes, behind)
-fixed_at-only width at count bytes behind len = rw (taken_at-only at count bytes behind len) refl
+fixed_at-only : (width : Width) (at : ℕ) (bytes after : List ℕ) → length bytes ≡ byte_len width
+    → fixed_at width at (bytes ++ after) ≡ Ok (from_le_bytes width bytes, after)
+fixed_at-only width at bytes after len =
+    let enough : nat_lt (length (bytes ++ after)) (byte_len width) ≡ false = le-ltb _ _ (omega (
+      arith,
+      length-append bytes after,
+    )) in
+    rw (enough, ← len, take-append_seam bytes after, drop-append_seam bytes after) refl
 
--- the front is a group with this inside, and this is behind it
+-- the front is a group with this inside, and this is after it
 pub record InsideRead (IsGroupOf : ℕ → List ℕ → List ℕ → Type 0) (number : ℕ) (bytes : List ℕ)
     (read : List ℕ × List ℕ) : Type 0 where
   pub payload : List ℕ
@@ -67,7 +78,7 @@ abbrev pub ReadsGroups : (ℕ → List ℕ → List ℕ → Type 0) → Inside �
 ReadsGroups IsGroupOf inside = (number at : ℕ) (bytes : List ℕ) → IfOk (inside number at bytes)
     (InsideRead IsGroupOf number bytes)
 
--- the front is such a field without its tag, and this is behind it
+-- the front is such a field without its tag, and this is after it
 pub record FieldRead (IsGroupOf : ℕ → List ℕ → List ℕ → Type 0) (end at number : ℕ) (wire_type : WireType)
     (bytes : List ℕ) (read : FieldOf × List ℕ) : Type 0 where
   pub count : List ℕ
@@ -86,7 +97,7 @@ module _ (IsGroupOf : ℕ → List ℕ → List ℕ → Type 0) (inside : Inside
       → IfOk (field_with inside end at number wire_type bytes) (FieldRead IsGroupOf end at number wire_type bytes)
   unfolding field_with
   field_with-read groups end at number wire.Varint bytes =
-      IfOk-then (varint_at at bytes) _ (VarintRead bytes) _ (varint_at-read at bytes) (λ value read.
+      IfOk-bind (varint_at at bytes) _ (VarintRead bytes) _ (varint_at-read at bytes) (λ value read.
       record {
         count = [];
         payload = read.front;
@@ -99,7 +110,7 @@ module _ (IsGroupOf : ℕ → List ℕ → List ℕ → Type 0) (inside : Inside
         filled = read.varint;
       })
   field_with-read groups end at number wire.Fixed64 bytes =
-      IfOk-then (fixed_at w64 at 8 bytes) _ (FixedRead w64 8 bytes) _ (fixed_at-read w64 at 8 bytes) (λ value read.
+      IfOk-bind (fixed_at w64 at bytes) _ (FixedRead w64 bytes) _ (fixed_at-read w64 at bytes) (λ value read.
       record {
         count = [];
         payload = read.front;
@@ -112,8 +123,8 @@ module _ (IsGroupOf : ℕ → List ℕ → List ℕ → Type 0) (inside : Inside
         filled = (read.len, read.value);
       })
   field_with-read groups end at number wire.Bytes bytes =
-      IfOk-then (varint_at at bytes) _ (VarintRead bytes) _ (varint_at-read at bytes) (λ count read.
-      IfOk-then (taken_at at count.0 count.1) _ (TakenRead count.0 count.1) _ (taken_at-read at count.0 count.1)
+      IfOk-bind (varint_at at bytes) _ (VarintRead bytes) _ (varint_at-read at bytes) (λ count read.
+      IfOk-bind (taken_at at count.0 count.1) _ (TakenRead count.0 count.1) _ (taken_at-read at count.0 count.1)
       (λ taken told.
       record {
         count = read.front;
@@ -127,7 +138,7 @@ module _ (IsGroupOf : ℕ → List ℕ → List ℕ → Type 0) (inside : Inside
         filled = refl;
       }))
   field_with-read groups end at number wire.GroupStart bytes =
-      IfOk-then (inside number at bytes) _ (InsideRead IsGroupOf number bytes) _ (groups number at bytes) (λ ended read.
+      IfOk-bind (inside number at bytes) _ (InsideRead IsGroupOf number bytes) _ (groups number at bytes) (λ ended read.
       record {
         count = [];
         payload = read.payload;
@@ -141,7 +152,7 @@ module _ (IsGroupOf : ℕ → List ℕ → List ℕ → Type 0) (inside : Inside
       })
   field_with-read groups end at number wire.GroupEnd bytes = tt
   field_with-read groups end at number wire.Fixed32 bytes =
-      IfOk-then (fixed_at w32 at 4 bytes) _ (FixedRead w32 4 bytes) _ (fixed_at-read w32 at 4 bytes) (λ value read.
+      IfOk-bind (fixed_at w32 at bytes) _ (FixedRead w32 bytes) _ (fixed_at-read w32 at bytes) (λ value read.
       record {
         count = [];
         payload = read.front;
@@ -154,51 +165,51 @@ module _ (IsGroupOf : ℕ → List ℕ → List ℕ → Type 0) (inside : Inside
         filled = (read.len, read.value);
       })
 
--- a group is read as one, whatever is behind it
-pub record InsideGiven (inside : Inside) (number at : ℕ) (body payload behind : List ℕ) : Type 0 where
+-- a group is read as one, whatever is after it
+pub record InsideGiven (inside : Inside) (number at : ℕ) (body payload after : List ℕ) : Type 0 where
   pub last : List ℕ
   pub parts : payload ≡ body ++ last
-  pub given : inside number at (payload ++ behind) ≡ Ok (last ++ behind, behind)
+  pub given : inside number at (payload ++ after) ≡ Ok (last ++ after, after)
 
 -- each group is read as one
 abbrev pub GivesGroups : (ℕ → List ℕ → List ℕ → Type 0) → Inside → Type 0
-GivesGroups IsGroupOf inside = (number at : ℕ) (body payload behind : List ℕ) → IsGroupOf number body payload
-    → InsideGiven inside number at body payload behind
+GivesGroups IsGroupOf inside = (number at : ℕ) (body payload after : List ℕ) → IsGroupOf number body payload
+    → InsideGiven inside number at body payload after
 
 -- what stands before the last part of a payload
-before_last : (body last payload behind : List ℕ) → payload ≡ body ++ last
-    → take (length (payload ++ behind) - length (last ++ behind)) (payload ++ behind) ≡ body
-before_last body last payload behind parts =
-    let joined : payload ++ behind ≡ body ++ (last ++ behind) = ap (λ l. l ++ behind) parts
-    ∙ append_assoc body last behind in
-    let len : length (body ++ (last ++ behind)) - length (last ++ behind) ≡ length body = omega (
+before_last : (body last payload after : List ℕ) → payload ≡ body ++ last
+    → take (length (payload ++ after) - length (last ++ after)) (payload ++ after) ≡ body
+before_last body last payload after parts =
+    let joined : payload ++ after ≡ body ++ (last ++ after) = ap (λ l. l ++ after) parts
+    ∙ append_assoc body last after in
+    let len : length (body ++ (last ++ after)) - length (last ++ after) ≡ length body = omega (
       arith,
-      length-append body (last ++ behind),
+      length-append body (last ++ after),
     ) in
-    rw (joined, len) (take-append_seam body (last ++ behind))
+    rw (joined, len) (take-append_seam body (last ++ after))
 
 module _ (IsGroupOf : ℕ → List ℕ → List ℕ → Type 0) (inside : Inside) where
-  -- and a field is read, whatever is behind it
+  -- and a field is read, whatever is after it
   pub field_with-only : GivesGroups IsGroupOf inside → (end at number : ℕ) (body : BodyOf)
-      (count payload behind : List ℕ)
+      (count payload after : List ℕ)
       → IsCount count body → IsPayload IsGroupOf number payload body
-      → field_with inside end at number (wire_type_for body) (count ++ (payload ++ behind))
-      ≡ Ok (record { number = number; at = at; payload_at = end - length (payload ++ behind); body = body }, behind)
+      → field_with inside end at number (wire_type_for body) (count ++ (payload ++ after))
+      ≡ Ok (record { number = number; at = at; payload_at = end - length (payload ++ after); body = body }, after)
   unfolding field_with
-  field_with-only groups end at number (Varint value) count payload behind counted filled =
-      rw (counted, varint_at-only at value payload behind filled) refl
-  field_with-only groups end at number (Fixed64 value) count payload behind counted filled =
-      rw (counted, fixed_at-only w64 at 8 payload behind filled.0, ← filled.1) refl
-  field_with-only groups end at number (Bytes bytes) count payload behind counted filled =
+  field_with-only groups end at number (Varint value) count payload after counted filled =
+      rw (counted, varint_at-only at value payload after filled) refl
+  field_with-only groups end at number (Fixed64 value) count payload after counted filled =
+      rw (counted, fixed_at-only w64 at payload after filled.0, ← filled.1) refl
+  field_with-only groups end at number (Bytes bytes) count payload after counted filled =
       rw (
         filled,
-        varint_at-only at (length bytes) count (bytes ++ behind) counted,
+        varint_at-only at (length bytes) count (bytes ++ after) counted,
         taken_at-only at
-            (length bytes) bytes behind refl,
+            (length bytes) bytes after refl,
       ) refl
-  field_with-only groups end at number (Group body) count payload behind counted filled =
-      let read = groups number at body payload behind filled in
-      let body_is = before_last body read.last payload behind read.parts in
+  field_with-only groups end at number (Group body) count payload after counted filled =
+      let read = groups number at body payload after filled in
+      let body_is = before_last body read.last payload after read.parts in
       rw (counted, read.given, body_is) refl
-  field_with-only groups end at number (Fixed32 value) count payload behind counted filled =
-      rw (counted, fixed_at-only w32 at 4 payload behind filled.0, ← filled.1) refl
+  field_with-only groups end at number (Fixed32 value) count payload after counted filled =
+      rw (counted, fixed_at-only w32 at payload after filled.0, ← filled.1) refl

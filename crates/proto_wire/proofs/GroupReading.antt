@@ -9,18 +9,18 @@ use Rattle.std.proofs.lemmas.List.{length-append}
 use Rattle.std.proofs.Math.Seq.{take-append_seam}
 use Rattle.sd_base.specs.Reads.{◌>>=◌}
 use Rattle.proto_wire.specs.declared.fault.WireFault.{WireFault}
-use Rattle.proto_wire.specs.declared.fault.TheConstants.{CUT, TOO_DEEP}
-use Rattle.proto_wire.specs.declared.head.Head.{Head}
-use Rattle.proto_wire.specs.declared.head.WireType.{WireType}
-use Rattle.proto_wire.specs.declared.head.WireType.TheVariants as wire
+use Rattle.proto_wire.specs.WireCauses.{cause_cut}
+use Rattle.proto_wire.specs.declared.tag.Tag.{Tag}
+use Rattle.proto_wire.specs.declared.tag.WireType.{WireType}
+use Rattle.proto_wire.specs.declared.tag.WireType.TheVariants as wire
 use Rattle.proto_wire.specs.Fields.{FieldOf}
-use Rattle.proto_wire.specs.WireReading.{fault_at, head_at, Inside, field_with, is_group_end, ends, until_end, group_at}
+use Rattle.proto_wire.specs.WireReading.{fault_at, tag_at, Inside, field_with, is_group_end, ends, until_end, group_at}
 use Rattle.proto_wire.specs.Grammar.{IsTag, IsRecord, IsGroup}
-use Rattle.proto_wire.proofs.Results.{IfOk-then, of-if, then-agree, if-agree}
-use Rattle.proto_wire.proofs.HeadReading.{HeadRead, head_at-read}
+use Rattle.sd_base.proofs.ReadsLemmas.{IfOk-bind, choice-holds, bind-agree, choice-agree}
+use Rattle.proto_wire.proofs.TagReading.{TagRead, tag_at-read}
 use Rattle.proto_wire.proofs.FieldReading.{InsideRead, ReadsGroups, FieldRead, field_with-read}
 
--- records stand in front, then the group's end, and this is behind it
+-- records stand in front, then the group's end, and this is after it
 record EndRead (IsGroupOf : ℕ → List ℕ → List ℕ → Type 0) (number : ℕ) (bytes : List ℕ)
     (read : List ℕ × List ℕ) : Type 0 where
   records : List (List ℕ)
@@ -39,43 +39,43 @@ group_end_is wire.GroupStart closes = absurd (false≢true closes)
 group_end_is wire.Fixed32 closes = absurd (false≢true closes)
 
 -- a tag that ends the group
-end_tag : (tag : List ℕ) (number : ℕ) (head : Head) → ends number head ≡ true → IsTag tag head.number head.wire_type
-    → IsTag tag number wire.GroupEnd
-end_tag tag number head closes tagged =
-    let both = and_parts (is_group_end head.wire_type) (head.number == number) closes in
-    subst (λ n. IsTag tag n wire.GroupEnd) (eqb-true head.number number both.1) (subst (IsTag tag head.number)
-    (group_end_is head.wire_type both.0) tagged)
+end_tag : (bytes : List ℕ) (number : ℕ) (tag : Tag) → ends number tag ≡ true → IsTag bytes tag.number tag.wire_type
+    → IsTag bytes number wire.GroupEnd
+end_tag bytes number tag closes tagged =
+    let both = and_parts (is_group_end tag.wire_type) (tag.number == number) closes in
+    subst (λ n. IsTag bytes n wire.GroupEnd) (eqb-true tag.number number both.1) (subst (IsTag bytes tag.number)
+    (group_end_is tag.wire_type both.0) tagged)
 
-regroup : (tag count payload records behind : List ℕ) → tag ++ (count ++ (payload ++ (records ++ behind))) ≡ ((tag ++
-    (count ++ payload)) ++ records) ++ behind
-regroup tag count payload records behind = simp append_assoc
+regroup : (tag count payload records after : List ℕ) → tag ++ (count ++ (payload ++ (records ++ after))) ≡ ((tag ++
+    (count ++ payload)) ++ records) ++ after
+regroup tag count payload records after = simp append_assoc
 
 module _ (IsGroupOf : ℕ → List ℕ → List ℕ → Type 0) (inside : Inside) (groups : ReadsGroups IsGroupOf inside)
     (end : ℕ) where
   -- one record, and then others
-  one_more : (number at : ℕ) (bytes : List ℕ) (head : Head × List ℕ) (field : FieldOf × List ℕ) (read : List ℕ × List ℕ)
-      → HeadRead bytes head → FieldRead IsGroupOf end at head.0.number head.0.wire_type head.1 field
+  one_more : (number at : ℕ) (bytes : List ℕ) (tag : Tag × List ℕ) (field : FieldOf × List ℕ) (read : List ℕ × List ℕ)
+      → TagRead bytes tag → FieldRead IsGroupOf end at tag.0.number tag.0.wire_type tag.1 field
       → EndRead IsGroupOf number field.1 read
       → EndRead IsGroupOf number bytes read
-  one_more number at bytes head field read tag body others =
-      let piece : List ℕ = tag.tag ++ (body.count ++ body.payload) in
+  one_more number at bytes tag field read there body others =
+      let piece : List ℕ = there.front ++ (body.count ++ body.payload) in
       record {
         records = piece ∷ others.records;
         last = others.last;
-        parts = tag.parts ∙ ap (λ l. tag.tag ++ l) (body.parts ∙ ap (λ l. body.count ++
+        parts = there.parts ∙ ap (λ l. there.front ++ l) (body.parts ∙ ap (λ l. body.count ++
             (body.payload ++ l)) others.parts)
-            ∙ regroup tag.tag body.count body.payload (concat others.records) read.0;
+            ∙ regroup there.front body.count body.payload (concat others.records) read.0;
         end_parts = others.end_parts;
         each = (
           record {
-            number = head.0.number;
+            number = tag.0.number;
             body = field.0.body;
-            tag = tag.tag;
+            tag = there.front;
             count = body.count;
             payload = body.payload;
             parts = refl;
             laid_out = record {
-              tagged = subst (IsTag tag.tag head.0.number) (sym body.laid_out) tag.tagged;
+              tagged = subst (IsTag there.front tag.0.number) (sym body.laid_out) there.tagged;
               counted = body.counted;
               filled = body.filled;
             };
@@ -93,31 +93,31 @@ module _ (IsGroupOf : ℕ → List ℕ → List ℕ → Type 0) (inside : Inside
   until_end-read (suc turns) number at bytes =
       let here : ℕ = end - length bytes in
       let P : Result (List ℕ × List ℕ) WireFault → Type 0 = λ r. IfOk r (EndRead IsGroupOf number bytes) in
-      of-if P (length bytes == 0) _ _ (λ _. tt) (λ _.
-      IfOk-then (head_at here bytes) _ (HeadRead bytes) (EndRead IsGroupOf number bytes) (head_at-read here bytes)
-      (λ head tag.
-      of-if P (ends number head.0) _ _
+      choice-holds P (length bytes == 0) _ _ (λ _. tt) (λ _.
+      IfOk-bind (tag_at here bytes) _ (TagRead bytes) (EndRead IsGroupOf number bytes) (tag_at-read here bytes)
+      (λ tag there.
+      choice-holds P (ends number tag.0) _ _
       (λ closes. record {
         records = [];
-        last = tag.tag;
+        last = there.front;
         parts = refl;
-        end_parts = tag.parts;
+        end_parts = there.parts;
         each = tt;
-        ended = end_tag tag.tag number head.0 closes tag.tagged;
+        ended = end_tag there.front number tag.0 closes there.tagged;
       })
-      (λ _. IfOk-then (field_with inside end here head.0.number head.0.wire_type head.1) _
-      (FieldRead IsGroupOf end here head.0.number head.0.wire_type head.1) (EndRead IsGroupOf number bytes)
-      (field_with-read IsGroupOf inside groups end here head.0.number head.0.wire_type head.1) (λ field body.
+      (λ _. IfOk-bind (field_with inside end here tag.0.number tag.0.wire_type tag.1) _
+      (FieldRead IsGroupOf end here tag.0.number tag.0.wire_type tag.1) (EndRead IsGroupOf number bytes)
+      (field_with-read IsGroupOf inside groups end here tag.0.number tag.0.wire_type tag.1) (λ field body.
       IfOk-weaker (until_end inside end turns number at field.1) (EndRead IsGroupOf number field.1)
       (EndRead IsGroupOf number bytes)
-      (λ read others. one_more number here bytes head field read tag body others)
+      (λ read others. one_more number here bytes tag field read there body others)
       (until_end-read turns number at field.1)))))
 
 -- what stands before the end of a list
-before : (front behind bytes : List ℕ) → bytes ≡ front ++ behind → take (length bytes - length behind) bytes ≡ front
-before front behind bytes parts =
-    let len : length (front ++ behind) - length behind ≡ length front = omega (arith, length-append front behind) in
-    rw (parts, len) (take-append_seam front behind)
+before : (front after bytes : List ℕ) → bytes ≡ front ++ after → take (length bytes - length after) bytes ≡ front
+before front after bytes parts =
+    let len : length (front ++ after) - length after ≡ length front = omega (arith, length-append front after) in
+    rw (parts, len) (take-append_seam front after)
 
 -- what is read of the inside of a group is a group
 pub group_at-read : (end levels : ℕ) → ReadsGroups (IsGroup levels) (group_at end levels)
@@ -147,14 +147,14 @@ group_at-read end (suc levels) number at bytes =
 
 -- a field leaves less than there was before its tag
 pub field-shorter : (IsGroupOf : ℕ → List ℕ → List ℕ → Type 0) (end at number : ℕ) (wire_type : WireType)
-    (bytes : List ℕ) (head : Head × List ℕ) (field : FieldOf × List ℕ)
-    → HeadRead bytes head → FieldRead IsGroupOf end at number wire_type head.1 field → length field.1 < length bytes
-field-shorter IsGroupOf end at number wire_type bytes head field tag body =
+    (bytes : List ℕ) (tag : Tag × List ℕ) (field : FieldOf × List ℕ)
+    → TagRead bytes tag → FieldRead IsGroupOf end at number wire_type tag.1 field → length field.1 < length bytes
+field-shorter IsGroupOf end at number wire_type bytes tag field there body =
     omega (
       arith,
-      tag.tagged.spelled.some,
-      ap length tag.parts,
-      length-append tag.tag head.1,
+      there.tagged.spelled.some,
+      ap length there.parts,
+      length-append there.front tag.1,
       ap length body.parts,
       length-append body.count (body.payload ++ field.1),
       length-append body.payload field.1,
@@ -173,41 +173,41 @@ module _ (IsGroupOf : ℕ → List ℕ → List ℕ → Type 0) (inside : Inside
       let none : (length bytes == 0) ≡ true = eq-eqb _ _ (omega arith) in rw none refl
   until_end_turns (suc turns) (suc others) number at bytes enough also =
       let here : ℕ = end - length bytes in
-      if-agree (length bytes == 0) _ _ _ _ (λ _. refl) (λ _.
-      then-agree (head_at here bytes) _ _ (HeadRead bytes) (head_at-read here bytes) (λ head tag.
-      if-agree (ends number head.0) _ _ _ _ (λ _. refl) (λ _.
-      then-agree (field_with inside end here head.0.number head.0.wire_type head.1) _ _
-      (FieldRead IsGroupOf end here head.0.number head.0.wire_type head.1)
-      (field_with-read IsGroupOf inside groups end here head.0.number head.0.wire_type head.1) (λ field body.
-      let less : length field.1 < length bytes = field-shorter IsGroupOf end here head.0.number head.0.wire_type bytes
-      head field tag body in
+      choice-agree (length bytes == 0) _ _ _ _ (λ _. refl) (λ _.
+      bind-agree (tag_at here bytes) _ _ (TagRead bytes) (tag_at-read here bytes) (λ tag there.
+      choice-agree (ends number tag.0) _ _ _ _ (λ _. refl) (λ _.
+      bind-agree (field_with inside end here tag.0.number tag.0.wire_type tag.1) _ _
+      (FieldRead IsGroupOf end here tag.0.number tag.0.wire_type tag.1)
+      (field_with-read IsGroupOf inside groups end here tag.0.number tag.0.wire_type tag.1) (λ field body.
+      let less : length field.1 < length bytes = field-shorter IsGroupOf end here tag.0.number tag.0.wire_type bytes
+      tag field there body in
       until_end_turns turns others number at field.1 (omega arith) (omega arith)))))
 
   in_turns : (turns number at : ℕ) (bytes : List ℕ) → length bytes ≡ suc turns
       → until_end inside end (suc turns) number at bytes
-      ≡ (head_at (end - length bytes) bytes >>= λ head.
-      if ends number head.0 then Ok (bytes, head.1)
-      else (field_with inside end (end - length bytes) head.0.number head.0.wire_type head.1 >>= λ field.
+      ≡ (tag_at (end - length bytes) bytes >>= λ tag.
+      if ends number tag.0 then Ok (bytes, tag.1)
+      else (field_with inside end (end - length bytes) tag.0.number tag.0.wire_type tag.1 >>= λ field.
       until_end inside end (length field.1) number at field.1))
   unfolding until_end
   in_turns turns number at bytes len =
       let here : ℕ = end - length bytes in
       let some : (length bytes == 0) ≡ false = ne_eqb _ _ (λ none. absurd (omega (arith, none))) in
-      rw some (then-agree (head_at here bytes) _ _ (HeadRead bytes) (head_at-read here bytes) (λ head tag.
-      if-agree (ends number head.0) _ _ _ _ (λ _. refl) (λ _.
-      then-agree (field_with inside end here head.0.number head.0.wire_type head.1) _ _
-      (FieldRead IsGroupOf end here head.0.number head.0.wire_type head.1)
-      (field_with-read IsGroupOf inside groups end here head.0.number head.0.wire_type head.1) (λ field body.
-      let less : length field.1 < length bytes = field-shorter IsGroupOf end here head.0.number head.0.wire_type bytes
-      head field tag body in
+      rw some (bind-agree (tag_at here bytes) _ _ (TagRead bytes) (tag_at-read here bytes) (λ tag there.
+      choice-agree (ends number tag.0) _ _ _ _ (λ _. refl) (λ _.
+      bind-agree (field_with inside end here tag.0.number tag.0.wire_type tag.1) _ _
+      (FieldRead IsGroupOf end here tag.0.number tag.0.wire_type tag.1)
+      (field_with-read IsGroupOf inside groups end here tag.0.number tag.0.wire_type tag.1) (λ field body.
+      let less : length field.1 < length bytes = field-shorter IsGroupOf end here tag.0.number tag.0.wire_type bytes
+      tag field there body in
       until_end_turns turns (length field.1) number at field.1 (omega arith) (omega arith)))))
 
   -- one turn, where bytes are left
   pub until_end-some : (number at : ℕ) (bytes : List ℕ) → 0 < length bytes
       → until_end inside end (length bytes) number at bytes
-      ≡ (head_at (end - length bytes) bytes >>= λ head.
-      if ends number head.0 then Ok (bytes, head.1)
-      else (field_with inside end (end - length bytes) head.0.number head.0.wire_type head.1 >>= λ field.
+      ≡ (tag_at (end - length bytes) bytes >>= λ tag.
+      if ends number tag.0 then Ok (bytes, tag.1)
+      else (field_with inside end (end - length bytes) tag.0.number tag.0.wire_type tag.1 >>= λ field.
       until_end inside end (length field.1) number at field.1))
   until_end-some number at bytes some =
       let len : length bytes ≡ suc (length bytes - 1) = omega arith in
@@ -215,7 +215,7 @@ module _ (IsGroupOf : ℕ → List ℕ → List ℕ → Type 0) (inside : Inside
 
 -- the bytes end before the group's end
 pub until_end-none : (inside : Inside) (end turns number at : ℕ) (bytes : List ℕ) → length bytes ≡ 0
-    → until_end inside end turns number at bytes ≡ Err (fault_at at CUT)
+    → until_end inside end turns number at bytes ≡ Err (fault_at at cause_cut)
 unfolding until_end
 until_end-none inside end zero number at bytes none = refl
 until_end-none inside end (suc turns) number at bytes none = let is :
@@ -227,7 +227,3 @@ pub group_at-open : (end levels number at : ℕ) (bytes : List ℕ) → 0 < leve
 unfolding group_at
 group_at-open end zero number at bytes some = absurd (omega arith)
 group_at-open end (suc levels) number at bytes some = let is : suc levels - 1 ≡ levels = omega arith in rw is refl
-
-pub group_at-closed : (end number at : ℕ) (bytes : List ℕ) → group_at end 0 number at bytes ≡ Err (fault_at at TOO_DEEP)
-unfolding group_at
-group_at-closed end number at bytes = refl

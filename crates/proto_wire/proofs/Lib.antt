@@ -1,8 +1,7 @@
 pub mod Words
 pub mod VarintLemmas
-pub mod Results
 pub mod VarintReading
-pub mod HeadReading
+pub mod TagReading
 pub mod FieldReading
 pub mod GroupReading
 pub mod GroupLoop

@@ -3,8 +3,8 @@ use Rattle.std.proofs.Common.{◌≡◌, ℕ, ◌+◌, ◌-◌, ◌<◌, ◌≤�
 use Rattle.std.proofs.lemmas.Result.{IfOk-at_ok}
 use Rattle.proto_wire.specs.declared.fault.WireFault.{WireFault}
 use Rattle.proto_wire.specs.Fields.{FieldOf, Rest, StepsOver}
-use Rattle.proto_wire.specs.WireReading.{behind_of, field_at, with_field, stopped, walk_on, walk_from}
-use Rattle.proto_wire.specs.Grammar.{StartsWith, Written, spelling, number_of, body_of, IsWritable}
+use Rattle.proto_wire.specs.WireReading.{rest_with, field_at, with_field, stopped, walk_on, walk_from}
+use Rattle.proto_wire.specs.Grammar.{StartsWith, Written, spelling, written_number, written_body, IsWritable}
 use Rattle.proto_wire.proofs.RestReading.{field_at-read, field_at-only, shorter, within, walk_from-some, walk_from-none}
 use Rattle.proto_wire.proofs.WrittenReading.{field_there, written-starts}
 
@@ -29,13 +29,13 @@ module _ (old : Rest) where
           (f : FieldOf). StartsWith old f new) same.0 field-starts),
     )
 
-    pub field-written : (written : Written) (behind : List ℕ) → IsWritable written
-        → old.bytes ≡ spelling written ++ behind
-        → (field.number ≡ number_of written) × (field.body ≡ body_of written) × (new.bytes ≡ behind)
-    field-written written behind writable parts =
-        let there = written-starts old written behind writable parts in
+    pub field-written : (written : Written) (after : List ℕ) → IsWritable written
+        → old.bytes ≡ spelling written ++ after
+        → (field.number ≡ written_number written) × (field.body ≡ written_body written) × (new.bytes ≡ after)
+    field-written written after writable parts =
+        let there = written-starts old written after writable parts in
         let same = only-field (field_there old written there.0) (record {
-          bytes = behind;
+          bytes = after;
           at = there.1;
           depth = old.depth;
         }) there.2 in
@@ -61,9 +61,9 @@ module _ (old : Rest) where
     pub fault-exactly : (field : FieldOf) (new : Rest) → StartsWith old field new ↔ ⊥
     fault-exactly field new = (fault-none field new, λ no. absurd no)
 
-    pub fault-unwritten : (written : Written) (behind : List ℕ) → IsWritable written
-        → old.bytes ≡ spelling written ++ behind → ⊥
-    fault-unwritten written behind writable parts = let there = written-starts old written behind writable parts in
+    pub fault-unwritten : (written : Written) (after : List ℕ) → IsWritable written
+        → old.bytes ≡ spelling written ++ after → ⊥
+    fault-unwritten written after writable parts = let there = written-starts old written after writable parts in
         fault-none _ _ there.2
 
     pub fault-walk : 0 < length old.bytes → walk_from old ≡ stopped (Some fault)
@@ -74,9 +74,9 @@ module _ (old : Rest) where
     pub end-none : (field : FieldOf) (new : Rest) → StartsWith old field new → ⊥
     end-none field new stands = let less = shorter old field new stands in omega (arith, less)
 
-    pub end-unwritten : (written : Written) (behind : List ℕ) → IsWritable written
-        → old.bytes ≡ spelling written ++ behind → ⊥
-    end-unwritten written behind writable parts = let there = written-starts old written behind writable parts in
+    pub end-unwritten : (written : Written) (after : List ℕ) → IsWritable written
+        → old.bytes ≡ spelling written ++ after → ⊥
+    end-unwritten written after writable parts = let there = written-starts old written after writable parts in
         end-none _ _ there.2
 
     pub end-walk : walk_from old ≡ stopped None
@@ -87,20 +87,20 @@ abbrev pub left_of : ℕ → ℕ → List ℕ → Rest
 left_of end depth bytes = record { bytes = bytes; at = end - length bytes; depth = depth }
 
 -- what was read, by the parts of the reader before and after
-pub parts-read : (end depth : ℕ) (bytes behind : List ℕ) (old : Rest) (field : FieldOf)
-    → left_of end depth bytes ≡ old → length bytes ≤ end → field_at old ≡ Ok (field, behind_of old behind)
-    → field_at old ≡ Ok (field, left_of end depth behind)
-parts-read end depth bytes behind old field is fits read =
-    let less : length behind < length old.bytes = field-shorter old field (behind_of old behind) read in
+pub parts-read : (end depth : ℕ) (bytes after : List ℕ) (old : Rest) (field : FieldOf)
+    → left_of end depth bytes ≡ old → length bytes ≤ end → field_at old ≡ Ok (field, rest_with old after)
+    → field_at old ≡ Ok (field, left_of end depth after)
+parts-read end depth bytes after old field is fits read =
+    let less : length after < length old.bytes = field-shorter old field (rest_with old after) read in
     let len : length bytes ≡ length old.bytes = ap (λ (r : Rest). length r.bytes) is in
     let at_is : end - length bytes ≡ old.at = ap (λ (r : Rest). r.at) is in
     let depth_is : depth ≡ old.depth = ap (λ (r : Rest). r.depth) is in
-    let place : end - length behind ≡ old.at + length old.bytes - length behind = omega arith in
-    let moved : left_of end depth behind ≡ behind_of old behind =
-    ap (λ (n : ℕ). let left : Rest = record { bytes = behind; at = n; depth = depth } in left) place
+    let place : end - length after ≡ old.at + length old.bytes - length after = omega arith in
+    let moved : left_of end depth after ≡ rest_with old after =
+    ap (λ (n : ℕ). let left : Rest = record { bytes = after; at = n; depth = depth } in left) place
     ∙ ap (λ (n : ℕ). let left : Rest = record {
-      bytes = behind;
-      at = old.at + length old.bytes - length behind;
+      bytes = after;
+      at = old.at + length old.bytes - length after;
       depth = n;
     } in left) depth_is in
     subst (λ (left : Rest). field_at old ≡ Ok (field, left)) (sym moved) read

@@ -11,7 +11,7 @@ use Rattle.std.proofs.lemmas.List.Quantifiers.{position-Some}
 use Rattle.proto_wire.specs.WireReading.{varint_at, varint_to, groups_value}
 use Rattle.proto_wire.specs.Grammar.{IsVarint}
 
--- the front is a varint of this value, and this is behind it
+-- the front is a varint of this value, and this is after it
 pub record VarintRead (bytes : List ℕ) (read : ℕ × List ℕ) : Type 0 where
   pub front : List ℕ
   pub parts : bytes ≡ front ++ read.1
@@ -49,23 +49,23 @@ varint_at-read at bytes = by_place (position (λ byte. nat_lt byte 128) (take 10
     by_place None found = tt
     by_place (Some last) found = to_last bytes last found
 
--- and a varint is read, whatever is behind it
-pub varint_at-only : (at value : ℕ) (front behind : List ℕ) → IsVarint front value
-    → varint_at at (front ++ behind) ≡ Ok (value, behind)
+-- and a varint is read, whatever is after it
+pub varint_at-only : (at value : ℕ) (front after : List ℕ) → IsVarint front value
+    → varint_at at (front ++ after) ≡ Ok (value, after)
 unfolding varint_at
-varint_at-only at value front behind varint =
-    let bytes : List ℕ = front ++ behind in
+varint_at-only at value front after varint =
+    let bytes : List ℕ = front ++ after in
     let last : ℕ = length front - 1 in
     let last_is : last + 1 ≡ length front = omega (arith, varint.some) in
     let ten : length (take 10 bytes) ≡ min 10 (length bytes) = length-take 10 bytes in
-    let long : length bytes ≡ length front + length behind = length-append front behind in
+    let long : length bytes ≡ length front + length after = length-append front after in
     let inside : last < length (take 10 bytes) = omega (arith, varint.short) in
     let in_front : (k : ℕ) → k < length front → get_or (take 10 bytes) k 0 ≡ get_or front k 0 =
-    λ k below. get_or-take 10 bytes k 0 (omega (arith, varint.short)) ∙ get_or_append_left front behind 0 k below in
+    λ k below. get_or-take 10 bytes k 0 (omega (arith, varint.short)) ∙ get_or_append_left front after 0 k below in
     let place : position_or_len (λ byte. nat_lt byte 128) (take 10 bytes) ≡ last =
     position_or_len_is (λ byte. nat_lt byte 128) (take 10 bytes) last 0 (omega arith)
     (λ k below. rw (in_front k (omega arith)) (le-ltb _ _ (varint.marked k (omega arith))))
     (λ _. rw (in_front last (omega arith)) (lt-ltb _ _ varint.ended)) in
     let found : position (λ byte. nat_lt byte 128) (take 10 bytes) ≡ Some last = rw place (rw (lt-ltb last (length
     (take 10 bytes)) inside) refl) in
-    rw found (rw (last_is, take-append_seam front behind, drop-append_seam front behind, ← varint.holds) refl)
+    rw found (rw (last_is, take-append_seam front after, drop-append_seam front after, ← varint.holds) refl)

@@ -4,10 +4,11 @@ use Rattle.std.specs.Int.{w32, to_le_bytes}
 use Rattle.std.proofs.Math.Nat.{div-lt_iff_lt-mul, pow-suc}
 use Rattle.std.proofs.lemmas.Bool.{cases_lt}
 use Rattle.std.proofs.lemmas.Nat.{from_le_bytes-to_le_bytes_4}
-use Rattle.proto_wire.specs.Spelling.{varint, varint_in, tag}
+use Rattle.proto_wire.specs.declared.tag.WireType.TheVariants as wire
+use Rattle.proto_wire.specs.Spelling.{varint, varint_in, tag_bytes}
 use Rattle.proto_wire.specs.Fields.{FieldOf, Rest}
 use Rattle.proto_wire.specs.WireReading.{groups_value}
-use Rattle.proto_wire.specs.Grammar.{IsVarint, StartsWith, Written, AsVarint, AsBytes, AsFixed32, spelling, number_of, body_of, IsWritable}
+use Rattle.proto_wire.specs.Grammar.{IsVarint, StartsWith, Written, AsVarint, AsBytes, AsFixed32, spelling, written_number, written_body, IsWritable}
 use Rattle.proto_wire.proofs.VarintLemmas.{in-last, in-step}
 
 -- bytes as a varint has them, in at most so many
@@ -70,29 +71,29 @@ varint-spelled n fits =
 -- the field that was written, where it stands in front
 abbrev pub field_there : Rest → Written → ℕ → FieldOf
 field_there rest field payload_at = record {
-  number = number_of field;
+  number = written_number field;
   at = rest.at;
   payload_at = payload_at;
-  body = body_of field;
+  body = written_body field;
 }
 
 -- a written field is the field in front
-pub written-starts : (rest : Rest) (field : Written) (behind : List ℕ) → IsWritable field
-    → rest.bytes ≡ spelling field ++ behind
+pub written-starts : (rest : Rest) (field : Written) (after : List ℕ) → IsWritable field
+    → rest.bytes ≡ spelling field ++ after
     → (payload_at : ℕ) × (next : ℕ) × StartsWith rest (field_there rest field payload_at) (record {
-      bytes = behind;
+      bytes = after;
       at = next;
       depth = rest.depth;
     })
-written-starts rest (AsVarint number value) behind writable parts =
-    let head : List ℕ = tag number 0 in (
-      rest.at + length head + 0,
-      rest.at + length head + 0 + length (varint value),
+written-starts rest (AsVarint number value) after writable parts =
+    let first : List ℕ = tag_bytes number wire.Varint in (
+      rest.at + length first + 0,
+      rest.at + length first + 0 + length (varint value),
       record {
-        tag = head;
+        tag = first;
         count = [];
         payload = varint value;
-        parts = parts ∙ append_assoc head (varint value) behind;
+        parts = parts ∙ append_assoc first (varint value) after;
         laid_out = record {
           tagged = record {
             spelled = varint-spelled (number * 8 + 0) (omega (arith, writable.numbered));
@@ -107,13 +108,13 @@ written-starts rest (AsVarint number value) behind writable parts =
         moved = refl;
       },
     )
-written-starts rest (AsBytes number bytes) behind writable parts =
-    let head : List ℕ = tag number 2 in
+written-starts rest (AsBytes number bytes) after writable parts =
+    let first : List ℕ = tag_bytes number wire.Bytes in
     let count : List ℕ = varint (length bytes) in (
-      rest.at + length head + length count,
-      rest.at + length head + length count + length bytes,
+      rest.at + length first + length count,
+      rest.at + length first + length count + length bytes,
       record {
-        tag = head;
+        tag = first;
         count = count;
         payload = bytes;
         parts = parts ∙ simp append_assoc;
@@ -131,15 +132,15 @@ written-starts rest (AsBytes number bytes) behind writable parts =
         moved = refl;
       },
     )
-written-starts rest (AsFixed32 number value) behind writable parts =
-    let head : List ℕ = tag number 5 in (
-      rest.at + length head + 0,
-      rest.at + length head + 0 + length (to_le_bytes w32 value),
+written-starts rest (AsFixed32 number value) after writable parts =
+    let first : List ℕ = tag_bytes number wire.Fixed32 in (
+      rest.at + length first + 0,
+      rest.at + length first + 0 + length (to_le_bytes w32 value),
       record {
-        tag = head;
+        tag = first;
         count = [];
         payload = to_le_bytes w32 value;
-        parts = parts ∙ append_assoc head (to_le_bytes w32 value) behind;
+        parts = parts ∙ append_assoc first (to_le_bytes w32 value) after;
         laid_out = record {
           tagged = record {
             spelled = varint-spelled (number * 8 + 5) (omega (arith, writable.numbered));

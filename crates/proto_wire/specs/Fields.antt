@@ -53,10 +53,10 @@ has_inside (Fixed64 value) = false
 has_inside (Fixed32 value) = false
 
 -- no place in the payload is past the 32 bits of an offset
-abbrev pub IsWithin : FieldOf → Type 0
-IsWithin field = field.payload_at + length (inside_of field.body) < 2 ^ 32
+abbrev pub FitsOffsets : FieldOf → Type 0
+FitsOffsets field = field.payload_at + length (inside_of field.body) < 2 ^ 32
 
 -- a step over a field: less is left, and the field can be entered
 pub record StepsOver (old : Rest) (field : FieldOf) (new : Rest) : Type 0 where
   pub shorter : length new.bytes < length old.bytes
-  pub within : IsWithin field
+  pub within : FitsOffsets field

@@ -4,8 +4,10 @@ use Rattle.std.specs.List.{AllByRecursion, concat}
 use Rattle.std.specs.Int.{w32, w64, from_le_bytes}
 use Rattle.proto_wire.specs.declared.fault.WireFault.{WireFault}
 use Rattle.proto_wire.specs.declared.field.Field.{Field}
-use Rattle.proto_wire.specs.declared.head.WireType.{WireType}
-use Rattle.proto_wire.specs.declared.head.WireType.TheVariants as wire
+use Rattle.proto_wire.specs.declared.tag.WireType.{WireType}
+use Rattle.proto_wire.specs.declared.tag.WireType.TheVariants as wire
+use Rattle.proto_wire.specs.WireCauses.{most_depth}
+use Rattle.proto_wire.specs.WireTypes.{code_of}
 use Rattle.proto_wire.specs.Fields.{BodyOf, Varint, Fixed64, Bytes, Group, Fixed32, FieldOf, Rest, seen}
 use Rattle.proto_wire.specs.WireReading.{groups_value}
 use Rattle.proto_wire.specs.Spelling.{varint_field, bytes_field, fixed32_field}
@@ -17,14 +19,6 @@ pub record IsVarint (bytes : List ℕ) (value : ℕ) : Type 0 where
   pub marked : (k : ℕ) → k + 1 < length bytes → 128 ≤ slice_index bytes k
   pub ended : slice_index bytes (length bytes - 1) < 128
   pub holds : value ≡ groups_value bytes % 2 ^ 64
-
-abbrev pub code_of : WireType → ℕ
-code_of wire.Varint = 0
-code_of wire.Fixed64 = 1
-code_of wire.Bytes = 2
-code_of wire.GroupStart = 3
-code_of wire.GroupEnd = 4
-code_of wire.Fixed32 = 5
 
 -- a tag of this number and wire type
 pub record IsTag (bytes : List ℕ) (number : ℕ) (wire_type : WireType) : Type 0 where
@@ -92,7 +86,7 @@ pub record StartsWith (old : Rest) (field : FieldOf) (new : Rest) : Type 0 where
   pub count : List ℕ
   pub payload : List ℕ
   pub parts : old.bytes ≡ tag ++ (count ++ (payload ++ new.bytes))
-  pub laid_out : IsLaidOut (IsGroup (100 - old.depth)) field.number field.body tag count payload
+  pub laid_out : IsLaidOut (IsGroup (most_depth - old.depth)) field.number field.body tag count payload
   pub at : field.at ≡ old.at
   pub payload_at : field.payload_at ≡ old.at + length tag + length count
   pub moved : new ≡ record old { bytes = new.bytes; at = old.at + length tag + length count + length payload }
@@ -114,15 +108,15 @@ spelling (AsVarint number value) = varint_field number value
 spelling (AsBytes number bytes) = bytes_field number bytes
 spelling (AsFixed32 number value) = fixed32_field number value
 
-abbrev pub number_of : Written → ℕ
-number_of (AsVarint number value) = number
-number_of (AsBytes number bytes) = number
-number_of (AsFixed32 number value) = number
+abbrev pub written_number : Written → ℕ
+written_number (AsVarint number value) = number
+written_number (AsBytes number bytes) = number
+written_number (AsFixed32 number value) = number
 
-abbrev pub body_of : Written → BodyOf
-body_of (AsVarint number value) = Varint value
-body_of (AsBytes number bytes) = Bytes bytes
-body_of (AsFixed32 number value) = Fixed32 value
+abbrev pub written_body : Written → BodyOf
+written_body (AsVarint number value) = Varint value
+written_body (AsBytes number bytes) = Bytes bytes
+written_body (AsFixed32 number value) = Fixed32 value
 
 -- its value fits its type
 abbrev pub FitsType : Written → Type 0
@@ -132,13 +126,13 @@ FitsType (AsFixed32 number value) = value < 2 ^ 32
 
 -- the writer takes it
 pub record IsWritable (field : Written) : Type 0 where
-  pub named : 1 ≤ number_of field
-  pub numbered : number_of field < 2 ^ 29
+  pub named : 1 ≤ written_number field
+  pub numbered : written_number field < 2 ^ 29
   pub fits : FitsType field
 
 -- the call gave what was written, and this is left
 abbrev pub GaveBack : Result (Option Field) WireFault → Rest → Written → List ℕ → Type 0
 GaveBack (Ok (Some given)) left field bytes =
-    (given.number ≡ number_of field) × ((seen given).body ≡ body_of field) × (left.bytes ≡ bytes)
+    (given.number ≡ written_number field) × ((seen given).body ≡ written_body field) × (left.bytes ≡ bytes)
 GaveBack (Ok None) left field bytes = ⊥
 GaveBack (Err fault) left field bytes = ⊥

@@ -1,3 +1,5 @@
+pub mod WireCauses
+pub mod WireTypes
 pub mod Spelling
 pub mod Fields
 pub mod WireReading

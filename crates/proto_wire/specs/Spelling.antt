@@ -1,6 +1,9 @@
 -- The shortest spelling of fields, as bytes.
 use Rattle.std.specs.Prelude.{ℕ, zero, suc, ◌+◌, ◌*◌, ◌/◌, ◌%◌, List, [], ◌∷◌, ◌++◌, length, nat_lt, if◌then◌else◌}
 use Rattle.std.specs.Int.{w32, to_le_bytes}
+use Rattle.proto_wire.specs.declared.tag.WireType.{WireType}
+use Rattle.proto_wire.specs.declared.tag.WireType.TheVariants as wire
+use Rattle.proto_wire.specs.WireTypes.{code_of}
 
 -- seven bits a byte, the low ones first, in at most so many bytes; each byte but the last has its high bit set
 abbrev pub varint_in : ℕ → ℕ → List ℕ
@@ -11,18 +14,18 @@ varint_in (suc turns) n = if nat_lt n 128 then n ∷ [] else (n % 128 + 128) ∷
 unfoldable pub varint : ℕ → List ℕ
 varint n = varint_in 10 n
 
--- the head of a field: its number, and how its payload is laid out
-abbrev pub tag : ℕ → ℕ → List ℕ
-tag number wire_type = varint (number * 8 + wire_type)
+-- the tag of a field: its number, and how its payload is laid out
+abbrev pub tag_bytes : ℕ → WireType → List ℕ
+tag_bytes number wire_type = varint (number * 8 + code_of wire_type)
 
 -- a field that holds a number
 abbrev pub varint_field : ℕ → ℕ → List ℕ
-varint_field number value = tag number 0 ++ varint value
+varint_field number value = tag_bytes number wire.Varint ++ varint value
 
--- a field that holds bytes, behind their count
+-- a field that holds bytes, after their count
 abbrev pub bytes_field : ℕ → List ℕ → List ℕ
-bytes_field number bytes = tag number 2 ++ varint (length bytes) ++ bytes
+bytes_field number bytes = tag_bytes number wire.Bytes ++ varint (length bytes) ++ bytes
 
 -- a field that holds four bytes, the low ones first
 abbrev pub fixed32_field : ℕ → ℕ → List ℕ
-fixed32_field number value = tag number 5 ++ to_le_bytes w32 value
+fixed32_field number value = tag_bytes number wire.Fixed32 ++ to_le_bytes w32 value

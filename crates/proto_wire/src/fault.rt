@@ -1,4 +1,9 @@
 //! Why bytes are no message.
+ghost use Rattle.std.specs.Prelude.{◌≡◌};
+ghost use Rattle.proto_wire.specs.WireReading.{fault_at};
+
+use std::error::Error;
+use std::fmt;
 
 /// A varint whose tenth byte has its high bit set, whether or not a byte follows.
 pub const LONG_VARINT: u8 = 1;
@@ -22,4 +27,23 @@ pub struct WireFault {
     pub offset: u32,
     /// One of the seven causes.
     pub cause: u8,
+}
+
+impl fmt::Display for WireFault {
+    fn fmt<W: fmt::Write>(&self, f: &mut fmt::Formatter<W>) -> fmt::Result {
+        write!(
+            f,
+            "the record at byte {} can't be read, by cause {}",
+            self.offset, self.cause
+        )
+    }
+}
+
+impl Error for WireFault {}
+
+// The record that begins at `at` has this fault.
+pub(crate) fn fault(at: u32, cause: u8) -> WireFault
+    ensures { result ≡ fault_at at cause }
+{
+    WireFault { offset: at, cause }
 }

@@ -18,7 +18,7 @@ pub struct Field<'a> {
     pub number: u32,
     /// Where the tag begins.
     pub at: u32,
-    /// Where the payload begins; for bytes, behind their count.
+    /// Where the payload begins; for bytes, after their count.
     pub payload_at: u32,
     pub body: Body<'a>,
 }

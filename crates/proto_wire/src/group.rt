@@ -1,149 +1,186 @@
 //! Fields of every kind, and groups, whose records are read up to their end.
-ghost use Rattle.std.specs.Prelude.{◌≡◌, ◌+◌, ◌<◌, ◌≤◌, length, IfOk};
+ghost use Rattle.std.specs.Prelude.{◌≡◌, ◌+◌, ◌<◌, ◌≤◌, length, Some, IfOk};
 ghost use Rattle.std.specs.Int.{w32, w64};
+ghost use Rattle.sd_base.specs.Reads.{GivesBy};
 ghost use Rattle.proto_wire.specs.Fields.{seen};
-ghost use Rattle.proto_wire.specs.WireReading.{Gives, taken_at, fixed_at, field_with, group_at};
+ghost use Rattle.proto_wire.specs.WireReading.{taken_at, fixed_at, varint_record, fixed64_record, bytes_record, group_record, fixed32_record, field_with, group_at};
 
-use crate::fault::{CUT, STRAY_GROUP_END, TOO_DEEP, WireFault};
+use crate::fault::{CUT, STRAY_GROUP_END, TOO_DEEP, WireFault, fault};
 use crate::field::{Body, Field};
-use crate::head::{Head, WireType, next_head};
+use crate::tag::{Tag, WireType, next_tag};
 use crate::varint::varint_of;
+use sd_base::{split_bytes, split_u32, split_u64};
 
-/// So many bytes, and what is behind them.
+// So many bytes, and what is after them.
 #[tactic(auto, unfolding(crate::specs::WireReading::taken_at))]
 fn take(at: u32, count: u64, bytes: &[u8]) -> Result<(&[u8], &[u8]), WireFault>
-    ensures taken { Gives (λ x. (x.0.now, x.1.now)) result (taken_at at count bytes.now) }
-    ensures shorter { IfOk result (λ x. length x.0.now + length x.1.now ≡ length bytes.now) }
-    ensures counted { IfOk result (λ x. length x.0.now ≡ count) }
-{
-    if (bytes.len() as u64) < count {
-        return Err(WireFault {
-            offset: at,
-            cause: CUT,
-        });
-    }
-    Ok(bytes.split_at(count as usize))
-}
-
-/// Four bytes as a number, the low ones first.
-#[tactic(auto, unfolding(crate::specs::WireReading::taken_at))]
-fn fixed32_of(at: u32, bytes: &[u8]) -> Result<(u32, &[u8]), WireFault>
-    ensures number { Gives (λ x. (x.0, x.1.now)) result (fixed_at w32 at 4 bytes.now) }
+    ensures taken { GivesBy Some (λ x. (x.0.now, x.1.now)) result (taken_at at count bytes.now) }
     ensures shorter { IfOk result (λ x. length x.1.now ≤ length bytes.now) }
 {
-    let (four, behind) = take(at, 4, bytes)?;
-    let value = u32::from_le_bytes([four[0], four[1], four[2], four[3]]);
-    Ok((value, behind))
+    split_bytes(bytes, count).ok_or(fault(at, CUT))
 }
 
-/// Eight bytes as a number, the low ones first.
-#[tactic(auto, unfolding(crate::specs::WireReading::taken_at))]
-fn fixed64_of(at: u32, bytes: &[u8]) -> Result<(u64, &[u8]), WireFault>
-    ensures number { Gives (λ x. (x.0, x.1.now)) result (fixed_at w64 at 8 bytes.now) }
+// A field that holds a number as a varint, and what is after it.
+fn varint_field<'a>(
+    number: u32,
+    at: u32,
+    bytes: &'a [u8],
+    end: u32,
+) -> Result<(Field<'a>, &'a [u8]), WireFault>
+    requires { length bytes.now ≤ end }
+    ensures field { GivesBy Some (λ x. (seen x.0, x.1.now)) result
+        (varint_record end at number bytes.now) }
     ensures shorter { IfOk result (λ x. length x.1.now ≤ length bytes.now) }
 {
-    let (eight, behind) = take(at, 8, bytes)?;
-    let value = u64::from_le_bytes([
-        eight[0], eight[1], eight[2], eight[3], eight[4], eight[5], eight[6], eight[7],
-    ]);
-    Ok((value, behind))
+    let payload_at = end - bytes.len() as u32;
+    let (value, after) = varint_of(at, bytes)?;
+    let body = Body::Varint(value);
+    Ok((
+        Field {
+            number,
+            at,
+            payload_at,
+            body,
+        },
+        after,
+    ))
 }
 
-/// The field of a tag, from what is behind the tag, and what is behind the field.
+// A field that holds a number in eight bytes, and what is after it.
+fn fixed64_field<'a>(
+    number: u32,
+    at: u32,
+    bytes: &'a [u8],
+    end: u32,
+) -> Result<(Field<'a>, &'a [u8]), WireFault>
+    requires { length bytes.now ≤ end }
+    ensures field { GivesBy Some (λ x. (seen x.0, x.1.now)) result
+        (fixed64_record end at number bytes.now) }
+    ensures shorter { IfOk result (λ x. length x.1.now ≤ length bytes.now) }
+{
+    let payload_at = end - bytes.len() as u32;
+    let (value, after) = split_u64(bytes).ok_or(fault(at, CUT))?;
+    let body = Body::Fixed64(value);
+    Ok((
+        Field {
+            number,
+            at,
+            payload_at,
+            body,
+        },
+        after,
+    ))
+}
+
+// A field that holds counted bytes, and what is after it.
+fn bytes_field<'a>(
+    number: u32,
+    at: u32,
+    bytes: &'a [u8],
+    end: u32,
+) -> Result<(Field<'a>, &'a [u8]), WireFault>
+    requires { length bytes.now ≤ end }
+    ensures field { GivesBy Some (λ x. (seen x.0, x.1.now)) result
+        (bytes_record end at number bytes.now) }
+    ensures shorter { IfOk result (λ x. length x.1.now ≤ length bytes.now) }
+{
+    let (count, counted) = varint_of(at, bytes)?;
+    let payload_at = end - counted.len() as u32;
+    let (payload, after) = take(at, count, counted)?;
+    let body = Body::Bytes(payload);
+    Ok((
+        Field {
+            number,
+            at,
+            payload_at,
+            body,
+        },
+        after,
+    ))
+}
+
+// A field that holds a number in four bytes, and what is after it.
+fn fixed32_field<'a>(
+    number: u32,
+    at: u32,
+    bytes: &'a [u8],
+    end: u32,
+) -> Result<(Field<'a>, &'a [u8]), WireFault>
+    requires { length bytes.now ≤ end }
+    ensures field { GivesBy Some (λ x. (seen x.0, x.1.now)) result
+        (fixed32_record end at number bytes.now) }
+    ensures shorter { IfOk result (λ x. length x.1.now ≤ length bytes.now) }
+{
+    let payload_at = end - bytes.len() as u32;
+    let (value, after) = split_u32(bytes).ok_or(fault(at, CUT))?;
+    let body = Body::Fixed32(value);
+    Ok((
+        Field {
+            number,
+            at,
+            payload_at,
+            body,
+        },
+        after,
+    ))
+}
+
+/// The field of a tag, from what is after the tag, and what is after the field.
 #[cycle(group)]
 #[tactic(auto, unfolding(crate::specs::WireReading::field_with))]
 pub fn field_of<'a>(
-    head: Head,
+    tag: Tag,
     at: u32,
     bytes: &'a [u8],
     end: u32,
     levels: u32,
 ) -> Result<(Field<'a>, &'a [u8]), WireFault>
     requires { length bytes.now ≤ end }
-    ensures field { Gives (λ x. (seen x.0, x.1.now)) result
-        (field_with (group_at end levels) end at head.number head.wire_type bytes.now) }
+    ensures field { GivesBy Some (λ x. (seen x.0, x.1.now)) result
+        (field_with (group_at end levels) end at tag.number tag.wire_type bytes.now) }
     ensures shorter { IfOk result (λ x. length x.1.now ≤ length bytes.now) }
 {
-    let Head { number, wire_type } = head;
-    let payload_at = end - bytes.len() as u32;
-    match wire_type {
-        WireType::Varint => {
-            let (value, behind) = varint_of(at, bytes)?;
-            let body = Body::Varint(value);
-            Ok((
-                Field {
-                    number,
-                    at,
-                    payload_at,
-                    body,
-                },
-                behind,
-            ))
-        }
-        WireType::Fixed64 => {
-            let (value, behind) = fixed64_of(at, bytes)?;
-            let body = Body::Fixed64(value);
-            Ok((
-                Field {
-                    number,
-                    at,
-                    payload_at,
-                    body,
-                },
-                behind,
-            ))
-        }
-        WireType::Bytes => {
-            let (count, counted) = varint_of(at, bytes)?;
-            let payload_at = end - counted.len() as u32;
-            let (payload, behind) = take(at, count, counted)?;
-            let body = Body::Bytes(payload);
-            Ok((
-                Field {
-                    number,
-                    at,
-                    payload_at,
-                    body,
-                },
-                behind,
-            ))
-        }
-        WireType::GroupStart => {
-            let (group_end, behind) = group_of(number, at, bytes, end, levels)?;
-            let (inside, _) = bytes.split_at(bytes.len() - group_end.len());
-            let body = Body::Group(inside);
-            Ok((
-                Field {
-                    number,
-                    at,
-                    payload_at,
-                    body,
-                },
-                behind,
-            ))
-        }
-        WireType::GroupEnd => Err(WireFault {
-            offset: at,
-            cause: STRAY_GROUP_END,
-        }),
-        WireType::Fixed32 => {
-            let (value, behind) = fixed32_of(at, bytes)?;
-            let body = Body::Fixed32(value);
-            Ok((
-                Field {
-                    number,
-                    at,
-                    payload_at,
-                    body,
-                },
-                behind,
-            ))
-        }
+    match tag.wire_type {
+        WireType::Varint => varint_field(tag.number, at, bytes, end),
+        WireType::Fixed64 => fixed64_field(tag.number, at, bytes, end),
+        WireType::Bytes => bytes_field(tag.number, at, bytes, end),
+        WireType::GroupStart => group_field(tag.number, at, bytes, end, levels),
+        WireType::GroupEnd => Err(fault(at, STRAY_GROUP_END)),
+        WireType::Fixed32 => fixed32_field(tag.number, at, bytes, end),
     }
 }
 
-/// Reads the records of the group that begins at `at`, from behind its tag.
-/// What comes begins with the group's end, and then what is behind that.
+// A field that holds the records of a group, and what is after it.
+#[cycle(group)]
+fn group_field<'a>(
+    number: u32,
+    at: u32,
+    bytes: &'a [u8],
+    end: u32,
+    levels: u32,
+) -> Result<(Field<'a>, &'a [u8]), WireFault>
+    requires { length bytes.now ≤ end }
+    ensures field { GivesBy Some (λ x. (seen x.0, x.1.now)) result
+        (group_record (group_at end levels) end at number bytes.now) }
+    ensures shorter { IfOk result (λ x. length x.1.now ≤ length bytes.now) }
+{
+    let payload_at = end - bytes.len() as u32;
+    let (group_end, after) = group_of(number, at, bytes, end, levels)?;
+    let (inside, _) = bytes.split_at(bytes.len() - group_end.len());
+    let body = Body::Group(inside);
+    Ok((
+        Field {
+            number,
+            at,
+            payload_at,
+            body,
+        },
+        after,
+    ))
+}
+
+// Reads the records of the group that begins at `at`, from what is after its tag.
+// What comes begins with the group's end, and then what is after that.
 #[cycle(group)]
 #[tactic(auto, unfolding(crate::specs::WireReading::group_at))]
 fn group_of<'a>(
@@ -154,27 +191,23 @@ fn group_of<'a>(
     levels: u32,
 ) -> Result<(&'a [u8], &'a [u8]), WireFault>
     requires { length bytes.now ≤ end }
-    ensures ended { Gives (λ x. (x.0.now, x.1.now)) result (group_at end levels number at bytes.now) }
-    ensures shorter { IfOk result (λ x. (length x.1.now ≤ length x.0.now) × (length x.0.now ≤ length bytes.now)) }
+    ensures ended { GivesBy Some (λ x. (x.0.now, x.1.now)) result
+        (group_at end levels number at bytes.now) }
+    ensures whole { IfOk result (λ x. length x.0.now ≤ length bytes.now) }
+    ensures shorter { IfOk result (λ x. length x.1.now ≤ length x.0.now) }
 {
     if levels == 0 {
-        return Err(WireFault {
-            offset: at,
-            cause: TOO_DEEP,
-        });
+        return Err(fault(at, TOO_DEEP));
     }
     let mut rest = bytes;
     while !rest.is_empty() {
         let here = end - rest.len() as u32;
-        let (head, behind) = next_head(here, rest)?;
-        if head.ends(number) {
-            return Ok((rest, behind));
+        let (tag, after) = next_tag(here, rest)?;
+        if tag.is_end_of(number) {
+            return Ok((rest, after));
         }
-        let (_, behind) = field_of(head, here, behind, end, levels - 1)?;
-        rest = behind;
+        let (_, after) = field_of(tag, here, after, end, levels - 1)?;
+        rest = after;
     }
-    Err(WireFault {
-        offset: at,
-        cause: CUT,
-    })
+    Err(fault(at, CUT))
 }

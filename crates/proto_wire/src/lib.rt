@@ -4,8 +4,8 @@
 mod fault;
 mod field;
 mod group;
-mod head;
 mod records;
+mod tag;
 mod varint;
 mod writer;
 
@@ -18,5 +18,3 @@ pub use records::Records;
 pub use varint::varint_of;
 pub use writer::Writer;
 
-#[cfg(test)]
-mod tests;

@@ -1,13 +1,15 @@
 //! A reader of the records of a message, in one pass and without a copy.
-ghost use Rattle.std.specs.Prelude.{◌≡◌, ◌+◌, ◌<◌, ◌≤◌, ◌^◌, ◌↔◌, ◌++◌, ℕ, List, [], length, Ok, None, IfOk, IfSome, IsTrue};
-ghost use Rattle.proto_wire.specs.Fields.{FieldOf, Rest, seen, has_inside, IsWithin, StepsOver};
-ghost use Rattle.proto_wire.specs.WireReading.{Gives, field_at, behind_of, AnswersNext, inside_at, walk_from, walk_by};
+ghost use Rattle.std.specs.Prelude.{◌≡◌, ◌+◌, ◌<◌, ◌≤◌, ◌^◌, ◌↔◌, ◌++◌, ℕ, List, [], length, Ok, None, Some, IfOk, IfSome, IsTrue};
+ghost use Rattle.sd_base.specs.Reads.{GivesBy};
+ghost use Rattle.proto_wire.specs.WireCauses.{most_depth};
+ghost use Rattle.proto_wire.specs.Fields.{FieldOf, Rest, seen, has_inside, FitsOffsets, StepsOver};
+ghost use Rattle.proto_wire.specs.WireReading.{field_at, rest_with, AnswersNext, inside_at, walk_from, walk_by};
 ghost use Rattle.proto_wire.specs.Grammar.{StartsWith, GaveField, Written, spelling, IsWritable, GaveBack};
 
-use crate::fault::{TOO_DEEP, WireFault};
+use crate::fault::{TOO_DEEP, WireFault, fault};
 use crate::field::{Body, Field};
 use crate::group::field_of;
-use crate::head::next_head;
+use crate::tag::next_tag;
 use std::marker::Model;
 
 /// How deep messages and groups may nest.
@@ -24,19 +26,20 @@ pub struct Records<'a> {
 
 impl<'a> Model for Records<'a> {
     ghost use Rattle.std.specs.Prelude.{◌-◌, ◌≤◌, length};
+    ghost use Rattle.proto_wire.specs.WireCauses.{most_depth};
     ghost use Rattle.proto_wire.specs.Fields.{Rest};
 
     ghost Value = { Rest };
 
     ghost view = { λ r. record { bytes = r.bytes.now; at = r.end - length r.bytes.now; depth = r.depth } };
 
-    ghost invariant = { λ r. (length r.bytes.now ≤ r.end) × (r.depth ≤ 100) };
+    ghost invariant = { λ r. (length r.bytes.now ≤ r.end) × (r.depth ≤ most_depth) };
 }
 
 impl<'a> Records<'a> {
     /// The records of a message of this depth, whose bytes begin at `base` of the whole configuration.
     pub fn new(bytes: &'a [u8], depth: u32, base: u32) -> Records<'a>
-        requires shallow { depth ≤ 100 }
+        requires shallow { depth ≤ most_depth }
         requires fits { base + length bytes.now < 2 ^ 32 }
         ensures { result ≡ record { bytes = bytes.now; at = base; depth = depth } }
     {
@@ -56,18 +59,21 @@ impl<'a> Records<'a> {
         // A field is read exactly where one is laid out, and what a writer wrote is read back.
         ensures grammar { (field : FieldOf) (new : Rest)
             → StartsWith self.old field new ↔ GaveField result self.new field new }
-        ensures written { (field : Written) (behind : List ℕ)
-            → IsWritable field → self.old.bytes ≡ spelling field ++ behind → GaveBack result self.new field behind }
+        ensures written { (field : Written) (after : List ℕ)
+            → IsWritable field
+            → self.old.bytes ≡ spelling field ++ after
+            → GaveBack result self.new field after }
 
         // One step of a walk.
         ensures walk { walk_from self.old ≡ walk_by result self.new }
-        ensures step { IfOk result (λ found. IfSome found (λ f. StepsOver self.old (seen f) self.new)) }
+        ensures step { IfOk result
+            (λ found. IfSome found (λ f. StepsOver self.old (seen f) self.new)) }
     {
         if self.bytes.is_empty() {
             return Ok(None);
         }
-        let (field, behind) = self.first()?;
-        self.bytes = behind;
+        let (field, after) = self.first()?;
+        self.bytes = after;
         Ok(Some(field))
     }
 
@@ -75,14 +81,11 @@ impl<'a> Records<'a> {
     #[tactic(auto, unfolding(crate::specs::WireReading::inside_at))]
     pub fn enter(&self, f: &Field<'a>) -> Result<Records<'a>, WireFault>
         requires inside { IsTrue (has_inside (seen f.now).body) }
-        requires within { IsWithin (seen f.now) }
+        requires within { FitsOffsets (seen f.now) }
         ensures { result ≡ inside_at self.now.depth (seen f.now) }
     {
         if self.depth == MAX_DEPTH {
-            return Err(WireFault {
-                offset: f.at,
-                cause: TOO_DEEP,
-            });
+            return Err(fault(f.at, TOO_DEEP));
         }
         match f.body {
             Body::Bytes(bytes) | Body::Group(bytes) => Ok(Records::new(
@@ -94,13 +97,14 @@ impl<'a> Records<'a> {
         }
     }
 
-    /// The field in front, and what is behind it.
+    // The field in front, and what is after it.
     #[tactic(auto, unfolding(crate::specs::WireReading::field_at))]
     fn first(&self) -> Result<(Field<'a>, &'a [u8]), WireFault>
-        ensures { Gives (λ x. (seen x.0, behind_of self.now x.1.now)) result (field_at self.now) }
+        ensures { GivesBy Some (λ x. (seen x.0, rest_with self.now x.1.now)) result
+            (field_at self.now) }
     {
         let at = self.end - self.bytes.len() as u32;
-        let (head, behind) = next_head(at, self.bytes)?;
-        field_of(head, at, behind, self.end, MAX_DEPTH - self.depth)
+        let (tag, after) = next_tag(at, self.bytes)?;
+        field_of(tag, at, after, self.end, MAX_DEPTH - self.depth)
     }
 }

@@ -1,7 +1,8 @@
 //! A writer of fields in their shortest spelling.
 ghost use Rattle.std.specs.Prelude.{◌≡◌, ◌+◌, ◌<◌, ◌≤◌, ◌^◌, [], ◌++◌, length, take, OnOk, OnErr, vec_len};
-ghost use Rattle.proto_wire.specs.Spelling.{varint, varint_field, bytes_field, fixed32_field};
+ghost use Rattle.proto_wire.specs.Spelling.{varint, tag_bytes, varint_field, bytes_field, fixed32_field};
 
+use crate::tag::WireType;
 use std::alloc::{AllocError, Global};
 use std::marker::Model;
 
@@ -65,7 +66,7 @@ impl Writer {
         self.keep_whole(len, put)
     }
 
-    /// Takes back what was put of a field for which memory was short.
+    // Takes back what was put of a field for which memory was short.
     fn keep_whole(&mut self, len: usize, put: Result<(), AllocError>) -> Result<(), AllocError>
         ensures same { result ≡ put }
         ensures field { OnOk put (self.new ≡ self.old) }
@@ -85,7 +86,7 @@ impl Writer {
     }
 }
 
-/// Adds a varint. Where memory is short, a part of it may stand behind the old bytes.
+// Adds a varint. Where memory is short, a part of it may stand after the old bytes.
 fn put_varint(out: &mut Vec<u8>, value: u64) -> Result<(), AllocError>
     ensures spelled { OnOk result (out.new.items ≡ out.old.items ++ varint value) }
     ensures err { OnErr result (take (vec_len out.old) out.new.items ≡ out.old.items) }
@@ -99,12 +100,20 @@ fn put_varint(out: &mut Vec<u8>, value: u64) -> Result<(), AllocError>
     Ok(())
 }
 
+fn put_tag(out: &mut Vec<u8>, number: u32, wire_type: WireType) -> Result<(), AllocError>
+    requires { number < 2 ^ 29 }
+    ensures spelled { OnOk result (out.new.items ≡ out.old.items ++ tag_bytes number wire_type) }
+    ensures err { OnErr result (take (vec_len out.old) out.new.items ≡ out.old.items) }
+{
+    put_varint(out, u64::from(number) * 8 + u64::from(wire_type.code()))
+}
+
 fn put_varint_field(out: &mut Vec<u8>, number: u32, value: u64) -> Result<(), AllocError>
     requires { number < 2 ^ 29 }
     ensures field { OnOk result (out.new.items ≡ out.old.items ++ varint_field number value) }
     ensures err { OnErr result (take (vec_len out.old) out.new.items ≡ out.old.items) }
 {
-    put_varint(out, u64::from(number) * 8)?;
+    put_tag(out, number, WireType::Varint)?;
     put_varint(out, value)
 }
 
@@ -113,7 +122,7 @@ fn put_bytes_field(out: &mut Vec<u8>, number: u32, bytes: &[u8]) -> Result<(), A
     ensures field { OnOk result (out.new.items ≡ out.old.items ++ bytes_field number bytes.now) }
     ensures err { OnErr result (take (vec_len out.old) out.new.items ≡ out.old.items) }
 {
-    put_varint(out, u64::from(number) * 8 + 2)?;
+    put_tag(out, number, WireType::Bytes)?;
     put_varint(out, bytes.len() as u64)?;
     out.extend_from_slice(bytes)
 }
@@ -123,6 +132,6 @@ fn put_fixed32_field(out: &mut Vec<u8>, number: u32, value: u32) -> Result<(), A
     ensures field { OnOk result (out.new.items ≡ out.old.items ++ fixed32_field number value) }
     ensures err { OnErr result (take (vec_len out.old) out.new.items ≡ out.old.items) }
 {
-    put_varint(out, u64::from(number) * 8 + 5)?;
+    put_tag(out, number, WireType::Fixed32)?;
     out.extend_from_slice(&value.to_le_bytes())
 }

@@ -1,4 +1,4 @@
--- A put that is made in several steps.
+-- Lemmas on `specs/Causes.antt`, for `StdSink`: a put that is made in several steps.
 use Rattle.std.proofs.Common.{◌≡◌, ℕ, List, [], ◌++◌, Option, take, drop, refl, sym, ap, ◌∙◌, subst, append_assoc, append-nil, take-append-drop}
 use Rattle.sd_io.specs.Causes.{Appends, AppendsFront, Keeps}
 use Rattle.sd_io.proofs.CausesLemmas.{Appends-nil, Appends-trans, Appends-kept}
@@ -17,7 +17,9 @@ module _ (old mid new : Option (List ℕ)) (piece left : List ℕ) (h : IsUnderW
   pub IsUnderWay-more : (count : ℕ) → Appends mid new (take count left) → IsUnderWay old new piece (drop count left)
   IsUnderWay-more count more = record {
     front = h.front ++ take count left;
-    parts = h.parts ∙ ap (λ l. h.front ++ l) (sym (take-append-drop count left)) ∙ sym (append_assoc h.front (take count left) (drop count left));
+    parts = h.parts
+        ∙ ap (λ l. h.front ++ l) (sym (take-append-drop count left))
+        ∙ sym (append_assoc h.front (take count left) (drop count left));
     appended = Appends-trans old mid new h.front (take count left) h.appended more;
   }
 
@@ -26,5 +28,8 @@ module _ (old mid new : Option (List ℕ)) (piece left : List ℕ) (h : IsUnderW
   AppendsFront-under_way kept = (h.front, (left, h.parts), Appends-kept old mid new h.front h.appended kept)
 
 -- nothing is left
-pub Appends-under_way : (old new : Option (List ℕ)) (piece : List ℕ) → IsUnderWay old new piece [] → Appends old new piece
-Appends-under_way old new piece h = subst (Appends old new) (sym (h.parts ∙ append-nil h.front)) h.appended
+pub Appends-under_way : (old new : Option (List ℕ)) (piece : List ℕ)
+    → IsUnderWay old new piece []
+    → Appends old new piece
+Appends-under_way old new piece h =
+    subst (Appends old new) (sym (h.parts ∙ append-nil h.front)) h.appended

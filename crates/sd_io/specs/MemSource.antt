@@ -18,7 +18,8 @@ abbrev pub IsReadToFail : SourceContents → Type 0
 IsReadToFail source = Contains source.fails source.calls
 
 -- so many bytes were given: as many as the piece, the buffer and what is left allow, and the next ones
-pub record GivesNext (source : SourceContents) (buffer : List ℕ) (count : ℕ) (left_after buffer_after : List ℕ) : Type 0 where
+pub record GivesPiece (source : SourceContents) (buffer : List ℕ) (count : ℕ)
+    (left_after buffer_after : List ℕ) : Type 0 where
   pub most : count ≡ min source.piece (min (length buffer) (length source.left))
   pub given : buffer_after ≡ take count source.left ++ drop count buffer
   pub left : left_after ≡ drop count source.left

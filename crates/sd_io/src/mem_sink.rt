@@ -23,7 +23,13 @@ impl Model for MemSink {
 
     ghost Value = { SinkContents };
 
-    ghost view = { λ s. record { written = s.bytes.items; room = s.room; fails = s.fails.items; calls = s.calls; faults = s.faults } };
+    ghost view = { λ s. record {
+      written = s.bytes.items;
+      room = s.room;
+      fails = s.fails.items;
+      calls = s.calls;
+      faults = s.faults;
+    } };
 
     ghost invariant = { λ s. (vec_len s.bytes ≤ s.room) × (s.room ≤ vec_capacity s.bytes) };
 }
@@ -31,7 +37,13 @@ impl Model for MemSink {
 impl MemSink {
     /// An empty sink, with its room reserved. The calls whose numbers, from 0, stand in `fails` write nothing and fail.
     pub fn new(alloc: Global, room: usize, fails: Vec<u64>) -> Result<MemSink, AllocError>
-        ensures { IfOk result (λ sink. sink ≡ record { written = []; room = room; fails = fails.items; calls = 0; faults = 0 }) }
+        ensures { IfOk result (λ sink. sink ≡ record {
+          written = [];
+          room = room;
+          fails = fails.items;
+          calls = 0;
+          faults = 0;
+        }) }
     {
         let bytes = Vec::with_capacity(alloc, room)?;
         Ok(MemSink {
@@ -68,7 +80,8 @@ impl Sink for MemSink {
         } }
 
         // What every sink ensures.
-        ensures bytes { PutAppends (Some self.old.written) (Some self.new.written) result piece.now }
+        ensures bytes { PutAppends
+            (Some self.old.written) (Some self.new.written) result piece.now }
         ensures cause { HasCause self.old.faults self.new.faults result }
     {
         let fails = self.fails.contains(&self.calls);

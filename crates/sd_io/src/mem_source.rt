@@ -1,7 +1,7 @@
 //! A source over bytes in memory, with calls that fail by a list.
 ghost use Rattle.std.specs.Prelude.{◌≡◌, ◌≤◌, ◌↔◌, ◌++◌, [], min, length, take, drop, Some, IsErr, is_err, MatchResult, if◌then◌else◌};
 ghost use Rattle.sd_io.specs.Causes.{ReadsAtMost, ReadConsumes, HasCause, count_up};
-ghost use Rattle.sd_io.specs.MemSource.{IsReadToFail, GivesNext};
+ghost use Rattle.sd_io.specs.MemSource.{IsReadToFail, GivesPiece};
 
 use crate::{ReadFailed, Source};
 use std::marker::Model;
@@ -23,7 +23,13 @@ impl Model for MemSource {
 
     ghost Value = { SourceContents };
 
-    ghost view = { λ s. record { left = drop s.at s.bytes.items; piece = s.piece; fails = s.fails.items; calls = s.calls; faults = s.faults } };
+    ghost view = { λ s. record {
+      left = drop s.at s.bytes.items;
+      piece = s.piece;
+      fails = s.fails.items;
+      calls = s.calls;
+      faults = s.faults;
+    } };
 
     ghost invariant = { λ s. (s.at ≤ vec_len s.bytes) × (1 ≤ s.piece) };
 }
@@ -33,7 +39,13 @@ impl MemSource {
     /// stand in `fails` fail.
     pub fn new(bytes: Vec<u8>, piece: usize, fails: Vec<u64>) -> MemSource
         requires { 1 ≤ piece }
-        ensures { result ≡ record { left = bytes.items; piece = piece; fails = fails.items; calls = 0; faults = 0 } }
+        ensures { result ≡ record {
+          left = bytes.items;
+          piece = piece;
+          fails = fails.items;
+          calls = 0;
+          faults = 0;
+        } }
     {
         MemSource {
             bytes,
@@ -54,7 +66,7 @@ impl Source for MemSource {
     fn read(&mut self, buf: &mut [u8]) -> Result<usize, ReadFailed>
         ensures fails { IsErr result ↔ IsReadToFail self.old }
         ensures gives { MatchResult result
-            (λ count. GivesNext self.old buf.old count self.new.left buf.new)
+            (λ count. GivesPiece self.old buf.old count self.new.left buf.new)
             (λ _. (self.new.left ≡ self.old.left) × (buf.new ≡ buf.old)) }
         ensures counts { self.new ≡ record self.old {
           left = self.new.left;

@@ -37,10 +37,12 @@ impl<W: Write> Sink for StdSink<W> {
     ghost faults = { λ s. s.faults };
 
     fn put(&mut self, piece: &[u8]) -> Result<(), WriteFailed>
-        ensures counts { self.new.faults ≡ (if is_err result then count_up self.old.faults else self.old.faults) }
+        ensures counts { self.new.faults
+            ≡ (if is_err result then count_up self.old.faults else self.old.faults) }
 
         // What every sink ensures.
-        ensures bytes { PutAppends (W.contents self.old.stream) (W.contents self.new.stream) result piece.now }
+        ensures bytes { PutAppends
+            (W.contents self.old.stream) (W.contents self.new.stream) result piece.now }
         ensures cause { HasCause self.old.faults self.new.faults result }
     {
         let mut rest = piece;

@@ -36,11 +36,13 @@ impl<R: Read> Source for StdSource<R> {
     ghost faults = { λ s. s.faults };
 
     fn read(&mut self, buf: &mut [u8]) -> Result<usize, ReadFailed>
-        ensures counts { self.new.faults ≡ (if is_err result then count_up self.old.faults else self.old.faults) }
+        ensures counts { self.new.faults
+            ≡ (if is_err result then count_up self.old.faults else self.old.faults) }
 
         // What every source ensures.
         ensures bound { ReadsAtMost result buf.new }
-        ensures bytes { ReadConsumes (R.remaining self.old.stream) (R.remaining self.new.stream) result buf.new }
+        ensures bytes { ReadConsumes
+            (R.remaining self.old.stream) (R.remaining self.new.stream) result buf.new }
         ensures cause { HasCause self.old.faults self.new.faults result }
     {
         match self.inner.read(buf) {

@@ -8,7 +8,7 @@ use Rattle.sd_io.specs.Causes.{Appends, AppendsFront}
 use Rattle.session_frames.specs.declared.reply.Reply.{Reply}
 use Rattle.session_frames.specs.Replies.{body_bytes, content_bytes, reply_bytes}
 use Rattle.session_frames.specs.ReplyLayout.{head_bytes}
-use Rattle.sd_io.proofs.CausesLemmas.{Appends-trans, front_behind, front_before}
+use Rattle.sd_io.proofs.CausesLemmas.{Appends-trans, front_after, front_before}
 
 -- four bytes a number
 pub length-path : (path : List ℕ) → length (flat_map (to_le_bytes w32) path) ≡ 4 * length path
@@ -27,7 +27,7 @@ module _ (f : ℕ → List ℕ) (old mid new : Option (List ℕ)) (xs : List ℕ
   -- one more is written in part
   pub AppendsFront-flat_map : AppendsFront mid new (f (get_or xs i 0)) → AppendsFront old new (flat_map f xs)
   AppendsFront-flat_map part =
-      let so_far = subst (AppendsFront old new) (sym front_so_far) (front_behind old mid new (flat_map f (take i xs)) (f (get_or xs i 0)) written part) in
+      let so_far = subst (AppendsFront old new) (sym front_so_far) (front_after old mid new (flat_map f (take i xs)) (f (get_or xs i 0)) written part) in
       let whole : flat_map f xs ≡ flat_map f (take (i + 1) xs) ++ flat_map f (drop (i + 1) xs) =
       ap (flat_map f) (sym (take-append-drop (i + 1) xs)) ∙ flat_map-append f (take (i + 1) xs) (drop (i + 1) xs) in
       subst (AppendsFront old new) (sym whole) (front_before old new (flat_map f (take (i + 1) xs)) (flat_map f (drop (i + 1) xs)) so_far)

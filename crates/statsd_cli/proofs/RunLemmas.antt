@@ -6,7 +6,7 @@ use Rattle.std.proofs.lemmas.Bool.{false≢true, cases_Bool}
 use Rattle.std.proofs.lemmas.Bool.Decides.{nat_tests}
 use Rattle.std.proofs.lemmas.List.{append-nil, length-append, nil_from_length}
 use Rattle.sd_io.specs.Causes.{Rose, Appends, AppendsFront, Consumes}
-use Rattle.sd_io.proofs.CausesLemmas.{Appends-nil, Appends-trans, Consumes-nil, Consumes-trans, front_behind, front_before}
+use Rattle.sd_io.proofs.CausesLemmas.{Appends-nil, Appends-trans, Consumes-nil, Consumes-trans, front_after, front_before}
 use Rattle.session_frames.specs.declared.frame.Frame.{Frame}
 use Rattle.session_frames.specs.declared.frame.FrameError.{FrameError}
 use Rattle.session_frames.specs.declared.frame.FrameError.TheVariants as errors
@@ -218,7 +218,7 @@ module _ (lo ln o n : Option (List ℕ)) (reader : Reading) (hub : Hub) (a : IsA
     ends_in_serve ReadFault served = absurd served
     ends_in_serve WriteFault served =
         let others = some_reading after.place after.pending in
-        let front : AppendsFront o m (text (a.frames ++ frame ∷ [])) = subst (AppendsFront o m) (sym (text-push a.frames frame)) (front_behind o n m (text a.frames) (reply_text a.frames frame) a.written served) in
+        let front : AppendsFront o m (text (a.frames ++ frame ∷ [])) = subst (AppendsFront o m) (sym (text-push a.frames frame)) (front_after o n m (text a.frames) (reply_text a.frames frame) a.written served) in
         let behind = text_behind (a.frames ++ frame ∷ []) others.0 in
         record {
           taken = a.taken ++ g.taken;

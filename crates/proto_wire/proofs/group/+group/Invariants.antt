@@ -4,10 +4,13 @@ use Rattle.proto_wire.specs.WireReading.{until_end, group_at}
 use Rattle.proto_wire.proofs.group.+group.Given as goal
 
 abbrev pub decreases-field_of : goal.decreases-field_of
-decreases-field_of l = 2 * l.levels + 1
+decreases-field_of l = 3 * l.levels + 2
+
+abbrev pub decreases-group_field : goal.decreases-group_field
+decreases-group_field l = 3 * l.levels + 1
 
 abbrev pub decreases-group_of : goal.decreases-group_of
-decreases-group_of l = 2 * l.levels
+decreases-group_of l = 3 * l.levels
 
 abbrev pub invariant-group_of-loop-rest : goal.invariant-group_of-loop-rest
 invariant-group_of-loop-rest l = record {

@@ -1,4 +1,4 @@
-use Rattle.sd_io.proofs.CausesLemmas.{PutAppends-behind, PutAppends-before}
+use Rattle.sd_io.proofs.CausesLemmas.{PutAppends-after, PutAppends-before}
 use Rattle.session_frames.proofs.writing.write_refusal.Goals as goal
 
 -- the class and the count, and then the path
@@ -13,4 +13,4 @@ pub returns-in_ok-put-in-Unsupported-clause-bytes :
 returns-in_ok-put-in-Unsupported-clause-bytes g c =
     let whole = rw c.len.ensures at c.in_ok-put-in-Unsupported.ensures.bytes in
     let path = rw c.as_slice.ensures at c.write_path.ensures.bytes in
-    rw c.in-Unsupported.is (PutAppends-behind _ _ _ c.write_path.result _ _ whole path)
+    rw c.in-Unsupported.is (PutAppends-after _ _ _ c.write_path.result _ _ whole path)

@@ -1,4 +1,4 @@
-use Rattle.sd_io.proofs.CausesLemmas.{PutAppends-behind, PutAppends-before}
+use Rattle.sd_io.proofs.CausesLemmas.{PutAppends-after, PutAppends-before}
 use Rattle.session_frames.proofs.WritingLemmas.{reply_bytes-parts}
 use Rattle.session_frames.proofs.writing.write_reply.Goals as goal
 
@@ -10,4 +10,4 @@ returns-in_err-put-clause-bytes g c =
 pub returns-clause-bytes : goal.returns-clause-bytes
 returns-clause-bytes g c =
     let whole = rw c.head.ensures at c.in_ok-put.ensures.bytes in
-    rw (reply_bytes-parts c.args.reply.now) (PutAppends-behind _ _ _ c.write_body.result _ _ whole c.write_body.ensures.bytes)
+    rw (reply_bytes-parts c.args.reply.now) (PutAppends-after _ _ _ c.write_body.result _ _ whole c.write_body.ensures.bytes)

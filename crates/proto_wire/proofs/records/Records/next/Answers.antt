@@ -50,19 +50,19 @@ invariant_of-self c =
 pub returns-clause-grammar : goal.returns-clause-grammar
 returns-clause-grammar c =
     laws.field-exactly c.args.self.now _ _ (laws.parts-read c.self.inside.end c.self.inside.depth
-    c.self.inside.bytes.now c.in_ok-field.behind.now c.args.self.now
+    c.self.inside.bytes.now c.in_ok-field.after.now c.args.self.now
     (seen c.in_ok-field.field) c.self.view_is c.self.invariant.0 c.in_ok-field.ensures)
 
 pub returns-clause-written : goal.returns-clause-written
 returns-clause-written c =
     laws.field-written c.args.self.now _ _ (laws.parts-read c.self.inside.end c.self.inside.depth
-    c.self.inside.bytes.now c.in_ok-field.behind.now c.args.self.now
+    c.self.inside.bytes.now c.in_ok-field.after.now c.args.self.now
     (seen c.in_ok-field.field) c.self.view_is c.self.invariant.0 c.in_ok-field.ensures)
 
 pub returns-clause-walk : goal.returns-clause-walk
 returns-clause-walk c =
     laws.field-walk c.args.self.now _ _ (laws.parts-read c.self.inside.end c.self.inside.depth c.self.inside.bytes.now
-    c.in_ok-field.behind.now c.args.self.now
+    c.in_ok-field.after.now c.args.self.now
     (seen c.in_ok-field.field) c.self.view_is c.self.invariant.0 c.in_ok-field.ensures)
     (some_left c.self.inside.bytes.now c.args.self.now (ap (λ
     (r : Rest). r.bytes) c.self.view_is) c.if-is_empty.ensures)
@@ -73,7 +73,7 @@ returns-clause-step c =
     let at_is : c.self.inside.end - length c.self.inside.bytes.now ≡ c.args.self.now.at = ap (λ
     (r : Rest). r.at) c.self.view_is in
     laws.field-step c.args.self.now _ _ (laws.parts-read c.self.inside.end c.self.inside.depth c.self.inside.bytes.now
-    c.in_ok-field.behind.now c.args.self.now
+    c.in_ok-field.after.now c.args.self.now
     (seen c.in_ok-field.field) c.self.view_is c.self.invariant.0 c.in_ok-field.ensures) (omega (
       arith,
       ap length bytes_is,

@@ -1,3 +1,4 @@
+-- What was written of a failed put is a front of the piece: what fits, or nothing.
 use Rattle.std.proofs.Common.{◌-◌, arith, vec_len}
 use Rattle.sd_io.proofs.MemLemmas.{AppendsFront-take, AppendsFront-nil}
 use Rattle.sd_io.proofs.mem_sink.MemSinkSink.put.Goals as goal
@@ -6,6 +7,8 @@ use Rattle.sd_io.proofs.mem_sink.MemSinkSink.put.Goals.{else-not-fails-via-then-
 pub returns-clause-bytes : goal.returns-clause-bytes
 returns-clause-bytes c =
     elim c.else-not-fails.branch [
-      | else-not-fails-via-then-not-fails+else-append w ↦ AppendsFront-take _ _ (c.self.inside.room - vec_len c.self.inside.bytes) _ (grind (arith, w.append.ensures.front))
+      | else-not-fails-via-then-not-fails+else-append w ↦
+          let left = c.self.inside.room - vec_len c.self.inside.bytes in
+          AppendsFront-take _ _ left _ (grind (arith, w.append.ensures.front))
       | else-not-fails-via-else-not-fails w ↦ AppendsFront-nil _ _ _ (grind arith)
     ]

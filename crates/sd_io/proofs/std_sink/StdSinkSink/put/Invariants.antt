@@ -1,3 +1,4 @@
+-- A front of the piece is written, and no fault was counted so far.
 use Rattle.std.proofs.Common.{◌≡◌, length}
 use Rattle.sd_io.proofs.PutLemmas.{IsUnderWay}
 use Rattle.sd_io.proofs.std_sink.StdSinkSink.put.Given as goal

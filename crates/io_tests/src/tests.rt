@@ -1,0 +1,4 @@
+//! Objects over memory, and adapters of std's streams.
+mod memory;
+mod readers;
+mod writers;

@@ -1,0 +1,110 @@
+//! Readers of std as sources.
+use sd_io::{ReadFailed, Source, StdSource};
+use std::alloc::{AllocError, Global};
+use std::io;
+use std::io::{ErrorKind, Read};
+use std::test::*;
+
+/// What a reader does at a call.
+#[derive(Clone, Copy)]
+enum Call {
+    /// It gives this byte.
+    Byte(u8),
+    Interrupted,
+    Broken,
+}
+
+/// Does as its list says, a call after the other, and then is at its end.
+#[derive(Drop)]
+struct Scripted<'a>(&'a [Call]);
+
+impl Read for Scripted<'_> {
+    fn read(&mut self, buf: &mut [u8]) -> io::Result<usize> {
+        let Some((call, others)) = self.0.split_first() else {
+            return Ok(0);
+        };
+        self.0 = others;
+        match *call {
+            Call::Byte(_) if buf.is_empty() => Ok(0),
+            Call::Byte(byte) => {
+                buf[0] = byte;
+                Ok(1)
+            }
+            Call::Interrupted => Err(io::Error::from(ErrorKind::Interrupted)),
+            Call::Broken => Err(io::Error::from(ErrorKind::BrokenPipe)),
+        }
+    }
+}
+
+/// Whether reads into two bytes answer so, and then the end. A byte stands for a read that gives it, and none for one
+/// that fails and leaves the buffer alone.
+fn reads_as(calls: &[Call], answers: &[Option<u8>]) -> bool {
+    let mut source = StdSource::new(Scripted(calls));
+    let mut buf = [0; 2];
+    let mut last = 0;
+    for answer in answers {
+        let is_so = match (source.read(&mut buf), *answer) {
+            (Ok(1), Some(byte)) => {
+                last = byte;
+                true
+            }
+            (Err(ReadFailed), None) => true,
+            _ => false,
+        };
+        if !is_so || buf != [last, 0] {
+            return false;
+        }
+    }
+    source.read(&mut buf) == Ok(0) && buf == [last, 0]
+}
+
+#[test]
+fn tells_each_failed_read(rt: HostRuntime) {
+    let rows: [(&[Call], &[Option<u8>]); 6] = [
+        // A byte a call.
+        (&[Call::Byte(7), Call::Byte(8)], &[Some(7), Some(8)]),
+        // An interruption between two bytes, and one before the first.
+        (
+            &[Call::Byte(7), Call::Interrupted, Call::Byte(8)],
+            &[Some(7), None, Some(8)],
+        ),
+        (&[Call::Interrupted, Call::Byte(7)], &[None, Some(7)]),
+        // It fails once, and then gives; twice; and at last.
+        (&[Call::Broken, Call::Byte(7)], &[None, Some(7)]),
+        (
+            &[Call::Broken, Call::Interrupted, Call::Byte(7)],
+            &[None, None, Some(7)],
+        ),
+        (&[Call::Byte(7), Call::Broken], &[Some(7), None]),
+    ];
+    for (at, (calls, answers)) in rows.into_iter().enumerate() {
+        assert!(rt; reads_as(calls, answers), "at row {at}");
+    }
+}
+
+#[test]
+fn reads_once_a_call(rt: HostRuntime) {
+    let mut source = StdSource::new(b"abc".as_slice());
+    let mut buf = [0; 2];
+    for (answer, buffer) in [(Ok(2), *b"ab"), (Ok(1), *b"cb"), (Ok(0), *b"cb")] {
+        assert!(rt; source.read(&mut buf) == answer);
+        assert!(rt; buf == buffer);
+    }
+}
+
+/// So many bytes.
+fn bytes_of(alloc: Global, count: usize, byte: u8) -> Result<Vec<u8>, AllocError> {
+    vec![in alloc; byte; count]
+}
+
+#[test]
+fn fills_a_large_buffer(rt: HostRuntime) -> Result<(), Fail> {
+    for count in [4_097, 65_537, 200_000] {
+        let bytes = bytes_of(rt.alloc(), count, 7)?;
+        let mut buf = bytes_of(rt.alloc(), count, 0)?;
+        let mut source = StdSource::new(bytes.as_slice());
+        assert!(rt; source.read(&mut buf) == Ok(count), "at {count}");
+        assert!(rt; buf == bytes, "at {count}");
+    }
+    Ok(())
+}

@@ -1,0 +1,101 @@
+//! Fields and numbers as they are read and written.
+ghost use Rattle.std.specs.Prelude.{◌<◌, ◌^◌, length};
+
+use proto_wire::{Body, Field, Records, Writer, varint_of};
+use std::test::*;
+
+/// Whether the bytes are one record, which holds this number as a varint.
+fn holds(bytes: &[u8], number: u64) -> bool
+    requires { length bytes.now < 2 ^ 16 }
+{
+    let mut records = Records::new(bytes, 0, 0);
+    let is_so = match records.next() {
+        Ok(Some(field)) => field.body == Body::Varint(number),
+        _ => false,
+    };
+    is_so && records.next() == Ok(None)
+}
+
+#[test]
+fn reads_numbers_as_they_may_be_written(rt: HostRuntime) {
+    let rows: [(&[u8], u64); 5] = [
+        (b"\x08\x01", 1),
+        // More bytes than the number needs.
+        (b"\x08\x81\x80\x00", 1),
+        (b"\x88\x80\x00\x05", 5),
+        // Bits past the 64th are dropped.
+        (b"\x08\xff\xff\xff\xff\xff\xff\xff\xff\xff\x7f", u64::MAX),
+        (b"\x08\x80\x80\x80\x80\x80\x80\x80\x80\x80\x02", 0),
+    ];
+    for (at, (bytes, number)) in rows.into_iter().enumerate() {
+        assert!(rt; bytes.len() < 100);
+        assert!(rt; holds(bytes, number), "at row {at}");
+    }
+}
+
+#[test]
+fn reads_a_packed_payload_number_by_number(rt: HostRuntime) {
+    // The record of the payload is at fault.
+    assert!(rt; varint_of(5, b"\xac\x02\x81") == Ok((300, b"\x81".as_slice())));
+    let is_cut = match varint_of(5, b"\x81") {
+        Ok(_) => false,
+        Err(fault) => fault.offset == 5 && fault.cause == 2,
+    };
+    assert!(rt; is_cut);
+}
+
+// Written by protoc 3.21.12 (`--encode`) from this text of a message of proto2, whose field 5 is packed:
+//     count: 3600000000000   (uint64, 1)
+//     change: -2             (int32, 2)
+//     four: 0x01020304       (fixed32, 3)
+//     eight: 0x0102030405060708   (fixed64, 4)
+//     packed: 1 packed: 300  (int32, 5)
+//     Pair { left: 18446744073709551615 right: "ab" Deep { flag: true } }   (group, 6; uint64, 1; string, 2; group, 3)
+//     text: "\000\377"       (bytes, 2047)
+const SAMPLE: [u8; 63] = [
+    0x08, 0x80, 0xc0, 0xe2, 0x85, 0xe3, 0x68, 0x10, 0xfe, 0xff, 0xff, 0xff, 0xff, 0xff, 0xff, 0xff,
+    0xff, 0x01, 0x1d, 0x04, 0x03, 0x02, 0x01, 0x21, 0x08, 0x07, 0x06, 0x05, 0x04, 0x03, 0x02, 0x01,
+    0x2a, 0x03, 0x01, 0xac, 0x02, 0x33, 0x08, 0xff, 0xff, 0xff, 0xff, 0xff, 0xff, 0xff, 0xff, 0xff,
+    0x01, 0x12, 0x02, 0x61, 0x62, 0x1b, 0x08, 0x01, 0x1c, 0x34, 0xfa, 0x7f, 0x02, 0x00, 0xff,
+];
+
+#[test]
+fn reads_what_protoc_wrote(rt: HostRuntime) {
+    let rows = [
+        (1, 0, 1, Body::Varint(3_600_000_000_000)),
+        (2, 7, 8, Body::Varint(u64::MAX - 1)),
+        (3, 18, 19, Body::Fixed32(0x0102_0304)),
+        (4, 23, 24, Body::Fixed64(0x0102_0304_0506_0708)),
+        (5, 32, 34, Body::Bytes(b"\x01\xac\x02")),
+        (6, 37, 38, Body::Group(&SAMPLE[38..57])),
+        (2047, 58, 61, Body::Bytes(b"\x00\xff")),
+    ];
+    let mut records = Records::new(&SAMPLE, 0, 0);
+    for (number, at, payload_at, body) in rows {
+        let field = Field {
+            number,
+            at,
+            payload_at,
+            body,
+        };
+        assert!(rt; records.next() == Ok(Some(field)), "at {at}");
+    }
+    assert!(rt; records.next() == Ok(None));
+}
+
+#[test]
+fn writes_the_shortest_bytes(rt: HostRuntime) -> Result<(), Fail> {
+    let mut writer = Writer::new(rt.alloc());
+    writer.varint_field(1, 3_600_000_000_000)?;
+    writer.varint_field(2, u64::MAX - 1)?;
+    writer.fixed32_field(3, 0x0102_0304)?;
+    assert!(rt; writer.into_bytes().as_slice() == &SAMPLE[..23]);
+
+    let mut writer = Writer::new(rt.alloc());
+    writer.bytes_field(5, b"\x01\xac\x02")?;
+    writer.bytes_field(2047, b"\x00\xff")?;
+    assert!(rt;
+        writer.into_bytes().as_slice() == b"\x2a\x03\x01\xac\x02\xfa\x7f\x02\x00\xff".as_slice()
+    );
+    Ok(())
+}
