@@ -15,7 +15,7 @@ use Rattle.indexmap.proofs.CallerLemmas.{insert_entry-new}
 use Rattle.indexmap.proofs.MapLemmas.{some_index}
 use Rattle.bucket_meaning.specs.Guard.{is_among}
 
--- a row behind the others brings its key behind the others
+-- a row after the others brings its key after the others
 pub keys_of-push : {K V : Type 0} (rows : List (K × V)) (key : K) (value : V)
     → keys_of (rows ++ (key, value) ∷ []) ≡ keys_of rows ++ key ∷ []
 keys_of-push [] key value = refl
@@ -90,7 +90,7 @@ module _ {K : Type 0} (same : K → K → Bool) (exact : (x y : K) → Decides (
         → lookup (same key) rows ≡ None
     no_value rows key e = none_like (position (same key) (keys_of rows)) (lookup (same key) rows) (some_index (same key) rows) e
 
-    -- a key without a position is inserted behind the others
+    -- a key without a position is inserted after the others
     pub inserted : {S : Type 0} (map : IndexMap K V S) (after : List (K × V)) (key : K) (value : V)
         → position (same key) (keys_of map.entries) ≡ None → after ≡ insert_entry same map.entries key value
         → after ≡ map.entries ++ (key, value) ∷ []

@@ -18,7 +18,7 @@ module _ {K V : Type 0} where
   abbrev pub rows_by : (K → V) → List K → List (K × V)
   rows_by value_of keys = map (λ key. (key, value_of key)) keys
 
-  -- one more key brings its row behind the others
+  -- one more key brings its row after the others
   pub rows_by-push : (value_of : K → V) (keys : List K) (key : K)
       → rows_by value_of (keys ++ key ∷ []) ≡ rows_by value_of keys ++ (key, value_of key) ∷ []
   rows_by-push value_of keys key = map-append (λ k. (k, value_of k)) keys (key ∷ [])

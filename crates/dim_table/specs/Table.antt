@@ -2,11 +2,11 @@
 use Rattle.std.specs.Prelude.{◌≡◌, ℕ, ◌+◌, ◌<◌, ◌≤◌, Bool, not, List, [], ◌∷◌, ◌++◌, length, filter, slice_get, Contains, Some, ◌⊎◌}
 use Rattle.std.specs.Map.{keys_of}
 pub use Rattle.indexmap.specs.Layout.{set_value_at}
+use Rattle.bucket_meaning.specs.Limits.{most_keys}
 use Rattle.bucket_meaning.specs.Guard.{admitted, dropped}
 use Rattle.bucket_meaning.specs.Kept.{counted}
 use Rattle.dim_table.specs.declared.answer.Admit.{Admit}
 use Rattle.dim_table.specs.declared.answer.Admit.TheVariants.{At, Full}
-use Rattle.dim_table.specs.declared.TheConstants.{MAX_KEYS}
 
 pub record Table (K V : Type 0) : Type 0 where
   pub rows : List (K × V)
@@ -16,7 +16,7 @@ pub record Table (K V : Type 0) : Type 0 where
 -- so many rows under such a bound are what a table may hold
 pub record IsBounded (rows bound : ℕ) : Type 0 where
   pub least : 1 ≤ bound
-  pub most : bound ≤ MAX_KEYS
+  pub most : bound ≤ most_keys
   pub within : rows ≤ bound
 
 module _ {K V : Type 0} where
@@ -29,7 +29,7 @@ module _ {K V : Type 0} where
     pub at : slice_get (keys old) place ≡ Some key
     pub same : new ≡ old
 
-  -- the key is new and there is room: it gets a row behind the others
+  -- the key is new and there is room: it gets a row after the others
   pub record IsNew (old new : Table K V) (key : K) (fresh : V) (place : ℕ) : Type 0 where
     pub absent : ¬ Contains (keys old) key
     pub room : length old.rows < old.bound

@@ -1,38 +1,60 @@
 -- The two laws of items: what is read can be spelled and is spelled so, and what can be spelled is read again.
 use Rattle.std.proofs.Common.{◌≡◌, ℕ, zero, suc, ◌^◌, ◌≤◌, ◌<◌, true, false, List, [], ◌∷◌, ◌++◌, length, take, drop, Result, Ok, Err, refl, sym, ap, subst, ◌∙◌, append_assoc, arith, inl, inr}
 use Rattle.std.specs.Prelude.{if◌then◌else◌, nat_lt, ◌==◌, All}
-use Rattle.std.specs.Int.{w16, w32, w64, to_le_bytes, cast_signed, cast_unsigned}
+use Rattle.std.specs.Int.{Width, w16, w32, w64, byte_len, from_le_bytes, to_le_bytes, cast_signed, cast_unsigned}
 use Rattle.std.specs.List.{flat_map}
-use Rattle.std.proofs.lemmas.Bool.{cases_lt, eqb-true, ltb-false, le-ltb}
+use Rattle.std.proofs.lemmas.Bool.{eqb-true, ltb-false, le-ltb}
 use Rattle.std.proofs.lemmas.Int.{to_z-of_z, of_z-to_z}
-use Rattle.std.proofs.lemmas.List.{length-append, length-take, take_at, drop_at, get_or_past}
+use Rattle.std.proofs.lemmas.List.{length-append, length-take, take_at, drop_at}
 use Rattle.std.proofs.lemmas.List.Elements.{All-nil, All-cons}
 use Rattle.sd_base.specs.Reads.{◌>>=◌, many}
 use Rattle.atom_record.specs.declared.value.Value.{Value}
-use Rattle.atom_record.specs.declared.value.Value.TheVariants as values
 use Rattle.atom_record.specs.declared.value.Leaf.{Leaf}
 use Rattle.atom_record.specs.declared.value.Leaf.TheVariants.{Missing, One, Many}
 use Rattle.atom_record.specs.declared.value.Slice.{Slice}
 use Rattle.atom_record.specs.declared.value.Slice.TheVariants.{Plain, Group}
-use Rattle.atom_record.specs.declared.item.Item.{Item}
-use Rattle.atom_record.specs.declared.item.Item.TheVariants.{Num, Dims, Slices, AtomItem, Chunk}
-use Rattle.atom_record.specs.declared.fault.TheConstants.{CUT, BAD_TYPE}
-use Rattle.atom_record.specs.AtomReading.{number_at, text_at, kind_at, value_at, atom_at}
-use Rattle.atom_record.specs.ItemReading.{typed_at, values_at, leaf_at, slice_at, slices_at, dims_at, chunk_at, item_at}
-use Rattle.atom_record.specs.Spelling.{type_of, counted, payload_of}
-use Rattle.atom_record.specs.ItemSpelling.{typed_bytes, leaf_bytes, slice_bytes, spelled_item}
+use Rattle.atom_record.specs.AtomReading.{atom_at}
+use Rattle.atom_record.specs.Spelling.{counted, payload_of}
+use Rattle.atom_record.specs.TypedValue.{typed_bytes, typed_at}
 use Rattle.atom_record.specs.Sound.{IsInRange}
-use Rattle.atom_record.specs.Savable.{HasShortText, IsShortLeaf, IsSavable}
-use Rattle.atom_record.specs.ItemRange.{IsLeafInRange, IsSliceInRange, IsItemInRange}
-use Rattle.atom_record.proofs.PartLaws.{IsBytes, IsBytes-rest, bind_ok, passed, ok_is, chosen, Takes, Takes-then, Takes-front, wide16, wide32, wide64, number_takes, number_again, text_takes, text_again}
-use Rattle.atom_record.proofs.ValueLaws.{value_takes, value_again, type_is, kind_takes, kind_again, number_of, signed32, signed64, unsigned32, unsigned64}
+use Rattle.atom_record.proofs.PartLaws.{IsBytes, IsBytes-rest, IsBytes-take, bind_ok, passed, chosen, Takes, Takes-then, Takes-front, IsWide, wide16, wide32, wide64, front_takes}
+use Rattle.atom_record.proofs.ValueLaws.{signed32, signed64, unsigned32, unsigned64}
+use Rattle.atom_record.proofs.TypedLaws.{typed_takes, typed_again, short_value}
 use Rattle.atom_record.proofs.PayloadLaws.{atom_takes, atom_again}
+use Rattle.flat_form.specs.declared.item.Item.{Item}
+use Rattle.flat_form.specs.declared.item.Item.TheVariants.{Num, Dims, Slices, AtomItem, Chunk}
+use Rattle.flat_form.specs.ItemReading.{NoItem, Unspelled, without_reason, uint_at, counted_at, value_in, values_at, leaf_at, slice_at, slices_at, dims_at, item_at}
+use Rattle.flat_form.specs.ItemSpelling.{leaf_bytes, slice_bytes, spelled_item}
+use Rattle.flat_form.specs.Savable.{IsShortLeaf, IsSavable}
+use Rattle.flat_form.specs.ItemRange.{IsLeafInRange, IsSliceInRange, IsItemInRange}
 
 -- a byte in front that is this tag
 tagged : (tag number : ℕ) (bytes text rest : List ℕ) → (tag == number) ≡ true → Takes bytes text rest → Takes (tag ∷ bytes) (number ∷ text) rest
 tagged tag number bytes text rest is took = record { parts = ap (λ (b : ℕ). b ∷ bytes) (eqb-true tag number is) ∙ ap (λ (l : List ℕ). number ∷ l) took.parts; fits = took.fits }
 
-module _ {X : Type 0} (at : List ℕ → Result (X × List ℕ) ℕ) (text : X → List ℕ) (Sound : X → Type 0) where
+abbrev fine : {A : Type 0} → A → Result A NoItem
+fine x = Ok x
+
+-- two readings that are the same read the same
+pub ok_is : {A : Type 0} (x y : A) → fine x ≡ fine y → x ≡ y
+ok_is x y e = cc
+
+-- a number that was read is spelled so
+uint_takes : (width : Width) (limit : ℕ) (wide : IsWide width limit) (bytes : List ℕ) (x : ℕ × List ℕ) → IsBytes bytes → uint_at width bytes ≡ Ok x → Takes bytes (to_le_bytes width x.0) x.1 × (x.0 < limit)
+uint_takes width limit wide bytes x fits read =
+    let size = byte_len width in
+    let there = passed (nat_lt (length bytes) size) Unspelled (Ok (from_le_bytes width (take size bytes), drop size bytes)) x read in
+    let long : size ≤ length bytes = ltb-false _ _ there.0 in
+    subst (λ (y : ℕ × List ℕ). Takes bytes (to_le_bytes width y.0) y.1 × (y.0 < limit)) (ok_is _ x there.1) (front_takes width limit wide bytes long fits)
+
+-- and one that is spelled is read again
+uint_again : (width : Width) (limit : ℕ) (wide : IsWide width limit) (n : ℕ) (rest : List ℕ) → n < limit → uint_at width (to_le_bytes width n ++ rest) ≡ Ok (n, rest)
+uint_again width limit wide n rest below =
+    let len = wide.len n in
+    let long : nat_lt (length (to_le_bytes width n ++ rest)) (byte_len width) ≡ false = le-ltb _ _ (omega (arith, length-append (to_le_bytes width n) rest)) in
+    rw (long, take_at (to_le_bytes width n) rest (byte_len width) len, drop_at (to_le_bytes width n) rest (byte_len width) len, wide.again n below) refl
+
+module _ {X : Type 0} (at : List ℕ → Result (X × List ℕ) NoItem) (text : X → List ℕ) (Sound : X → Type 0) where
   pub many_takes : ((bytes : List ℕ) (x : X × List ℕ) → IsBytes bytes → at bytes ≡ Ok x → Takes bytes (text x.0) x.1 × Sound x.0)
       → (n : ℕ) (bytes : List ℕ) (x : List X × List ℕ) → IsBytes bytes → many at n bytes ≡ Ok x → Takes bytes (flat_map text x.0) x.1 × All Sound x.0 × (length x.0 ≡ n)
   unfolding many
@@ -57,52 +79,42 @@ module _ {X : Type 0} (at : List ℕ → Result (X × List ℕ) ℕ) (text : X �
       let others = many_again each xs rest (λ k d less. all (suc k) d (omega arith)) in
       rw (first, others) refl
 
-  -- behind a number of two bytes
+  -- after a number of two bytes
   pub listed_takes : ((bytes : List ℕ) (x : X × List ℕ) → IsBytes bytes → at bytes ≡ Ok x → Takes bytes (text x.0) x.1 × Sound x.0)
-      → (bytes : List ℕ) (x : List X × List ℕ) → IsBytes bytes → (number_at w16 bytes >>= λ count. many at count.0 count.1) ≡ Ok x
+      → (bytes : List ℕ) (x : List X × List ℕ) → IsBytes bytes → (uint_at w16 bytes >>= λ count. many at count.0 count.1) ≡ Ok x
       → Takes bytes (to_le_bytes w16 (length x.0) ++ flat_map text x.0) x.1 × All Sound x.0 × (length x.0 < 2 ^ 16)
   listed_takes each bytes x fits read =
-      let count = bind_ok (number_at w16 bytes) (λ count. many at count.0 count.1) x read in
-      let front = number_takes w16 (2 ^ 16) wide16 bytes count.0 fits count.1 in
+      let count = bind_ok (uint_at w16 bytes) (λ count. many at count.0 count.1) x read in
+      let front = uint_takes w16 (2 ^ 16) wide16 bytes count.0 fits count.1 in
       let all = many_takes each count.0.0 count.0.1 x front.0.fits count.2 in
       let numbered : Takes bytes (to_le_bytes w16 (length x.0)) count.0.1 = subst (λ (n : ℕ). Takes bytes (to_le_bytes w16 n) count.0.1) (sym all.2) front.0 in
       (Takes-then bytes (to_le_bytes w16 (length x.0)) count.0.1 (flat_map text x.0) x.1 numbered all.0, all.1, let same = all.2 in let below = front.1 in omega arith)
 
   pub listed_again : ((x : X) (rest : List ℕ) → Sound x → at (text x ++ rest) ≡ Ok (x, rest))
-      → (xs : List X) (rest : List ℕ) → length xs < 2 ^ 16 → All Sound xs → (number_at w16 ((to_le_bytes w16 (length xs) ++ flat_map text xs) ++ rest) >>= λ count. many at count.0 count.1) ≡ Ok (xs, rest)
+      → (xs : List X) (rest : List ℕ) → length xs < 2 ^ 16 → All Sound xs → (uint_at w16 ((to_le_bytes w16 (length xs) ++ flat_map text xs) ++ rest) >>= λ count. many at count.0 count.1) ≡ Ok (xs, rest)
   listed_again each xs rest short all =
-      let number : number_at w16 ((to_le_bytes w16 (length xs) ++ flat_map text xs) ++ rest) ≡ Ok (length xs, flat_map text xs ++ rest) =
-      rw (append_assoc (to_le_bytes w16 (length xs)) (flat_map text xs) rest) (number_again w16 (2 ^ 16) wide16 (length xs) (flat_map text xs ++ rest) short) in
+      let number : uint_at w16 ((to_le_bytes w16 (length xs) ++ flat_map text xs) ++ rest) ≡ Ok (length xs, flat_map text xs ++ rest) =
+      rw (append_assoc (to_le_bytes w16 (length xs)) (flat_map text xs) rest) (uint_again w16 (2 ^ 16) wide16 (length xs) (flat_map text xs ++ rest) short) in
       ap (λ r. r >>= λ count. many at count.0 count.1) number ∙ many_again each xs rest all
 
-pub typed_takes : (bytes : List ℕ) (x : Value × List ℕ) → IsBytes bytes → typed_at bytes ≡ Ok x → Takes bytes (typed_bytes x.0) x.1 × IsInRange x.0
-unfolding typed_at
-typed_takes [] x fits read = absurd cc
-typed_takes (number ∷ bytes) x fits read =
-    let kind = bind_ok (kind_at number) (λ kind. value_at kind bytes) x read in
-    let took = value_takes kind.0 bytes x (IsBytes-rest number bytes fits) kind.2 in
-    let named : number ≡ type_of x.0 = kind_takes number kind.0 kind.1 ∙ ap number_of (sym took.same) ∙ sym (type_is x.0) in
-    (record { parts = ap (λ (b : ℕ). b ∷ bytes) named ∙ ap (λ (l : List ℕ). type_of x.0 ∷ l) took.took.parts; fits = took.took.fits }, took.fits)
+-- a reading without its reason read something where the reading with it did
+kept : {A F : Type 0} (read : Result A F) (x : A) → without_reason read ≡ fine x → read ≡ Ok x
+kept (Ok y) x e = ap (λ z. Ok z) (ok_is y x e)
+kept (Err reason) x e = absurd cc
 
-pub typed_again : (value : Value) (rest : List ℕ) → IsInRange value → typed_at (typed_bytes value ++ rest) ≡ Ok (value, rest)
-unfolding typed_at
-typed_again value rest fits = rw (kind_again value) (value_again value rest fits)
+value_takes : (bytes : List ℕ) (x : Value × List ℕ) → IsBytes bytes → value_in bytes ≡ Ok x → Takes bytes (typed_bytes x.0) x.1 × IsInRange x.0
+value_takes bytes x fits read = typed_takes bytes x fits (kept (typed_at bytes) x read)
 
-short_value : (value : Value) → IsInRange value → HasShortText value
-short_value (values.Int n) fits = tt
-short_value (values.Long n) fits = tt
-short_value (values.Bool b) fits = tt
-short_value (values.Str text) fits = fits.0
-short_value (values.Raw bytes) fits = fits.0
-short_value (values.Bits32 bits) fits = tt
+value_again : (value : Value) (rest : List ℕ) → IsInRange value → value_in (typed_bytes value ++ rest) ≡ Ok (value, rest)
+value_again value rest fits = ap without_reason (typed_again value rest fits)
 
 values_takes : (bytes : List ℕ) (x : List Value × List ℕ) → IsBytes bytes → values_at bytes ≡ Ok x → Takes bytes (to_le_bytes w16 (length x.0) ++ flat_map typed_bytes x.0) x.1 × All IsInRange x.0 × (length x.0 < 2 ^ 16)
 unfolding values_at
-values_takes bytes x fits read = listed_takes typed_at typed_bytes IsInRange typed_takes bytes x fits read
+values_takes bytes x fits read = listed_takes value_in typed_bytes IsInRange value_takes bytes x fits read
 
 values_again : (xs : List Value) (rest : List ℕ) → length xs < 2 ^ 16 → All IsInRange xs → values_at ((to_le_bytes w16 (length xs) ++ flat_map typed_bytes xs) ++ rest) ≡ Ok (xs, rest)
 unfolding values_at
-values_again xs rest short all = listed_again typed_at typed_bytes IsInRange typed_again xs rest short all
+values_again xs rest short all = listed_again value_in typed_bytes IsInRange value_again xs rest short all
 
 abbrev IsLeaf : Leaf → Type 0
 IsLeaf leaf = IsShortLeaf leaf × IsLeafInRange leaf
@@ -115,12 +127,12 @@ leaf_takes (tag ∷ bytes) x fits read =
     let is_read : Leaf × List ℕ → Type 0 = λ y. Takes (tag ∷ bytes) (leaf_bytes y.0) y.1 × IsLeaf y.0 in
     elim (chosen (tag == 0) (Ok (Missing, bytes)) _ (Ok x) read) [
       | inl this ↦ subst is_read (ok_is (Missing, bytes) x this.1) (tagged tag 0 bytes [] bytes this.0 (record { parts = refl; fits = rest }), (tt, tt))
-      | inr other ↦ elim (chosen (tag == 1) (typed_at bytes >>= λ value. Ok (One value.0, value.1)) _ (Ok x) other.1) [
+      | inr other ↦ elim (chosen (tag == 1) (value_in bytes >>= λ value. Ok (One value.0, value.1)) _ (Ok x) other.1) [
         | inl this ↦
-            let value = bind_ok (typed_at bytes) (λ value. Ok (One value.0, value.1)) x this.1 in
-            let took = typed_takes bytes value.0 rest value.1 in
+            let value = bind_ok (value_in bytes) (λ value. Ok (One value.0, value.1)) x this.1 in
+            let took = value_takes bytes value.0 rest value.1 in
             subst is_read (ok_is (One value.0.0, value.0.1) x value.2) (tagged tag 1 bytes (typed_bytes value.0.0) value.0.1 this.0 took.0, (short_value value.0.0 took.1, took.1))
-        | inr third ↦ elim (chosen (tag == 2) (values_at bytes >>= λ all. Ok (Many all.0, all.1)) (Err BAD_TYPE) (Ok x) third.1) [
+        | inr third ↦ elim (chosen (tag == 2) (values_at bytes >>= λ all. Ok (Many all.0, all.1)) (Err Unspelled) (Ok x) third.1) [
           | inl this ↦
               let all = bind_ok (values_at bytes) (λ all. Ok (Many all.0, all.1)) x this.1 in
               let took = values_takes bytes all.0 rest all.1 in
@@ -134,7 +146,7 @@ leaf_takes (tag ∷ bytes) x fits read =
 leaf_again : (leaf : Leaf) (rest : List ℕ) → IsLeaf leaf → leaf_at (leaf_bytes leaf ++ rest) ≡ Ok (leaf, rest)
 unfolding leaf_at
 leaf_again Missing rest is = refl
-leaf_again (One value) rest is = rw (typed_again value rest is.1) refl
+leaf_again (One value) rest is = rw (value_again value rest is.1) refl
 leaf_again (Many all) rest is = rw (values_again all rest is.0.0 is.1) refl
 
 slice_takes : (bytes : List ℕ) (x : Slice × List ℕ) → IsBytes bytes → slice_at bytes ≡ Ok x → Takes bytes (slice_bytes x.0) x.1 × IsSliceInRange x.0
@@ -143,21 +155,21 @@ slice_takes [] x fits read = absurd cc
 slice_takes (tag ∷ bytes) x fits read =
     let rest : IsBytes bytes = IsBytes-rest tag bytes fits in
     let is_read : Slice × List ℕ → Type 0 = λ y. Takes (tag ∷ bytes) (slice_bytes y.0) y.1 × IsSliceInRange y.0 in
-    elim (chosen (tag == 1) (number_at w32 bytes >>= λ id. number_at w32 id.1 >>= λ value. Ok (Plain id.0 (cast_signed w32 value.0), value.1)) _ (Ok x) read) [
+    elim (chosen (tag == 1) (uint_at w32 bytes >>= λ id. uint_at w32 id.1 >>= λ value. Ok (Plain id.0 (cast_signed w32 value.0), value.1)) _ (Ok x) read) [
       | inl this ↦
-          let id = bind_ok (number_at w32 bytes) (λ id. number_at w32 id.1 >>= λ value. Ok (Plain id.0 (cast_signed w32 value.0), value.1)) x this.1 in
-          let value = bind_ok (number_at w32 id.0.1) (λ value. Ok (Plain id.0.0 (cast_signed w32 value.0), value.1)) x id.2 in
-          let first = number_takes w32 (2 ^ 32) wide32 bytes id.0 rest id.1 in
-          let second = number_takes w32 (2 ^ 32) wide32 id.0.1 value.0 first.0.fits value.1 in
+          let id = bind_ok (uint_at w32 bytes) (λ id. uint_at w32 id.1 >>= λ value. Ok (Plain id.0 (cast_signed w32 value.0), value.1)) x this.1 in
+          let value = bind_ok (uint_at w32 id.0.1) (λ value. Ok (Plain id.0.0 (cast_signed w32 value.0), value.1)) x id.2 in
+          let first = uint_takes w32 (2 ^ 32) wide32 bytes id.0 rest id.1 in
+          let second = uint_takes w32 (2 ^ 32) wide32 id.0.1 value.0 first.0.fits value.1 in
           let spelled : Takes id.0.1 (to_le_bytes w32 (cast_unsigned w32 (cast_signed w32 value.0.0))) value.0.1 = rw (of_z-to_z w32 value.0.0 second.1) second.0 in
           subst is_read (ok_is (Plain id.0.0 (cast_signed w32 value.0.0), value.0.1) x value.2)
           (tagged tag 1 bytes _ value.0.1 this.0 (Takes-then bytes (to_le_bytes w32 id.0.0) id.0.1 (to_le_bytes w32 (cast_unsigned w32 (cast_signed w32 value.0.0))) value.0.1 first.0 spelled), (first.1, signed32 value.0.0 second.1))
-      | inr other ↦ elim (chosen (tag == 2) (number_at w32 bytes >>= λ id. number_at w64 id.1 >>= λ group. Ok (Group id.0 (cast_signed w64 group.0), group.1)) (Err BAD_TYPE) (Ok x) other.1) [
+      | inr other ↦ elim (chosen (tag == 2) (uint_at w32 bytes >>= λ id. uint_at w64 id.1 >>= λ group. Ok (Group id.0 (cast_signed w64 group.0), group.1)) (Err Unspelled) (Ok x) other.1) [
         | inl this ↦
-            let id = bind_ok (number_at w32 bytes) (λ id. number_at w64 id.1 >>= λ group. Ok (Group id.0 (cast_signed w64 group.0), group.1)) x this.1 in
-            let group = bind_ok (number_at w64 id.0.1) (λ group. Ok (Group id.0.0 (cast_signed w64 group.0), group.1)) x id.2 in
-            let first = number_takes w32 (2 ^ 32) wide32 bytes id.0 rest id.1 in
-            let second = number_takes w64 (2 ^ 64) wide64 id.0.1 group.0 first.0.fits group.1 in
+            let id = bind_ok (uint_at w32 bytes) (λ id. uint_at w64 id.1 >>= λ group. Ok (Group id.0 (cast_signed w64 group.0), group.1)) x this.1 in
+            let group = bind_ok (uint_at w64 id.0.1) (λ group. Ok (Group id.0.0 (cast_signed w64 group.0), group.1)) x id.2 in
+            let first = uint_takes w32 (2 ^ 32) wide32 bytes id.0 rest id.1 in
+            let second = uint_takes w64 (2 ^ 64) wide64 id.0.1 group.0 first.0.fits group.1 in
             let spelled : Takes id.0.1 (to_le_bytes w64 (cast_unsigned w64 (cast_signed w64 group.0.0))) group.0.1 = rw (of_z-to_z w64 group.0.0 second.1) second.0 in
             subst is_read (ok_is (Group id.0.0 (cast_signed w64 group.0.0), group.0.1) x group.2)
             (tagged tag 2 bytes _ group.0.1 this.0 (Takes-then bytes (to_le_bytes w32 id.0.0) id.0.1 (to_le_bytes w64 (cast_unsigned w64 (cast_signed w64 group.0.0))) group.0.1 first.0 spelled), (first.1, signed64 group.0.0 second.1))
@@ -168,12 +180,11 @@ slice_takes (tag ∷ bytes) x fits read =
 slice_again : (slice : Slice) (rest : List ℕ) → IsSliceInRange slice → slice_at (slice_bytes slice ++ rest) ≡ Ok (slice, rest)
 unfolding slice_at
 slice_again (Plain id value) rest is =
-    rw (number_again w32 (2 ^ 32) wide32 id (to_le_bytes w32 (cast_unsigned w32 value) ++ rest) is.0, number_again w32 (2 ^ 32) wide32 (cast_unsigned w32 value) rest (unsigned32 value is.1), to_z-of_z w32 value is.1) refl
+    rw (uint_again w32 (2 ^ 32) wide32 id (to_le_bytes w32 (cast_unsigned w32 value) ++ rest) is.0, uint_again w32 (2 ^ 32) wide32 (cast_unsigned w32 value) rest (unsigned32 value is.1), to_z-of_z w32 value is.1) refl
 slice_again (Group id group) rest is =
-    rw (number_again w32 (2 ^ 32) wide32 id (to_le_bytes w64 (cast_unsigned w64 group) ++ rest) is.0, number_again w64 (2 ^ 64) wide64 (cast_unsigned w64 group) rest (unsigned64 group is.1), to_z-of_z w64 group is.1) refl
+    rw (uint_again w32 (2 ^ 32) wide32 id (to_le_bytes w64 (cast_unsigned w64 group) ++ rest) is.0, uint_again w64 (2 ^ 64) wide64 (cast_unsigned w64 group) rest (unsigned64 group is.1), to_z-of_z w64 group is.1) refl
 
 slices_takes : (bytes : List ℕ) (x : List Slice × List ℕ) → IsBytes bytes → slices_at bytes ≡ Ok x → Takes bytes (length x.0 ∷ flat_map slice_bytes x.0) x.1 × All IsSliceInRange x.0 × (length x.0 < 2 ^ 8)
-unfolding slices_at
 slices_takes [] x fits read = absurd cc
 slices_takes (count ∷ bytes) x fits read =
     let all = many_takes slice_at slice_bytes IsSliceInRange slice_takes count bytes x (IsBytes-rest count bytes fits) read in
@@ -182,45 +193,38 @@ slices_takes (count ∷ bytes) x fits read =
     (record { parts = ap (λ (b : ℕ). b ∷ bytes) same ∙ ap (λ (l : List ℕ). length x.0 ∷ l) all.0.parts; fits = all.0.fits }, all.1, omega arith)
 
 slices_again : (xs : List Slice) (rest : List ℕ) → All IsSliceInRange xs → slices_at ((length xs ∷ flat_map slice_bytes xs) ++ rest) ≡ Ok (xs, rest)
-unfolding slices_at
 slices_again xs rest all = many_again slice_at slice_bytes IsSliceInRange slice_again xs rest all
 
 dims_takes : (bytes : List ℕ) (x : List Leaf × List ℕ) → IsBytes bytes → dims_at bytes ≡ Ok x → Takes bytes (to_le_bytes w16 (length x.0) ++ flat_map leaf_bytes x.0) x.1 × All IsLeaf x.0 × (length x.0 < 2 ^ 16)
-unfolding dims_at
 dims_takes bytes x fits read = listed_takes leaf_at leaf_bytes IsLeaf leaf_takes bytes x fits read
 
 dims_again : (xs : List Leaf) (rest : List ℕ) → length xs < 2 ^ 16 → All IsLeaf xs → dims_at ((to_le_bytes w16 (length xs) ++ flat_map leaf_bytes xs) ++ rest) ≡ Ok (xs, rest)
-unfolding dims_at
 dims_again xs rest short all = listed_again leaf_at leaf_bytes IsLeaf leaf_again xs rest short all
 
-chunk_takes : (bytes : List ℕ) (x : List ℕ × List ℕ) → IsBytes bytes → chunk_at bytes ≡ Ok x → Takes bytes (to_le_bytes w32 (length x.0) ++ x.0) x.1 × (length x.0 < 2 ^ 32)
-unfolding chunk_at
-chunk_takes bytes x fits read =
-    let step = bind_ok (number_at w32 bytes) (λ len. if nat_lt (length len.1) len.0 then Err CUT else Ok (take len.0 len.1, drop len.0 len.1)) x read in
+-- bytes after their number, of a width that is wide enough
+counted_takes : (width : Width) (limit : ℕ) (wide : IsWide width limit) (bytes : List ℕ) (x : List ℕ × List ℕ) → IsBytes bytes → counted_at width bytes ≡ Ok x
+    → Takes bytes (to_le_bytes width (length x.0) ++ x.0) x.1 × (length x.0 < limit) × IsBytes x.0
+counted_takes width limit wide bytes x fits read =
+    let step = bind_ok (uint_at width bytes) (λ len. if nat_lt (length len.1) len.0 then Err Unspelled else Ok (take len.0 len.1, drop len.0 len.1)) x read in
     let len = step.0 in
-    let number = number_takes w32 (2 ^ 32) wide32 bytes len fits step.1 in
-    let there = passed (nat_lt (length len.1) len.0) CUT (Ok (take len.0 len.1, drop len.0 len.1)) x step.2 in
+    let number = uint_takes width limit wide bytes len fits step.1 in
+    let there = passed (nat_lt (length len.1) len.0) Unspelled (Ok (take len.0 len.1, drop len.0 len.1)) x step.2 in
     let long : len.0 ≤ length len.1 = ltb-false _ _ there.0 in
     let size : length (take len.0 len.1) ≡ len.0 = omega (arith, length-take len.0 len.1) in
-    let both = Takes-then bytes (to_le_bytes w32 len.0) len.1 (take len.0 len.1) (drop len.0 len.1) number.0 (Takes-front len.0 len.1 number.0.fits) in
-    let whole : Takes bytes (to_le_bytes w32 (length (take len.0 len.1)) ++ take len.0 len.1) (drop len.0 len.1) = subst (λ (n : ℕ). Takes bytes (to_le_bytes w32 n ++ take len.0 len.1) (drop len.0 len.1)) (sym size) both in
-    subst (λ (y : List ℕ × List ℕ). Takes bytes (to_le_bytes w32 (length y.0) ++ y.0) y.1 × (length y.0 < 2 ^ 32)) (ok_is _ x there.1) (whole, omega (arith, number.1))
+    let both = Takes-then bytes (to_le_bytes width len.0) len.1 (take len.0 len.1) (drop len.0 len.1) number.0 (Takes-front len.0 len.1 number.0.fits) in
+    let whole : Takes bytes (to_le_bytes width (length (take len.0 len.1)) ++ take len.0 len.1) (drop len.0 len.1) = subst (λ (n : ℕ). Takes bytes (to_le_bytes width n ++ take len.0 len.1) (drop len.0 len.1)) (sym size) both in
+    let below : length (take len.0 len.1) < limit = rw size number.1 in
+    let is_text : List ℕ × List ℕ → Type 0 = λ y. Takes bytes (to_le_bytes width (length y.0) ++ y.0) y.1 × (length y.0 < limit) × IsBytes y.0 in
+    subst is_text (ok_is _ x there.1) (whole, below, IsBytes-take len.0 len.1 number.0.fits)
 
-chunk_again : (text rest : List ℕ) → length text < 2 ^ 32 → chunk_at ((to_le_bytes w32 (length text) ++ text) ++ rest) ≡ Ok (text, rest)
-unfolding chunk_at
-chunk_again text rest below =
+counted_again : (width : Width) (limit : ℕ) (wide : IsWide width limit) (text rest : List ℕ) → length text < limit → counted_at width ((to_le_bytes width (length text) ++ text) ++ rest) ≡ Ok (text, rest)
+counted_again width limit wide text rest below =
     let long : nat_lt (length (text ++ rest)) (length text) ≡ false = le-ltb _ _ (omega (arith, length-append text rest)) in
-    rw (number_again w32 (2 ^ 32) wide32 (length text) (text ++ rest) below, long, take_at text rest (length text) refl, drop_at text rest (length text) refl) refl
+    let regrouped : (to_le_bytes width (length text) ++ text) ++ rest ≡ to_le_bytes width (length text) ++ (text ++ rest) = append_assoc (to_le_bytes width (length text)) text rest in
+    rw (regrouped, uint_again width limit wide (length text) (text ++ rest) below, long, take_at text rest (length text) refl, drop_at text rest (length text) refl) refl
 
 abbrev pub IsItem : Item → Type 0
 IsItem item = IsSavable item × IsItemInRange item
-
-text_bytes : (text : List ℕ) → All (λ byte. byte < 256) text → IsBytes text
-text_bytes text each i =
-    elim (cases_lt i (length text)) [
-      | inl below ↦ each i 0 below
-      | inr past ↦ rw (get_or_past text i 0 past) (omega arith)
-    ]
 
 pub item_takes : (bytes : List ℕ) (x : Item × List ℕ) → IsBytes bytes → item_at bytes ≡ Ok x → Takes bytes (spelled_item x.0) x.1 × IsItem x.0
 unfolding item_at
@@ -228,10 +232,10 @@ item_takes [] x fits read = absurd cc
 item_takes (tag ∷ bytes) x fits read =
     let rest : IsBytes bytes = IsBytes-rest tag bytes fits in
     let is_read : Item × List ℕ → Type 0 = λ y. Takes (tag ∷ bytes) (spelled_item y.0) y.1 × IsItem y.0 in
-    elim (chosen (tag == 1) (number_at w64 bytes >>= λ number. Ok (Num number.0, number.1)) _ (Ok x) read) [
+    elim (chosen (tag == 1) (uint_at w64 bytes >>= λ number. Ok (Num number.0, number.1)) _ (Ok x) read) [
       | inl this ↦
-          let number = bind_ok (number_at w64 bytes) (λ number. Ok (Num number.0, number.1)) x this.1 in
-          let took = number_takes w64 (2 ^ 64) wide64 bytes number.0 rest number.1 in
+          let number = bind_ok (uint_at w64 bytes) (λ number. Ok (Num number.0, number.1)) x this.1 in
+          let took = uint_takes w64 (2 ^ 64) wide64 bytes number.0 rest number.1 in
           subst is_read (ok_is (Num number.0.0, number.0.1) x number.2) (tagged tag 1 bytes (to_le_bytes w64 number.0.0) number.0.1 this.0 took.0, (tt, took.1))
       | inr second ↦ elim (chosen (tag == 2) (dims_at bytes >>= λ dims. Ok (Dims dims.0, dims.1)) _ (Ok x) second.1) [
         | inl this ↦
@@ -245,18 +249,18 @@ item_takes (tag ∷ bytes) x fits read =
               let took = slices_takes bytes slices.0 rest slices.1 in
               subst is_read (ok_is (Slices slices.0.0, slices.0.1) x slices.2)
               (tagged tag 3 bytes (length slices.0.0 ∷ flat_map slice_bytes slices.0.0) slices.0.1 this.0 took.0, (took.2, took.1))
-          | inr fourth ↦ elim (chosen (tag == 4) (text_at bytes >>= λ payload. atom_at payload.0 >>= λ atom. Ok (AtomItem atom, payload.1)) _ (Ok x) fourth.1) [
+          | inr fourth ↦ elim (chosen (tag == 4) (counted_at w16 bytes >>= λ payload. without_reason (atom_at payload.0) >>= λ atom. Ok (AtomItem atom, payload.1)) _ (Ok x) fourth.1) [
             | inl this ↦
-                let payload = bind_ok (text_at bytes) (λ payload. atom_at payload.0 >>= λ atom. Ok (AtomItem atom, payload.1)) x this.1 in
-                let atom = bind_ok (atom_at payload.0.0) (λ atom. Ok (AtomItem atom, payload.0.1)) x payload.2 in
-                let took = text_takes bytes payload.0 rest payload.1 in
-                let sound = atom_takes payload.0.0 atom.0 (text_bytes payload.0.0 took.1.1) atom.1 in
+                let payload = bind_ok (counted_at w16 bytes) (λ payload. without_reason (atom_at payload.0) >>= λ atom. Ok (AtomItem atom, payload.1)) x this.1 in
+                let atom = bind_ok (without_reason (atom_at payload.0.0)) (λ atom. Ok (AtomItem atom, payload.0.1)) x payload.2 in
+                let took = counted_takes w16 (2 ^ 16) wide16 bytes payload.0 rest payload.1 in
+                let sound = atom_takes payload.0.0 atom.0 took.2 (kept (atom_at payload.0.0) atom.0 atom.1) in
                 let spelled : Takes bytes (counted (payload_of atom.0)) payload.0.1 = subst (λ (t : List ℕ). Takes bytes (counted t) payload.0.1) sound.1 took.0 in
                 subst is_read (ok_is (AtomItem atom.0, payload.0.1) x atom.2) (tagged tag 4 bytes (counted (payload_of atom.0)) payload.0.1 this.0 spelled, (sound.0, tt))
-            | inr fifth ↦ elim (chosen (tag == 5) (chunk_at bytes >>= λ chunk. Ok (Chunk chunk.0, chunk.1)) (Err BAD_TYPE) (Ok x) fifth.1) [
+            | inr fifth ↦ elim (chosen (tag == 5) (counted_at w32 bytes >>= λ chunk. Ok (Chunk chunk.0, chunk.1)) (Err Unspelled) (Ok x) fifth.1) [
               | inl this ↦
-                  let chunk = bind_ok (chunk_at bytes) (λ chunk. Ok (Chunk chunk.0, chunk.1)) x this.1 in
-                  let took = chunk_takes bytes chunk.0 rest chunk.1 in
+                  let chunk = bind_ok (counted_at w32 bytes) (λ chunk. Ok (Chunk chunk.0, chunk.1)) x this.1 in
+                  let took = counted_takes w32 (2 ^ 32) wide32 bytes chunk.0 rest chunk.1 in
                   subst is_read (ok_is (Chunk chunk.0.0, chunk.0.1) x chunk.2) (tagged tag 5 bytes (to_le_bytes w32 (length chunk.0.0) ++ chunk.0.0) chunk.0.1 this.0 took.0, (took.1, tt))
               | inr never ↦ let bad = never.1 in absurd cc
             ]
@@ -267,8 +271,8 @@ item_takes (tag ∷ bytes) x fits read =
 
 pub item_again : (item : Item) (rest : List ℕ) → IsItem item → item_at (spelled_item item ++ rest) ≡ Ok (item, rest)
 unfolding item_at
-item_again (Num number) rest is = rw (number_again w64 (2 ^ 64) wide64 number rest is.1) refl
+item_again (Num number) rest is = rw (uint_again w64 (2 ^ 64) wide64 number rest is.1) refl
 item_again (Dims dims) rest is = rw (dims_again dims rest is.0.0 (λ k d less. (is.0.1 k d less, is.1 k d less))) refl
 item_again (Slices slices) rest is = rw (slices_again slices rest is.1) refl
-item_again (AtomItem atom) rest is = let fits = is.0.fits in rw (text_again (payload_of atom) rest (omega arith), atom_again atom is.0) refl
-item_again (Chunk bytes) rest is = rw (chunk_again bytes rest is.0) refl
+item_again (AtomItem atom) rest is = let fits = is.0.fits in rw (counted_again w16 (2 ^ 16) wide16 (payload_of atom) rest (omega arith), atom_again atom is.0) refl
+item_again (Chunk bytes) rest is = rw (counted_again w32 (2 ^ 32) wide32 bytes rest is.0) refl

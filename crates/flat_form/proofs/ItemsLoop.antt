@@ -1,18 +1,19 @@
--- Reading items one behind the other, as a loop does.
+-- Reading items one after the other, as a loop does.
 use Rattle.std.proofs.Common.{◌≡◌, ℕ, ◌+◌, ◌<◌, List, [], ◌∷◌, ◌++◌, length, get_or, Ok, Err, refl, sym, ap, subst, ◌∙◌, append_assoc, arith}
 use Rattle.std.specs.Prelude.{All}
 use Rattle.std.proofs.lemmas.List.{length-append, append-nil, append_cancel_left, nil_from_length, get_or-append-add}
 use Rattle.std.proofs.lemmas.List.Concat.{flat_map-append}
 use Rattle.std.proofs.lemmas.List.Elements.{All-nil, All-push}
-use Rattle.atom_record.specs.declared.item.Item.{Item}
-use Rattle.atom_record.specs.declared.item.Item.TheVariants.{Num, Dims, Slices, AtomItem, Chunk}
-use Rattle.atom_record.specs.declared.flat_error.FlatError.{FlatError}
-use Rattle.atom_record.specs.declared.flat_error.FlatError.TheVariants.{Bad, Memory}
-use Rattle.atom_record.specs.ItemReading.{item_at}
-use Rattle.atom_record.specs.ItemSpelling.{spelled_item, spelled_items}
-use Rattle.atom_record.specs.ItemRange.{CanBeSpelled, AreRead, Reads}
-use Rattle.atom_record.proofs.PartLaws.{IsBytes, ok_is}
-use Rattle.atom_record.proofs.ItemLaws.{IsItem, item_takes, item_again}
+use Rattle.flat_form.specs.declared.item.Item.{Item}
+use Rattle.flat_form.specs.declared.item.Item.TheVariants.{Num, Dims, Slices, AtomItem, Chunk}
+use Rattle.flat_form.specs.declared.flat_error.FlatError.{FlatError}
+use Rattle.flat_form.specs.declared.flat_error.FlatError.TheVariants.{Bad, Memory}
+use Rattle.sd_base.specs.Reads.{FailsBy}
+use Rattle.flat_form.specs.ItemReading.{no_item_of, item_at}
+use Rattle.flat_form.specs.ItemSpelling.{spelled_item, spelled_items}
+use Rattle.flat_form.specs.ItemRange.{CanBeSpelled, AreRead, Reads}
+use Rattle.atom_record.proofs.PartLaws.{IsBytes}
+use Rattle.flat_form.proofs.ItemLaws.{ok_is, IsItem, item_takes, item_again}
 
 -- the items are the front of the others
 pub record IsFrontOf (items others : List Item) : Type 0 where
@@ -39,14 +40,14 @@ long_item (Chunk bytes) = omega arith
 pub starts : (bytes : List ℕ) → IsBytes bytes → HasRead bytes [] bytes
 starts bytes fits = record { each = All-nil IsItem; parts = refl; fits = fits; only = λ others each spelled. record { more = others; parts = refl } }
 
--- what others have behind the items is spelled by the rest
-behind : (bytes : List ℕ) (items : List Item) (rest : List ℕ) → HasRead bytes items rest → (others : List Item) → bytes ≡ spelled_items others → (at : IsFrontOf items others) → rest ≡ spelled_items at.more
-behind bytes items rest has others spelled at =
+-- what others have after the items is spelled by the rest
+left_of : (bytes : List ℕ) (items : List Item) (rest : List ℕ) → HasRead bytes items rest → (others : List Item) → bytes ≡ spelled_items others → (at : IsFrontOf items others) → rest ≡ spelled_items at.more
+left_of bytes items rest has others spelled at =
     append_cancel_left (spelled_items items) rest (spelled_items at.more) (sym has.parts ∙ spelled ∙ ap spelled_items at.parts ∙ flat_map-append spelled_item items at.more)
 
 -- what holds of the whole holds of its end
-each_behind : (items others more : List Item) → others ≡ items ++ more → All IsItem others → (k : ℕ) (d : Item) → k < length more → IsItem (get_or more k d)
-each_behind items others more is each k d less =
+each_left : (items others more : List Item) → others ≡ items ++ more → All IsItem others → (k : ℕ) (d : Item) → k < length more → IsItem (get_or more k d)
+each_left items others more is each k d less =
     let all : All IsItem (items ++ more) = subst (λ (l : List Item). All IsItem l) is each in
     let sum = length-append items more in
     rw (get_or-append-add items more k d) at (all (length items + k) d (omega arith))
@@ -80,7 +81,7 @@ goes_on bytes items rest item after has some read =
       fits = took.0.fits;
       only = λ others each spelled.
           let at = has.only others each spelled in
-          let start = first_of_rest rest at.more some (behind bytes items rest has others spelled at) (each_behind items others at.more at.parts each) in
+          let start = first_of_rest rest at.more some (left_of bytes items rest has others spelled at) (each_left items others at.more at.parts each) in
           let same : start.first ≡ item = ap (λ (z : Item × List ℕ). z.0) (ok_is (start.first, spelled_items start.others) (item, after) (sym start.read ∙ read)) in
           record {
             more = start.others;
@@ -89,12 +90,12 @@ goes_on bytes items rest item after has some read =
     }
 
 -- the next item has a fault
-pub fails : (bytes : List ℕ) (items : List Item) (rest : List ℕ) → HasRead bytes items rest → 0 < length rest → (e : FlatError) → (e ≡ Bad → (x : Item × List ℕ) → ¬ (item_at rest ≡ Ok x)) → Reads bytes (Err e)
-fails bytes items rest has some Bad never = λ others can spelled.
+pub fails : (bytes : List ℕ) (items : List Item) (rest : List ℕ) → HasRead bytes items rest → 0 < length rest → (e : FlatError) → FailsBy (no_item_of e) (item_at rest) → Reads bytes (Err e)
+fails bytes items rest has some Bad failed = λ others can spelled.
     let at = has.only others (both others can) spelled in
-    let start = first_of_rest rest at.more some (behind bytes items rest has others spelled at) (each_behind items others at.more at.parts (both others can)) in
-    never refl (start.first, spelled_items start.others) start.read
-fails bytes items rest has some Memory never = tt
+    let start = first_of_rest rest at.more some (left_of bytes items rest has others spelled at) (each_left items others at.more at.parts (both others can)) in
+    let clash = sym start.read ∙ failed in absurd cc
+fails bytes items rest has some Memory failed = tt
 
 nothing_more : (more : List Item) → [] ≡ spelled_items more → more ≡ []
 nothing_more [] none = refl
@@ -112,7 +113,7 @@ is_done bytes items rest has none =
       spelled = has.parts ∙ ap (λ (l : List ℕ). spelled_items items ++ l) nothing ∙ append-nil (spelled_items items);
       only = λ others can spelled.
           let at = has.only others (both others can) spelled in
-          let no_more : at.more ≡ [] = nothing_more at.more (sym nothing ∙ behind bytes items rest has others spelled at) in
+          let no_more : at.more ≡ [] = nothing_more at.more (sym nothing ∙ left_of bytes items rest has others spelled at) in
           at.parts ∙ ap (λ (l : List Item). items ++ l) no_more ∙ append-nil items;
     }
 

@@ -1,14 +1,14 @@
--- So many readings, one behind the other, as a loop does them.
+-- So many readings, one after the other, as a loop does them.
 use Rattle.std.proofs.Common.{◌≡◌, ℕ, suc, ◌+◌, ◌-◌, ◌<◌, List, [], ◌∷◌, ◌++◌, Result, Ok, Err, refl, ap, append_assoc, arith}
 use Rattle.std.proofs.lemmas.List.{append-nil}
 use Rattle.sd_base.specs.Reads.{◌>>=◌, FailsBy, many, with_front}
-use Rattle.atom_record.specs.declared.fault.AtomFault.{AtomFault}
-use Rattle.atom_record.specs.declared.fault.AtomFault.TheVariants.{Bad, Memory}
-use Rattle.atom_record.specs.AtomReading.{reason_of}
+use Rattle.flat_form.specs.declared.flat_error.FlatError.{FlatError}
+use Rattle.flat_form.specs.declared.flat_error.FlatError.TheVariants.{Bad, Memory}
+use Rattle.flat_form.specs.ItemReading.{NoItem, no_item_of}
 
-module _ {X : Type 0} (at : List ℕ → Result (X × List ℕ) ℕ) where
+module _ {X : Type 0} (at : List ℕ → Result (X × List ℕ) NoItem) where
   -- one more in front
-  more_front : (front : List X) (x : X) (read : Result (List X × List ℕ) ℕ) → with_front (front ++ x ∷ []) read ≡ with_front front (read >>= λ others. Ok (x ∷ others.0, others.1))
+  more_front : (front : List X) (x : X) (read : Result (List X × List ℕ) NoItem) → with_front (front ++ x ∷ []) read ≡ with_front front (read >>= λ others. Ok (x ∷ others.0, others.1))
   more_front front x (Ok others) = ap (λ l. Ok (l, others.1)) (append_assoc front (x ∷ []) others.0)
   more_front front x (Err fault) = refl
 
@@ -20,10 +20,10 @@ module _ {X : Type 0} (at : List ℕ → Result (X × List ℕ) ℕ) where
       rw (turns, read) (more_front front x (many at (count - (turn + 1)) after))
 
   -- the next has a fault
-  pub ends : (front : List X) (turn count : ℕ) (rest : List ℕ) (e : AtomFault) → turn < count → FailsBy (reason_of e) (at rest) → FailsBy (reason_of e) (with_front front (many at (count - turn) rest))
+  pub ends : (front : List X) (turn count : ℕ) (rest : List ℕ) (e : FlatError) → turn < count → FailsBy (no_item_of e) (at rest) → FailsBy (no_item_of e) (with_front front (many at (count - turn) rest))
   unfolding many
   ends front turn count rest Memory less failed = tt
-  ends front turn count rest (Bad reason) less failed =
+  ends front turn count rest Bad less failed =
       let turns : count - turn ≡ suc (count - (turn + 1)) = omega arith in
       rw (turns, failed) refl
 

@@ -1,9 +1,9 @@
--- What a value flattens to has no more bytes than the value weighs.
-use Rattle.std.specs.Prelude.{◌≡◌, ℕ, ◌+◌, ◌*◌, ◌≤◌, List, [], ◌∷◌, ◌++◌, length}
+-- Items have no more bytes than they weigh, and a value has no more items than its head and its entries allow.
+use Rattle.std.specs.Prelude.{◌≡◌, ℕ, ◌+◌, ◌*◌, ◌≤◌, List, [], ◌∷◌, ◌++◌, length, All}
 use Rattle.std.specs.List.{flat_map, sum_by}
 use Rattle.std.proofs.Common.{arith}
 use Rattle.std.proofs.lemmas.List.{length-append}
-use Rattle.std.proofs.lemmas.List.Concat.{length-flat_map, flat_map-append}
+use Rattle.std.proofs.lemmas.List.Concat.{length-flat_map}
 use Rattle.std.proofs.lemmas.List.Sums.{sum_by-cons, sum_by-le-sum_by}
 use Rattle.atom_record.specs.declared.value.Value.{Value}
 use Rattle.atom_record.specs.declared.value.Value.TheVariants as values
@@ -14,12 +14,13 @@ use Rattle.atom_record.specs.declared.value.Slice.TheVariants.{Plain, Group}
 use Rattle.atom_record.specs.declared.value.MetricKey.{MetricKey}
 use Rattle.atom_record.specs.declared.atom.Atom.{Atom}
 use Rattle.atom_record.specs.declared.atom.AtomField.{AtomField}
-use Rattle.atom_record.specs.declared.item.Item.{Item}
-use Rattle.atom_record.specs.declared.item.Item.TheVariants.{Dims, Slices, AtomItem}
+use Rattle.flat_form.specs.declared.item.Item.{Item}
+use Rattle.flat_form.specs.declared.item.Item.TheVariants.{Num, Dims, Slices, AtomItem, Chunk}
 use Rattle.atom_record.specs.Spelling.{value_bytes, entry_bytes}
-use Rattle.atom_record.specs.ItemSpelling.{typed_bytes, leaf_bytes, slice_bytes, spelled_item, spelled_items}
-use Rattle.atom_record.specs.Flat.{number_items, dims_items, key_items, atom_items, pair_items, list_items}
-use Rattle.atom_record.specs.Weight.{text_weight, value_weight, leaf_weight, entry_weight, number_weight, dims_weight, key_weight, atom_weight, pair_weight, list_weight}
+use Rattle.atom_record.specs.TypedValue.{typed_bytes}
+use Rattle.flat_form.specs.ItemSpelling.{leaf_bytes, slice_bytes, spelled_item, spelled_items}
+use Rattle.flat_form.specs.Flat.{Anything, IsValidPair, number_items, dims_items, key_items, atom_items, pair_items, list_items}
+use Rattle.flat_form.specs.Weight.{text_weight, value_weight, leaf_weight, entry_weight, held_weight, held, most_items, entries_for, pair_entries, list_entries}
 
 -- pieces, each within its weight
 pieces_bounded : {X : Type 0} (bytes : X → List ℕ) (weight : X → ℕ) (xs : List X) → ((x : X) → length (bytes x) ≤ weight x) → length (flat_map bytes xs) ≤ sum_by weight xs
@@ -55,48 +56,104 @@ sixteens : {X : Type 0} (xs : List X) → sum_by (λ x. 16) xs ≡ 16 * length x
 sixteens [] = omega arith
 sixteens (x ∷ xs) = let rest = sixteens xs in let sum = sum_by-cons (λ x. 16) x xs in omega arith
 
-pub number_bounded : (number : ℕ) → length (spelled_items (number_items number)) ≤ number_weight number
-number_bounded number = omega arith
+item_bounded : (item : Item) → length (spelled_item item) ≤ 16 + held_weight item
+item_bounded (Num number) = omega arith
+item_bounded (Dims dims) = let part = pieces_bounded leaf_bytes leaf_weight dims leaf_bounded in omega arith
+item_bounded (Slices slices) =
+    let part = pieces_bounded slice_bytes (λ slice. 16) slices slice_bounded in
+    let count = sixteens slices in
+    omega arith
+item_bounded (AtomItem atom) = let part = pieces_bounded entry_bytes entry_weight atom.fields entry_bounded in omega arith
+item_bounded (Chunk bytes) = omega arith
 
-pub dims_bounded : (dims : List Leaf) → length (spelled_items (dims_items dims)) ≤ dims_weight dims
-dims_bounded dims =
-    let part = pieces_bounded leaf_bytes leaf_weight dims leaf_bounded in
-    let whole = length-append (spelled_item (Dims dims)) [] in
+-- 16 for each item, and what the items hold
+pub items_bounded : (items : List Item) → length (spelled_items items) ≤ 16 * length items + held items
+items_bounded [] = omega arith
+items_bounded (item ∷ items) =
+    let first = item_bounded item in
+    let others = items_bounded items in
+    let sum = sum_by-cons held_weight item items in
+    let size = length-append (spelled_item item) (spelled_items items) in
     omega arith
 
-pub key_bounded : (key : MetricKey) → length (spelled_items (key_items key)) ≤ key_weight key
-key_bounded key =
-    let dims = pieces_bounded leaf_bytes leaf_weight key.dims leaf_bounded in
-    let slices = pieces_bounded slice_bytes (λ slice. 16) key.slices slice_bounded in
-    let count = sixteens key.slices in
-    let whole = length-append (spelled_item (Dims key.dims)) (spelled_item (Slices key.slices) ++ []) in
-    let end = length-append (spelled_item (Slices key.slices)) [] in
+-- a value with a head of 16 items at most: 256 bytes, 128 for each entry, and what its items hold
+pub bytes_bounded : (items : List Item) (head entries : ℕ) → length items ≤ most_items head entries → head ≤ 16
+    → length (spelled_items items) ≤ 256 + 128 * entries + held items
+bytes_bounded items head entries few short = let all = items_bounded items in omega arith
+
+pub number_bounded : (number : ℕ) → Anything number → length (number_items number) ≤ most_items 1 0
+number_bounded number valid = omega arith
+
+pub dims_bounded : (dims : List Leaf) → Anything dims → length (dims_items dims) ≤ most_items 1 0
+dims_bounded dims valid = omega arith
+
+pub key_bounded : (key : MetricKey) → Anything key → length (key_items key) ≤ most_items 2 0
+key_bounded key valid = omega arith
+
+pub atom_bounded : (atom : Atom) → Anything atom → length (atom_items atom) ≤ most_items 1 0
+atom_bounded atom valid = omega arith
+
+pub pair_bounded : {X Y : Type 0} (first : X → List Item) (second : Y → List Item) (first_valid : X → Type 0) (second_valid : Y → Type 0)
+    (first_head second_head : ℕ) (first_entries : X → ℕ) (second_entries : Y → ℕ)
+    → ((x : X) → first_valid x → length (first x) ≤ most_items first_head (first_entries x))
+    → ((y : Y) → second_valid y → length (second y) ≤ most_items second_head (second_entries y))
+    → (pair : X × Y) → IsValidPair first_valid second_valid pair
+    → length (pair_items first second pair) ≤ most_items (first_head + second_head) (pair_entries first_entries second_entries pair)
+pair_bounded first second first_valid second_valid first_head second_head first_entries second_entries one other pair valid =
+    let one_is = one pair.0 valid.0 in
+    let other_is = other pair.1 valid.1 in
+    let sum = length-append (first pair.0) (second pair.1) in
     omega arith
 
-pub atom_bounded : (atom : Atom) → length (spelled_items (atom_items atom)) ≤ atom_weight atom
-atom_bounded atom =
-    let part = pieces_bounded entry_bytes entry_weight atom.fields entry_bounded in
-    let whole = length-append (spelled_item (AtomItem atom)) [] in
+pub elements_bounded : {X : Type 0} (flat : X → List Item) (xs : List X) → length (flat_map flat xs) ≤ 8 * list_entries flat xs
+elements_bounded flat [] = omega arith
+elements_bounded flat (x ∷ xs) =
+    let others = elements_bounded flat xs in
+    let sum = sum_by-cons (λ value. entries_for (length (flat value))) x xs in
+    let size = length-append (flat x) (flat_map flat xs) in
     omega arith
 
-pub pair_bounded : {X Y : Type 0} (first : X → List Item) (second : Y → List Item) (first_weight : X → ℕ) (second_weight : Y → ℕ)
-    → ((x : X) → length (spelled_items (first x)) ≤ first_weight x) → ((y : Y) → length (spelled_items (second y)) ≤ second_weight y)
-    → (pair : X × Y) → length (spelled_items (pair_items first second pair)) ≤ pair_weight first_weight second_weight pair
-pair_bounded first second first_weight second_weight one other pair =
+pub list_bounded : {X : Type 0} (flat : X → List Item) (valid : X → Type 0) → (values : List X) → All valid values → length (list_items flat values) ≤ most_items 1 (list_entries flat values)
+list_bounded flat valid values all = let part = elements_bounded flat values in omega arith
+
+-- no more entries than items
+pub pair_few : {X Y : Type 0} (first : X → List Item) (second : Y → List Item) (first_entries : X → ℕ) (second_entries : Y → ℕ)
+    → ((x : X) → first_entries x ≤ length (first x)) → ((y : Y) → second_entries y ≤ length (second y))
+    → (pair : X × Y) → pair_entries first_entries second_entries pair ≤ length (pair_items first second pair)
+pair_few first second first_entries second_entries one other pair =
     let one_is = one pair.0 in
     let other_is = other pair.1 in
-    let sum = length-append (spelled_items (first pair.0)) (spelled_items (second pair.1)) in
-    rw (flat_map-append spelled_item (first pair.0) (second pair.1)) (omega arith)
+    let sum = length-append (first pair.0) (second pair.1) in
+    omega arith
 
-elements_bounded : {X : Type 0} (flat : X → List Item) (weight : X → ℕ) (xs : List X) → ((x : X) → length (spelled_items (flat x)) ≤ weight x) → length (spelled_items (flat_map flat xs)) ≤ sum_by weight xs
-elements_bounded flat weight [] each = omega arith
-elements_bounded flat weight (x ∷ xs) each =
-    let first = each x in
-    let others = elements_bounded flat weight xs each in
-    let sum = sum_by-cons weight x xs in
-    let size = length-append (spelled_items (flat x)) (spelled_items (flat_map flat xs)) in
-    rw (flat_map-append spelled_item (flat x) (flat_map flat xs)) (omega arith)
+pub elements_few : {X : Type 0} (flat : X → List Item) (xs : List X) → list_entries flat xs ≤ length (flat_map flat xs)
+elements_few flat [] = omega arith
+elements_few flat (x ∷ xs) =
+    let others = elements_few flat xs in
+    let sum = sum_by-cons (λ value. entries_for (length (flat value))) x xs in
+    let size = length-append (flat x) (flat_map flat xs) in
+    omega arith
 
-pub list_bounded : {X : Type 0} (flat : X → List Item) (weight : X → ℕ) → ((x : X) → length (spelled_items (flat x)) ≤ weight x)
-    → (values : List X) → length (spelled_items (list_items flat values)) ≤ list_weight weight values
-list_bounded flat weight each values = let part = elements_bounded flat weight values each in omega arith
+pub list_few : {X : Type 0} (flat : X → List Item) (values : List X) → list_entries flat values ≤ length (list_items flat values)
+list_few flat values = let part = elements_few flat values in omega arith
+
+pub none_few : {X : Type 0} (flat : X → List Item) (value : X) → 0 ≤ length (flat value)
+none_few flat value = omega arith
+
+-- what two parts hold
+pub held-append : (x y : List Item) → held (x ++ y) ≡ held x + held y
+held-append [] y = omega arith
+held-append (item ∷ x) y =
+    let rest = held-append x y in
+    let sum = sum_by-cons held_weight item x in
+    let whole = sum_by-cons held_weight item (x ++ y) in
+    omega arith
+
+-- what elements hold, one by one
+pub held-flat_map : {X : Type 0} (flat : X → List Item) (xs : List X) → held (flat_map flat xs) ≡ sum_by (λ x. held (flat x)) xs
+held-flat_map flat [] = omega arith
+held-flat_map flat (x ∷ xs) =
+    let rest = held-flat_map flat xs in
+    let sum = sum_by-cons (λ x. held (flat x)) x xs in
+    let parts = held-append (flat x) (flat_map flat xs) in
+    omega arith

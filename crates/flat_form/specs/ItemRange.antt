@@ -5,13 +5,13 @@ use Rattle.atom_record.specs.declared.value.Leaf.{Leaf}
 use Rattle.atom_record.specs.declared.value.Leaf.TheVariants.{Missing, One, Many}
 use Rattle.atom_record.specs.declared.value.Slice.{Slice}
 use Rattle.atom_record.specs.declared.value.Slice.TheVariants.{Plain, Group}
-use Rattle.atom_record.specs.declared.item.Item.{Item}
-use Rattle.atom_record.specs.declared.item.Item.TheVariants.{Num, Dims, Slices, AtomItem, Chunk}
-use Rattle.atom_record.specs.declared.flat_error.FlatError.{FlatError}
-use Rattle.atom_record.specs.declared.flat_error.FlatError.TheVariants.{Bad, Memory}
+use Rattle.flat_form.specs.declared.item.Item.{Item}
+use Rattle.flat_form.specs.declared.item.Item.TheVariants.{Num, Dims, Slices, AtomItem, Chunk}
+use Rattle.flat_form.specs.declared.flat_error.FlatError.{FlatError}
+use Rattle.flat_form.specs.declared.flat_error.FlatError.TheVariants.{Bad, Memory}
 use Rattle.atom_record.specs.Sound.{IsInRange}
-use Rattle.atom_record.specs.Savable.{AreSavable}
-use Rattle.atom_record.specs.ItemSpelling.{spelled_items}
+use Rattle.flat_form.specs.Savable.{AreSavable}
+use Rattle.flat_form.specs.ItemSpelling.{spelled_items}
 
 -- the values of a leaf fit their bytes
 abbrev pub IsLeafInRange : Leaf → Type 0

@@ -2,18 +2,14 @@
 use Rattle.std.specs.Prelude.{ℕ, List, [], ◌∷◌, ◌++◌, length}
 use Rattle.std.specs.Int.{w16, w32, w64, to_le_bytes, cast_unsigned}
 use Rattle.std.specs.List.{flat_map}
-use Rattle.atom_record.specs.declared.value.Value.{Value}
 use Rattle.atom_record.specs.declared.value.Leaf.{Leaf}
 use Rattle.atom_record.specs.declared.value.Leaf.TheVariants.{Missing, One, Many}
 use Rattle.atom_record.specs.declared.value.Slice.{Slice}
 use Rattle.atom_record.specs.declared.value.Slice.TheVariants.{Plain, Group}
-use Rattle.atom_record.specs.declared.item.Item.{Item}
-use Rattle.atom_record.specs.declared.item.Item.TheVariants.{Num, Dims, Slices, AtomItem, Chunk}
-use Rattle.atom_record.specs.Spelling.{type_of, value_bytes, counted, payload_of}
-
--- a value behind its type, as in a payload
-abbrev pub typed_bytes : Value → List ℕ
-typed_bytes value = type_of value ∷ value_bytes value
+use Rattle.flat_form.specs.declared.item.Item.{Item}
+use Rattle.flat_form.specs.declared.item.Item.TheVariants.{Num, Dims, Slices, AtomItem, Chunk}
+use Rattle.atom_record.specs.Spelling.{counted, payload_of}
+use Rattle.atom_record.specs.TypedValue.{typed_bytes}
 
 -- one leaf
 abbrev pub leaf_bytes : Leaf → List ℕ
@@ -34,6 +30,6 @@ spelled_item (Slices slices) = 3 ∷ length slices ∷ flat_map slice_bytes slic
 spelled_item (AtomItem atom) = 4 ∷ counted (payload_of atom)
 spelled_item (Chunk bytes) = 5 ∷ (to_le_bytes w32 (length bytes) ++ bytes)
 
--- all items, one behind the other
+-- all items, one after the other
 abbrev pub spelled_items : List Item → List ℕ
 spelled_items items = flat_map spelled_item items

@@ -1,13 +1,13 @@
--- Weights: no fewer than the bytes that a saved value takes.
-use Rattle.std.specs.Prelude.{ℕ, ◌+◌, ◌*◌, List, length}
+-- What items weigh: no less than the bytes that they take.
+use Rattle.std.specs.Prelude.{ℕ, ◌+◌, ◌*◌, ◌/◌, List, length}
 use Rattle.std.specs.List.{sum_by}
 use Rattle.atom_record.specs.declared.value.Value.{Value}
 use Rattle.atom_record.specs.declared.value.Value.TheVariants as values
 use Rattle.atom_record.specs.declared.value.Leaf.{Leaf}
 use Rattle.atom_record.specs.declared.value.Leaf.TheVariants.{Missing, One, Many}
-use Rattle.atom_record.specs.declared.value.MetricKey.{MetricKey}
-use Rattle.atom_record.specs.declared.atom.Atom.{Atom}
 use Rattle.atom_record.specs.declared.atom.AtomField.{AtomField}
+use Rattle.flat_form.specs.declared.item.Item.{Item}
+use Rattle.flat_form.specs.declared.item.Item.TheVariants.{Num, Dims, Slices, AtomItem, Chunk}
 
 -- the bytes of a Str or a Raw
 abbrev pub text_weight : Value → ℕ
@@ -32,26 +32,30 @@ leaf_weight (Many values) = 16 + sum_by value_weight values
 abbrev pub entry_weight : AtomField → ℕ
 entry_weight entry = 16 + text_weight entry.value
 
--- a number
-abbrev pub number_weight : ℕ → ℕ
-number_weight number = 16
+-- what an item holds: 16 for each leaf, value, slice and atom entry, and the bytes of the texts
+abbrev pub held_weight : Item → ℕ
+held_weight (Num number) = 0
+held_weight (Dims dims) = sum_by leaf_weight dims
+held_weight (Slices slices) = 16 * length slices
+held_weight (AtomItem atom) = sum_by entry_weight atom.fields
+held_weight (Chunk bytes) = length bytes
 
--- 16 for a key of dimensions, and its leaves
-abbrev pub dims_weight : List Leaf → ℕ
-dims_weight dims = 16 + sum_by leaf_weight dims
+-- what all items hold
+abbrev pub held : List Item → ℕ
+held items = sum_by held_weight items
 
--- 16 for a key, its leaves, and 16 for each slice
-abbrev pub key_weight : MetricKey → ℕ
-key_weight key = 16 + sum_by leaf_weight key.dims + 16 * length key.slices
+-- the most items of a value with such a head and so many entries: each entry takes eight at most
+abbrev pub most_items : ℕ → ℕ → ℕ
+most_items head entries = head + 8 * entries
 
--- 16 for an atom, and its entries
-abbrev pub atom_weight : Atom → ℕ
-atom_weight atom = 16 + sum_by entry_weight atom.fields
+-- how many entries stand for so many items: one for each eight that are begun
+abbrev pub entries_for : ℕ → ℕ
+entries_for items = (items + 7) / 8
 
--- the sum of both
-abbrev pub pair_weight : {X Y : Type 0} → (X → ℕ) → (Y → ℕ) → X × Y → ℕ
-pair_weight first second pair = first pair.0 + second pair.1
+-- those of both
+abbrev pub pair_entries : {X Y : Type 0} → (X → ℕ) → (Y → ℕ) → X × Y → ℕ
+pair_entries first second pair = first pair.0 + second pair.1
 
--- 16 for a list, and its elements
-abbrev pub list_weight : {X : Type 0} → (X → ℕ) → List X → ℕ
-list_weight weight values = 16 + sum_by weight values
+-- those of a list: one for each eight items of an element that are begun
+abbrev pub list_entries : {X : Type 0} → (X → List Item) → List X → ℕ
+list_entries flat values = sum_by (λ value. entries_for (length (flat value))) values

@@ -1,11 +1,13 @@
 //! The flat form of values: items, from which a value is built again.
-ghost use Rattle.std.specs.Prelude.{◌≡◌, ℕ, ◌+◌, List, [], ◌∷◌, ◌++◌, ◌≤◌, length, MatchOption, OnOk, OnErr, slice_get};
+ghost use Rattle.std.specs.Prelude.{◌≡◌, ℕ, ◌+◌, List, [], ◌∷◌, ◌++◌, ◌≤◌, length, All, MatchOption, OnOk, OnErr, slice_get};
 ghost use Rattle.std.specs.List.{flat_map};
-ghost use Rattle.atom_record.specs.declared.item.Item.{Item};
-ghost use Rattle.atom_record.specs.ItemSpelling.{spelled_items};
-ghost use Rattle.atom_record.specs.Flat.{IsFront, Holds, Builds, BuildsAll};
+ghost use Rattle.flat_form.specs.declared.item.Item.{Item};
+ghost use Rattle.flat_form.specs.Flat.{IsFront, Anything, Holds, Builds, BuildsAll};
+ghost use Rattle.flat_form.specs.Weight.{most_items};
+ghost use Rattle.flat_form.specs.Savable.{AreSavable};
 
-use crate::{Atom, DimKey, FlatError, Item, Items, MetricKey, Slice};
+use crate::{FlatError, Item, Items};
+use atom_record::{Atom, DimKey, MetricKey, Slice};
 use sd_base::{Duplicate, Seq};
 use std::alloc::{AllocError, Global};
 
@@ -14,26 +16,46 @@ pub trait Flat: Sized {
     /// The items of a value.
     ghost flat: { Self → List Item };
 
-    /// What a value weighs.
-    ghost weight: { Self → ℕ };
+    /// Holds of every object's value. Only such a value is built.
+    ghost valid: { Self → Type 0 } = { Anything };
+
+    /// What a value must meet besides, so that its items can be spelled as bytes.
+    ghost savable: { Self → Type 0 } = { Anything };
+
+    /// The most items of a value with no entry.
+    ghost head: { ℕ };
+
+    /// How many entries a value has.
+    ghost entries: { Self → ℕ } = { λ value. 0 };
+
+    /// Each object is valid. It does nothing when it runs: that it is proved for every object keeps `valid` true.
+    fn show_valid(&self)
+        ensures { valid self.now };
 
     /// Adds the items of the value at the end.
     fn flatten(&self, alloc: Global, out: &mut Items) -> Result<(), AllocError>
         ensures added { OnOk result (out.new ≡ out.old ++ flat self.now) }
+        ensures valid { OnOk result (valid self.now) }
 
-        // The old items stay, and some of the value's may stand behind them.
+        // The old items stay, and some of the value's may stand after them.
         ensures err { OnErr result (IsFront out.old out.new) };
 
-    /// The one value whose items stand at a place, and the place after them.
-    /// `Bad` comes exactly where no value's items stand there.
+    /// The one valid value whose items stand at a place, and the place after them.
+    /// `Bad` comes exactly where no valid value's items stand there.
     fn build(alloc: Global, items: &Items, place: usize) -> Result<(Self, usize), FlatError>
-        ensures { Builds flat items.now place result };
+        ensures { Builds valid flat items.now place result };
 
-    /// The items of a value have no more bytes than the value weighs.
-    ghost bounded: { (value : Self) → length (spelled_items (flat value)) ≤ weight value };
+    /// A value has no more items than its head and eight for each entry.
+    ghost bounded: { (value : Self) → valid value → length (flat value) ≤ most_items head (entries value) };
+
+    /// An entry is at least one item.
+    ghost few: { (value : Self) → entries value ≤ length (flat value) };
+
+    /// The items of a valid value that is savable can be spelled.
+    ghost spells: { (value : Self) → valid value → savable value → AreSavable (flat value) };
 }
 
-/// The item at a place, and the place after it.
+// The item at a place, and the place after it.
 fn read(items: &Items, place: usize) -> Option<(&Item, usize)>
     ensures { MatchOption result (slice_get items.now place ≡ None) (λ read. (slice_get items.now place ≡ Some read.0.now) × (read.1 ≡ place + 1)) }
 {
@@ -58,9 +80,9 @@ trait Single: Sized {
     ghost distinct: { (x y : Self) → wrap x ≡ wrap y → x ≡ y };
 }
 
-/// The value whose one item stands at a place, and the place after it.
+// The value whose one item stands at a place, and the place after it.
 fn build_one<T: Single>(alloc: Global, items: &Items, place: usize) -> Result<(T, usize), FlatError>
-    ensures { Builds (λ value. T.wrap value ∷ []) items.now place result }
+    ensures { Builds Anything (λ value. T.wrap value ∷ []) items.now place result }
 {
     let Some((item, next)) = read(items, place) else {
         return Err(FlatError::Bad);
@@ -70,7 +92,7 @@ fn build_one<T: Single>(alloc: Global, items: &Items, place: usize) -> Result<(T
 }
 
 impl Single for u64 {
-    ghost use Rattle.atom_record.specs.declared.item.Item.TheVariants.{Num};
+    ghost use Rattle.flat_form.specs.declared.item.Item.TheVariants.{Num};
 
     ghost wrap = { λ value. Num value };
 
@@ -85,7 +107,7 @@ impl Single for u64 {
 }
 
 impl Single for DimKey {
-    ghost use Rattle.atom_record.specs.declared.item.Item.TheVariants.{Dims};
+    ghost use Rattle.flat_form.specs.declared.item.Item.TheVariants.{Dims};
 
     ghost wrap = { λ value. Dims value };
 
@@ -100,7 +122,7 @@ impl Single for DimKey {
 }
 
 impl Single for Seq<Slice> {
-    ghost use Rattle.atom_record.specs.declared.item.Item.TheVariants.{Slices};
+    ghost use Rattle.flat_form.specs.declared.item.Item.TheVariants.{Slices};
 
     ghost wrap = { λ value. Slices value };
 
@@ -115,7 +137,7 @@ impl Single for Seq<Slice> {
 }
 
 impl Single for Atom {
-    ghost use Rattle.atom_record.specs.declared.item.Item.TheVariants.{AtomItem};
+    ghost use Rattle.flat_form.specs.declared.item.Item.TheVariants.{AtomItem};
 
     ghost wrap = { λ value. AtomItem value };
 
@@ -130,15 +152,21 @@ impl Single for Atom {
 }
 
 impl Flat for u64 {
-    ghost use Rattle.atom_record.specs.Flat.{number_items};
-    ghost use Rattle.atom_record.specs.Weight.{number_weight};
-    ghost use Rattle.atom_record.specs.Bounded.{number_bounded};
+    ghost use Rattle.flat_form.specs.Flat.{number_items};
+    ghost use Rattle.flat_form.specs.Bounded.{number_bounded, none_few};
+    ghost use Rattle.flat_form.specs.SavableLaws.{number_savable};
 
     ghost flat = { number_items };
 
-    ghost weight = { number_weight };
+    ghost head = { 1 };
 
     ghost bounded = { number_bounded };
+
+    ghost few = { none_few number_items };
+
+    ghost spells = { number_savable };
+
+    fn show_valid(&self) {}
 
     fn flatten(&self, _alloc: Global, out: &mut Items) -> Result<(), AllocError> {
         out.push(Item::Num(*self))
@@ -150,15 +178,24 @@ impl Flat for u64 {
 }
 
 impl Flat for DimKey {
-    ghost use Rattle.atom_record.specs.Flat.{dims_items};
-    ghost use Rattle.atom_record.specs.Weight.{dims_weight};
-    ghost use Rattle.atom_record.specs.Bounded.{dims_bounded};
+    ghost use Rattle.flat_form.specs.Flat.{dims_items};
+    ghost use Rattle.flat_form.specs.Bounded.{dims_bounded, none_few};
+    ghost use Rattle.flat_form.specs.SavableLaws.{dims_savable};
+    ghost use Rattle.flat_form.specs.Savable.{AreShortLeaves};
 
     ghost flat = { dims_items };
 
-    ghost weight = { dims_weight };
+    ghost savable = { AreShortLeaves };
+
+    ghost head = { 1 };
 
     ghost bounded = { dims_bounded };
+
+    ghost few = { none_few dims_items };
+
+    ghost spells = { dims_savable };
+
+    fn show_valid(&self) {}
 
     fn flatten(&self, alloc: Global, out: &mut Items) -> Result<(), AllocError> {
         let dims = self.duplicate(alloc)?;
@@ -171,15 +208,24 @@ impl Flat for DimKey {
 }
 
 impl Flat for Atom {
-    ghost use Rattle.atom_record.specs.Flat.{atom_items};
-    ghost use Rattle.atom_record.specs.Weight.{atom_weight};
-    ghost use Rattle.atom_record.specs.Bounded.{atom_bounded};
+    ghost use Rattle.flat_form.specs.Flat.{atom_items};
+    ghost use Rattle.flat_form.specs.Bounded.{atom_bounded, none_few};
+    ghost use Rattle.flat_form.specs.SavableLaws.{atom_savable};
+    ghost use Rattle.atom_record.specs.Sound.{HasNoFault};
 
     ghost flat = { atom_items };
 
-    ghost weight = { atom_weight };
+    ghost savable = { HasNoFault };
+
+    ghost head = { 1 };
 
     ghost bounded = { atom_bounded };
+
+    ghost few = { none_few atom_items };
+
+    ghost spells = { atom_savable };
+
+    fn show_valid(&self) {}
 
     fn flatten(&self, alloc: Global, out: &mut Items) -> Result<(), AllocError> {
         let atom = self.duplicate(alloc)?;
@@ -192,15 +238,24 @@ impl Flat for Atom {
 }
 
 impl Flat for MetricKey {
-    ghost use Rattle.atom_record.specs.Flat.{key_items};
-    ghost use Rattle.atom_record.specs.Weight.{key_weight};
-    ghost use Rattle.atom_record.specs.Bounded.{key_bounded};
+    ghost use Rattle.flat_form.specs.Flat.{key_items};
+    ghost use Rattle.flat_form.specs.Bounded.{key_bounded, none_few};
+    ghost use Rattle.flat_form.specs.SavableLaws.{key_savable};
+    ghost use Rattle.flat_form.specs.Savable.{IsShortKey};
 
     ghost flat = { key_items };
 
-    ghost weight = { key_weight };
+    ghost savable = { IsShortKey };
+
+    ghost head = { 2 };
 
     ghost bounded = { key_bounded };
+
+    ghost few = { none_few key_items };
+
+    ghost spells = { key_savable };
+
+    fn show_valid(&self) {}
 
     fn flatten(&self, alloc: Global, out: &mut Items) -> Result<(), AllocError> {
         self.dims.flatten(alloc, out)?;
@@ -216,15 +271,31 @@ impl Flat for MetricKey {
 }
 
 impl<A: Flat + Drop, B: Flat + Drop> Flat for (A, B) {
-    ghost use Rattle.atom_record.specs.Flat.{pair_items};
-    ghost use Rattle.atom_record.specs.Weight.{pair_weight};
-    ghost use Rattle.atom_record.specs.Bounded.{pair_bounded};
+    ghost use Rattle.flat_form.specs.Flat.{pair_items, IsValidPair};
+    ghost use Rattle.flat_form.specs.Weight.{pair_entries};
+    ghost use Rattle.flat_form.specs.Bounded.{pair_bounded, pair_few};
+    ghost use Rattle.flat_form.specs.SavableLaws.{pair_savable};
 
     ghost flat = { pair_items A.flat B.flat };
 
-    ghost weight = { pair_weight A.weight B.weight };
+    ghost valid = { IsValidPair A.valid B.valid };
 
-    ghost bounded = { pair_bounded A.flat B.flat A.weight B.weight A.bounded B.bounded };
+    ghost savable = { IsValidPair A.savable B.savable };
+
+    ghost head = { A.head + B.head };
+
+    ghost entries = { pair_entries A.entries B.entries };
+
+    ghost bounded = { pair_bounded A.flat B.flat A.valid B.valid A.head B.head A.entries B.entries A.bounded B.bounded };
+
+    ghost few = { pair_few A.flat B.flat A.entries B.entries A.few B.few };
+
+    ghost spells = { pair_savable A.flat B.flat A.valid B.valid A.savable B.savable A.spells B.spells };
+
+    fn show_valid(&self) {
+        self.0.show_valid();
+        self.1.show_valid();
+    }
 
     fn flatten(&self, alloc: Global, out: &mut Items) -> Result<(), AllocError> {
         self.0.flatten(alloc, out)?;
@@ -238,9 +309,19 @@ impl<A: Flat + Drop, B: Flat + Drop> Flat for (A, B) {
     }
 }
 
-/// Adds the items of all, one behind the other.
+// Each of these objects is valid.
+fn show_all<T: Flat>(all: &[T])
+    ensures { All T.valid all.now }
+{
+    for value in all {
+        value.show_valid();
+    }
+}
+
+// Adds the items of all, one after the other.
 fn flatten_all<T: Flat>(all: &[T], alloc: Global, out: &mut Items) -> Result<(), AllocError>
     ensures added { OnOk result (out.new ≡ out.old ++ flat_map T.flat all.now) }
+    ensures valid { OnOk result (All T.valid all.now) }
     ensures err { OnErr result (IsFront out.old out.new) }
 {
     for value in all {
@@ -249,14 +330,14 @@ fn flatten_all<T: Flat>(all: &[T], alloc: Global, out: &mut Items) -> Result<(),
     Ok(())
 }
 
-/// So many values, one behind the other.
+// So many values, one after the other.
 fn build_all<T: Flat + Drop>(
     alloc: Global,
     items: &Items,
     place: usize,
     count: u64,
 ) -> Result<(Seq<T>, usize), FlatError>
-    ensures { BuildsAll T.flat items.now place count result }
+    ensures { BuildsAll T.valid T.flat items.now place count result }
 {
     let mut values = Seq::new(alloc);
     let mut next = place;
@@ -269,15 +350,30 @@ fn build_all<T: Flat + Drop>(
 }
 
 impl<T: Flat + Drop> Flat for Seq<T> {
-    ghost use Rattle.atom_record.specs.Flat.{list_items};
-    ghost use Rattle.atom_record.specs.Weight.{list_weight};
-    ghost use Rattle.atom_record.specs.Bounded.{list_bounded};
+    ghost use Rattle.flat_form.specs.Flat.{list_items};
+    ghost use Rattle.flat_form.specs.Weight.{list_entries};
+    ghost use Rattle.flat_form.specs.Bounded.{list_bounded, list_few};
+    ghost use Rattle.flat_form.specs.SavableLaws.{list_savable};
 
     ghost flat = { list_items T.flat };
 
-    ghost weight = { list_weight T.weight };
+    ghost valid = { All T.valid };
 
-    ghost bounded = { list_bounded T.flat T.weight T.bounded };
+    ghost savable = { All T.savable };
+
+    ghost head = { 1 };
+
+    ghost entries = { list_entries T.flat };
+
+    ghost bounded = { list_bounded T.flat T.valid };
+
+    ghost few = { list_few T.flat };
+
+    ghost spells = { list_savable T.flat T.valid T.savable T.spells };
+
+    fn show_valid(&self) {
+        show_all(self.as_slice());
+    }
 
     fn flatten(&self, alloc: Global, out: &mut Items) -> Result<(), AllocError> {
         out.push(Item::Num(self.len() as u64))?;

@@ -15,7 +15,7 @@ pub enum FlatError {
 }
 
 impl From<AllocError> for FlatError {
-    ghost use Rattle.atom_record.specs.declared.flat_error.FlatError.TheVariants.{Memory};
+    ghost use Rattle.flat_form.specs.declared.flat_error.FlatError.TheVariants.{Memory};
 
     ghost from_gives = { λ _ e. e ≡ Memory };
 
@@ -25,7 +25,7 @@ impl From<AllocError> for FlatError {
 }
 
 impl<T: Drop> From<AllocFailed<T>> for FlatError {
-    ghost use Rattle.atom_record.specs.declared.flat_error.FlatError.TheVariants.{Memory};
+    ghost use Rattle.flat_form.specs.declared.flat_error.FlatError.TheVariants.{Memory};
 
     ghost from_gives = { λ _ e. e ≡ Memory };
 

@@ -2,7 +2,7 @@
 ghost use Rattle.std.specs.Prelude.{◌≡◌, [], ◌∷◌, ◌++◌, length, OnOk, OnErr, slice_get};
 ghost use Rattle.std.specs.Option.{option_copied};
 
-use crate::{Atom, Bytes, DimKey, Slice};
+use atom_record::{Atom, Bytes, DimKey, Slice};
 use sd_base::Seq;
 use std::alloc::{AllocError, Global};
 use std::marker::Model;
@@ -29,7 +29,7 @@ pub struct Items {
 
 impl Model for Items {
     ghost use Rattle.std.specs.Prelude.{List};
-    ghost use Rattle.atom_record.specs.declared.item.Item.{Item};
+    ghost use Rattle.flat_form.specs.declared.item.Item.{Item};
 
     ghost Value = { List Item };
 

@@ -1,6 +1,6 @@
 use Rattle.std.proofs.lemmas.Result.{err_from_is_err_and}
-use Rattle.atom_record.proofs.FlatLaws.{one_built, past_end, one_fails}
-use Rattle.atom_record.proofs.flat.build_one.Goals as goal
+use Rattle.flat_form.proofs.FlatLaws.{one_built, past_end, one_fails}
+use Rattle.flat_form.proofs.flat.build_one.Goals as goal
 
 -- no item stands there
 pub returns-in_default : goal.returns-in_default

@@ -1,4 +1,4 @@
--- A key without a position is new: it gets a row behind the others, or counts as dropped.
+-- A key without a position is new: it gets a row after the others, or counts as dropped.
 use Rattle.std.proofs.Common.{Contains, ap, sym, ◌∙◌, arith, inr}
 use Rattle.dim_table.specs.Table.{keys}
 use Rattle.dim_table.proofs.KeyLemmas.{missing, inserted}

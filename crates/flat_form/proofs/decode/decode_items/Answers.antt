@@ -1,8 +1,8 @@
-use Rattle.std.proofs.Common.{◌≡◌, ◌<◌, length, ap, arith, Err}
+use Rattle.std.proofs.Common.{◌≡◌, ◌<◌, length, arith}
 use Rattle.std.proofs.lemmas.Result.{err_from_is_err_and}
 use Rattle.std.proofs.lemmas.Bool.Decides.{nat_tests}
-use Rattle.atom_record.proofs.ItemsLoop.{starts, goes_on, fails, is_done, shortens}
-use Rattle.atom_record.proofs.unspell.items_of.Goals as goal
+use Rattle.flat_form.proofs.ItemsLoop.{starts, goes_on, fails, is_done, shortens}
+use Rattle.flat_form.proofs.decode.decode_items.Goals as goal
 
 -- nothing is read yet
 pub loop-rest-init : goal.loop-rest-init
@@ -16,12 +16,12 @@ returns-in_err-item c =
     rw (p.1, p.2) (fails c.args.bytes.now c.loop-rest.items c.loop-rest.rest.now c.loop-rest.invariant some c.in_err-item.field-0.0 (λ bad. c.in_err-item.ensures.bad (ap (λ e. Err e) bad)))
 
 pub loop-rest-smaller : goal.loop-rest-smaller
-loop-rest-smaller c = shortens c.loop-rest.rest.now _ _ c.loop-rest.invariant.fits c.in_ok-item.ensures.read
+loop-rest-smaller c = shortens c.loop-rest.rest.now _ _ c.loop-rest.invariant.fits c.in_ok-item.ensures
 
 pub loop-rest-preserved : goal.loop-rest-preserved
 loop-rest-preserved c =
     let some : 0 < length c.loop-rest.rest.now = grind (arith, nat_tests, c.is_empty.ensures) in
-    rw c.in_ok-push.ensures.added (goes_on c.args.bytes.now c.loop-rest.items c.loop-rest.rest.now c.in_ok-item.item c.in_ok-item.after.now c.loop-rest.invariant some c.in_ok-item.ensures.read)
+    rw c.in_ok-push.ensures.added (goes_on c.args.bytes.now c.loop-rest.items c.loop-rest.rest.now c.in_ok-item.item c.in_ok-item.after.now c.loop-rest.invariant some c.in_ok-item.ensures)
 
 pub returns : goal.returns
 returns c =

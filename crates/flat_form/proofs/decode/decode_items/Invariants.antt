@@ -1,7 +1,7 @@
 -- The items so far are those of the bytes before the rest.
 use Rattle.std.proofs.Common.{length}
-use Rattle.atom_record.proofs.ItemsLoop.{HasRead}
-use Rattle.atom_record.proofs.unspell.items_of.Given as goal
+use Rattle.flat_form.proofs.ItemsLoop.{HasRead}
+use Rattle.flat_form.proofs.decode.decode_items.Given as goal
 
 abbrev pub invariant-loop-rest : goal.invariant-loop-rest
 invariant-loop-rest l = HasRead l.bytes l.items l.rest
