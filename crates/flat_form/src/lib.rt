@@ -6,11 +6,11 @@ mod encode;
 mod flat;
 mod flat_error;
 mod item;
-mod save;
+mod saved;
 
 pub use decode::decode_items;
 pub use encode::encode_items;
 pub use flat::Flat;
 pub use flat_error::FlatError;
 pub use item::{Item, Items};
-pub use save::{rebuild, save};
+pub use saved::{rebuild, save};

@@ -13,7 +13,7 @@ pub returns-in_err-item : goal.returns-in_err-item
 returns-in_err-item c =
     let p = err_from_is_err_and c.from_residual.result c.from_residual.ensures.1 in
     let some : 0 < length c.loop-rest.rest.now = grind (arith, nat_tests, c.is_empty.ensures) in
-    rw (p.1, p.2) (fails c.args.bytes.now c.loop-rest.items c.loop-rest.rest.now c.loop-rest.invariant some c.in_err-item.field-0.0 (λ bad. c.in_err-item.ensures.bad (ap (λ e. Err e) bad)))
+    rw (p.1, p.2) (fails c.args.bytes.now c.loop-rest.items c.loop-rest.rest.now c.loop-rest.invariant some c.in_err-item.field-0.0 c.in_err-item.ensures)
 
 pub loop-rest-smaller : goal.loop-rest-smaller
 loop-rest-smaller c = shortens c.loop-rest.rest.now _ _ c.loop-rest.invariant.fits c.in_ok-item.ensures

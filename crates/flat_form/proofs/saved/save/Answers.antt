@@ -1,6 +1,6 @@
 use Rattle.std.proofs.Common.{◌++◌, ◌∙◌, ap}
 use Rattle.flat_form.proofs.SizeLaws.{saved_size}
-use Rattle.flat_form.proofs.save.save.Goals as goal
+use Rattle.flat_form.proofs.saved.save.Goals as goal
 
 -- the law of the type bounds the items
 pub returns-clause-size : goal.returns-clause-size
