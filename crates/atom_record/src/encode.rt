@@ -17,13 +17,15 @@ fn put_u32(number: u32, out: &mut Vec<u8>) -> Result<(), AllocError>
 }
 
 fn put_i32(number: i32, out: &mut Vec<u8>) -> Result<(), AllocError>
-    ensures { OnOk result (out.new.items ≡ out.old.items ++ to_le_bytes w32 (cast_unsigned w32 number)) }
+    ensures { OnOk result
+        (out.new.items ≡ out.old.items ++ to_le_bytes w32 (cast_unsigned w32 number)) }
 {
     put_u32(number.cast_unsigned(), out)
 }
 
 fn put_i64(number: i64, out: &mut Vec<u8>) -> Result<(), AllocError>
-    ensures { OnOk result (out.new.items ≡ out.old.items ++ to_le_bytes w64 (cast_unsigned w64 number)) }
+    ensures { OnOk result
+        (out.new.items ≡ out.old.items ++ to_le_bytes w64 (cast_unsigned w64 number)) }
 {
     out.extend_from_slice(&number.cast_unsigned().to_le_bytes())
 }

@@ -7,7 +7,7 @@ use std::alloc::{AllocError, Global};
 
 impl Flat for Clock {
     ghost use Rattle.flat_form.specs.Bounded.{none_few};
-    ghost use Rattle.bucket_clock.specs.Flat.{clock_items, IsClock, clock_bounded, clock_savable};
+    ghost use Rattle.bucket_clock.specs.ClockItems.{clock_items, IsClock, clock_bounded, clock_savable};
 
     ghost flat = { clock_items };
 

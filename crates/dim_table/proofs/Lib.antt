@@ -1,5 +1,5 @@
 pub mod KeyLemmas
 pub mod TableLemmas
 pub mod RowLemmas
-pub mod FlatLemmas
-pub mod SizeLemmas
+pub mod TableItemsLemmas
+pub mod TableWeightLemmas

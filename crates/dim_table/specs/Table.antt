@@ -1,4 +1,5 @@
--- What a contract sees of a table: rows in the order in which their keys first came, a bound, and how many were dropped.
+-- What a contract sees of a table: rows in the order in which their keys first came, a bound, and how many were
+-- dropped.
 use Rattle.std.specs.Prelude.{◌≡◌, ℕ, ◌+◌, ◌<◌, ◌≤◌, Bool, not, List, [], ◌∷◌, ◌++◌, length, filter, slice_get, Contains, Some, ◌⊎◌}
 use Rattle.std.specs.Map.{keys_of}
 pub use Rattle.indexmap.specs.Layout.{set_value_at}
@@ -56,7 +57,8 @@ module _ {K V : Type 0} (same : K → K → Bool) where
   abbrev pub without : Table K V → K → Table K V
   without table key = record table { rows = filter (λ row. not (same key row.0)) table.rows }
 
-  -- the table is what arrivals with these keys make of an empty one: the first keys are admitted, and all else is counted
+  -- the table is what arrivals with these keys make of an empty one: the first keys are admitted, and all else is
+  -- counted
   pub record TableStandsFor (table : Table K V) (arrived : List K) : Type 0 where
     pub keys_are : keys table ≡ admitted same table.bound arrived
     pub dropped_are : table.dropped ≡ counted (dropped same table.bound arrived)

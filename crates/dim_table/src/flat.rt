@@ -3,7 +3,7 @@ ghost use Rattle.std.specs.Prelude.{◌≡◌, [], ◌++◌, List, length, OnOk,
 ghost use Rattle.std.specs.List.{flat_map};
 ghost use Rattle.flat_form.specs.Flat.{IsFront, IsValidPair, pair_items};
 ghost use Rattle.dim_table.specs.Table.{IsBounded};
-ghost use Rattle.dim_table.specs.Flat.{BuildsRows};
+ghost use Rattle.dim_table.specs.TableItems.{BuildsRows};
 
 use crate::{Guarded, MAX_KEYS};
 use flat_form::{Flat, FlatError, Items};
@@ -18,7 +18,8 @@ fn flatten_row<K: Flat, V: Flat>(
     alloc: Global,
     out: &mut Items,
 ) -> Result<(), AllocError>
-    ensures added { OnOk result (out.new ≡ out.old ++ pair_items K.flat V.flat (key.now, value.now)) }
+    ensures added { OnOk result
+        (out.new ≡ out.old ++ pair_items K.flat V.flat (key.now, value.now)) }
     ensures valid { OnOk result (IsValidPair K.valid V.valid (key.now, value.now)) }
     ensures err { OnErr result (IsFront out.old out.new) }
 {
@@ -32,7 +33,8 @@ fn flatten_rows<K: Flat + Exact + Hash + Drop, V: Flat + Drop>(
     alloc: Global,
     out: &mut Items,
 ) -> Result<(), AllocError>
-    ensures added { OnOk result (out.new ≡ out.old ++ flat_map (pair_items K.flat V.flat) table.now.rows) }
+    ensures added { OnOk result
+        (out.new ≡ out.old ++ flat_map (pair_items K.flat V.flat) table.now.rows) }
     ensures valid { OnOk result (All (IsValidPair K.valid V.valid) table.now.rows) }
     ensures err { OnErr result (IsFront out.old out.new) }
 {
@@ -93,7 +95,7 @@ fn build_rows<K: Flat + Exact + Hash + Drop, V: Flat + Drop>(
 }
 
 impl<K: Flat + Exact + Hash + Drop, V: Flat + Drop> Flat for Guarded<K, V> {
-    ghost use Rattle.dim_table.specs.Flat.{table_items, IsTable, table_entries, table_bounded, table_few, table_savable};
+    ghost use Rattle.dim_table.specs.TableItems.{table_items, IsTable, table_entries, table_bounded, table_few, table_savable};
     ghost use Rattle.flat_form.specs.Flat.{IsValidPair};
 
     ghost flat = { table_items K.flat V.flat };

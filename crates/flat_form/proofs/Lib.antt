@@ -1,5 +1,5 @@
 pub mod FlatLaws
-pub mod ItemLaws
-pub mod ItemsLoop
-pub mod ManyLoop
-pub mod SizeLaws
+pub mod ItemReadingLaws
+pub mod ItemRangeLaws
+pub mod ManyLaws
+pub mod WeightLaws

@@ -27,8 +27,10 @@ Anything value = Unit {0}
 abbrev pub IsValidPair : {X Y : Type 0} → (X → Type 0) → (Y → Type 0) → X × Y → Type 0
 IsValidPair first second pair = first pair.0 × second pair.1
 
--- the value is valid, its items stand at the place, no other valid value's items do, and the next place is the one after them
-pub record IsBuilt {X : Type 0} (valid : X → Type 0) (flat : X → List Item) (items : List Item) (place : ℕ) (value : X) (next : ℕ) : Type 0 where
+-- the value is valid, its items stand at the place, no other valid value's items do, and the next place is the one
+-- after them
+pub record IsBuilt {X : Type 0} (valid : X → Type 0) (flat : X → List Item) (items : List Item) (place : ℕ)
+    (value : X) (next : ℕ) : Type 0 where
   pub is_valid : valid value
   pub stands : StandsAt items place (flat value)
   pub ends : next ≡ place + length (flat value)
@@ -46,17 +48,23 @@ Holds wrap item (Ok value) = item ≡ wrap value
 Holds {X} wrap item (Err Bad) = (value : X) → ¬ (item ≡ wrap value)
 Holds wrap item (Err Memory) = Unit {0}
 
--- the same of so many values, one after the other
-pub record AreBuilt {X : Type 0} (valid : X → Type 0) (flat : X → List Item) (items : List Item) (place count : ℕ) (values : List X) (next : ℕ) : Type 0 where
+-- the values are valid and so many, their items stand at the place, one after the other, those of no other so many do,
+-- and the next place is the one after them
+pub record AreBuilt {X : Type 0} (valid : X → Type 0) (flat : X → List Item) (items : List Item) (place count : ℕ)
+    (values : List X) (next : ℕ) : Type 0 where
   pub are_valid : All valid values
   pub counted : length values ≡ count
   pub stand : StandsAt items place (flat_map flat values)
   pub ends : next ≡ place + length (flat_map flat values)
-  pub only : (others : List X) → All valid others → length others ≡ count → StandsAt items place (flat_map flat others) → others ≡ values
+  pub only : (others : List X) → All valid others → length others ≡ count
+      → StandsAt items place (flat_map flat others) → others ≡ values
 
-abbrev pub BuildsAll : {X : Type 0} → (X → Type 0) → (X → List Item) → List Item → ℕ → ℕ → Result (List X × ℕ) FlatError → Type 0
+-- what building so many values at a place answers
+abbrev pub BuildsAll : {X : Type 0} → (X → Type 0) → (X → List Item) → List Item → ℕ → ℕ
+    → Result (List X × ℕ) FlatError → Type 0
 BuildsAll valid flat items place count (Ok built) = AreBuilt valid flat items place count built.0 built.1
-BuildsAll {X} valid flat items place count (Err Bad) = (values : List X) → All valid values → length values ≡ count → ¬ (StandsAt items place (flat_map flat values))
+BuildsAll {X} valid flat items place count (Err Bad) = (values : List X) → All valid values → length values ≡ count
+    → ¬ (StandsAt items place (flat_map flat values))
 BuildsAll valid flat items place count (Err Memory) = Unit {0}
 
 -- a number is one item

@@ -43,7 +43,7 @@ pub record AreRead (bytes : List ℕ) (items : List Item) : Type 0 where
   pub only : (others : List Item) → CanBeSpelled others → bytes ≡ spelled_items others → others ≡ items
 
 -- what reading answers: the items whose spelling the bytes are, or that they are the spelling of none
-abbrev pub Reads : List ℕ → Result (List Item) FlatError → Type 0
-Reads bytes (Ok items) = AreRead bytes items
-Reads bytes (Err Bad) = (items : List Item) → CanBeSpelled items → ¬ (bytes ≡ spelled_items items)
-Reads bytes (Err Memory) = Unit {0}
+abbrev pub ReadsItems : List ℕ → Result (List Item) FlatError → Type 0
+ReadsItems bytes (Ok items) = AreRead bytes items
+ReadsItems bytes (Err Bad) = (items : List Item) → CanBeSpelled items → ¬ (bytes ≡ spelled_items items)
+ReadsItems bytes (Err Memory) = Unit {0}

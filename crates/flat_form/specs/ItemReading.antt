@@ -61,8 +61,10 @@ leaf_at (tag ∷ bytes) =
 unfoldable pub slice_at : List ℕ → Result (Slice × List ℕ) NoItem
 slice_at [] = Err Unspelled
 slice_at (tag ∷ bytes) =
-    if tag == 1 then (uint_at w32 bytes >>= λ id. uint_at w32 id.1 >>= λ value. Ok (Plain id.0 (cast_signed w32 value.0), value.1))
-    else if tag == 2 then (uint_at w32 bytes >>= λ id. uint_at w64 id.1 >>= λ group. Ok (Group id.0 (cast_signed w64 group.0), group.1))
+    if tag == 1 then (uint_at w32 bytes >>= λ id. uint_at w32 id.1 >>= λ value. Ok
+    (Plain id.0 (cast_signed w32 value.0), value.1))
+    else if tag == 2 then (uint_at w32 bytes >>= λ id. uint_at w64 id.1 >>= λ group. Ok
+    (Group id.0 (cast_signed w64 group.0), group.1))
     else Err Unspelled
 
 -- slices after their number
@@ -81,6 +83,7 @@ item_at (tag ∷ bytes) =
     if tag == 1 then (uint_at w64 bytes >>= λ number. Ok (Num number.0, number.1))
     else if tag == 2 then (dims_at bytes >>= λ dims. Ok (Dims dims.0, dims.1))
     else if tag == 3 then (slices_at bytes >>= λ slices. Ok (Slices slices.0, slices.1))
-    else if tag == 4 then (counted_at w16 bytes >>= λ payload. without_reason (atom_at payload.0) >>= λ atom. Ok (AtomItem atom, payload.1))
+    else if tag == 4 then (counted_at w16 bytes >>= λ payload. without_reason (atom_at payload.0) >>= λ atom. Ok
+    (AtomItem atom, payload.1))
     else if tag == 5 then (counted_at w32 bytes >>= λ chunk. Ok (Chunk chunk.0, chunk.1))
     else Err Unspelled

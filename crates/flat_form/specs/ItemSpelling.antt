@@ -12,21 +12,21 @@ use Rattle.atom_record.specs.Spelling.{counted, payload_of}
 use Rattle.atom_record.specs.TypedValue.{typed_bytes}
 
 -- one leaf
-abbrev pub leaf_bytes : Leaf → List ℕ
-leaf_bytes Missing = 0 ∷ []
-leaf_bytes (One value) = 1 ∷ typed_bytes value
-leaf_bytes (Many values) = 2 ∷ (to_le_bytes w16 (length values) ++ flat_map typed_bytes values)
+abbrev pub spelled_leaf : Leaf → List ℕ
+spelled_leaf Missing = 0 ∷ []
+spelled_leaf (One value) = 1 ∷ typed_bytes value
+spelled_leaf (Many values) = 2 ∷ (to_le_bytes w16 (length values) ++ flat_map typed_bytes values)
 
 -- one slice
-abbrev pub slice_bytes : Slice → List ℕ
-slice_bytes (Plain atom_id value) = 1 ∷ (to_le_bytes w32 atom_id ++ to_le_bytes w32 (cast_unsigned w32 value))
-slice_bytes (Group atom_id group) = 2 ∷ (to_le_bytes w32 atom_id ++ to_le_bytes w64 (cast_unsigned w64 group))
+abbrev pub spelled_slice : Slice → List ℕ
+spelled_slice (Plain atom_id value) = 1 ∷ (to_le_bytes w32 atom_id ++ to_le_bytes w32 (cast_unsigned w32 value))
+spelled_slice (Group atom_id group) = 2 ∷ (to_le_bytes w32 atom_id ++ to_le_bytes w64 (cast_unsigned w64 group))
 
 -- one item
 abbrev pub spelled_item : Item → List ℕ
 spelled_item (Num number) = 1 ∷ to_le_bytes w64 number
-spelled_item (Dims dims) = 2 ∷ (to_le_bytes w16 (length dims) ++ flat_map leaf_bytes dims)
-spelled_item (Slices slices) = 3 ∷ length slices ∷ flat_map slice_bytes slices
+spelled_item (Dims dims) = 2 ∷ (to_le_bytes w16 (length dims) ++ flat_map spelled_leaf dims)
+spelled_item (Slices slices) = 3 ∷ length slices ∷ flat_map spelled_slice slices
 spelled_item (AtomItem atom) = 4 ∷ counted (payload_of atom)
 spelled_item (Chunk bytes) = 5 ∷ (to_le_bytes w32 (length bytes) ++ bytes)
 

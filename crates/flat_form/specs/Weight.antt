@@ -48,6 +48,10 @@ held items = sum_by held_weight items
 abbrev pub most_items : ℕ → ℕ → ℕ
 most_items head entries = head + 8 * entries
 
+-- the most bytes of a value with such a head, so many entries and these items
+abbrev pub most_bytes : ℕ → ℕ → List Item → ℕ
+most_bytes head entries items = 16 * head + 128 * entries + held items
+
 -- how many entries stand for so many items: one for each eight that are begun
 abbrev pub entries_for : ℕ → ℕ
 entries_for items = (items + 7) / 8

@@ -3,7 +3,7 @@ ghost use Rattle.std.specs.Prelude.{◌≡◌, ℕ, List, ◌∷◌, Result, Ok,
 ghost use Rattle.std.specs.Int.{w16, w32, w64};
 ghost use Rattle.sd_base.specs.Reads.{GivesBy, many};
 ghost use Rattle.flat_form.specs.ItemReading.{NoItem, no_item_of, uint_at, counted_at, values_at, item_at};
-ghost use Rattle.flat_form.specs.ItemRange.{Reads};
+ghost use Rattle.flat_form.specs.ItemRange.{ReadsItems};
 
 use crate::{FlatError, Item, Items};
 use atom_record::{AtomFault, Leaf, Slice, Value, decode_value, parse_atom};
@@ -230,7 +230,7 @@ fn item_of(alloc: Global, bytes: &[u8]) -> Result<(Item, &[u8]), FlatError>
 
 /// The items whose spelling the bytes are. `Bad` comes exactly where they are the spelling of none.
 pub fn decode_items(alloc: Global, bytes: &[u8]) -> Result<Items, FlatError>
-    ensures { Reads bytes.now result }
+    ensures { ReadsItems bytes.now result }
 {
     let mut items = Items::new(alloc);
     let mut rest = bytes;

@@ -67,10 +67,10 @@ impl Encode for Value {
 }
 
 impl Encode for Leaf {
-    ghost use Rattle.flat_form.specs.ItemSpelling.{leaf_bytes};
+    ghost use Rattle.flat_form.specs.ItemSpelling.{spelled_leaf};
     ghost use Rattle.flat_form.specs.Savable.{IsShortLeaf};
 
-    ghost spelling = { leaf_bytes };
+    ghost spelling = { spelled_leaf };
 
     ghost can_be = { IsShortLeaf };
 
@@ -99,16 +99,17 @@ fn put_kind(kind: u8, atom_id: u32, out: &mut Vec<u8>) -> Result<(), AllocError>
 }
 
 fn put_group(atom_id: u32, bits: u64, out: &mut Vec<u8>) -> Result<(), AllocError>
-    ensures { OnOk result (out.new.items ≡ out.old.items ++ 2 ∷ (to_le_bytes w32 atom_id ++ to_le_bytes w64 bits)) }
+    ensures { OnOk result (out.new.items
+        ≡ out.old.items ++ 2 ∷ (to_le_bytes w32 atom_id ++ to_le_bytes w64 bits)) }
 {
     put_kind(2, atom_id, out)?;
     put_u64(bits, out)
 }
 
 impl Encode for Slice {
-    ghost use Rattle.flat_form.specs.ItemSpelling.{slice_bytes};
+    ghost use Rattle.flat_form.specs.ItemSpelling.{spelled_slice};
 
-    ghost spelling = { slice_bytes };
+    ghost spelling = { spelled_slice };
 
     ghost can_be = { λ slice. Unit {0} };
 

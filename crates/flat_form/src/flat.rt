@@ -46,7 +46,8 @@ pub trait Flat: Sized {
         ensures { Builds valid flat items.now place result };
 
     /// A value has no more items than its head and eight for each entry.
-    ghost bounded: { (value : Self) → valid value → length (flat value) ≤ most_items head (entries value) };
+    ghost bounded: { (value : Self) → valid value
+        → length (flat value) ≤ most_items head (entries value) };
 
     /// An entry is at least one item.
     ghost few: { (value : Self) → entries value ≤ length (flat value) };
@@ -57,7 +58,8 @@ pub trait Flat: Sized {
 
 // The item at a place, and the place after it.
 fn read(items: &Items, place: usize) -> Option<(&Item, usize)>
-    ensures { MatchOption result (slice_get items.now place ≡ None) (λ read. (slice_get items.now place ≡ Some read.0.now) × (read.1 ≡ place + 1)) }
+    ensures { MatchOption result (slice_get items.now place ≡ None)
+        (λ read. (slice_get items.now place ≡ Some read.0.now) × (read.1 ≡ place + 1)) }
 {
     let end = items.len();
     let item = items.at(place)?;
@@ -286,7 +288,8 @@ impl<A: Flat + Drop, B: Flat + Drop> Flat for (A, B) {
 
     ghost entries = { pair_entries A.entries B.entries };
 
-    ghost bounded = { pair_bounded A.flat B.flat A.valid B.valid A.head B.head A.entries B.entries A.bounded B.bounded };
+    ghost bounded = { pair_bounded A.flat B.flat A.valid B.valid A.head B.head A.entries B.entries
+        A.bounded B.bounded };
 
     ghost few = { pair_few A.flat B.flat A.entries B.entries A.few B.few };
 

@@ -1,8 +1,8 @@
 //! Values through items to bytes, and through items to themselves.
-ghost use Rattle.std.specs.Prelude.{◌≡◌, ◌≢◌, ◌≤◌, ◌+◌, ◌*◌, length, IfOk, OnOk, Err};
+ghost use Rattle.std.specs.Prelude.{◌≡◌, ◌≢◌, ◌≤◌, length, IfOk, Err};
 ghost use Rattle.flat_form.specs.declared.flat_error.FlatError.TheVariants.{Bad};
 ghost use Rattle.flat_form.specs.ItemSpelling.{spelled_items};
-ghost use Rattle.flat_form.specs.Weight.{held};
+ghost use Rattle.flat_form.specs.Weight.{most_bytes};
 
 use crate::{Flat, FlatError, Items, encode_items};
 use atom_record::Bytes;
@@ -12,7 +12,8 @@ use std::alloc::{AllocError, Global};
 pub fn save<T: Flat>(alloc: Global, value: &T) -> Result<Bytes, AllocError>
     requires { T.savable value.now }
     ensures spelled { IfOk result (λ bytes. bytes ≡ spelled_items (T.flat value.now)) }
-    ensures size { IfOk result (λ bytes. length bytes ≤ 16 * T.head + 128 * T.entries value.now + held (T.flat value.now)) }
+    ensures size { IfOk result (λ bytes.
+        length bytes ≤ most_bytes T.head (T.entries value.now) (T.flat value.now)) }
 {
     value.show_valid();
     let mut items = Items::new(alloc);

@@ -51,11 +51,23 @@ fn frames_cross_the_ends_before_them(rt: HostRuntime) {
         (34 * SECOND, false, closed(0, 8 * SECOND, 3, 8 * SECOND)),
         // A pull at an end belongs to the bucket, and the next frame there crosses the end.
         (40 * SECOND, true, None),
-        (40 * SECOND, false, closed(32 * SECOND, 40 * SECOND, 0, 8 * SECOND)),
+        (
+            40 * SECOND,
+            false,
+            closed(32 * SECOND, 40 * SECOND, 0, 8 * SECOND),
+        ),
         (40 * SECOND, false, None),
         // A pull after an end crosses it.
-        (48 * SECOND + 1, true, closed(40 * SECOND, 48 * SECOND, 0, 8 * SECOND)),
-        (64 * SECOND, true, closed(48 * SECOND, 56 * SECOND, 0, 8 * SECOND)),
+        (
+            48 * SECOND + 1,
+            true,
+            closed(40 * SECOND, 48 * SECOND, 0, 8 * SECOND),
+        ),
+        (
+            64 * SECOND,
+            true,
+            closed(48 * SECOND, 56 * SECOND, 0, 8 * SECOND),
+        ),
     ] {
         sees(&rt, &mut clock, time, is_pull, answer);
     }
@@ -65,12 +77,24 @@ fn frames_cross_the_ends_before_them(rt: HostRuntime) {
 #[test]
 fn the_longest_jump_is_one_division(rt: HostRuntime) {
     let mut clock = Clock::new(0, SECOND);
-    sees(&rt, &mut clock, 1 << 62, false, closed(0, SECOND, 4_611_686_017, SECOND));
+    sees(
+        &rt,
+        &mut clock,
+        1 << 62,
+        false,
+        closed(0, SECOND, 4_611_686_017, SECOND),
+    );
     let mut late = Clock::new((1 << 63) - 1, DAY);
     sees(&rt, &mut late, (1 << 63) - 1, false, None);
     assert!(rt; late.next_end() == (1 << 63) - 1 + DAY);
     let mut whole = Clock::new(0, 1);
-    sees(&rt, &mut whole, (1 << 63) - 1, false, closed(0, 1, (1 << 63) - 2, 1));
+    sees(
+        &rt,
+        &mut whole,
+        (1 << 63) - 1,
+        false,
+        closed(0, 1, (1 << 63) - 2, 1),
+    );
     assert!(rt; whole.next_end() == 1 << 63);
 }
 
@@ -113,7 +137,10 @@ fn restores_what_a_clock_may_be(rt: HostRuntime) {
     assert!(rt; MAX_BUCKET == DAY);
     for (base, size, start, next_end, is_clock) in rows() {
         let restored = Clock::restore(base, size, start, next_end);
-        assert!(rt; restored.is_some() == is_clock, "at {base} {size} {start} {next_end}");
+        assert!(rt;
+            restored.is_some() == is_clock,
+            "at {base} {size} {start} {next_end}"
+        );
         if let Some(clock) = restored {
             assert!(rt; is_at(&clock, base, size, start, next_end));
         }
@@ -132,7 +159,10 @@ fn builds_what_a_clock_may_be(rt: HostRuntime) -> Result<(), Fail> {
             let (clock, next) = Clock::build(rt.alloc(), &items, 0)?;
             assert!(rt; next == 4 && is_at(&clock, base, size, start, next_end));
         } else {
-            assert!(rt; is_bad(rt.alloc(), &items, 0), "at {base} {size} {start} {next_end}");
+            assert!(rt;
+                is_bad(rt.alloc(), &items, 0),
+                "at {base} {size} {start} {next_end}"
+            );
         }
     }
     Ok(())

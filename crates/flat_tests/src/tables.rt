@@ -130,7 +130,10 @@ fn a_full_table_is_rebuilt(rt: HostRuntime) -> Result<(), Fail> {
 }
 
 fn is_bad(alloc: Global, items: &Items) -> bool {
-    matches!(Guarded::<u64, u64>::build(alloc, items, 0), Err(FlatError::Bad))
+    matches!(
+        Guarded::<u64, u64>::build(alloc, items, 0),
+        Err(FlatError::Bad)
+    )
 }
 
 #[test]

@@ -109,13 +109,19 @@ fn builds_a_long_list(rt: HostRuntime) -> Result<(), Fail> {
 fn builds_nothing_of_other_items(rt: HostRuntime) -> Result<(), Fail> {
     let items = number_and_key(rt.alloc())?;
     for place in [0, 2, 3, 4] {
-        assert!(rt; is_bad::<MetricKey>(rt.alloc(), &items, place), "at {place}");
+        assert!(rt;
+            is_bad::<MetricKey>(rt.alloc(), &items, place),
+            "at {place}"
+        );
         assert!(rt; is_bad::<DimKey>(rt.alloc(), &items, place), "at {place}");
         assert!(rt; is_bad::<Atom>(rt.alloc(), &items, place), "at {place}");
     }
     for place in [1, 2, 3, 4] {
         assert!(rt; is_bad::<u64>(rt.alloc(), &items, place), "at {place}");
-        assert!(rt; is_bad::<(u64, u64)>(rt.alloc(), &items, place), "at {place}");
+        assert!(rt;
+            is_bad::<(u64, u64)>(rt.alloc(), &items, place),
+            "at {place}"
+        );
         assert!(rt; is_bad::<Seq<u64>>(rt.alloc(), &items, place), "at {place}");
     }
     Ok(())

@@ -1,5 +1,5 @@
 -- As many rows as turns are built.
-use Rattle.dim_table.specs.Flat.{AreRows}
+use Rattle.dim_table.specs.TableItems.{AreRows}
 use Rattle.dim_table.proofs.flat.build_rows.Given as goal
 
 abbrev pub invariant-loop-turn : goal.invariant-loop-turn

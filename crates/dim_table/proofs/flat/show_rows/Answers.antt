@@ -1,6 +1,6 @@
 use Rattle.std.proofs.Common.{sym}
 use Rattle.flat_form.specs.Flat.{IsValidPair}
-use Rattle.dim_table.proofs.FlatLemmas.{valid_more}
+use Rattle.dim_table.proofs.TableItemsLemmas.{valid_more}
 use Rattle.dim_table.proofs.flat.show_rows.Goals as goal
 
 -- one more row is valid

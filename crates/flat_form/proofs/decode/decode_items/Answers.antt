@@ -1,7 +1,7 @@
 use Rattle.std.proofs.Common.{◌≡◌, ◌<◌, length, arith}
 use Rattle.std.proofs.lemmas.Result.{err_from_is_err_and}
 use Rattle.std.proofs.lemmas.Bool.Decides.{nat_tests}
-use Rattle.flat_form.proofs.ItemsLoop.{starts, goes_on, fails, is_done, shortens}
+use Rattle.flat_form.proofs.ItemRangeLaws.{starts, goes_on, fails, is_done, shortens}
 use Rattle.flat_form.proofs.decode.decode_items.Goals as goal
 
 -- nothing is read yet
@@ -13,7 +13,8 @@ pub returns-in_err-item : goal.returns-in_err-item
 returns-in_err-item c =
     let p = err_from_is_err_and c.from_residual.result c.from_residual.ensures.1 in
     let some : 0 < length c.loop-rest.rest.now = grind (arith, nat_tests, c.is_empty.ensures) in
-    rw (p.1, p.2) (fails c.args.bytes.now c.loop-rest.items c.loop-rest.rest.now c.loop-rest.invariant some c.in_err-item.field-0.0 c.in_err-item.ensures)
+    rw (p.1, p.2) (fails c.args.bytes.now c.loop-rest.items c.loop-rest.rest.now c.loop-rest.invariant some
+    c.in_err-item.field-0.0 c.in_err-item.ensures)
 
 pub loop-rest-smaller : goal.loop-rest-smaller
 loop-rest-smaller c = shortens c.loop-rest.rest.now _ _ c.loop-rest.invariant.fits c.in_ok-item.ensures
@@ -21,7 +22,8 @@ loop-rest-smaller c = shortens c.loop-rest.rest.now _ _ c.loop-rest.invariant.fi
 pub loop-rest-preserved : goal.loop-rest-preserved
 loop-rest-preserved c =
     let some : 0 < length c.loop-rest.rest.now = grind (arith, nat_tests, c.is_empty.ensures) in
-    rw c.in_ok-push.ensures.added (goes_on c.args.bytes.now c.loop-rest.items c.loop-rest.rest.now c.in_ok-item.item c.in_ok-item.after.now c.loop-rest.invariant some c.in_ok-item.ensures)
+    rw c.in_ok-push.ensures.added (goes_on c.args.bytes.now c.loop-rest.items c.loop-rest.rest.now c.in_ok-item.item
+    c.in_ok-item.after.now c.loop-rest.invariant some c.in_ok-item.ensures)
 
 pub returns : goal.returns
 returns c =

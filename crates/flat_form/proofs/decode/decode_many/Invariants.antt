@@ -4,4 +4,5 @@ use Rattle.sd_base.specs.Reads.{many, with_front}
 use Rattle.flat_form.proofs.decode.decode_many.Given as goal
 
 abbrev pub invariant-loop-turn : goal.invariant-loop-turn
-invariant-loop-turn g l = with_front l.values (many g.T.Decode.at (l.count - l._turn) l.rest) ≡ many g.T.Decode.at l.count l.bytes
+invariant-loop-turn g l = with_front l.values (many g.T.Decode.at (l.count - l._turn) l.rest)
+    ≡ many g.T.Decode.at l.count l.bytes

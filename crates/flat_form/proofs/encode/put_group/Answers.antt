@@ -10,4 +10,5 @@ two_parts old middle new x y first second = second ∙ ap (λ (l : List ℕ). l 
 -- the group after the atom's id
 pub returns : goal.returns
 returns c =
-    on_ok_weaker c.put_u64.result (λ e. two_parts _ _ _ (2 ∷ to_le_bytes w32 c.args.atom_id) (to_le_bytes w64 c.args.bits) c.in_ok-put_kind.ensures e) c.put_u64.ensures
+    on_ok_weaker c.put_u64.result (λ e. two_parts _ _ _ (2 ∷ to_le_bytes w32 c.args.atom_id)
+    (to_le_bytes w64 c.args.bits) c.in_ok-put_kind.ensures e) c.put_u64.ensures

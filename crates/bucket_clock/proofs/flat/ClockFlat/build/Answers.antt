@@ -1,5 +1,5 @@
 use Rattle.std.proofs.lemmas.Result.{err_from_is_err_and}
-use Rattle.bucket_clock.proofs.FlatLemmas.{clock_fails}
+use Rattle.bucket_clock.proofs.ClockItemsLemmas.{clock_fails}
 use Rattle.bucket_clock.proofs.flat.ClockFlat.build.Goals as goal
 
 -- four numbers don't stand there

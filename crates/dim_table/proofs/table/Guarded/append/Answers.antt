@@ -12,7 +12,8 @@ returns-then-place-self-clause-answer g c =
       absent = rw (← c.self.view_is) at absent;
       full = sym c.len-place.ensures.len ∙ c.if-place-self.true;
       added =
-          ap (λ n. record { rows = c.self.inside.rows.entries; bound = c.self.inside.bound; dropped = n }) (omega arith);
+          ap (λ n. record { rows = c.self.inside.rows.entries; bound = c.self.inside.bound; dropped = n })
+          (omega arith);
     })
 
 pub returns-clause-answer : goal.returns-clause-answer

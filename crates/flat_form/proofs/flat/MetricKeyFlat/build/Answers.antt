@@ -12,7 +12,9 @@ returns-in_err-dims c =
 pub returns-in_err-slices : goal.returns-in_err-slices
 returns-in_err-slices c =
     let p = err_from_is_err_and c.from_residual-in_err-slices.result c.from_residual-in_err-slices.ensures.1 in
-    rw (p.1, p.2) (key_slices_fails c.args.items.now c.args.place c.in_ok-dims.middle c.in_ok-dims.dims c.in_ok-dims.ensures c.in_err-slices.field-0.0 c.in_err-slices.ensures)
+    rw (p.1, p.2) (key_slices_fails c.args.items.now c.args.place c.in_ok-dims.middle c.in_ok-dims.dims
+    c.in_ok-dims.ensures c.in_err-slices.field-0.0 c.in_err-slices.ensures)
 
 pub returns : goal.returns
-returns c = key_built c.args.items.now c.args.place c.in_ok-dims.middle c.in_ok-slices.next c.in_ok-dims.dims c.in_ok-slices.slices c.in_ok-dims.ensures c.in_ok-slices.ensures
+returns c = key_built c.args.items.now c.args.place c.in_ok-dims.middle c.in_ok-slices.next c.in_ok-dims.dims
+    c.in_ok-slices.slices c.in_ok-dims.ensures c.in_ok-slices.ensures

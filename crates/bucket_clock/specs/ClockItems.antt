@@ -24,5 +24,7 @@ clock_bounded clock valid = omega arith
 -- four numbers can be spelled
 pub clock_savable : (clock : Times) → IsClock clock → Anything clock → AreSavable (clock_items clock)
 clock_savable clock valid savable =
-    items_savable (Num clock.base) _ tt (items_savable (Num clock.size) _ tt
-    (items_savable (Num clock.start) _ tt (items_savable (Num clock.next_end) [] tt none_savable)))
+    let last = items_savable (Num clock.next_end) [] tt none_savable in
+    let part = items_savable (Num clock.start) (Num clock.next_end ∷ []) tt last in
+    let sized = items_savable (Num clock.size) (Num clock.start ∷ Num clock.next_end ∷ []) tt part in
+    items_savable (Num clock.base) (Num clock.size ∷ Num clock.start ∷ Num clock.next_end ∷ []) tt sized
