@@ -1,5 +1,5 @@
 -- A value with the byte that names its kind in front, as in a payload: how it is spelled and how it is read.
-use Rattle.std.specs.Prelude.{ℕ, ◌<◌, ◌^◌, List, [], ◌∷◌, length, Result, Ok, Err}
+use Rattle.std.specs.Prelude.{ℕ, ◌<◌, ◌^◌, List, [], ◌∷◌, length, Result, Err}
 use Rattle.sd_base.specs.Reads.{◌>>=◌}
 use Rattle.atom_record.specs.declared.value.Value.{Value}
 use Rattle.atom_record.specs.declared.value.Value.TheVariants as values

@@ -28,7 +28,8 @@ pub trait Flat: Sized {
     /// How many entries a value has.
     ghost entries: { Self → ℕ } = { λ value. 0 };
 
-    /// Each object is valid. It does nothing when it runs: that it is proved for every object keeps `valid` true.
+    /// Each object is valid. No program has to call this: that it is proved for every object says that `valid`
+    /// leaves none out.
     fn show_valid(&self)
         ensures { valid self.now };
 

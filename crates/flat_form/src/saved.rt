@@ -15,7 +15,6 @@ pub fn save<T: Flat>(alloc: Global, value: &T) -> Result<Bytes, AllocError>
     ensures size { IfOk result (λ bytes.
         length bytes ≤ most_bytes T.head (T.entries value.now) (T.flat value.now)) }
 {
-    value.show_valid();
     let mut items = Items::new(alloc);
     value.flatten(alloc, &mut items)?;
     encode_items(alloc, &items)
