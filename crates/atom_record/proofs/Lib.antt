@@ -1,11 +1,8 @@
 pub mod CallerLemmas
 pub mod EntriesLoop
 pub mod EntryLaws
-pub mod FlatLaws
-pub mod ItemLaws
-pub mod ItemsLoop
-pub mod ManyLoop
 pub mod PartLaws
 pub mod PayloadLaws
 pub mod PlaceLaws
+pub mod TypedLaws
 pub mod ValueLaws

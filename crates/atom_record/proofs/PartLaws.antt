@@ -18,7 +18,7 @@ IsBytes bytes = (i : ℕ) → get_or bytes i 0 < 256
 IsBytes-drop : (n : ℕ) (bytes : List ℕ) → IsBytes bytes → IsBytes (drop n bytes)
 IsBytes-drop n bytes fits i = rw get_or-drop (fits (n + i))
 
-IsBytes-take : (n : ℕ) (bytes : List ℕ) → IsBytes bytes → IsBytes (take n bytes)
+pub IsBytes-take : (n : ℕ) (bytes : List ℕ) → IsBytes bytes → IsBytes (take n bytes)
 IsBytes-take n bytes fits i =
     elim (cases_lt i n) [
       | inl below ↦ rw (get_or-take n bytes i 0 below) (fits i)

@@ -1,14 +1,8 @@
-pub mod Bounded
 pub mod Equal
 pub mod Flags
-pub mod Flat
 pub mod Id
-pub mod ItemRange
-pub mod ItemReading
-pub mod ItemSpelling
 pub mod Pulled
 pub mod AtomReading
-pub mod Savable
 pub mod Sound
 pub mod Spelling
-pub mod Weight
+pub mod TypedValue

@@ -15,7 +15,7 @@ use Rattle.indexmap.proofs.CallerLemmas.{insert_entry-new}
 use Rattle.indexmap.proofs.MapLemmas.{some_index}
 use Rattle.bucket_meaning.specs.Guard.{is_among}
 
--- a row behind the others brings its key behind the others
+-- a row after the others brings its key after the others
 pub keys_of-push : {K V : Type 0} (rows : List (K × V)) (key : K) (value : V)
     → keys_of (rows ++ (key, value) ∷ []) ≡ keys_of rows ++ key ∷ []
 keys_of-push [] key value = refl
@@ -27,12 +27,18 @@ later first ks key there = (suc there.0, omega (arith, there.1), there.2)
 -- what stands at a place is in the list
 pub Contains-from_place : {K : Type 0} (ks : List K) (place : ℕ) (key : K) → slice_get ks place ≡ Some key
     → Contains ks key
-Contains-from_place ks place key at = (place, slice_get_within ks place key at, get_or_from_slice_get ks place key key at)
+Contains-from_place ks place key at = (
+  place,
+  slice_get_within ks place key at,
+  get_or_from_slice_get ks place key
+      key at,
+)
 
 module _ {K : Type 0} (same : K → K → Bool) (exact : (x y : K) → Decides (same x y) (x ≡ y)) where
   -- a key of the list is among them, by the test
   pub is_among-from_Contains : (ks : List K) (key : K) → Contains ks key → is_among same key ks ≡ true
-  is_among-from_Contains ks key there = list_any_at (λ other. same other key) ks there.0 key there.1 ((exact _ key).1 there.2)
+  is_among-from_Contains ks key there = list_any_at (λ other. same other key) ks there.0 key there.1
+      ((exact _ key).1 there.2)
 
   -- a key that the test finds is in the list
   pub Contains-from_is_among : (ks : List K) (key : K) → is_among same key ks ≡ true → Contains ks key
@@ -62,7 +68,8 @@ module _ {K : Type 0} (same : K → K → Bool) (exact : (x y : K) → Decides (
       let first = position_or_len (same key) ks in
       let passes : same key (get_or ks there.0 key) ≡ true = (exact key (get_or ks there.0 key)).1 (sym there.2) in
       let at : position (same key) ks ≡ Some first = ⊎_elim
-      (λ (before : there.0 < first). absurd (true≢false (sym passes ∙ fails_before_first (same key) ks there.0 key before)))
+      (λ (before : there.0 < first). absurd (true≢false
+      (sym passes ∙ fails_before_first (same key) ks there.0 key before)))
       (λ (after : first ≤ there.0).
       let within : first < length ks = omega (arith, there.1) in
       ap (λ b. cond b (Some first) None) (lt-ltb first (length ks) within))
@@ -88,9 +95,10 @@ module _ {K : Type 0} (same : K → K → Bool) (exact : (x y : K) → Decides (
   module _ {V : Type 0} where
     no_value : (rows : List (K × V)) (key : K) → position (same key) (keys_of rows) ≡ None
         → lookup (same key) rows ≡ None
-    no_value rows key e = none_like (position (same key) (keys_of rows)) (lookup (same key) rows) (some_index (same key) rows) e
+    no_value rows key e = none_like (position (same key) (keys_of rows)) (lookup (same key) rows)
+        (some_index (same key) rows) e
 
-    -- a key without a position is inserted behind the others
+    -- a key without a position is inserted after the others
     pub inserted : {S : Type 0} (map : IndexMap K V S) (after : List (K × V)) (key : K) (value : V)
         → position (same key) (keys_of map.entries) ≡ None → after ≡ insert_entry same map.entries key value
         → after ≡ map.entries ++ (key, value) ∷ []
@@ -100,7 +108,8 @@ module _ {K : Type 0} (same : K → K → Bool) (exact : (x y : K) → Decides (
         → filter (λ row. not (same key row.0)) rows ≡ rows
     others_stay key [] h = refl
     others_stay key (row ∷ rows) h =
-        ap (λ b. cond (not b) (row ∷ filter (λ row. not (same key row.0)) rows) (filter (λ row. not (same key row.0)) rows)) h.0
+        ap (λ b. cond (not b) (row ∷ filter (λ row. not (same key row.0)) rows)
+        (filter (λ row. not (same key row.0)) rows)) h.0
         ∙ ap (λ l. row ∷ l) (others_stay key rows h.1)
 
     -- among distinct keys, the first row of a key is its only one

@@ -1,3 +1,5 @@
 pub mod KeyLemmas
 pub mod TableLemmas
 pub mod RowLemmas
+pub mod TableItemsLemmas
+pub mod TableWeightLemmas

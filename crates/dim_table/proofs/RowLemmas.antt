@@ -18,7 +18,7 @@ module _ {K V : Type 0} where
   abbrev pub rows_by : (K → V) → List K → List (K × V)
   rows_by value_of keys = map (λ key. (key, value_of key)) keys
 
-  -- one more key brings its row behind the others
+  -- one more key brings its row after the others
   pub rows_by-push : (value_of : K → V) (keys : List K) (key : K)
       → rows_by value_of (keys ++ key ∷ []) ≡ rows_by value_of keys ++ (key, value_of key) ∷ []
   rows_by-push value_of keys key = map-append (λ k. (k, value_of k)) keys (key ∷ [])
@@ -56,8 +56,11 @@ module _ {K V : Type 0} where
     all_apart : (key : K) (keys : List K) → ¬ Contains keys key → AllByRecursion (λ other. same key other ≡ false) keys
     all_apart key [] absent = tt
     all_apart key (first ∷ keys) absent =
-        let among = not_among same exact (first ∷ keys) key absent in
-        (flip first key (grind (arith, among)), all_apart key keys (λ there. absent (suc there.0, omega (arith, there.1), there.2)))
+        let among = not_among same exact (first ∷ keys) key absent in (
+          flip first key (grind (arith, among)),
+          all_apart key keys
+              (λ there. absent (suc there.0, omega (arith, there.1), there.2)),
+        )
 
     -- where only the value of an absent key changed, all rows stay
     pub rows_by-absent : (key : K) (keys : List K) → ¬ Contains keys key
@@ -78,14 +81,19 @@ module _ {K V : Type 0} where
     set_value_at-rows_by (first ∷ keys) zero key distinct at stays =
         let here = same_Some first key at in
         ap (λ k. (first, after k) ∷ rows_by before keys) (sym here)
-        ∙ ap (λ l. (first, after first) ∷ l) (rows_by-others first (λ other apart. stays other (ap (λ k. same k other) (sym here) ∙ apart)) keys (IsDistinct-head same first keys distinct))
+        ∙ ap (λ l. (first, after first) ∷ l) (rows_by-others first
+        (λ other apart. stays other (ap (λ k. same k other) (sym here) ∙ apart)) keys
+        (IsDistinct-head same first keys distinct))
     set_value_at-rows_by (first ∷ keys) (suc place) key distinct at stays =
         let apart : same first key ≡ false =
         apart_at key first keys place (IsDistinct-head same first keys distinct) at in
-        ap (λ value. (first, value) ∷ set_value_at (rows_by before keys) place (after key)) (sym (stays first (flip first key apart)))
-        ∙ ap (λ l. (first, after first) ∷ l) (set_value_at-rows_by keys place key (IsDistinct-tail same first keys distinct) at stays)
+        ap (λ value. (first, value) ∷ set_value_at (rows_by before keys) place (after key))
+        (sym (stays first (flip first key apart)))
+        ∙ ap (λ l. (first, after first) ∷ l) (set_value_at-rows_by keys place key
+        (IsDistinct-tail same first keys distinct) at stays)
 
-    module _ (old new : Table K V) (key : K) (fresh : V) (place : ℕ) (was : old.rows ≡ rows_by before (keys old)) (admits : Admits old new key fresh (At place)) where
+    module _ (old new : Table K V) (key : K) (fresh : V) (place : ℕ) (was : old.rows ≡ rows_by before (keys old))
+        (admits : Admits old new key fresh (At place)) where
       -- the row of an admitted key has the value that the key had, or the fresh one
       pub Admits-value : (IsNew old new key fresh place → fresh ≡ before key)
           → slice_get (values_of new.rows) place ≡ Some (before key)

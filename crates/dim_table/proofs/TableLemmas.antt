@@ -44,13 +44,18 @@ module _ {K V : Type 0} (same : K → K → Bool) where
       there_stands place h arrived stands =
           let there = Contains-from_place (keys old) place key h.at in
           let among : is_among same key (admitted same old.bound arrived) ≡ true =
-          subst (λ ks. is_among same key ks ≡ true) stands.keys_are (is_among-from_Contains same exact (keys old) key there) in
+          subst (λ ks. is_among same key ks ≡ true) stands.keys_are
+          (is_among-from_Contains same exact (keys old) key there) in
           let stays = admitted_present same old.bound arrived key among in
           let none : dropped same old.bound (arrived ++ key ∷ []) ≡ dropped same old.bound arrived + 0 =
           dropped_same same old.bound arrived key stays
           ∙ ap (λ b. dropped same old.bound arrived + (if not b then 1 else 0)) among in
           let kept : TableStandsFor same old (arrived ++ key ∷ []) =
-          record { keys_are = stands.keys_are ∙ sym stays; dropped_are = stands.dropped_are ∙ ap counted (omega (arith, none)) } in
+          record {
+            keys_are = stands.keys_are ∙ sym stays;
+            dropped_are = stands.dropped_are
+                ∙ ap counted (omega (arith, none));
+          } in
           subst (λ table. TableStandsFor same table (arrived ++ key ∷ [])) (sym h.same) kept
 
       -- an arrival that brings a new key
@@ -94,6 +99,7 @@ module _ {K V : Type 0} (same : K → K → Bool) where
           (λ (added : IsNew old new key fresh place). new_stands fresh place added) h
       Admits-stands fresh Full h = away_stands h
 
+      -- what holds of each answer holds of the result, where it is one
       pub ok_stands : {E : Type 0} (fresh : V) (result : Result Admit E) → IfOk result (Admits old new key fresh)
           → OnOk result (TakesArrival same old new key)
       ok_stands fresh (Ok answer) h = Admits-stands fresh answer h

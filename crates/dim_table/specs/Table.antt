@@ -1,12 +1,13 @@
--- What a contract sees of a table: rows in the order in which their keys first came, a bound, and how many were dropped.
+-- What a contract sees of a table: rows in the order in which their keys first came, a bound, and how many were
+-- dropped.
 use Rattle.std.specs.Prelude.{◌≡◌, ℕ, ◌+◌, ◌<◌, ◌≤◌, Bool, not, List, [], ◌∷◌, ◌++◌, length, filter, slice_get, Contains, Some, ◌⊎◌}
 use Rattle.std.specs.Map.{keys_of}
 pub use Rattle.indexmap.specs.Layout.{set_value_at}
+use Rattle.bucket_meaning.specs.Limits.{most_keys}
 use Rattle.bucket_meaning.specs.Guard.{admitted, dropped}
 use Rattle.bucket_meaning.specs.Kept.{counted}
 use Rattle.dim_table.specs.declared.answer.Admit.{Admit}
 use Rattle.dim_table.specs.declared.answer.Admit.TheVariants.{At, Full}
-use Rattle.dim_table.specs.declared.TheConstants.{MAX_KEYS}
 
 pub record Table (K V : Type 0) : Type 0 where
   pub rows : List (K × V)
@@ -16,7 +17,7 @@ pub record Table (K V : Type 0) : Type 0 where
 -- so many rows under such a bound are what a table may hold
 pub record IsBounded (rows bound : ℕ) : Type 0 where
   pub least : 1 ≤ bound
-  pub most : bound ≤ MAX_KEYS
+  pub most : bound ≤ most_keys
   pub within : rows ≤ bound
 
 module _ {K V : Type 0} where
@@ -29,7 +30,7 @@ module _ {K V : Type 0} where
     pub at : slice_get (keys old) place ≡ Some key
     pub same : new ≡ old
 
-  -- the key is new and there is room: it gets a row behind the others
+  -- the key is new and there is room: it gets a row after the others
   pub record IsNew (old new : Table K V) (key : K) (fresh : V) (place : ℕ) : Type 0 where
     pub absent : ¬ Contains (keys old) key
     pub room : length old.rows < old.bound
@@ -56,7 +57,8 @@ module _ {K V : Type 0} (same : K → K → Bool) where
   abbrev pub without : Table K V → K → Table K V
   without table key = record table { rows = filter (λ row. not (same key row.0)) table.rows }
 
-  -- the table is what arrivals with these keys make of an empty one: the first keys are admitted, and all else is counted
+  -- the table is what arrivals with these keys make of an empty one: the first keys are admitted, and all else is
+  -- counted
   pub record TableStandsFor (table : Table K V) (arrived : List K) : Type 0 where
     pub keys_are : keys table ≡ admitted same table.bound arrived
     pub dropped_are : table.dropped ≡ counted (dropped same table.bound arrived)

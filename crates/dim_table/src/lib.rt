@@ -2,12 +2,8 @@
 #![tactic(auto)]
 
 mod answer;
+mod flat;
 mod table;
-#[cfg(test)]
-mod tests;
 
 pub use answer::Admit;
-pub use table::Guarded;
-
-/// The most keys that a table may be asked to hold.
-pub const MAX_KEYS: usize = 3000;
+pub use table::{Guarded, MAX_KEYS};

@@ -4,16 +4,20 @@ ghost use Rattle.std.specs.Borrow.{sem};
 ghost use Rattle.std.specs.Map.{lookup, values_of};
 ghost use Rattle.std.specs.Map.Iter.{deref_pair};
 ghost use Rattle.std.specs.Option.{option_map, option_copied_mut};
+ghost use Rattle.bucket_meaning.specs.Limits.{most_keys};
 ghost use Rattle.dim_table.specs.Table.{keys, without, Admits, IsBounded, TableStandsFor, TakesArrival};
 ghost use Rattle.dim_table.specs.Lent.{lends_value};
 
-use crate::{Admit, MAX_KEYS};
+use crate::Admit;
 use indexmap::IndexMap;
 use sd_base::Exact;
 use std::alloc::{AllocError, Global};
 use std::hash::Hash;
 use std::marker::Model;
 use std::mem;
+
+/// The most keys that a table may be asked to hold.
+pub const MAX_KEYS: usize = 3000;
 
 /// Rows by key, in the order in which the keys first came. An arrival whose key finds no room is dropped and counted.
 #[derive(Drop)]
@@ -39,7 +43,7 @@ impl<K: Exact + Hash + Drop, V: Drop> Guarded<K, V> {
     /// An empty table of at most so many keys.
     pub fn new(alloc: Global, bound: usize) -> Guarded<K, V>
         requires least { 1 ≤ bound }
-        requires most { bound ≤ MAX_KEYS }
+        requires most { bound ≤ most_keys }
         ensures empty { result ≡ record { rows = []; bound = bound; dropped = 0 } }
         ensures stands { TableStandsFor K.eq result [] }
     {
@@ -49,7 +53,7 @@ impl<K: Exact + Hash + Drop, V: Drop> Guarded<K, V> {
     /// An empty table of at most so many keys, which counts on from so many dropped arrivals.
     pub fn restore(alloc: Global, bound: usize, dropped: u64) -> Guarded<K, V>
         requires least { 1 ≤ bound }
-        requires most { bound ≤ MAX_KEYS }
+        requires most { bound ≤ most_keys }
         ensures { result ≡ record { rows = []; bound = bound; dropped = dropped } }
     {
         Guarded {

@@ -1,4 +1,4 @@
--- A key without a position is new: it gets a row behind the others, or counts as dropped.
+-- A key without a position is new: it gets a row after the others, or counts as dropped.
 use Rattle.std.proofs.Common.{Contains, ap, sym, ◌∙◌, arith, inr}
 use Rattle.dim_table.specs.Table.{keys}
 use Rattle.dim_table.proofs.KeyLemmas.{missing, inserted}
@@ -12,7 +12,8 @@ returns-then-place-self-clause-answer g c =
       absent = rw (← c.self.view_is) at absent;
       full = sym c.len-place.ensures.len ∙ c.if-place-self.true;
       added =
-          ap (λ n. record { rows = c.self.inside.rows.entries; bound = c.self.inside.bound; dropped = n }) (omega arith);
+          ap (λ n. record { rows = c.self.inside.rows.entries; bound = c.self.inside.bound; dropped = n })
+          (omega arith);
     })
 
 pub returns-clause-answer : goal.returns-clause-answer

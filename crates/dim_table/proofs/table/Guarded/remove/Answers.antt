@@ -7,5 +7,6 @@ pub returns-clause-rows : goal.returns-clause-rows
 returns-clause-rows g c =
     rw (← c.self.view_is)
     (ap (λ es. record { rows = es; bound = c.self.inside.bound; dropped = c.self.inside.dropped })
-    (removed g.K.PartialEq.eq g.met.K.Exact.exact c.self.inside.rows.entries c.shift_remove.new.self.entries c.args.key.now
+    (removed g.K.PartialEq.eq g.met.K.Exact.exact c.self.inside.rows.entries c.shift_remove.new.self.entries
+    c.args.key.now
     c.len-len.ensures.unique c.shift_remove.ensures.entries))

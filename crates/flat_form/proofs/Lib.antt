@@ -1,0 +1,5 @@
+pub mod FlatLaws
+pub mod ItemReadingLaws
+pub mod ItemRangeLaws
+pub mod ManyLaws
+pub mod WeightLaws

@@ -1,0 +1,186 @@
+-- Items have no more bytes than they weigh, and a value has no more items than its head and its entries allow.
+use Rattle.std.specs.Prelude.{◌≡◌, ℕ, ◌+◌, ◌*◌, ◌≤◌, List, [], ◌∷◌, ◌++◌, length, All}
+use Rattle.std.specs.List.{flat_map, sum_by}
+use Rattle.std.proofs.Common.{arith}
+use Rattle.std.proofs.lemmas.List.{length-append}
+use Rattle.std.proofs.lemmas.List.Concat.{length-flat_map}
+use Rattle.std.proofs.lemmas.List.Sums.{sum_by-cons, sum_by-le-sum_by}
+use Rattle.atom_record.specs.declared.value.Value.{Value}
+use Rattle.atom_record.specs.declared.value.Value.TheVariants as values
+use Rattle.atom_record.specs.declared.value.Leaf.{Leaf}
+use Rattle.atom_record.specs.declared.value.Leaf.TheVariants.{Missing, One, Many}
+use Rattle.atom_record.specs.declared.value.Slice.{Slice}
+use Rattle.atom_record.specs.declared.value.Slice.TheVariants.{Plain, Group}
+use Rattle.atom_record.specs.declared.value.MetricKey.{MetricKey}
+use Rattle.atom_record.specs.declared.atom.Atom.{Atom}
+use Rattle.atom_record.specs.declared.atom.AtomField.{AtomField}
+use Rattle.flat_form.specs.declared.item.Item.{Item}
+use Rattle.flat_form.specs.declared.item.Item.TheVariants.{Num, Dims, Slices, AtomItem, Chunk}
+use Rattle.atom_record.specs.Spelling.{value_bytes, entry_bytes}
+use Rattle.atom_record.specs.TypedValue.{typed_bytes}
+use Rattle.flat_form.specs.ItemSpelling.{spelled_leaf, spelled_slice, spelled_item, spelled_items}
+use Rattle.flat_form.specs.Flat.{Anything, IsValidPair, number_items, dims_items, key_items, atom_items, pair_items, list_items}
+use Rattle.flat_form.specs.Weight.{text_weight, value_weight, leaf_weight, entry_weight, held_weight, held, most_items, entries_for, pair_entries, list_entries}
+
+-- pieces, each within its weight
+pieces_bounded : {X : Type 0} (bytes : X → List ℕ) (weight : X → ℕ) (xs : List X)
+    → ((x : X) → length (bytes x) ≤ weight x) → length (flat_map bytes xs) ≤ sum_by weight xs
+pieces_bounded bytes weight xs each =
+    let sum = length-flat_map bytes xs in
+    let less = sum_by-le-sum_by (λ x. length (bytes x)) weight xs each in
+    omega arith
+
+-- what follows the byte of a value has no more than 8 bytes besides its text
+content_bounded : (value : Value) → length (value_bytes value) ≤ 8 + text_weight value
+content_bounded (values.Int n) = omega arith
+content_bounded (values.Long n) = omega arith
+content_bounded (values.Bool b) = omega arith
+content_bounded (values.Str text) = omega arith
+content_bounded (values.Raw bytes) = omega arith
+content_bounded (values.Bits32 bits) = omega arith
+
+-- a value within its weight
+value_bounded : (value : Value) → length (typed_bytes value) ≤ value_weight value
+value_bounded value = let part = content_bounded value in omega arith
+
+-- a leaf within its weight
+leaf_bounded : (leaf : Leaf) → length (spelled_leaf leaf) ≤ leaf_weight leaf
+leaf_bounded Missing = omega arith
+leaf_bounded (One value) = let part = value_bounded value in omega arith
+leaf_bounded (Many values) = let part = pieces_bounded typed_bytes value_weight values value_bounded in omega arith
+
+-- a slice within its weight
+slice_bounded : (slice : Slice) → length (spelled_slice slice) ≤ 16
+slice_bounded (Plain atom_id value) = omega arith
+slice_bounded (Group atom_id group) = omega arith
+
+-- an entry of an atom within its weight
+entry_bounded : (entry : AtomField) → length (entry_bytes entry) ≤ entry_weight entry
+entry_bounded entry = let part = content_bounded entry.value in omega arith
+
+-- sixteen for each
+sixteens : {X : Type 0} (xs : List X) → sum_by (λ x. 16) xs ≡ 16 * length xs
+sixteens [] = omega arith
+sixteens (x ∷ xs) = let rest = sixteens xs in let sum = sum_by-cons (λ x. 16) x xs in omega arith
+
+-- an item has 16 bytes at most, and what it holds
+item_bounded : (item : Item) → length (spelled_item item) ≤ 16 + held_weight item
+item_bounded (Num number) = omega arith
+item_bounded (Dims dims) = let part = pieces_bounded spelled_leaf leaf_weight dims leaf_bounded in omega arith
+item_bounded (Slices slices) =
+    let part = pieces_bounded spelled_slice (λ slice. 16) slices slice_bounded in
+    let count = sixteens slices in
+    omega arith
+item_bounded (AtomItem atom) = let part = pieces_bounded entry_bytes entry_weight atom.fields entry_bounded in
+    omega arith
+item_bounded (Chunk bytes) = omega arith
+
+-- 16 for each item, and what the items hold
+pub items_bounded : (items : List Item) → length (spelled_items items) ≤ 16 * length items + held items
+items_bounded [] = omega arith
+items_bounded (item ∷ items) =
+    let first = item_bounded item in
+    let others = items_bounded items in
+    let sum = sum_by-cons held_weight item items in
+    let size = length-append (spelled_item item) (spelled_items items) in
+    omega arith
+
+-- a value with a head of 16 items at most: 256 bytes, 128 for each entry, and what its items hold
+pub bytes_bounded : (items : List Item) (head entries : ℕ) → length items ≤ most_items head entries → head ≤ 16
+    → length (spelled_items items) ≤ 256 + 128 * entries + held items
+bytes_bounded items head entries few short = let all = items_bounded items in omega arith
+
+-- a number is one item
+pub number_bounded : (number : ℕ) → Anything number → length (number_items number) ≤ most_items 1 0
+number_bounded number valid = omega arith
+
+-- a key of dimensions is one item
+pub dims_bounded : (dims : List Leaf) → Anything dims → length (dims_items dims) ≤ most_items 1 0
+dims_bounded dims valid = omega arith
+
+-- a key is two items
+pub key_bounded : (key : MetricKey) → Anything key → length (key_items key) ≤ most_items 2 0
+key_bounded key valid = omega arith
+
+-- an atom is one item
+pub atom_bounded : (atom : Atom) → Anything atom → length (atom_items atom) ≤ most_items 1 0
+atom_bounded atom valid = omega arith
+
+-- a pair has the heads and the entries of both
+pub pair_bounded : {X Y : Type 0} (first : X → List Item) (second : Y → List Item) (first_valid : X → Type 0)
+    (second_valid : Y → Type 0)
+    (first_head second_head : ℕ) (first_entries : X → ℕ) (second_entries : Y → ℕ)
+    → ((x : X) → first_valid x → length (first x) ≤ most_items first_head (first_entries x))
+    → ((y : Y) → second_valid y → length (second y) ≤ most_items second_head (second_entries y))
+    → (pair : X × Y) → IsValidPair first_valid second_valid pair
+    → length (pair_items first second pair) ≤ most_items (first_head + second_head)
+    (pair_entries first_entries second_entries pair)
+pair_bounded first second first_valid second_valid first_head second_head first_entries second_entries one other pair
+    valid =
+    let one_is = one pair.0 valid.0 in
+    let other_is = other pair.1 valid.1 in
+    let sum = length-append (first pair.0) (second pair.1) in
+    omega arith
+
+-- elements have eight items at most for each entry
+pub elements_bounded : {X : Type 0} (flat : X → List Item) (xs : List X)
+    → length (flat_map flat xs) ≤ 8 * list_entries flat xs
+elements_bounded flat [] = omega arith
+elements_bounded flat (x ∷ xs) =
+    let others = elements_bounded flat xs in
+    let sum = sum_by-cons (λ value. entries_for (length (flat value))) x xs in
+    let size = length-append (flat x) (flat_map flat xs) in
+    omega arith
+
+-- a list is one item, and eight at most for each entry
+pub list_bounded : {X : Type 0} (flat : X → List Item) (valid : X → Type 0) → (values : List X) → All valid values
+    → length (list_items flat values) ≤ most_items 1 (list_entries flat values)
+list_bounded flat valid values all = let part = elements_bounded flat values in omega arith
+
+-- no more entries than items
+pub pair_few : {X Y : Type 0} (first : X → List Item) (second : Y → List Item) (first_entries : X → ℕ)
+    (second_entries : Y → ℕ)
+    → ((x : X) → first_entries x ≤ length (first x)) → ((y : Y) → second_entries y ≤ length (second y))
+    → (pair : X × Y) → pair_entries first_entries second_entries pair ≤ length (pair_items first second pair)
+pair_few first second first_entries second_entries one other pair =
+    let one_is = one pair.0 in
+    let other_is = other pair.1 in
+    let sum = length-append (first pair.0) (second pair.1) in
+    omega arith
+
+-- elements have no more entries than items
+pub elements_few : {X : Type 0} (flat : X → List Item) (xs : List X) → list_entries flat xs ≤ length (flat_map flat xs)
+elements_few flat [] = omega arith
+elements_few flat (x ∷ xs) =
+    let others = elements_few flat xs in
+    let sum = sum_by-cons (λ value. entries_for (length (flat value))) x xs in
+    let size = length-append (flat x) (flat_map flat xs) in
+    omega arith
+
+-- a list has no more entries than items
+pub list_few : {X : Type 0} (flat : X → List Item) (values : List X)
+    → list_entries flat values ≤ length (list_items flat values)
+list_few flat values = let part = elements_few flat values in omega arith
+
+-- a value without entries has no more of them than items
+pub none_few : {X : Type 0} (flat : X → List Item) (value : X) → 0 ≤ length (flat value)
+none_few flat value = omega arith
+
+-- what two parts hold
+pub held-append : (x y : List Item) → held (x ++ y) ≡ held x + held y
+held-append [] y = omega arith
+held-append (item ∷ x) y =
+    let rest = held-append x y in
+    let sum = sum_by-cons held_weight item x in
+    let whole = sum_by-cons held_weight item (x ++ y) in
+    omega arith
+
+-- what elements hold, one by one
+pub held-flat_map : {X : Type 0} (flat : X → List Item) (xs : List X)
+    → held (flat_map flat xs) ≡ sum_by (λ x. held (flat x)) xs
+held-flat_map flat [] = omega arith
+held-flat_map flat (x ∷ xs) =
+    let rest = held-flat_map flat xs in
+    let sum = sum_by-cons (λ x. held (flat x)) x xs in
+    let parts = held-append (flat x) (flat_map flat xs) in
+    omega arith
