@@ -1,8 +1,8 @@
-pub mod CallerLemmas
-pub mod EntriesLoop
-pub mod EntryLaws
-pub mod PartLaws
-pub mod PayloadLaws
-pub mod PlaceLaws
+pub mod AtomReadingEntries
+pub mod AtomReadingLoop
+pub mod AtomReadingParts
+pub mod AtomReadingPayloads
+pub mod AtomReadingPlaces
+pub mod AtomReadingValues
+pub mod SoundLemmas
 pub mod TypedLaws
-pub mod ValueLaws

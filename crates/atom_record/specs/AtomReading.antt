@@ -6,18 +6,18 @@ use Rattle.std.specs.List.{list_any}
 use Rattle.sd_base.specs.Reads.{◌>>=◌}
 use Rattle.atom_record.specs.declared.atom.Atom.{Atom}
 use Rattle.atom_record.specs.declared.atom.AtomField.{AtomField}
-use Rattle.atom_record.specs.declared.atom.TheConstants.{EXCLUSIVE, RESET}
 use Rattle.atom_record.specs.declared.value.Value.{Value}
 use Rattle.atom_record.specs.declared.value.Value.TheVariants as values
 use Rattle.atom_record.specs.declared.fault.AtomFault.{AtomFault}
 use Rattle.atom_record.specs.declared.fault.AtomFault.TheVariants.{Bad, Memory}
-use Rattle.atom_record.specs.declared.fault.TheConstants.{TOO_LONG, BAD_ID, CUT, BAD_PLACE, NOT_ABOVE, BAD_TYPE, BAD_FLAGS}
-use Rattle.atom_record.specs.declared.parse.TheConstants.{MAX_BYTES, ALL_FLAGS}
 use Rattle.atom_record.specs.declared.parse.Place.{Place}
 use Rattle.atom_record.specs.declared.parse.Kind.{Kind}
 use Rattle.atom_record.specs.declared.parse.Kind.TheVariants as kinds
 use Rattle.atom_record.specs.Id.{is_atom_id}
-use Rattle.atom_record.specs.Flags.{has_flag, is_exclusive}
+use Rattle.atom_record.specs.Flags.{flag_exclusive, flag_reset, all_flags, has_flag, is_exclusive}
+use Rattle.atom_record.specs.ValueTypes.{type_int, type_long, type_bool, type_str, type_raw, type_bits32}
+use Rattle.atom_record.specs.AtomReasons.{reason_too_long, reason_bad_id, reason_cut, reason_bad_place, reason_not_above, reason_bad_type, reason_bad_flags, most_payload}
+use Rattle.atom_record.specs.Sound.{largest_part}
 
 -- the reason of a fault, and none for want of memory
 abbrev pub reason_of : AtomFault → Option ℕ
@@ -26,7 +26,9 @@ reason_of Memory = None
 
 -- a field is from 1 to 127, an index and a sub at most 127
 abbrev pub is_in_range : Place → Bool
-is_in_range place = nat_le 1 place.field && nat_le place.field 127 && nat_le place.index 127 && nat_le place.sub 127
+is_in_range place =
+    nat_le 1 place.field && nat_le place.field largest_part
+    && nat_le place.index largest_part && nat_le place.sub largest_part
 
 -- the first place is above the second: by field, then by index, then by sub
 abbrev pub is_above : Place → Place → Bool
@@ -44,46 +46,46 @@ is_above_entry None place = true
 is_above_entry (Some last) place = is_above place (place_of last)
 
 -- the place is above that of the last of these entries
-abbrev pub is_behind : List AtomField → Place → Bool
-is_behind before place = is_above_entry (slice_get before (length before - 1)) place
+abbrev pub is_after_last : List AtomField → Place → Bool
+is_after_last before place = is_above_entry (slice_get before (length before - 1)) place
 
 -- what may be an exclusive state: an Int outside of a repeated field and of a message
-abbrev pub is_state : Place → Kind → Bool
-is_state place kinds.Int = place.index == 0 && place.sub == 0
-is_state place _ = false
+abbrev pub may_be_state : Place → Kind → Bool
+may_be_state place kinds.Int = place.index == 0 && place.sub == 0
+may_be_state place _ = false
 
 -- an entry may have these flags: they are known, an exclusive entry is a state and the first of the atom,
 -- and only an exclusive entry resets
 abbrev pub may_have : Bool → Place → Kind → ℕ → Bool
 may_have exclusive_before place kind flags =
-    nat_le flags ALL_FLAGS
-    && (if has_flag flags EXCLUSIVE then not exclusive_before && is_state place kind else not (has_flag flags RESET))
+    nat_le flags all_flags
+    && (if has_flag flags flag_exclusive then not exclusive_before && may_be_state place kind else not (has_flag flags flag_reset))
 
 -- a number of so many bytes, low byte first
 abbrev pub number_at : Width → List ℕ → Result (ℕ × List ℕ) ℕ
 number_at width bytes =
-    if nat_lt (length bytes) (byte_len width) then Err CUT
+    if nat_lt (length bytes) (byte_len width) then Err reason_cut
     else Ok (from_le_bytes width (take (byte_len width) bytes), drop (byte_len width) bytes)
 
 -- one byte, 0 or 1
 abbrev pub bool_at : List ℕ → Result (Bool × List ℕ) ℕ
-bool_at [] = Err CUT
-bool_at (byte ∷ bytes) = if byte == 0 then Ok (false, bytes) else if byte == 1 then Ok (true, bytes) else Err BAD_TYPE
+bool_at [] = Err reason_cut
+bool_at (byte ∷ bytes) = if byte == 0 then Ok (false, bytes) else if byte == 1 then Ok (true, bytes) else Err reason_bad_type
 
 -- a length in two bytes, and so many bytes
 unfoldable pub text_at : List ℕ → Result (List ℕ × List ℕ) ℕ
-text_at bytes = number_at w16 bytes >>= λ len. if nat_lt (length len.1) len.0 then Err CUT else Ok (take len.0 len.1, drop len.0 len.1)
+text_at bytes = number_at w16 bytes >>= λ len. if nat_lt (length len.1) len.0 then Err reason_cut else Ok (take len.0 len.1, drop len.0 len.1)
 
 -- the kind that a type byte names
 abbrev pub kind_at : ℕ → Result Kind ℕ
 kind_at number =
-    if number == 1 then Ok kinds.Int
-    else if number == 2 then Ok kinds.Long
-    else if number == 3 then Ok kinds.Bool
-    else if number == 4 then Ok kinds.Str
-    else if number == 5 then Ok kinds.Raw
-    else if number == 6 then Ok kinds.Bits32
-    else Err BAD_TYPE
+    if number == type_int then Ok kinds.Int
+    else if number == type_long then Ok kinds.Long
+    else if number == type_bool then Ok kinds.Bool
+    else if number == type_str then Ok kinds.Str
+    else if number == type_raw then Ok kinds.Raw
+    else if number == type_bits32 then Ok kinds.Bits32
+    else Err reason_bad_type
 
 -- a value of this kind
 unfoldable pub value_at : Kind → List ℕ → Result (Value × List ℕ) ℕ
@@ -94,36 +96,36 @@ value_at kinds.Str bytes = text_at bytes >>= λ text. Ok (values.Str text.0, tex
 value_at kinds.Raw bytes = text_at bytes >>= λ text. Ok (values.Raw text.0, text.1)
 value_at kinds.Bits32 bytes = number_at w32 bytes >>= λ n. Ok (values.Bits32 n.0, n.1)
 
--- an entry, behind these entries
+-- an entry, after these entries
 unfoldable pub entry_at : List AtomField → List ℕ → Result (AtomField × List ℕ) ℕ
 entry_at before (field ∷ index ∷ sub ∷ flags ∷ number ∷ bytes) =
     let place : Place = record { field = field; index = index; sub = sub } in
-    if not (is_in_range place) then Err BAD_PLACE
-    else if not (is_behind before place) then Err NOT_ABOVE
+    if not (is_in_range place) then Err reason_bad_place
+    else if not (is_after_last before place) then Err reason_not_above
     else (kind_at number >>= λ kind.
-    if not (may_have (list_any is_exclusive before) place kind flags) then Err BAD_FLAGS
+    if not (may_have (list_any is_exclusive before) place kind flags) then Err reason_bad_flags
     else (value_at kind bytes >>= λ value. Ok (record { field = field; index = index; sub = sub; flags = flags; value = value.0 }, value.1)))
-entry_at before _ = Err CUT
+entry_at before _ = Err reason_cut
 
--- the entries of these bytes, behind these entries: an entry has a byte at least, so as many turns as bytes are enough
+-- the entries of these bytes, after these entries: an entry has a byte at least, so as many turns as bytes are enough
 unfoldable pub entries_in : ℕ → List AtomField → List ℕ → Result (List AtomField) ℕ
 entries_in zero before [] = Ok before
-entries_in zero before (byte ∷ bytes) = Err CUT
+entries_in zero before (byte ∷ bytes) = Err reason_cut
 entries_in (suc turns) before [] = Ok before
 entries_in (suc turns) before (byte ∷ bytes) = entry_at before (byte ∷ bytes) >>= λ entry. entries_in turns (before ++ entry.0 ∷ []) entry.1
 
--- all entries of these bytes, behind these entries
+-- all entries of these bytes, after these entries
 abbrev pub entries_at : List AtomField → List ℕ → Result (List AtomField) ℕ
 entries_at before bytes = entries_in (length bytes) before bytes
 
 -- the id of an atom
 unfoldable pub id_at : List ℕ → Result (ℕ × List ℕ) ℕ
 id_at bytes =
-    if nat_lt (length bytes) 4 then Err BAD_ID
-    else let id = from_le_bytes w32 (take 4 bytes) in if not (is_atom_id id) then Err BAD_ID else Ok (id, drop 4 bytes)
+    if nat_lt (length bytes) 4 then Err reason_bad_id
+    else let id = from_le_bytes w32 (take 4 bytes) in if not (is_atom_id id) then Err reason_bad_id else Ok (id, drop 4 bytes)
 
 -- a whole payload
 unfoldable pub atom_at : List ℕ → Result Atom ℕ
 atom_at bytes =
-    if nat_lt MAX_BYTES (length bytes) then Err TOO_LONG
+    if nat_lt most_payload (length bytes) then Err reason_too_long
     else (id_at bytes >>= λ id. entries_at [] id.1 >>= λ fields. Ok (record { id = id.0; fields = fields }))

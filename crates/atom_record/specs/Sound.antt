@@ -5,10 +5,14 @@ use Rattle.atom_record.specs.declared.atom.Atom.{Atom}
 use Rattle.atom_record.specs.declared.atom.AtomField.{AtomField}
 use Rattle.atom_record.specs.declared.value.Value.{Value}
 use Rattle.atom_record.specs.declared.value.Value.TheVariants as values
-use Rattle.atom_record.specs.declared.parse.TheConstants.{MAX_BYTES}
 use Rattle.atom_record.specs.Id.{IsAtomId}
-use Rattle.atom_record.specs.Flags.{is_exclusive, is_reset}
+use Rattle.atom_record.specs.AtomReasons.{most_payload}
+use Rattle.atom_record.specs.Flags.{all_flags, is_exclusive, is_reset}
 use Rattle.atom_record.specs.Spelling.{payload_of}
+
+-- the largest field, index and sub of an entry
+abbrev pub largest_part : ℕ
+largest_part = 127
 
 -- bytes whose number fits two bytes
 abbrev pub IsText : List ℕ → Type 0
@@ -40,10 +44,10 @@ pub record IsState (entry : AtomField) : Type 0 where
 
 -- an entry that has no fault by itself
 pub record IsEntry (entry : AtomField) : Type 0 where
-  pub field : (1 ≤ entry.field) × (entry.field ≤ 127)
-  pub index : entry.index ≤ 127
-  pub sub : entry.sub ≤ 127
-  pub flags : entry.flags ≤ 7
+  pub field : (1 ≤ entry.field) × (entry.field ≤ largest_part)
+  pub index : entry.index ≤ largest_part
+  pub sub : entry.sub ≤ largest_part
+  pub flags : entry.flags ≤ all_flags
   pub state : IsTrue (is_exclusive entry) → IsState entry
   pub reset : IsTrue (is_reset entry) → IsTrue (is_exclusive entry)
   pub value : IsInRange entry.value
@@ -64,4 +68,4 @@ pub record AreEntries (entries : List AtomField) : Type 0 where
 pub record HasNoFault (atom : Atom) : Type 0 where
   pub id : IsAtomId atom.id
   pub entries : AreEntries atom.fields
-  pub fits : length (payload_of atom) ≤ MAX_BYTES
+  pub fits : length (payload_of atom) ≤ most_payload

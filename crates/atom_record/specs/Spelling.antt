@@ -6,26 +6,27 @@ use Rattle.atom_record.specs.declared.atom.Atom.{Atom}
 use Rattle.atom_record.specs.declared.atom.AtomField.{AtomField}
 use Rattle.atom_record.specs.declared.value.Value.{Value}
 use Rattle.atom_record.specs.declared.value.Value.TheVariants as values
+use Rattle.atom_record.specs.ValueTypes.{type_int, type_long, type_bool, type_str, type_raw, type_bits32}
 
--- the byte that names the kind of a value
+-- the byte that names the type of a value
 abbrev pub type_of : Value → ℕ
-type_of (values.Int n) = 1
-type_of (values.Long n) = 2
-type_of (values.Bool b) = 3
-type_of (values.Str text) = 4
-type_of (values.Raw bytes) = 5
-type_of (values.Bits32 bits) = 6
+type_of (values.Int n) = type_int
+type_of (values.Long n) = type_long
+type_of (values.Bool b) = type_bool
+type_of (values.Str text) = type_str
+type_of (values.Raw bytes) = type_raw
+type_of (values.Bits32 bits) = type_bits32
 
 -- a truth as a byte
 abbrev pub truth_byte : Bool → ℕ
 truth_byte false = 0
 truth_byte true = 1
 
--- bytes behind their length
+-- bytes after their length
 abbrev pub counted : List ℕ → List ℕ
 counted text = to_le_bytes w16 (length text) ++ text
 
--- what stands behind the type
+-- what stands after the type
 abbrev pub value_bytes : Value → List ℕ
 value_bytes (values.Int n) = to_le_bytes w32 (cast_unsigned w32 n)
 value_bytes (values.Long n) = to_le_bytes w64 (cast_unsigned w64 n)

@@ -56,7 +56,7 @@ pub fn has_flag(flags: u8, flag: u8) -> bool
 }
 
 impl Atom {
-    /// A copy, which equals its source.
+    /// A copy of the atom. It equals its source, and memory is all that it can want.
     pub fn clone_atom(&self, alloc: Global) -> Result<Atom, AllocError>
         ensures { IfOk result (λ copy. copy ≡ self.now) }
     {
@@ -77,6 +77,7 @@ impl Exact for Atom {
 }
 
 impl Duplicate for AtomField {
+    /// A copy of the entry with a text of its own.
     fn duplicate(&self, alloc: Global) -> Result<AtomField, AllocError> {
         let value = self.value.duplicate(alloc)?;
         Ok(AtomField {
@@ -90,6 +91,7 @@ impl Duplicate for AtomField {
 }
 
 impl Duplicate for Atom {
+    /// A copy of the atom with entries of its own.
     fn duplicate(&self, alloc: Global) -> Result<Atom, AllocError> {
         let fields = self.fields.duplicate(alloc)?;
         Ok(Atom {

@@ -1,6 +1,6 @@
 //! The frames of the log.
 ghost use Rattle.std.specs.Prelude.{◌≡◌, ◌↔◌, IsTrue};
-ghost use Rattle.atom_record.specs.Pulled.{IsPulled, pulled};
+ghost use Rattle.atom_record.specs.Pulled.{IsPulled, is_pulled};
 
 use crate::Atom;
 use sd_base::Seq;
@@ -37,7 +37,7 @@ pub enum LogFrame {
 /// Whether atoms of this id are pulled. All others are pushed.
 pub fn is_pulled(id: u32) -> bool
     ensures exact { IsTrue result ↔ IsPulled id }
-    ensures test { result ≡ pulled id }
+    ensures test { result ≡ is_pulled id }
 {
     matches!(id, 10_000..100_000 | 150_000..200_000)
 }

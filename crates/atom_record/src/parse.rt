@@ -8,7 +8,7 @@ ghost use Rattle.atom_record.specs.Spelling.{payload_of};
 ghost use Rattle.atom_record.specs.Sound.{HasNoFault};
 ghost use Rattle.atom_record.specs.AtomReading.{reason_of, entry_at, entries_at, id_at, atom_at};
 ghost use Rattle.atom_record.specs.AtomReading.{number_at, text_at, bool_at, kind_at, value_at};
-ghost use Rattle.atom_record.specs.AtomReading.{place_of, is_in_range, is_above, is_behind, is_state, may_have};
+ghost use Rattle.atom_record.specs.AtomReading.{place_of, is_in_range, is_above, is_after_last, may_be_state, may_have};
 
 use crate::atom::{EXCLUSIVE, PRIMARY, RESET, has_flag, is_atom_id};
 use crate::fault::{BAD_FLAGS, BAD_ID, BAD_PLACE, BAD_TYPE, CUT, NOT_ABOVE, TOO_LONG};
@@ -22,8 +22,11 @@ pub const MAX_BYTES: usize = 4096;
 /// All flags together.
 const ALL_FLAGS: u8 = EXCLUSIVE | PRIMARY | RESET;
 
+/// The largest field, index and sub of an entry.
+const MAX_PART: u8 = 127;
+
 /// Where an entry stands in its atom: by field, then by index, then by sub.
-#[derive(Clone, Copy, Debug)]
+#[derive(Clone, Copy)]
 struct Place {
     field: u8,
     index: u8,
@@ -31,12 +34,14 @@ struct Place {
 }
 
 impl Place {
+    // Whether an entry may stand here.
     fn is_in_range(self) -> bool
         ensures { result ≡ is_in_range self }
     {
-        1 <= self.field && self.field <= 127 && self.index <= 127 && self.sub <= 127
+        1 <= self.field && self.field <= MAX_PART && self.index <= MAX_PART && self.sub <= MAX_PART
     }
 
+    // Whether the place is above another: by field, then by index, then by sub.
     fn is_above(self, below: Place) -> bool
         ensures { result ≡ is_above self below }
     {
@@ -45,18 +50,26 @@ impl Place {
                 && (below.index < self.index || below.index == self.index && below.sub < self.sub)
     }
 
-    /// Whether the place is above that of the last entry, if there is one.
-    fn is_behind(self, before: &[AtomField]) -> bool
-        ensures { result ≡ is_behind before.now self }
+    // Whether the place is above that of the last entry, if there is one.
+    fn is_after_last(self, before: &[AtomField]) -> bool
+        ensures { result ≡ is_after_last before.now self }
     {
         match before.last() {
             None => true,
             Some(last) => self.is_above(last.place()),
         }
     }
+
+    // Whether an entry here with a value of this kind may be an exclusive state.
+    fn may_be_state(self, kind: Kind) -> bool
+        ensures { result ≡ may_be_state self kind }
+    {
+        matches!(kind, Kind::Int) && self.index == 0 && self.sub == 0
+    }
 }
 
 impl AtomField {
+    // Where the entry stands in its atom.
     fn place(&self) -> Place
         ensures { result ≡ place_of self.now }
     {
@@ -69,7 +82,7 @@ impl AtomField {
 }
 
 /// The kinds of values, as a payload tells them apart.
-#[derive(Clone, Copy, Debug)]
+#[derive(Clone, Copy)]
 pub(crate) enum Kind {
     Int,
     Long,
@@ -80,6 +93,7 @@ pub(crate) enum Kind {
 }
 
 impl Kind {
+    // The kind that a type byte names.
     pub(crate) fn of(number: u8) -> Result<Kind, AtomFault>
         ensures { GivesBy reason_of (λ kind. kind) result (kind_at number) }
     {
@@ -93,28 +107,22 @@ impl Kind {
             _ => Err(AtomFault::Bad(BAD_TYPE)),
         }
     }
+}
 
-    /// Whether an entry with such a value may be an exclusive state.
-    fn is_state(self, place: Place) -> bool
-        ensures { result ≡ is_state place self }
-    {
-        matches!(self, Kind::Int) && place.index == 0 && place.sub == 0
-    }
-
-    /// Whether an entry may have these flags, with or without an exclusive one before it.
-    fn may_have(self, flags: u8, place: Place, exclusive_before: bool) -> bool
-        ensures { result ≡ may_have exclusive_before place self flags }
-    {
-        if ALL_FLAGS < flags {
-            false
-        } else if has_flag(flags, EXCLUSIVE) {
-            !exclusive_before && self.is_state(place)
-        } else {
-            !has_flag(flags, RESET)
-        }
+// Whether an entry may have these flags, with or without an exclusive one before it.
+fn may_have(exclusive_before: bool, place: Place, kind: Kind, flags: u8) -> bool
+    ensures { result ≡ may_have exclusive_before place kind flags }
+{
+    if ALL_FLAGS < flags {
+        false
+    } else if has_flag(flags, EXCLUSIVE) {
+        !exclusive_before && place.may_be_state(kind)
+    } else {
+        !has_flag(flags, RESET)
     }
 }
 
+// A number of two bytes.
 pub(crate) fn u16_of(bytes: &[u8]) -> Result<(u16, &[u8]), AtomFault>
     ensures { GivesBy reason_of (λ x. (x.0, x.1.now)) result (number_at w16 bytes.now) }
 {
@@ -124,6 +132,7 @@ pub(crate) fn u16_of(bytes: &[u8]) -> Result<(u16, &[u8]), AtomFault>
     Ok((u16::from_le_bytes(*front), rest))
 }
 
+// A number of four bytes.
 pub(crate) fn u32_of(bytes: &[u8]) -> Result<(u32, &[u8]), AtomFault>
     ensures { GivesBy reason_of (λ x. (x.0, x.1.now)) result (number_at w32 bytes.now) }
 {
@@ -133,6 +142,7 @@ pub(crate) fn u32_of(bytes: &[u8]) -> Result<(u32, &[u8]), AtomFault>
     Ok((u32::from_le_bytes(*front), rest))
 }
 
+// A number of eight bytes.
 pub(crate) fn u64_of(bytes: &[u8]) -> Result<(u64, &[u8]), AtomFault>
     ensures { GivesBy reason_of (λ x. (x.0, x.1.now)) result (number_at w64 bytes.now) }
 {
@@ -142,6 +152,7 @@ pub(crate) fn u64_of(bytes: &[u8]) -> Result<(u64, &[u8]), AtomFault>
     Ok((u64::from_le_bytes(*front), rest))
 }
 
+// One byte, which is 0 or 1.
 fn bool_of(bytes: &[u8]) -> Result<(bool, &[u8]), AtomFault>
     ensures { GivesBy reason_of (λ x. (x.0, x.1.now)) result (bool_at bytes.now) }
 {
@@ -153,7 +164,7 @@ fn bool_of(bytes: &[u8]) -> Result<(bool, &[u8]), AtomFault>
     }
 }
 
-/// A length in two bytes, and so many bytes.
+// A length in two bytes, and so many bytes.
 #[tactic(auto, unfolding(crate::specs::AtomReading::text_at))]
 pub(crate) fn text_of(alloc: Global, bytes: &[u8]) -> Result<(Bytes, &[u8]), AtomFault>
     ensures { GivesBy reason_of (λ x. (x.0, x.1.now)) result (text_at bytes.now) }
@@ -167,6 +178,7 @@ pub(crate) fn text_of(alloc: Global, bytes: &[u8]) -> Result<(Bytes, &[u8]), Ato
     Ok((Seq::from_slice(alloc, text)?, rest))
 }
 
+// A value of this kind.
 #[tactic(auto, unfolding(crate::specs::AtomReading::value_at))]
 pub(crate) fn value_of(alloc: Global, kind: Kind, bytes: &[u8]) -> Result<(Value, &[u8]), AtomFault>
     ensures { GivesBy reason_of (λ x. (x.0, x.1.now)) result (value_at kind bytes.now) }
@@ -199,7 +211,7 @@ pub(crate) fn value_of(alloc: Global, kind: Kind, bytes: &[u8]) -> Result<(Value
     }
 }
 
-/// The entry at the front, behind these entries.
+// The entry at the front of the bytes, which comes after these entries.
 #[tactic(auto, unfolding(crate::specs::AtomReading::entry_at))]
 fn entry_of<'a>(
     alloc: Global,
@@ -221,11 +233,11 @@ fn entry_of<'a>(
     if !place.is_in_range() {
         return Err(AtomFault::Bad(BAD_PLACE));
     }
-    if !place.is_behind(before) {
+    if !place.is_after_last(before) {
         return Err(AtomFault::Bad(NOT_ABOVE));
     }
     let kind = Kind::of(*kind)?;
-    if !kind.may_have(*flags, place, exclusive_before) {
+    if !may_have(exclusive_before, place, kind, *flags) {
         return Err(AtomFault::Bad(BAD_FLAGS));
     }
     let (value, rest) = value_of(alloc, kind, rest)?;
@@ -239,7 +251,7 @@ fn entry_of<'a>(
     Ok((entry, rest))
 }
 
-/// All entries, to the end of the bytes.
+// All entries, to the end of the bytes.
 fn entries_of(alloc: Global, bytes: &[u8]) -> Result<Seq<AtomField>, AtomFault>
     ensures { GivesBy reason_of (λ entries. entries) result (entries_at [] bytes.now) }
 {
@@ -255,6 +267,7 @@ fn entries_of(alloc: Global, bytes: &[u8]) -> Result<Seq<AtomField>, AtomFault>
     Ok(entries)
 }
 
+// The id of an atom, which is the first four bytes of a payload.
 #[tactic(auto, unfolding(crate::specs::AtomReading::id_at))]
 fn id_of(bytes: &[u8]) -> Result<(u32, &[u8]), AtomFault>
     ensures { GivesBy reason_of (λ x. (x.0, x.1.now)) result (id_at bytes.now) }
@@ -269,6 +282,7 @@ fn id_of(bytes: &[u8]) -> Result<(u32, &[u8]), AtomFault>
     Ok((id, rest))
 }
 
+// The atom that a payload spells.
 #[tactic(auto, unfolding(crate::specs::AtomReading::atom_at))]
 pub(crate) fn atom_of(alloc: Global, bytes: &[u8]) -> Result<Atom, AtomFault>
     ensures { GivesBy reason_of (λ atom. atom) result (atom_at bytes.now) }

@@ -3,7 +3,7 @@ use Rattle.std.proofs.lemmas.Result.{err_from_is_err_and}
 use Rattle.std.proofs.lemmas.Bool.Decides.{nat_tests}
 use Rattle.sd_base.specs.Reads.{FailsBy}
 use Rattle.atom_record.specs.AtomReading.{reason_of, entry_at}
-use Rattle.atom_record.proofs.EntriesLoop.{goes_on, ends, is_done, shortens, any_exclusive-push}
+use Rattle.atom_record.proofs.AtomReadingLoop.{goes_on, ends, is_done, shortens, any_exclusive-push}
 use Rattle.atom_record.proofs.parse.entries_of.Goals as goal
 
 -- the first fault of an entry is that of the whole

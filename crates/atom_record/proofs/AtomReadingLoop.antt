@@ -1,4 +1,4 @@
--- Reading entries one behind the other, as a loop does.
+-- Reading entries one after the other, as the loop of `entries_of` does.
 use Rattle.std.proofs.Common.{◌≡◌, ℕ, zero, suc, ◌≤◌, ◌<◌, Bool, true, false, not, ◌||◌, List, [], ◌∷◌, ◌++◌, length, Result, Ok, Err, refl, ap, ◌∙◌, arith, length-drop}
 use Rattle.std.proofs.lemmas.List.Folds.{list_any-append}
 use Rattle.std.specs.Prelude.{if◌then◌else◌, nat_lt, ◌==◌}
@@ -12,7 +12,7 @@ use Rattle.atom_record.specs.declared.parse.Place.{Place}
 use Rattle.atom_record.specs.declared.parse.Kind.{Kind}
 use Rattle.atom_record.specs.declared.parse.Kind.TheVariants as kinds
 use Rattle.atom_record.specs.Flags.{is_exclusive}
-use Rattle.atom_record.specs.AtomReading.{reason_of, number_at, text_at, bool_at, kind_at, value_at, is_in_range, is_behind, may_have, entry_at, entries_in, entries_at}
+use Rattle.atom_record.specs.AtomReading.{reason_of, number_at, text_at, bool_at, kind_at, value_at, is_in_range, is_after_last, may_have, entry_at, entries_in, entries_at}
 
 -- what was read leaves so many bytes at most
 abbrev pub Leaves : {X F : Type 0} → ℕ → Result (X × List ℕ) F → Type 0
@@ -47,9 +47,9 @@ value_leaves kinds.Str bytes = Leaves-then (length bytes) (text_at bytes) _ (tex
 value_leaves kinds.Raw bytes = Leaves-then (length bytes) (text_at bytes) _ (text_leaves bytes) (λ n le. le)
 value_leaves kinds.Bits32 bytes = Leaves-then (length bytes) (number_at w32 bytes) _ (number_leaves w32 bytes) (λ n le. le)
 
-Leaves-behind : {A Y F : Type 0} (most : ℕ) (read : Result A F) (next : A → Result (Y × List ℕ) F) → ((x : A) → Leaves most (next x)) → Leaves most (read >>= next)
-Leaves-behind most (Ok x) next p = p x
-Leaves-behind most (Err fault) next p = tt
+Leaves-after : {A Y F : Type 0} (most : ℕ) (read : Result A F) (next : A → Result (Y × List ℕ) F) → ((x : A) → Leaves most (next x)) → Leaves most (read >>= next)
+Leaves-after most (Ok x) next p = p x
+Leaves-after most (Err fault) next p = tt
 
 Leaves-ok : {X F : Type 0} (most : ℕ) (read : Result (X × List ℕ) F) (x : X × List ℕ) → Leaves most read → read ≡ Ok x → length x.1 ≤ most
 Leaves-ok most (Ok y) x p e = let same : y ≡ x = cc in rw (← same) p
@@ -60,8 +60,8 @@ unfolding entry_at
 entry_leaves before field index sub flags number bytes =
     let place : Place = record { field = field; index = index; sub = sub } in
     Leaves-if (length bytes) (not (is_in_range place)) _ _ tt
-    (Leaves-if (length bytes) (not (is_behind before place)) _ _ tt
-    (Leaves-behind (length bytes) (kind_at number) _ (λ kind.
+    (Leaves-if (length bytes) (not (is_after_last before place)) _ _ tt
+    (Leaves-after (length bytes) (kind_at number) _ (λ kind.
     Leaves-if (length bytes) (not (may_have (list_any is_exclusive before) place kind flags)) _ _ tt
     (Leaves-then (length bytes) (value_at kind bytes) _ (value_leaves kind bytes) (λ value le. le)))))
 

@@ -7,7 +7,7 @@ use Rattle.std.proofs.lemmas.List.{take_at, drop_at, take-append-drop, length-ap
 use Rattle.std.proofs.lemmas.List.Elements.{All-from_get_or}
 use Rattle.std.proofs.lemmas.Nat.{le_bytes_2, le_bytes_4, le_bytes_8, from_le_bytes-to_le_bytes_2, from_le_bytes-to_le_bytes_4, from_le_bytes-to_le_bytes_8}
 use Rattle.sd_base.specs.Reads.{◌>>=◌}
-use Rattle.atom_record.specs.declared.fault.TheConstants.{CUT, BAD_TYPE}
+use Rattle.atom_record.specs.AtomReasons.{reason_cut, reason_bad_type}
 use Rattle.atom_record.specs.AtomReading.{number_at, text_at, bool_at}
 use Rattle.atom_record.specs.Spelling.{truth_byte, counted}
 use Rattle.atom_record.specs.Sound.{IsText}
@@ -103,7 +103,7 @@ front_takes width limit wide bytes long fits =
 pub number_takes : (width : Width) (limit : ℕ) (wide : IsWide width limit) (bytes : List ℕ) (x : ℕ × List ℕ) → IsBytes bytes → number_at width bytes ≡ Ok x → Takes bytes (to_le_bytes width x.0) x.1 × (x.0 < limit)
 number_takes width limit wide bytes x fits read =
     let size = byte_len width in
-    let there = passed (nat_lt (length bytes) size) CUT (Ok (from_le_bytes width (take size bytes), drop size bytes)) x read in
+    let there = passed (nat_lt (length bytes) size) reason_cut (Ok (from_le_bytes width (take size bytes), drop size bytes)) x read in
     let long : size ≤ length bytes = ltb-false _ _ there.0 in
     subst (λ (y : ℕ × List ℕ). Takes bytes (to_le_bytes width y.0) y.1 × (y.0 < limit)) (ok_is _ x there.1) (front_takes width limit wide bytes long fits)
 
@@ -123,9 +123,9 @@ bool_takes [] x fits read = absurd cc
 bool_takes (byte ∷ bytes) x fits read =
     let rest : IsBytes bytes = IsBytes-rest byte bytes fits in
     let is_spelled : Bool × List ℕ → Type 0 = λ y. Takes (byte ∷ bytes) (truth_byte y.0 ∷ []) y.1 in
-    elim (chosen (byte == 0) (Ok (false, bytes)) (if byte == 1 then Ok (true, bytes) else Err BAD_TYPE) (Ok x) read) [
+    elim (chosen (byte == 0) (Ok (false, bytes)) (if byte == 1 then Ok (true, bytes) else Err reason_bad_type) (Ok x) read) [
       | inl zero_is ↦ subst is_spelled (ok_is (false, bytes) x zero_is.1) (record { parts = ap (λ (b : ℕ). b ∷ bytes) (eqb-true byte 0 zero_is.0); fits = rest })
-      | inr other ↦ elim (chosen (byte == 1) (Ok (true, bytes)) (Err BAD_TYPE) (Ok x) other.1) [
+      | inr other ↦ elim (chosen (byte == 1) (Ok (true, bytes)) (Err reason_bad_type) (Ok x) other.1) [
         | inl one_is ↦ subst is_spelled (ok_is (true, bytes) x one_is.1) (record { parts = ap (λ (b : ℕ). b ∷ bytes) (eqb-true byte 1 one_is.0); fits = rest })
         | inr bad ↦ let never = bad.1 in absurd cc
       ]
@@ -138,10 +138,10 @@ bool_again true rest = refl
 pub text_takes : (bytes : List ℕ) (x : List ℕ × List ℕ) → IsBytes bytes → text_at bytes ≡ Ok x → Takes bytes (counted x.0) x.1 × IsText x.0
 unfolding text_at
 text_takes bytes x fits read =
-    let step = bind_ok (number_at w16 bytes) (λ len. if nat_lt (length len.1) len.0 then Err CUT else Ok (take len.0 len.1, drop len.0 len.1)) x read in
+    let step = bind_ok (number_at w16 bytes) (λ len. if nat_lt (length len.1) len.0 then Err reason_cut else Ok (take len.0 len.1, drop len.0 len.1)) x read in
     let len = step.0 in
     let number = number_takes w16 (2 ^ 16) wide16 bytes len fits step.1 in
-    let there = passed (nat_lt (length len.1) len.0) CUT (Ok (take len.0 len.1, drop len.0 len.1)) x step.2 in
+    let there = passed (nat_lt (length len.1) len.0) reason_cut (Ok (take len.0 len.1, drop len.0 len.1)) x step.2 in
     let long : len.0 ≤ length len.1 = ltb-false _ _ there.0 in
     let size : length (take len.0 len.1) ≡ len.0 = omega (arith, length-take len.0 len.1) in
     let both = Takes-then bytes (to_le_bytes w16 len.0) len.1 (take len.0 len.1) (drop len.0 len.1) number.0 (Takes-front len.0 len.1 number.0.fits) in

@@ -13,15 +13,15 @@ use Rattle.atom_record.specs.declared.value.Value.TheVariants as values
 use Rattle.atom_record.specs.declared.parse.Place.{Place}
 use Rattle.atom_record.specs.declared.parse.Kind.{Kind}
 use Rattle.atom_record.specs.declared.parse.Kind.TheVariants as kinds
-use Rattle.atom_record.specs.Flags.{is_exclusive, is_reset}
-use Rattle.atom_record.specs.AtomReading.{is_in_range, is_behind, is_above, is_state, may_have, place_of}
-use Rattle.atom_record.specs.Sound.{IsInt, IsState, IsEntry, IsBelow}
-use Rattle.atom_record.proofs.ValueLaws.{kind_of}
+use Rattle.atom_record.specs.Flags.{all_flags, is_exclusive, is_reset}
+use Rattle.atom_record.specs.AtomReading.{is_in_range, is_after_last, is_above, may_be_state, may_have, place_of}
+use Rattle.atom_record.specs.Sound.{largest_part, IsInt, IsState, IsEntry, IsBelow}
+use Rattle.atom_record.proofs.AtomReadingValues.{kind_of}
 
 pub record IsPlace (place : Place) : Type 0 where
-  pub field : (1 ≤ place.field) × (place.field ≤ 127)
-  pub index : place.index ≤ 127
-  pub sub : place.sub ≤ 127
+  pub field : (1 ≤ place.field) × (place.field ≤ largest_part)
+  pub index : place.index ≤ largest_part
+  pub sub : place.sub ≤ largest_part
 
 pub in_range_is : (place : Place) → is_in_range place ≡ true → IsPlace place
 in_range_is place passes = record {
@@ -65,27 +65,27 @@ IsBelow-trans a b c p q =
     lexical a.index b.index c.index r s (λ t u. omega arith))
 
 -- what stands above the last of entries that rise stands above each
-pub behind_all : (before : List AtomField) (entry : AtomField) → AllPairs IsBelow before → is_behind before (place_of entry) ≡ true → (k : ℕ) (d : AtomField) → k < length before → IsBelow (get_or before k d) entry
-behind_all before entry rising behind k d below =
+pub after_all : (before : List AtomField) (entry : AtomField) → AllPairs IsBelow before → is_after_last before (place_of entry) ≡ true → (k : ℕ) (d : AtomField) → k < length before → IsBelow (get_or before k d) entry
+after_all before entry rising after k d below =
     let at = length before - 1 in
-    let last : IsBelow (get_or before at d) entry = above_is (get_or before at d) entry (rw (slice_get-get_or before at d (omega arith)) at behind) in
+    let last : IsBelow (get_or before at d) entry = above_is (get_or before at d) entry (rw (slice_get-get_or before at d (omega arith)) at after) in
     elim (cases_order k at) [
       | inl same ↦ rw same last
       | inr (inl earlier) ↦ IsBelow-trans (get_or before k d) (get_or before at d) entry (rising k at d earlier (omega arith)) last
       | inr (inr later) ↦ absurd (omega arith)
     ]
 
--- what holds of the pairs of a list holds of an element and one behind it
+-- what holds of the pairs of a list holds of an element and one after it
 pairs_at : (before : List AtomField) (entry : AtomField) (later : List AtomField) (at : ℕ) (d : AtomField) → at < length before → AllPairs IsBelow (before ++ entry ∷ later) → IsBelow (get_or before at d) entry
 pairs_at before entry later at d below rising =
     let size : length (before ++ entry ∷ later) ≡ length before + suc (length later) = length-append before (entry ∷ later) in
     let pair = rising at (length before + 0) d (omega arith) (omega arith) in
     rw (get_or_append_left before (entry ∷ later) d at below, get_or-append-add before (entry ∷ later) 0 d) at pair
 
--- the last of these stands below what rises behind them
-pub behind_again : (before : List AtomField) (entry : AtomField) (later : List AtomField) → AllPairs IsBelow (before ++ entry ∷ later) → is_behind before (place_of entry) ≡ true
-behind_again [] entry later rising = refl
-behind_again (first ∷ others) entry later rising =
+-- the last of these stands below what rises after them
+pub after_last_again : (before : List AtomField) (entry : AtomField) (later : List AtomField) → AllPairs IsBelow (before ++ entry ∷ later) → is_after_last before (place_of entry) ≡ true
+after_last_again [] entry later rising = refl
+after_last_again (first ∷ others) entry later rising =
     let before : List AtomField = first ∷ others in
     let at = length before - 1 in
     let last : IsBelow (get_or before at entry) entry = pairs_at before entry later at entry (omega arith) rising in
@@ -109,7 +109,7 @@ flags_from known had true reset state known_is first only =
 flags_from known had false reset state known_is first only =
     and_from known (not reset) known_is (not_from_false reset (false_from_ne_true reset (λ on. both_ways false refl (only on))))
 
-state_is : (place : Place) (kind : Kind) → is_state place kind ≡ true → (place.index ≡ 0) × (place.sub ≡ 0) × (kind ≡ kinds.Int)
+state_is : (place : Place) (kind : Kind) → may_be_state place kind ≡ true → (place.index ≡ 0) × (place.sub ≡ 0) × (kind ≡ kinds.Int)
 state_is place kinds.Int is = let parts = and_parts (place.index == 0) (place.sub == 0) is in (eqb-true _ _ parts.0, eqb-true _ _ parts.1, refl)
 state_is place kinds.Long is = absurd (both_ways false refl is)
 state_is place kinds.Bool is = absurd (both_ways false refl is)
@@ -125,7 +125,7 @@ int_is (values.Str text) is = absurd cc
 int_is (values.Raw bytes) is = absurd cc
 int_is (values.Bits32 bits) is = absurd cc
 
-state_again : (place : Place) (value : Value) → place.index ≡ 0 → place.sub ≡ 0 → IsInt value → is_state place (kind_of value) ≡ true
+state_again : (place : Place) (value : Value) → place.index ≡ 0 → place.sub ≡ 0 → IsInt value → may_be_state place (kind_of value) ≡ true
 state_again place (values.Int n) index sub int = and_from _ _ (eq-eqb _ _ index) (eq-eqb _ _ sub)
 state_again place (values.Long n) index sub int = absurd int
 state_again place (values.Bool b) index sub int = absurd int
@@ -160,14 +160,14 @@ any_counted (entry ∷ others) any =
 
 -- what the test of flags says of an entry that was read
 pub record HasFlags (before : List AtomField) (entry : AtomField) : Type 0 where
-  pub known : entry.flags ≤ 7
+  pub known : entry.flags ≤ all_flags
   pub state : is_exclusive entry ≡ true → IsState entry
   pub reset : is_reset entry ≡ true → is_exclusive entry ≡ true
   pub first : is_exclusive entry ≡ true → list_any is_exclusive before ≡ false
 
 pub may_have_is : (before : List AtomField) (entry : AtomField) → may_have (list_any is_exclusive before) (place_of entry) (kind_of entry.value) entry.flags ≡ true → HasFlags before entry
 may_have_is before entry passes =
-    let parts = flags_parts (nat_le entry.flags 7) (list_any is_exclusive before) (is_exclusive entry) (is_reset entry) (is_state (place_of entry) (kind_of entry.value)) passes in
+    let parts = flags_parts (nat_le entry.flags all_flags) (list_any is_exclusive before) (is_exclusive entry) (is_reset entry) (may_be_state (place_of entry) (kind_of entry.value)) passes in
     record {
       known = leb-true _ _ parts.0;
       state = λ on. let is = state_is (place_of entry) (kind_of entry.value) (parts.1 on).1 in record { index = is.0; sub = is.1; int = int_is entry.value is.2 };
@@ -186,7 +186,7 @@ first_state before entry later one on =
 pub may_have_again : (before : List AtomField) (entry : AtomField) (later : List AtomField) → IsEntry entry → count_by is_exclusive (before ++ entry ∷ later) ≤ 1
     → may_have (list_any is_exclusive before) (place_of entry) (kind_of entry.value) entry.flags ≡ true
 may_have_again before entry later is one =
-    flags_from (nat_le entry.flags 7) (list_any is_exclusive before) (is_exclusive entry) (is_reset entry) (is_state (place_of entry) (kind_of entry.value)) (le-leb _ _ is.flags)
+    flags_from (nat_le entry.flags all_flags) (list_any is_exclusive before) (is_exclusive entry) (is_reset entry) (may_be_state (place_of entry) (kind_of entry.value)) (le-leb _ _ is.flags)
     (λ on. (first_state before entry later one on, state_again (place_of entry) entry.value (is.state on).index (is.state on).sub (is.state on).int))
     is.reset
 

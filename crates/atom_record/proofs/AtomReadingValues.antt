@@ -12,7 +12,7 @@ use Rattle.atom_record.specs.declared.parse.Kind.TheVariants as kinds
 use Rattle.atom_record.specs.AtomReading.{number_at, text_at, bool_at, kind_at, value_at}
 use Rattle.atom_record.specs.Spelling.{type_of, value_bytes}
 use Rattle.atom_record.specs.Sound.{IsInRange}
-use Rattle.atom_record.proofs.PartLaws.{IsBytes, bind_ok, ok_is, chosen, Takes, wide32, wide64, number_takes, number_again, bool_takes, bool_again, text_takes, text_again}
+use Rattle.atom_record.proofs.AtomReadingParts.{IsBytes, bind_ok, ok_is, chosen, Takes, wide32, wide64, number_takes, number_again, bool_takes, bool_again, text_takes, text_again}
 
 -- the kind of a value
 abbrev pub kind_of : Value → Kind

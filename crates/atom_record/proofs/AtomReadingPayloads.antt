@@ -10,16 +10,15 @@ use Rattle.sd_base.specs.Reads.{◌>>=◌, GivesBy}
 use Rattle.atom_record.specs.declared.atom.Atom.{Atom}
 use Rattle.atom_record.specs.declared.atom.AtomField.{AtomField}
 use Rattle.atom_record.specs.declared.fault.AtomFault.{AtomFault}
-use Rattle.atom_record.specs.declared.fault.TheConstants.{TOO_LONG, BAD_ID}
-use Rattle.atom_record.specs.declared.parse.TheConstants.{MAX_BYTES}
+use Rattle.atom_record.specs.AtomReasons.{reason_too_long, reason_bad_id, most_payload}
 use Rattle.atom_record.specs.Id.{IsAtomId, is_atom_id}
 use Rattle.atom_record.specs.AtomReading.{reason_of, entry_at, entries_in, entries_at, id_at, atom_at}
 use Rattle.atom_record.specs.Spelling.{entry_bytes, payload_of}
 use Rattle.atom_record.specs.Sound.{IsEntry, AreEntries, HasNoFault}
-use Rattle.atom_record.proofs.PartLaws.{IsBytes, bind_ok, passed, ok_is, Takes, wide32, front_takes}
-use Rattle.atom_record.proofs.EntryLaws.{entry_takes, entry_again}
+use Rattle.atom_record.proofs.AtomReadingParts.{IsBytes, bind_ok, passed, ok_is, Takes, wide32, front_takes}
+use Rattle.atom_record.proofs.AtomReadingEntries.{entry_takes, entry_again}
 
--- what was read as all entries, behind these
+-- what was read as all entries, after these
 record TakesAll (before : List AtomField) (bytes : List ℕ) (all : List AtomField) : Type 0 where
   later : List AtomField
   all_is : all ≡ before ++ later
@@ -67,8 +66,8 @@ id_takes : (bytes : List ℕ) (x : ℕ × List ℕ) → IsBytes bytes → id_at 
 unfolding id_at
 id_takes bytes x fits read =
     let id = from_le_bytes w32 (take 4 bytes) in
-    let there = passed (nat_lt (length bytes) 4) BAD_ID (if not (is_atom_id id) then Err BAD_ID else Ok (id, drop 4 bytes)) x read in
-    let may = passed (not (is_atom_id id)) BAD_ID (Ok (id, drop 4 bytes)) x there.1 in
+    let there = passed (nat_lt (length bytes) 4) reason_bad_id (if not (is_atom_id id) then Err reason_bad_id else Ok (id, drop 4 bytes)) x read in
+    let may = passed (not (is_atom_id id)) reason_bad_id (Ok (id, drop 4 bytes)) x there.1 in
     let parts = and_parts (nat_lt 0 id) (nat_lt id (2 ^ 31)) (not-false (is_atom_id id) may.0) in
     let took = front_takes w32 (2 ^ 32) wide32 bytes (ltb-false (length bytes) 4 there.0) fits in
     subst (λ (y : ℕ × List ℕ). Takes bytes (to_le_bytes w32 y.0) y.1 × IsAtomId y.0) (ok_is (id, drop 4 bytes) x may.1) (took.0, (ltb-true 0 id parts.0, ltb-true id (2 ^ 31) parts.1))
@@ -87,21 +86,21 @@ no_entries = record { each = All-nil IsEntry; rising = λ i j d less below. absu
 pub atom_takes : (bytes : List ℕ) (atom : Atom) → IsBytes bytes → atom_at bytes ≡ Ok atom → HasNoFault atom × (bytes ≡ payload_of atom)
 unfolding atom_at
 atom_takes bytes atom fits read =
-    let short = passed (nat_lt MAX_BYTES (length bytes)) TOO_LONG (id_at bytes >>= λ id. entries_at [] id.1 >>= λ fields. Ok (record { id = id.0; fields = fields })) atom read in
+    let short = passed (nat_lt most_payload (length bytes)) reason_too_long (id_at bytes >>= λ id. entries_at [] id.1 >>= λ fields. Ok (record { id = id.0; fields = fields })) atom read in
     let id = bind_ok (id_at bytes) (λ id. entries_at [] id.1 >>= λ fields. Ok (record { id = id.0; fields = fields })) atom short.1 in
     let fields = bind_ok (entries_at [] id.0.1) (λ fields. Ok (record { id = id.0.0; fields = fields })) atom id.2 in
     let front = id_takes bytes id.0 fits id.1 in
     let all = entries_take (length id.0.1) [] id.0.1 fields.0 front.0.fits no_entries fields.1 in
     let made : Atom = record { id = id.0.0; fields = fields.0 } in
     let spelled : bytes ≡ payload_of made = front.0.parts ∙ ap (λ (t : List ℕ). to_le_bytes w32 id.0.0 ++ t) (all.spelled ∙ ap (flat_map entry_bytes) (sym all.all_is)) in
-    let sound : HasNoFault made = record { id = front.1; entries = all.are; fits = subst (λ (t : List ℕ). length t ≤ MAX_BYTES) spelled (ltb-false MAX_BYTES (length bytes) short.0) } in
+    let sound : HasNoFault made = record { id = front.1; entries = all.are; fits = subst (λ (t : List ℕ). length t ≤ most_payload) spelled (ltb-false most_payload (length bytes) short.0) } in
     subst (λ (a : Atom). HasNoFault a × (bytes ≡ payload_of a)) (ok_is made atom fields.2) (sound, spelled)
 
 pub atom_again : (atom : Atom) → HasNoFault atom → atom_at (payload_of atom) ≡ Ok atom
 unfolding atom_at
 atom_again atom sound =
     let rest = flat_map entry_bytes atom.fields in
-    let short : nat_lt MAX_BYTES (length (payload_of atom)) ≡ false = le-ltb _ _ sound.fits in
+    let short : nat_lt most_payload (length (payload_of atom)) ≡ false = le-ltb _ _ sound.fits in
     let fields : entries_at [] rest ≡ Ok atom.fields = entries_again (length rest) [] atom.fields (omega arith) sound.entries in
     rw (short, id_again atom.id rest sound.id, fields) refl
 
