@@ -1,4 +1,5 @@
--- Reading entries one after the other, as the loop of `entries_of` does.
+-- Entries are read one after the other, for the loop of `entries_of`: each takes a byte at least,
+-- so turns that are left over change nothing.
 use Rattle.std.proofs.Common.{◌≡◌, ℕ, zero, suc, ◌≤◌, ◌<◌, Bool, true, false, not, ◌||◌, List, [], ◌∷◌, ◌++◌, length, Result, Ok, Err, refl, ap, ◌∙◌, arith, length-drop}
 use Rattle.std.proofs.lemmas.List.Folds.{list_any-append}
 use Rattle.std.specs.Prelude.{if◌then◌else◌, nat_lt, ◌==◌}
@@ -19,43 +20,71 @@ abbrev pub Leaves : {X F : Type 0} → ℕ → Result (X × List ℕ) F → Type
 Leaves most (Ok x) = length x.1 ≤ most
 Leaves most (Err fault) = Unit {0}
 
-Leaves-if : {X F : Type 0} (most : ℕ) (test : Bool) (x y : Result (X × List ℕ) F) → Leaves most x → Leaves most y → Leaves most (if test then x else y)
+-- a choice leaves no more than both of its sides
+Leaves-if : {X F : Type 0} (most : ℕ) (test : Bool) (x y : Result (X × List ℕ) F)
+    → Leaves most x
+    → Leaves most y
+    → Leaves most (if test then x else y)
 Leaves-if most true x y p q = p
 Leaves-if most false x y p q = q
 
-Leaves-then : {X Y F : Type 0} (most : ℕ) (read : Result (X × List ℕ) F) (next : X × List ℕ → Result (Y × List ℕ) F) → Leaves most read → ((x : X × List ℕ) → length x.1 ≤ most → Leaves most (next x)) → Leaves most (read >>= next)
+-- a reading after another leaves no more than it, if it leaves no more than what it is given
+Leaves-then : {X Y F : Type 0} (most : ℕ) (read : Result (X × List ℕ) F) (next : X × List ℕ → Result (Y × List ℕ) F)
+    → Leaves most read
+    → ((x : X × List ℕ) → length x.1 ≤ most → Leaves most (next x))
+    → Leaves most (read >>= next)
 Leaves-then most (Ok x) next p q = q x p
 Leaves-then most (Err fault) next p q = tt
 
+-- a number leaves no more bytes than there were
 number_leaves : (width : Width) (bytes : List ℕ) → Leaves (length bytes) (number_at width bytes)
-number_leaves width bytes = Leaves-if (length bytes) (nat_lt (length bytes) (byte_len width)) _ _ tt (omega (arith, length-drop (byte_len width) bytes))
+number_leaves width bytes =
+    Leaves-if (length bytes) (nat_lt (length bytes) (byte_len width)) _ _ tt
+    (omega (arith, length-drop (byte_len width) bytes))
 
+-- a truth leaves no more bytes than there were
 bool_leaves : (bytes : List ℕ) → Leaves (length bytes) (bool_at bytes)
 bool_leaves [] = tt
-bool_leaves (byte ∷ bytes) = Leaves-if (suc (length bytes)) (byte == 0) _ _ (omega arith) (Leaves-if (suc (length bytes)) (byte == 1) _ _ (omega arith) tt)
+bool_leaves (byte ∷ bytes) =
+    Leaves-if (suc (length bytes)) (byte == 0) _ _ (omega arith)
+    (Leaves-if (suc (length bytes)) (byte == 1) _ _ (omega arith) tt)
 
+-- a text leaves no more bytes than there were
 text_leaves : (bytes : List ℕ) → Leaves (length bytes) (text_at bytes)
 unfolding text_at
-text_leaves bytes = Leaves-then (length bytes) (number_at w16 bytes) _ (number_leaves w16 bytes) (λ len le. Leaves-if (length bytes) (nat_lt (length len.1) len.0) _ _ tt (omega (arith, length-drop len.0 len.1)))
+text_leaves bytes = Leaves-then (length bytes) (number_at w16 bytes) _ (number_leaves w16 bytes)
+    (λ len le. Leaves-if (length bytes) (nat_lt (length len.1) len.0) _ _ tt (omega (arith, length-drop len.0 len.1)))
 
+-- a value leaves no more bytes than there were
 value_leaves : (kind : Kind) (bytes : List ℕ) → Leaves (length bytes) (value_at kind bytes)
 unfolding value_at
 value_leaves kinds.Int bytes = Leaves-then (length bytes) (number_at w32 bytes) _ (number_leaves w32 bytes) (λ n le. le)
-value_leaves kinds.Long bytes = Leaves-then (length bytes) (number_at w64 bytes) _ (number_leaves w64 bytes) (λ n le. le)
+value_leaves kinds.Long bytes =
+    Leaves-then (length bytes) (number_at w64 bytes) _ (number_leaves w64 bytes) (λ n le. le)
 value_leaves kinds.Bool bytes = Leaves-then (length bytes) (bool_at bytes) _ (bool_leaves bytes) (λ n le. le)
 value_leaves kinds.Str bytes = Leaves-then (length bytes) (text_at bytes) _ (text_leaves bytes) (λ n le. le)
 value_leaves kinds.Raw bytes = Leaves-then (length bytes) (text_at bytes) _ (text_leaves bytes) (λ n le. le)
-value_leaves kinds.Bits32 bytes = Leaves-then (length bytes) (number_at w32 bytes) _ (number_leaves w32 bytes) (λ n le. le)
+value_leaves kinds.Bits32 bytes =
+    Leaves-then (length bytes) (number_at w32 bytes) _ (number_leaves w32 bytes) (λ n le. le)
 
-Leaves-after : {A Y F : Type 0} (most : ℕ) (read : Result A F) (next : A → Result (Y × List ℕ) F) → ((x : A) → Leaves most (next x)) → Leaves most (read >>= next)
+-- a reading after a step that takes no bytes
+Leaves-after : {A Y F : Type 0} (most : ℕ) (read : Result A F) (next : A → Result (Y × List ℕ) F)
+    → ((x : A) → Leaves most (next x))
+    → Leaves most (read >>= next)
 Leaves-after most (Ok x) next p = p x
 Leaves-after most (Err fault) next p = tt
 
-Leaves-ok : {X F : Type 0} (most : ℕ) (read : Result (X × List ℕ) F) (x : X × List ℕ) → Leaves most read → read ≡ Ok x → length x.1 ≤ most
+-- what a reading that succeeded leaves
+Leaves-ok : {X F : Type 0} (most : ℕ) (read : Result (X × List ℕ) F) (x : X × List ℕ)
+    → Leaves most read
+    → read ≡ Ok x
+    → length x.1 ≤ most
 Leaves-ok most (Ok y) x p e = let same : y ≡ x = cc in rw (← same) p
 Leaves-ok most (Err fault) x p e = absurd cc
 
-entry_leaves : (before : List AtomField) (field index sub flags number : ℕ) (bytes : List ℕ) → Leaves (length bytes) (entry_at before (field ∷ index ∷ sub ∷ flags ∷ number ∷ bytes))
+-- an entry leaves no more bytes than stand after its five leading ones
+entry_leaves : (before : List AtomField) (field index sub flags number : ℕ) (bytes : List ℕ)
+    → Leaves (length bytes) (entry_at before (field ∷ index ∷ sub ∷ flags ∷ number ∷ bytes))
 unfolding entry_at
 entry_leaves before field index sub flags number bytes =
     let place : Place = record { field = field; index = index; sub = sub } in
@@ -65,23 +94,32 @@ entry_leaves before field index sub flags number bytes =
     Leaves-if (length bytes) (not (may_have (list_any is_exclusive before) place kind flags)) _ _ tt
     (Leaves-then (length bytes) (value_at kind bytes) _ (value_leaves kind bytes) (λ value le. le)))))
 
+-- no entry is read where there is no byte
 none_in_nothing : (before : List AtomField) (x : AtomField × List ℕ) → entry_at before [] ≡ Ok x → ⊥
 unfolding entry_at
 none_in_nothing before x read = cc
 
 -- an entry takes a byte at least
-entry_shortens : (before : List AtomField) (bytes : List ℕ) (x : AtomField × List ℕ) → entry_at before bytes ≡ Ok x → length x.1 < length bytes
+pub entry_shortens : (before : List AtomField) (bytes : List ℕ) (x : AtomField × List ℕ)
+    → entry_at before bytes ≡ Ok x
+    → length x.1 < length bytes
 unfolding entry_at
 entry_shortens before (field ∷ index ∷ sub ∷ flags ∷ number ∷ bytes) x read =
     let le = Leaves-ok (length bytes) _ x (entry_leaves before field index sub flags number bytes) read in omega arith
 entry_shortens before _ x read = absurd cc
 
-same_next : {A B F : Type 0} (read : Result A F) (f g : A → Result B F) → ((x : A) → read ≡ Ok x → f x ≡ g x) → (read >>= f) ≡ (read >>= g)
+-- two ways to go on are the same where they agree on all that may be read
+same_next : {A B F : Type 0} (read : Result A F) (f g : A → Result B F)
+    → ((x : A) → read ≡ Ok x → f x ≡ g x)
+    → (read >>= f) ≡ (read >>= g)
 same_next (Ok x) f g same = same x refl
 same_next (Err fault) f g same = refl
 
 -- turns that aren't wanted change nothing
-more_turns : (few many : ℕ) (before : List AtomField) (bytes : List ℕ) → length bytes ≤ few → length bytes ≤ many → entries_in few before bytes ≡ entries_in many before bytes
+more_turns : (few many : ℕ) (before : List AtomField) (bytes : List ℕ)
+    → length bytes ≤ few
+    → length bytes ≤ many
+    → entries_in few before bytes ≡ entries_in many before bytes
 unfolding entries_in
 more_turns zero zero before bytes p q = refl
 more_turns zero (suc many) before [] p q = refl
@@ -95,16 +133,23 @@ more_turns (suc few) (suc many) before (byte ∷ bytes) p q =
     more_turns few many (before ++ x.0 ∷ []) x.1 (omega arith) (omega arith))
 
 -- one more entry is read
-pub goes_on : (before : List AtomField) (bytes : List ℕ) (entry : AtomField) (after : List ℕ) → entry_at before bytes ≡ Ok (entry, after) → entries_at (before ++ entry ∷ []) after ≡ entries_at before bytes
+pub goes_on : (before : List AtomField) (bytes : List ℕ) (entry : AtomField) (after : List ℕ)
+    → entry_at before bytes ≡ Ok (entry, after)
+    → entries_at (before ++ entry ∷ []) after ≡ entries_at before bytes
 unfolding entries_in
 goes_on before [] entry after read = absurd (none_in_nothing before (entry, after) read)
 goes_on before (byte ∷ bytes) entry after read =
     let shorter = entry_shortens before (byte ∷ bytes) (entry, after) read in
-    let rest : entries_in (length after) (before ++ entry ∷ []) after ≡ entries_in (length bytes) (before ++ entry ∷ []) after = more_turns (length after) (length bytes) (before ++ entry ∷ []) after (omega arith) (omega arith) in
+    let rest : entries_in (length after) (before ++ entry ∷ []) after ≡ entries_in (length bytes)
+    (before ++ entry ∷ []) after =
+    more_turns (length after) (length bytes) (before ++ entry ∷ []) after (omega arith) (omega arith) in
     rw read rest
 
 -- the next entry has a fault
-pub ends : (before : List AtomField) (bytes : List ℕ) (e : AtomFault) → 0 < length bytes → FailsBy (reason_of e) (entry_at before bytes) → FailsBy (reason_of e) (entries_at before bytes)
+pub ends : (before : List AtomField) (bytes : List ℕ) (e : AtomFault)
+    → 0 < length bytes
+    → FailsBy (reason_of e) (entry_at before bytes)
+    → FailsBy (reason_of e) (entries_at before bytes)
 unfolding entries_in
 ends before bytes Memory some failed = tt
 ends before [] (Bad reason) some failed = absurd (omega arith)
@@ -116,13 +161,14 @@ unfolding entries_in
 is_done before [] none = refl
 is_done before (byte ∷ bytes) none = absurd (omega arith)
 
-pub shortens : (before : List AtomField) (bytes : List ℕ) (entry : AtomField) (after : List ℕ) → entry_at before bytes ≡ Ok (entry, after) → length after < length bytes
-shortens before bytes entry after read = entry_shortens before bytes (entry, after) read
-
+-- a truth or false is that truth
 or_false : (b : Bool) → (b || false) ≡ b
 or_false true = refl
 or_false false = refl
 
 -- whether there is an exclusive entry among those before and this one
-pub any_exclusive-push : (before : List AtomField) (entry : AtomField) → list_any is_exclusive (before ++ entry ∷ []) ≡ (list_any is_exclusive before || is_exclusive entry)
-any_exclusive-push before entry = list_any-append is_exclusive before (entry ∷ []) ∙ ap (λ b. list_any is_exclusive before || b) (or_false (is_exclusive entry))
+pub any_exclusive-push : (before : List AtomField) (entry : AtomField)
+    → list_any is_exclusive (before ++ entry ∷ []) ≡ (list_any is_exclusive before || is_exclusive entry)
+any_exclusive-push before entry =
+    list_any-append is_exclusive before (entry ∷ []) ∙ ap (λ b. list_any is_exclusive before || b)
+    (or_false (is_exclusive entry))

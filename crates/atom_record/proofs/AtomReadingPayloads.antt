@@ -1,4 +1,5 @@
--- The two laws of payloads: what is read has no fault and is spelled so, and what has no fault and is spelled so is read.
+-- The two laws of payloads, for `parse_atom`: what is read has no fault and is spelled so,
+-- and what has no fault and is spelled so is read.
 use Rattle.std.proofs.Common.{◌≡◌, ℕ, zero, suc, ◌+◌, ◌^◌, ◌≤◌, false, not, List, [], ◌∷◌, ◌++◌, length, take, drop, Result, Ok, Err, refl, sym, ap, subst, ◌∙◌, append_assoc, arith}
 use Rattle.std.specs.Prelude.{if◌then◌else◌, nat_lt, All, IfOk}
 use Rattle.std.specs.Int.{w32, from_le_bytes, to_le_bytes}
@@ -13,8 +14,8 @@ use Rattle.atom_record.specs.declared.fault.AtomFault.{AtomFault}
 use Rattle.atom_record.specs.AtomReasons.{reason_too_long, reason_bad_id, most_payload}
 use Rattle.atom_record.specs.Id.{IsAtomId, is_atom_id}
 use Rattle.atom_record.specs.AtomReading.{reason_of, entry_at, entries_in, entries_at, id_at, atom_at}
-use Rattle.atom_record.specs.Spelling.{entry_bytes, payload_of}
-use Rattle.atom_record.specs.Sound.{IsEntry, AreEntries, HasNoFault}
+use Rattle.atom_record.specs.AtomSpelling.{entry_bytes, payload_of}
+use Rattle.atom_record.specs.AtomSound.{IsEntry, AreEntries, HasNoFault}
 use Rattle.atom_record.proofs.AtomReadingParts.{IsBytes, bind_ok, passed, ok_is, Takes, wide32, front_takes}
 use Rattle.atom_record.proofs.AtomReadingEntries.{entry_takes, entry_again}
 
@@ -25,16 +26,24 @@ record TakesAll (before : List AtomField) (bytes : List ℕ) (all : List AtomFie
   spelled : bytes ≡ flat_map entry_bytes later
   are : AreEntries all
 
+-- where no byte is left, the entries so far are all
 nothing_more : (before all : List AtomField) → AreEntries before → before ≡ all → TakesAll before [] all
-nothing_more before all are same = record { later = []; all_is = sym same ∙ sym (append-nil before); spelled = refl; are = rw (← same) are }
+nothing_more before all are same =
+    record { later = []; all_is = sym same ∙ sym (append-nil before); spelled = refl; are = rw (← same) are }
 
-entries_take : (turns : ℕ) (before : List AtomField) (bytes : List ℕ) (all : List AtomField) → IsBytes bytes → AreEntries before → entries_in turns before bytes ≡ Ok all → TakesAll before bytes all
+-- entries that are read are spelled so, and have no fault
+entries_take : (turns : ℕ) (before : List AtomField) (bytes : List ℕ) (all : List AtomField)
+    → IsBytes bytes
+    → AreEntries before
+    → entries_in turns before bytes ≡ Ok all
+    → TakesAll before bytes all
 unfolding entries_in
 entries_take zero before [] all fits are read = nothing_more before all are (ok_is before all read)
 entries_take zero before (byte ∷ bytes) all fits are read = absurd cc
 entries_take (suc turns) before [] all fits are read = nothing_more before all are (ok_is before all read)
 entries_take (suc turns) before (byte ∷ bytes) all fits are read =
-    let entry = bind_ok (entry_at before (byte ∷ bytes)) (λ entry. entries_in turns (before ++ entry.0 ∷ []) entry.1) all read in
+    let entry = bind_ok (entry_at before (byte ∷ bytes)) (λ entry. entries_in turns (before ++ entry.0 ∷ []) entry.1)
+    all read in
     let first = entry_takes before (byte ∷ bytes) entry.0 fits are entry.1 in
     let others = entries_take turns (before ++ entry.0.0 ∷ []) entry.0.1 all first.took.fits first.are entry.2 in
     record {
@@ -45,71 +54,116 @@ entries_take (suc turns) before (byte ∷ bytes) all fits are read =
     }
 
 -- what holds of each element holds of one in the midst
-each_at : (before : List AtomField) (entry : AtomField) (later : List AtomField) → All IsEntry (before ++ entry ∷ later) → IsEntry entry
+each_at : (before : List AtomField) (entry : AtomField) (later : List AtomField)
+    → All IsEntry (before ++ entry ∷ later)
+    → IsEntry entry
 each_at before entry later each =
     let size = length-append before (entry ∷ later) in
     rw (get_or-append-add before (entry ∷ later) 0 entry) at (each (length before + 0) entry (omega arith))
 
-entries_again : (turns : ℕ) (before later : List AtomField) → length (flat_map entry_bytes later) ≤ turns → AreEntries (before ++ later) → entries_in turns before (flat_map entry_bytes later) ≡ Ok (before ++ later)
+-- entries without fault are read from their spelling
+entries_again : (turns : ℕ) (before later : List AtomField)
+    → length (flat_map entry_bytes later) ≤ turns
+    → AreEntries (before ++ later)
+    → entries_in turns before (flat_map entry_bytes later) ≡ Ok (before ++ later)
 unfolding entries_in
 entries_again zero before [] enough are = ap (λ (all : List AtomField). Ok all) (sym (append-nil before))
 entries_again (suc turns) before [] enough are = ap (λ (all : List AtomField). Ok all) (sym (append-nil before))
 entries_again zero before (entry ∷ later) enough are = absurd (omega arith)
 entries_again (suc turns) before (entry ∷ later) enough are =
     let rest = flat_map entry_bytes later in
-    let regrouped : (before ++ entry ∷ []) ++ later ≡ before ++ entry ∷ later = append_assoc before (entry ∷ []) later in
+    let regrouped : (before ++ entry ∷ []) ++ later ≡ before ++ entry ∷ later =
+    append_assoc before (entry ∷ []) later in
     let size = length-append (entry_bytes entry) rest in
     let others = entries_again turns (before ++ entry ∷ []) later (omega arith) (rw regrouped are) in
-    rw (entry_again before entry later rest (each_at before entry later are.each) are) (others ∙ ap (λ (all : List AtomField). Ok all) regrouped)
+    rw (entry_again before entry later rest (each_at before entry later are.each) are)
+    (others ∙ ap (λ (all : List AtomField). Ok all) regrouped)
 
-id_takes : (bytes : List ℕ) (x : ℕ × List ℕ) → IsBytes bytes → id_at bytes ≡ Ok x → Takes bytes (to_le_bytes w32 x.0) x.1 × IsAtomId x.0
+-- an id that is read is spelled so, and an atom may have it
+id_takes : (bytes : List ℕ) (x : ℕ × List ℕ)
+    → IsBytes bytes
+    → id_at bytes ≡ Ok x
+    → Takes bytes (to_le_bytes w32 x.0) x.1 × IsAtomId x.0
 unfolding id_at
 id_takes bytes x fits read =
     let id = from_le_bytes w32 (take 4 bytes) in
-    let there = passed (nat_lt (length bytes) 4) reason_bad_id (if not (is_atom_id id) then Err reason_bad_id else Ok (id, drop 4 bytes)) x read in
+    let there = passed (nat_lt (length bytes) 4) reason_bad_id
+    (if not (is_atom_id id) then Err reason_bad_id else Ok (id, drop 4 bytes)) x read in
     let may = passed (not (is_atom_id id)) reason_bad_id (Ok (id, drop 4 bytes)) x there.1 in
     let parts = and_parts (nat_lt 0 id) (nat_lt id (2 ^ 31)) (not-false (is_atom_id id) may.0) in
     let took = front_takes w32 (2 ^ 32) wide32 bytes (ltb-false (length bytes) 4 there.0) fits in
-    subst (λ (y : ℕ × List ℕ). Takes bytes (to_le_bytes w32 y.0) y.1 × IsAtomId y.0) (ok_is (id, drop 4 bytes) x may.1) (took.0, (ltb-true 0 id parts.0, ltb-true id (2 ^ 31) parts.1))
+    subst (λ (y : ℕ × List ℕ). Takes bytes (to_le_bytes w32 y.0) y.1 × IsAtomId y.0)
+    (ok_is (id, drop 4 bytes) x may.1) (took.0, (ltb-true 0 id parts.0, ltb-true id (2 ^ 31) parts.1))
 
+-- an id that an atom may have is read from its spelling
 id_again : (id : ℕ) (rest : List ℕ) → IsAtomId id → id_at (to_le_bytes w32 id ++ rest) ≡ Ok (id, rest)
 unfolding id_at
 id_again id rest is =
-    let long : nat_lt (length (to_le_bytes w32 id ++ rest)) 4 ≡ false = le-ltb _ _ (omega (arith, length-append (to_le_bytes w32 id) rest)) in
+    let long : nat_lt (length (to_le_bytes w32 id ++ rest)) 4 ≡ false =
+    le-ltb _ _ (omega (arith, length-append (to_le_bytes w32 id) rest)) in
     let again : from_le_bytes w32 (take 4 (to_le_bytes w32 id ++ rest)) ≡ id = wide32.again id (omega (arith, is.1)) in
     let may : not (is_atom_id id) ≡ false = not_from_true _ (and_from _ _ (lt-ltb _ _ is.0) (lt-ltb _ _ is.1)) in
     rw (long, again, may, drop_at (to_le_bytes w32 id) rest 4 refl) refl
 
+-- no entries have no fault
 no_entries : AreEntries []
-no_entries = record { each = All-nil IsEntry; rising = λ i j d less below. absurd (omega arith); one_state = omega arith }
+no_entries = record {
+  each = All-nil IsEntry;
+  rising = λ i j d less below. absurd (omega arith);
+  one_state = omega
+      arith;
+}
 
-pub atom_takes : (bytes : List ℕ) (atom : Atom) → IsBytes bytes → atom_at bytes ≡ Ok atom → HasNoFault atom × (bytes ≡ payload_of atom)
+-- an atom that is read has no fault, and the bytes are its payload
+pub atom_takes : (bytes : List ℕ) (atom : Atom)
+    → IsBytes bytes
+    → atom_at bytes ≡ Ok atom
+    → HasNoFault atom × (bytes ≡ payload_of atom)
 unfolding atom_at
 atom_takes bytes atom fits read =
-    let short = passed (nat_lt most_payload (length bytes)) reason_too_long (id_at bytes >>= λ id. entries_at [] id.1 >>= λ fields. Ok (record { id = id.0; fields = fields })) atom read in
-    let id = bind_ok (id_at bytes) (λ id. entries_at [] id.1 >>= λ fields. Ok (record { id = id.0; fields = fields })) atom short.1 in
+    let short = passed (nat_lt most_payload (length bytes)) reason_too_long
+    (id_at bytes >>= λ id. entries_at [] id.1 >>= λ fields. Ok (record { id = id.0; fields = fields })) atom
+    read in
+    let id = bind_ok (id_at bytes) (λ id. entries_at [] id.1 >>= λ fields. Ok (record { id = id.0; fields = fields }))
+    atom short.1 in
     let fields = bind_ok (entries_at [] id.0.1) (λ fields. Ok (record { id = id.0.0; fields = fields })) atom id.2 in
     let front = id_takes bytes id.0 fits id.1 in
     let all = entries_take (length id.0.1) [] id.0.1 fields.0 front.0.fits no_entries fields.1 in
     let made : Atom = record { id = id.0.0; fields = fields.0 } in
-    let spelled : bytes ≡ payload_of made = front.0.parts ∙ ap (λ (t : List ℕ). to_le_bytes w32 id.0.0 ++ t) (all.spelled ∙ ap (flat_map entry_bytes) (sym all.all_is)) in
-    let sound : HasNoFault made = record { id = front.1; entries = all.are; fits = subst (λ (t : List ℕ). length t ≤ most_payload) spelled (ltb-false most_payload (length bytes) short.0) } in
+    let spelled : bytes ≡ payload_of made =
+    front.0.parts ∙ ap (λ (t : List ℕ). to_le_bytes w32 id.0.0 ++ t)
+    (all.spelled ∙ ap (flat_map entry_bytes) (sym all.all_is)) in
+    let sound : HasNoFault made =
+    record {
+      id = front.1;
+      entries = all.are;
+      fits = subst (λ (t : List ℕ). length t ≤ most_payload) spelled
+          (ltb-false most_payload (length bytes) short.0);
+    } in
     subst (λ (a : Atom). HasNoFault a × (bytes ≡ payload_of a)) (ok_is made atom fields.2) (sound, spelled)
 
+-- an atom without fault is read from its payload
 pub atom_again : (atom : Atom) → HasNoFault atom → atom_at (payload_of atom) ≡ Ok atom
 unfolding atom_at
 atom_again atom sound =
     let rest = flat_map entry_bytes atom.fields in
     let short : nat_lt most_payload (length (payload_of atom)) ≡ false = le-ltb _ _ sound.fits in
-    let fields : entries_at [] rest ≡ Ok atom.fields = entries_again (length rest) [] atom.fields (omega arith) sound.entries in
+    let fields : entries_at [] rest ≡ Ok atom.fields =
+    entries_again (length rest) [] atom.fields (omega arith) sound.entries in
     rw (short, id_again atom.id rest sound.id, fields) refl
 
 -- an atom that a call answers has no fault
-pub read_is_sound : (bytes : List ℕ) (answer : Result Atom AtomFault) → IsBytes bytes → GivesBy reason_of (λ atom. atom) answer (atom_at bytes) → IfOk answer HasNoFault
+pub read_is_sound : (bytes : List ℕ) (answer : Result Atom AtomFault)
+    → IsBytes bytes
+    → GivesBy reason_of (λ atom. atom) answer (atom_at bytes)
+    → IfOk answer HasNoFault
 read_is_sound bytes (Ok atom) fits given = (atom_takes bytes atom fits given).0
 read_is_sound bytes (Err e) fits given = tt
 
 -- and the bytes are its payload
-pub read_is_spelled : (bytes : List ℕ) (answer : Result Atom AtomFault) → IsBytes bytes → GivesBy reason_of (λ atom. atom) answer (atom_at bytes) → IfOk answer (λ atom. bytes ≡ payload_of atom)
+pub read_is_spelled : (bytes : List ℕ) (answer : Result Atom AtomFault)
+    → IsBytes bytes
+    → GivesBy reason_of (λ atom. atom) answer (atom_at bytes)
+    → IfOk answer (λ atom. bytes ≡ payload_of atom)
 read_is_spelled bytes (Ok atom) fits given = (atom_takes bytes atom fits given).1
 read_is_spelled bytes (Err e) fits given = tt

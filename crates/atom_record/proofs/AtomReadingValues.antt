@@ -1,4 +1,4 @@
--- Values: what is read is spelled so, and what is spelled is read again.
+-- Values, for entries and items: what is read is spelled so, and what is spelled is read again.
 use Rattle.std.proofs.Common.{◌≡◌, ℕ, ◌^◌, ◌<◌, List, ◌++◌, Result, Ok, refl, sym, ap, subst, ◌∙◌, inl, inr, ℤ, Fits, arith}
 use Rattle.std.proofs.Math.Facts.{Fits-of_z, sfits_to_z}
 use Rattle.std.proofs.lemmas.Bool.{eqb-true}
@@ -10,8 +10,8 @@ use Rattle.atom_record.specs.declared.value.Value.TheVariants as values
 use Rattle.atom_record.specs.declared.parse.Kind.{Kind}
 use Rattle.atom_record.specs.declared.parse.Kind.TheVariants as kinds
 use Rattle.atom_record.specs.AtomReading.{number_at, text_at, bool_at, kind_at, value_at}
-use Rattle.atom_record.specs.Spelling.{type_of, value_bytes}
-use Rattle.atom_record.specs.Sound.{IsInRange}
+use Rattle.atom_record.specs.AtomSpelling.{type_of, value_bytes}
+use Rattle.atom_record.specs.AtomSound.{IsInRange}
 use Rattle.atom_record.proofs.AtomReadingParts.{IsBytes, bind_ok, ok_is, chosen, Takes, wide32, wide64, number_takes, number_again, bool_takes, bool_again, text_takes, text_again}
 
 -- the kind of a value
@@ -23,22 +23,31 @@ kind_of (values.Str text) = kinds.Str
 kind_of (values.Raw bytes) = kinds.Raw
 kind_of (values.Bits32 bits) = kinds.Bits32
 
+-- a signed number of four bytes, as bits
 pub unsigned32 : (n : ℤ) → FitsSigned w32 n → cast_unsigned w32 n < 2 ^ 32
 unsigned32 n fits = let bits = Fits-of_z fits in omega arith
 
+-- a signed number of eight bytes, as bits
 pub unsigned64 : (n : ℤ) → FitsSigned w64 n → cast_unsigned w64 n < 2 ^ 64
 unsigned64 n fits = let bits = Fits-of_z fits in omega arith
 
+-- four bytes as a signed number
 pub signed32 : (n : ℕ) → n < 2 ^ 32 → FitsSigned w32 (cast_signed w32 n)
 signed32 n below = let bits : Fits w32 n = record { fits = omega arith } in sfits_to_z bits
 
+-- eight bytes as a signed number
 pub signed64 : (n : ℕ) → n < 2 ^ 64 → FitsSigned w64 (cast_signed w64 n)
 signed64 n below = let bits : Fits w64 n = record { fits = omega arith } in sfits_to_z bits
 
-pub value_again : (value : Value) (rest : List ℕ) → IsInRange value → value_at (kind_of value) (value_bytes value ++ rest) ≡ Ok (value, rest)
+-- a value that fits its bytes is read from its spelling
+pub value_again : (value : Value) (rest : List ℕ)
+    → IsInRange value
+    → value_at (kind_of value) (value_bytes value ++ rest) ≡ Ok (value, rest)
 unfolding value_at
-value_again (values.Int n) rest fits = rw (number_again w32 (2 ^ 32) wide32 (cast_unsigned w32 n) rest (unsigned32 n fits), to_z-of_z w32 n fits) refl
-value_again (values.Long n) rest fits = rw (number_again w64 (2 ^ 64) wide64 (cast_unsigned w64 n) rest (unsigned64 n fits), to_z-of_z w64 n fits) refl
+value_again (values.Int n) rest fits =
+    rw (number_again w32 (2 ^ 32) wide32 (cast_unsigned w32 n) rest (unsigned32 n fits), to_z-of_z w32 n fits) refl
+value_again (values.Long n) rest fits =
+    rw (number_again w64 (2 ^ 64) wide64 (cast_unsigned w64 n) rest (unsigned64 n fits), to_z-of_z w64 n fits) refl
 value_again (values.Bool b) rest fits = rw (bool_again b rest) refl
 value_again (values.Str text) rest fits = rw (text_again text rest fits.0) refl
 value_again (values.Raw bytes) rest fits = rw (text_again bytes rest fits.0) refl
@@ -50,18 +59,32 @@ pub record TakesValue (kind : Kind) (bytes : List ℕ) (value : Value) (rest : L
   pub fits : IsInRange value
   pub same : kind_of value ≡ kind
 
-pub value_takes : (kind : Kind) (bytes : List ℕ) (x : Value × List ℕ) → IsBytes bytes → value_at kind bytes ≡ Ok x → TakesValue kind bytes x.0 x.1
+-- a value that is read is spelled so, fits its bytes, and is of the kind
+pub value_takes : (kind : Kind) (bytes : List ℕ) (x : Value × List ℕ)
+    → IsBytes bytes
+    → value_at kind bytes ≡ Ok x
+    → TakesValue kind bytes x.0 x.1
 unfolding value_at
 value_takes kinds.Int bytes x fits read =
     let n = bind_ok (number_at w32 bytes) (λ n. Ok (values.Int (cast_signed w32 n.0), n.1)) x read in
     let took = number_takes w32 (2 ^ 32) wide32 bytes n.0 fits n.1 in
     let is_value : Value × List ℕ → Type 0 = λ y. TakesValue kinds.Int bytes y.0 y.1 in
-    subst is_value (ok_is _ x n.2) (record { took = rw (of_z-to_z w32 n.0.0 took.1) took.0; fits = signed32 n.0.0 took.1; same = refl })
+    subst is_value (ok_is _ x n.2) (record {
+      took = rw (of_z-to_z w32 n.0.0 took.1) took.0;
+      fits = signed32 n.0.0
+          took.1;
+      same = refl;
+    })
 value_takes kinds.Long bytes x fits read =
     let n = bind_ok (number_at w64 bytes) (λ n. Ok (values.Long (cast_signed w64 n.0), n.1)) x read in
     let took = number_takes w64 (2 ^ 64) wide64 bytes n.0 fits n.1 in
     let is_value : Value × List ℕ → Type 0 = λ y. TakesValue kinds.Long bytes y.0 y.1 in
-    subst is_value (ok_is _ x n.2) (record { took = rw (of_z-to_z w64 n.0.0 took.1) took.0; fits = signed64 n.0.0 took.1; same = refl })
+    subst is_value (ok_is _ x n.2) (record {
+      took = rw (of_z-to_z w64 n.0.0 took.1) took.0;
+      fits = signed64 n.0.0
+          took.1;
+      same = refl;
+    })
 value_takes kinds.Bool bytes x fits read =
     let b = bind_ok (bool_at bytes) (λ b. Ok (values.Bool b.0, b.1)) x read in
     let is_value : Value × List ℕ → Type 0 = λ y. TakesValue kinds.Bool bytes y.0 y.1 in
@@ -91,6 +114,7 @@ number_of kinds.Str = 4
 number_of kinds.Raw = 5
 number_of kinds.Bits32 = 6
 
+-- the type byte of a value is the number of its kind
 pub type_is : (value : Value) → type_of value ≡ number_of (kind_of value)
 type_is (values.Int n) = refl
 type_is (values.Long n) = refl
@@ -99,6 +123,7 @@ type_is (values.Str text) = refl
 type_is (values.Raw bytes) = refl
 type_is (values.Bits32 bits) = refl
 
+-- the type byte of a value names its kind
 pub kind_again : (value : Value) → kind_at (type_of value) ≡ Ok (kind_of value)
 kind_again (values.Int n) = refl
 kind_again (values.Long n) = refl
@@ -108,13 +133,18 @@ kind_again (values.Raw bytes) = refl
 kind_again (values.Bits32 bits) = refl
 
 -- one case of a chain of numbers
-named : (number at : ℕ) (it : Kind) (others : Result Kind ℕ) (kind : Kind) → number_of it ≡ at → (if number == at then Ok it else others) ≡ Ok kind → (others ≡ Ok kind → number ≡ number_of kind) → number ≡ number_of kind
+named : (number at : ℕ) (it : Kind) (others : Result Kind ℕ) (kind : Kind)
+    → number_of it ≡ at
+    → (if number == at then Ok it else others) ≡ Ok kind
+    → (others ≡ Ok kind → number ≡ number_of kind)
+    → number ≡ number_of kind
 named number at it others kind is read next =
     elim (chosen (number == at) (Ok it) others (Ok kind) read) [
       | inl this ↦ let same : it ≡ kind = let e = this.1 in cc in eqb-true number at this.0 ∙ sym is ∙ ap number_of same
       | inr other ↦ next other.1
     ]
 
+-- a type byte that names a kind is the number of that kind
 pub kind_takes : (number : ℕ) (kind : Kind) → kind_at number ≡ Ok kind → number ≡ number_of kind
 kind_takes number kind read =
     named number 1 kinds.Int _ kind refl read (λ read.

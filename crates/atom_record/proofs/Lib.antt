@@ -1,8 +1,9 @@
 pub mod AtomReadingEntries
+pub mod AtomReadingFlags
 pub mod AtomReadingLoop
 pub mod AtomReadingParts
 pub mod AtomReadingPayloads
 pub mod AtomReadingPlaces
 pub mod AtomReadingValues
-pub mod SoundLemmas
+pub mod AtomSoundLemmas
 pub mod TypedLaws

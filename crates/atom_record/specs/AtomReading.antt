@@ -17,7 +17,7 @@ use Rattle.atom_record.specs.Id.{is_atom_id}
 use Rattle.atom_record.specs.Flags.{flag_exclusive, flag_reset, all_flags, has_flag, is_exclusive}
 use Rattle.atom_record.specs.ValueTypes.{type_int, type_long, type_bool, type_str, type_raw, type_bits32}
 use Rattle.atom_record.specs.AtomReasons.{reason_too_long, reason_bad_id, reason_cut, reason_bad_place, reason_not_above, reason_bad_type, reason_bad_flags, most_payload}
-use Rattle.atom_record.specs.Sound.{largest_part}
+use Rattle.atom_record.specs.AtomSound.{largest_part}
 
 -- the reason of a fault, and none for want of memory
 abbrev pub reason_of : AtomFault → Option ℕ
@@ -34,7 +34,8 @@ is_in_range place =
 abbrev pub is_above : Place → Place → Bool
 is_above place below =
     nat_lt below.field place.field
-    || (below.field == place.field && (nat_lt below.index place.index || (below.index == place.index && nat_lt below.sub place.sub)))
+    || (below.field == place.field
+    && (nat_lt below.index place.index || (below.index == place.index && nat_lt below.sub place.sub)))
 
 -- the place of an entry
 abbrev pub place_of : AtomField → Place
@@ -45,7 +46,7 @@ abbrev pub is_above_entry : Option AtomField → Place → Bool
 is_above_entry None place = true
 is_above_entry (Some last) place = is_above place (place_of last)
 
--- the place is above that of the last of these entries
+-- the place is above that of the last of these entries, if there is one
 abbrev pub is_after_last : List AtomField → Place → Bool
 is_after_last before place = is_above_entry (slice_get before (length before - 1)) place
 
@@ -59,7 +60,8 @@ may_be_state place _ = false
 abbrev pub may_have : Bool → Place → Kind → ℕ → Bool
 may_have exclusive_before place kind flags =
     nat_le flags all_flags
-    && (if has_flag flags flag_exclusive then not exclusive_before && may_be_state place kind else not (has_flag flags flag_reset))
+    && (if has_flag flags flag_exclusive then not exclusive_before && may_be_state place kind
+    else not (has_flag flags flag_reset))
 
 -- a number of so many bytes, low byte first
 abbrev pub number_at : Width → List ℕ → Result (ℕ × List ℕ) ℕ
@@ -70,11 +72,14 @@ number_at width bytes =
 -- one byte, 0 or 1
 abbrev pub bool_at : List ℕ → Result (Bool × List ℕ) ℕ
 bool_at [] = Err reason_cut
-bool_at (byte ∷ bytes) = if byte == 0 then Ok (false, bytes) else if byte == 1 then Ok (true, bytes) else Err reason_bad_type
+bool_at (byte ∷ bytes) =
+    if byte == 0 then Ok (false, bytes) else if byte == 1 then Ok (true, bytes) else Err reason_bad_type
 
 -- a length in two bytes, and so many bytes
 unfoldable pub text_at : List ℕ → Result (List ℕ × List ℕ) ℕ
-text_at bytes = number_at w16 bytes >>= λ len. if nat_lt (length len.1) len.0 then Err reason_cut else Ok (take len.0 len.1, drop len.0 len.1)
+text_at bytes =
+    number_at w16 bytes >>= λ len.
+    if nat_lt (length len.1) len.0 then Err reason_cut else Ok (take len.0 len.1, drop len.0 len.1)
 
 -- the kind that a type byte names
 abbrev pub kind_at : ℕ → Result Kind ℕ
@@ -104,7 +109,8 @@ entry_at before (field ∷ index ∷ sub ∷ flags ∷ number ∷ bytes) =
     else if not (is_after_last before place) then Err reason_not_above
     else (kind_at number >>= λ kind.
     if not (may_have (list_any is_exclusive before) place kind flags) then Err reason_bad_flags
-    else (value_at kind bytes >>= λ value. Ok (record { field = field; index = index; sub = sub; flags = flags; value = value.0 }, value.1)))
+    else (value_at kind bytes >>= λ value.
+    Ok (record { field = field; index = index; sub = sub; flags = flags; value = value.0 }, value.1)))
 entry_at before _ = Err reason_cut
 
 -- the entries of these bytes, after these entries: an entry has a byte at least, so as many turns as bytes are enough
@@ -112,7 +118,8 @@ unfoldable pub entries_in : ℕ → List AtomField → List ℕ → Result (List
 entries_in zero before [] = Ok before
 entries_in zero before (byte ∷ bytes) = Err reason_cut
 entries_in (suc turns) before [] = Ok before
-entries_in (suc turns) before (byte ∷ bytes) = entry_at before (byte ∷ bytes) >>= λ entry. entries_in turns (before ++ entry.0 ∷ []) entry.1
+entries_in (suc turns) before (byte ∷ bytes) =
+    entry_at before (byte ∷ bytes) >>= λ entry. entries_in turns (before ++ entry.0 ∷ []) entry.1
 
 -- all entries of these bytes, after these entries
 abbrev pub entries_at : List AtomField → List ℕ → Result (List AtomField) ℕ
@@ -122,7 +129,8 @@ entries_at before bytes = entries_in (length bytes) before bytes
 unfoldable pub id_at : List ℕ → Result (ℕ × List ℕ) ℕ
 id_at bytes =
     if nat_lt (length bytes) 4 then Err reason_bad_id
-    else let id = from_le_bytes w32 (take 4 bytes) in if not (is_atom_id id) then Err reason_bad_id else Ok (id, drop 4 bytes)
+    else let id = from_le_bytes w32 (take 4 bytes) in
+    if not (is_atom_id id) then Err reason_bad_id else Ok (id, drop 4 bytes)
 
 -- a whole payload
 unfoldable pub atom_at : List ℕ → Result Atom ℕ

@@ -16,20 +16,24 @@ use Rattle.atom_record.specs.contracts.value.MetricKeyPartialEq.TheImpl as metri
 use Rattle.atom_record.specs.contracts.atom.AtomFieldPartialEq.TheImpl as atom_field
 use Rattle.atom_record.specs.contracts.atom.AtomPartialEq.TheImpl as atom
 
+-- `==` of leaves
 pub leaf_exact : (x y : Leaf) → Decides (leaf.ghosts.eq x y) (x ≡ y)
 leaf_exact Missing Missing = (λ _. refl, λ _. refl)
 leaf_exact (One x) (One y) = let d = value_exact x y in (λ h. ap One (d.0 h), λ e. d.1 (cc))
 leaf_exact (Many x) (Many y) = let d = pointwise_decides value_exact x y in (λ h. ap Many (d.0 h), λ e. d.1 (cc))
 leaf_exact _ _ = (λ h. cc, λ e. cc)
 
+-- `==` of keys
 pub metric_key_exact : (x y : MetricKey) → Decides (metric_key.ghosts.eq x y) (x ≡ y)
 metric_key_exact x y =
     let dims = pointwise_decides leaf_exact x.dims y.dims in
     let slices = pointwise_decides slice_exact x.slices y.slices in
     search (rules, dims, slices)
 
+-- `==` of entries
 pub atom_field_exact : (x y : AtomField) → Decides (atom_field.ghosts.eq x y) (x ≡ y)
 atom_field_exact x y = let value = value_exact x.value y.value in search (comparing, hashing, rules, value)
 
+-- `==` of atoms
 pub atom_exact : (x y : Atom) → Decides (atom.ghosts.eq x y) (x ≡ y)
 atom_exact x y = let fields = pointwise_decides atom_field_exact x.fields y.fields in search (rules, fields)

@@ -1,10 +1,10 @@
 pub mod AtomReading
 pub mod AtomReasons
+pub mod AtomSound
+pub mod AtomSpelling
 pub mod Equal
 pub mod Flags
 pub mod Id
 pub mod Pulled
-pub mod Sound
-pub mod Spelling
 pub mod TypedValue
 pub mod ValueTypes

@@ -23,7 +23,7 @@ IsPulled id =
     (first_platform_pull ≤ id × id < after_platform_pulls) ⊎ (first_vendor_pull ≤ id × id < after_vendor_pulls)
 
 -- the test whether atoms of this id come in recorded pulls
-abbrev pub is_pulled : ℕ → Bool
-is_pulled id =
+abbrev pub is_pull_id : ℕ → Bool
+is_pull_id id =
     (nat_le first_platform_pull id && nat_lt id after_platform_pulls)
     || (nat_le first_vendor_pull id && nat_lt id after_vendor_pulls)

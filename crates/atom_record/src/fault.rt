@@ -34,6 +34,7 @@ pub enum AtomFault {
     /// The bytes are no payload, for this reason.
     #[error("bad atom {0}")]
     Bad(u8),
+    /// Memory was wanting, and nothing is said of the bytes.
     #[error("out of memory")]
     Memory,
 }

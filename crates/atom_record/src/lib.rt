@@ -18,6 +18,3 @@ pub use fault::{
 pub use log::{LogFrame, PullOutcome, is_pulled};
 pub use parse::{MAX_BYTES, parse_atom};
 pub use value::{Bytes, CloneKey, DimKey, Leaf, MetricKey, Slice, Value};
-
-#[cfg(test)]
-mod tests;

@@ -1,6 +1,6 @@
 //! The frames of the log.
 ghost use Rattle.std.specs.Prelude.{◌≡◌, ◌↔◌, IsTrue};
-ghost use Rattle.atom_record.specs.Pulled.{IsPulled, is_pulled};
+ghost use Rattle.atom_record.specs.Pulled.{IsPulled, is_pull_id};
 
 use crate::Atom;
 use sd_base::Seq;
@@ -19,17 +19,23 @@ pub enum PullOutcome {
 pub enum LogFrame {
     /// Time passed.
     Tick {
+        /// The time that it is now.
         at: u64,
     },
     /// An atom was logged.
     AtomAt {
+        /// When the atom was logged.
         at: u64,
+        /// What was logged.
         atom: Atom,
     },
     /// A snapshot of a pulled atom was recorded.
     Pull {
+        /// When the pull was made.
         at: u64,
+        /// The id of the atoms that were asked for.
         id: u32,
+        /// What the pull gave.
         outcome: PullOutcome,
     },
 }
@@ -37,7 +43,7 @@ pub enum LogFrame {
 /// Whether atoms of this id are pulled. All others are pushed.
 pub fn is_pulled(id: u32) -> bool
     ensures exact { IsTrue result ↔ IsPulled id }
-    ensures test { result ≡ is_pulled id }
+    ensures test { result ≡ is_pull_id id }
 {
     matches!(id, 10_000..100_000 | 150_000..200_000)
 }

@@ -11,10 +11,15 @@ pub type Bytes = Seq<u8>;
 /// What an entry of an atom holds.
 #[derive(Debug, Drop, PartialEq, Eq, Hash)]
 pub enum Value {
+    /// A signed number of four bytes. Only such a value may be a state.
     Int(i32),
+    /// A signed number of eight bytes.
     Long(i64),
+    /// A truth.
     Bool(bool),
+    /// A text. Its bytes are compared as they are, and need not be UTF-8.
     Str(Bytes),
+    /// A string of bytes that is no text. It never equals a text.
     Raw(Bytes),
     /// A float as its four bytes, which are never read as a number.
     Bits32(u32),
@@ -25,6 +30,7 @@ pub enum Value {
 pub enum Leaf {
     /// The atom has no such entry.
     Missing,
+    /// The one value that the atom has there.
     One(Value),
     /// The values at all positions of a repeated field, in order.
     Many(Seq<Value>),
@@ -52,7 +58,7 @@ pub struct MetricKey {
 }
 
 impl Value {
-    /// A copy, which equals its source.
+    /// A copy of the value. It equals its source, and memory is all that it can want.
     pub fn clone_value(&self, alloc: Global) -> Result<Value, AllocError>
         ensures { IfOk result (λ copy. copy ≡ self.now) }
     {
@@ -61,7 +67,7 @@ impl Value {
 }
 
 impl MetricKey {
-    /// A copy, which equals its source.
+    /// A copy of the key. It equals its source, and memory is all that it can want.
     pub fn clone_key(&self, alloc: Global) -> Result<MetricKey, AllocError>
         ensures { IfOk result (λ copy. copy ≡ self.now) }
     {
@@ -71,12 +77,13 @@ impl MetricKey {
 
 /// Copies of keys of dimensions. Their type is a name of a list, which takes no methods of its own.
 pub trait CloneKey: Sized {
-    /// A copy, which equals its source.
+    /// A copy of the dimensions. It equals its source, and memory is all that it can want.
     fn clone_key(&self, alloc: Global) -> Result<Self, AllocError>
         ensures { IfOk result (λ copy. copy ≡ self.now) };
 }
 
 impl CloneKey for DimKey {
+    /// A copy of the dimensions with leaves of its own.
     fn clone_key(&self, alloc: Global) -> Result<DimKey, AllocError> {
         self.duplicate(alloc)
     }
@@ -103,6 +110,7 @@ impl Exact for MetricKey {
 }
 
 impl Duplicate for Value {
+    /// A copy of the value with bytes of its own.
     fn duplicate(&self, alloc: Global) -> Result<Value, AllocError> {
         match self {
             Value::Int(n) => Ok(Value::Int(*n)),
@@ -116,6 +124,7 @@ impl Duplicate for Value {
 }
 
 impl Duplicate for Leaf {
+    /// A copy of the leaf with values of its own.
     fn duplicate(&self, alloc: Global) -> Result<Leaf, AllocError> {
         match self {
             Leaf::Missing => Ok(Leaf::Missing),
@@ -126,12 +135,14 @@ impl Duplicate for Leaf {
 }
 
 impl Duplicate for Slice {
+    /// The slice again, since it holds numbers alone.
     fn duplicate(&self, _alloc: Global) -> Result<Slice, AllocError> {
         Ok(*self)
     }
 }
 
 impl Duplicate for MetricKey {
+    /// A copy of the key with dimensions and slices of its own.
     fn duplicate(&self, alloc: Global) -> Result<MetricKey, AllocError> {
         let dims = self.dims.duplicate(alloc)?;
         let slices = self.slices.duplicate(alloc)?;

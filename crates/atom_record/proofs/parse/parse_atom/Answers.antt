@@ -6,12 +6,16 @@ use Rattle.atom_record.proofs.parse.parse_atom.Goals as goal
 
 -- what is read has no fault
 pub returns-clause-sound : goal.returns-clause-sound
-returns-clause-sound c = read_is_sound c.args.bytes.now c.atom_of.result (λ i. omega (arith, c.type_inv.bytes i)) c.atom_of.ensures
+returns-clause-sound c =
+    read_is_sound c.args.bytes.now c.atom_of.result (λ i. omega (arith, c.type_inv.bytes i)) c.atom_of.ensures
 
 -- what is read is spelled so
 pub returns-clause-spelled : goal.returns-clause-spelled
-returns-clause-spelled c = read_is_spelled c.args.bytes.now c.atom_of.result (λ i. omega (arith, c.type_inv.bytes i)) c.atom_of.ensures
+returns-clause-spelled c =
+    read_is_spelled c.args.bytes.now c.atom_of.result (λ i. omega (arith, c.type_inv.bytes i)) c.atom_of.ensures
 
 -- what has no fault and is spelled so is read
 pub returns-clause-only : goal.returns-clause-only
-returns-clause-only c = λ atom sound spelled. subst (GivesBy reason_of (λ atom. atom) c.atom_of.result) (ap atom_at spelled ∙ atom_again atom sound) c.atom_of.ensures
+returns-clause-only c =
+    λ atom sound spelled. subst (GivesBy reason_of (λ atom. atom) c.atom_of.result)
+    (ap atom_at spelled ∙ atom_again atom sound) c.atom_of.ensures

@@ -8,7 +8,7 @@ use Rattle.atom_record.specs.declared.value.Value.TheVariants as values
 use Rattle.atom_record.specs.Id.{IsAtomId}
 use Rattle.atom_record.specs.AtomReasons.{most_payload}
 use Rattle.atom_record.specs.Flags.{all_flags, is_exclusive, is_reset}
-use Rattle.atom_record.specs.Spelling.{payload_of}
+use Rattle.atom_record.specs.AtomSpelling.{payload_of}
 
 -- the largest field, index and sub of an entry
 abbrev pub largest_part : ℕ
@@ -56,7 +56,8 @@ pub record IsEntry (entry : AtomField) : Type 0 where
 abbrev pub IsBelow : AtomField → AtomField → Type 0
 IsBelow entry above =
     (entry.field < above.field)
-    ⊎ ((entry.field ≡ above.field) × ((entry.index < above.index) ⊎ ((entry.index ≡ above.index) × (entry.sub < above.sub))))
+    ⊎ ((entry.field ≡ above.field) × ((entry.index < above.index) ⊎
+    ((entry.index ≡ above.index) × (entry.sub < above.sub))))
 
 -- entries that have no fault: each by itself, in rising order, and one at most is exclusive
 pub record AreEntries (entries : List AtomField) : Type 0 where

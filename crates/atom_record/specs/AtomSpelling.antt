@@ -23,16 +23,16 @@ truth_byte false = 0
 truth_byte true = 1
 
 -- bytes after their length
-abbrev pub counted : List ℕ → List ℕ
-counted text = to_le_bytes w16 (length text) ++ text
+abbrev pub sized_bytes : List ℕ → List ℕ
+sized_bytes text = to_le_bytes w16 (length text) ++ text
 
 -- what stands after the type
 abbrev pub value_bytes : Value → List ℕ
 value_bytes (values.Int n) = to_le_bytes w32 (cast_unsigned w32 n)
 value_bytes (values.Long n) = to_le_bytes w64 (cast_unsigned w64 n)
 value_bytes (values.Bool b) = truth_byte b ∷ []
-value_bytes (values.Str text) = counted text
-value_bytes (values.Raw bytes) = counted bytes
+value_bytes (values.Str text) = sized_bytes text
+value_bytes (values.Raw bytes) = sized_bytes bytes
 value_bytes (values.Bits32 bits) = to_le_bytes w32 bits
 
 -- one entry

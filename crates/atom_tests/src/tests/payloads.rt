@@ -1,0 +1,153 @@
+//! Payloads that are read, and those that are refused, each for the first reason that it has.
+use atom_record::{AtomFault, parse_atom};
+use std::alloc::{AllocError, Global};
+use std::test::*;
+
+/// The number of the reason for which a payload is refused: 0 where it is read, 255 where memory was wanting.
+pub fn reason_of(alloc: Global, payload: &[u8]) -> u8 {
+    match parse_atom(alloc, payload) {
+        Ok(_) => 0,
+        Err(AtomFault::Bad(reason)) => reason,
+        Err(AtomFault::Memory) => 255,
+    }
+}
+
+/// Payloads of an atom with the id 5, and the numbers of their reasons.
+const ENTRIES: [(&[u8], u8); 45] = [
+    (b"\x05\0\0\0", 0),
+    // Fields, indexes and subs at their edges.
+    (b"\x05\0\0\0\x00\0\0\0\x03\0", 4),
+    (b"\x05\0\0\0\x01\0\0\0\x03\0", 0),
+    (b"\x05\0\0\0\x7f\x7f\x7f\0\x03\0", 0),
+    (b"\x05\0\0\0\x80\0\0\0\x03\0", 4),
+    (b"\x05\0\0\0\x01\x80\0\0\x03\0", 4),
+    (b"\x05\0\0\0\x01\0\x80\0\x03\0", 4),
+    // Equal, falling and rising places.
+    (b"\x05\0\0\0\x02\x02\x02\0\x03\0\x02\x02\x02\0\x03\0", 5),
+    (b"\x05\0\0\0\x02\x02\x02\0\x03\0\x01\x03\x03\0\x03\0", 5),
+    (b"\x05\0\0\0\x02\x02\x02\0\x03\0\x02\x01\x03\0\x03\0", 5),
+    (b"\x05\0\0\0\x02\x02\x02\0\x03\0\x02\x02\x01\0\x03\0", 5),
+    (b"\x05\0\0\0\x02\x02\x02\0\x03\0\x02\x02\x03\0\x03\0", 0),
+    (b"\x05\0\0\0\x02\x02\x02\0\x03\0\x02\x03\0\0\x03\0", 0),
+    (b"\x05\0\0\0\x02\x02\x02\0\x03\0\x03\0\0\0\x03\0", 0),
+    // Types, and the byte of a Bool.
+    (b"\x05\0\0\0\x01\0\0\0\x00", 6),
+    (b"\x05\0\0\0\x01\0\0\0\x07", 6),
+    (b"\x05\0\0\0\x01\0\0\0\x03\x01", 0),
+    (b"\x05\0\0\0\x01\0\0\0\x03\x02", 6),
+    // Flags: all of a state, an unknown one, two states, others beside a state, states that may be none, and resets.
+    (b"\x05\0\0\0\x01\0\0\x07\x01\0\0\0\0", 0),
+    (b"\x05\0\0\0\x01\0\0\x08\x01\0\0\0\0", 7),
+    (
+        b"\x05\0\0\0\x01\0\0\x01\x01\0\0\0\0\x02\0\0\x01\x01\0\0\0\0",
+        7,
+    ),
+    (
+        b"\x05\0\0\0\x01\0\0\x01\x01\0\0\0\0\x02\0\0\x02\x01\0\0\0\0",
+        0,
+    ),
+    (
+        b"\x05\0\0\0\x01\0\0\x02\x01\0\0\0\0\x02\0\0\x01\x01\0\0\0\0",
+        0,
+    ),
+    (b"\x05\0\0\0\x01\0\0\x01\x02\0\0\0\0\0\0\0\0", 7),
+    (b"\x05\0\0\0\x01\x01\0\x01\x01\0\0\0\0", 7),
+    (b"\x05\0\0\0\x01\0\x01\x01\x01\0\0\0\0", 7),
+    (b"\x05\0\0\0\x01\0\0\x04\x01\0\0\0\0", 7),
+    (b"\x05\0\0\0\x01\0\0\x05\x01\0\0\0\0", 0),
+    (b"\x05\0\0\0\x01\0\0\x06\x01\0\0\0\0", 7),
+    (b"\x05\0\0\0\x01\0\0\x02\x02\0\0\0\0\0\0\0\0", 0),
+    // The end inside an entry.
+    (b"\x05\0\0\0\x01\0\0\0", 3),
+    (b"\x05\0\0\0\x01\0\0\0\x01\0\0\0", 3),
+    (b"\x05\0\0\0\x01\0\0\0\x02\0\0\0\0\0\0\0", 3),
+    (b"\x05\0\0\0\x01\0\0\0\x03", 3),
+    (b"\x05\0\0\0\x01\0\0\0\x04\x02", 3),
+    (b"\x05\0\0\0\x01\0\0\0\x04\x02\0a", 3),
+    (b"\x05\0\0\0\x01\0\0\0\x05\x02\0ab", 0),
+    (b"\x05\0\0\0\x01\0\0\0\x06\0\0\0", 3),
+    // Two reasons in one entry: the one that is judged first.
+    (b"\x05\0\0\0\x00\0\0\0", 3),
+    (b"\x05\0\0\0\x00\0\0\0\x01\0", 4),
+    (b"\x05\0\0\0\x02\0\0\0\x03\0\x00\0\0\0\x03\0", 4),
+    (b"\x05\0\0\0\x02\0\0\0\x03\0\x02\0\0\0\x00", 5),
+    (b"\x05\0\0\0\x01\0\0\x08\x00", 6),
+    (b"\x05\0\0\0\x01\0\0\x08\x01", 7),
+    (b"\x05\0\0\0\x01\0\0\x08\x03\x02", 7),
+];
+
+/// Payloads with other ids, or without a whole one.
+const IDS: [(&[u8], u8); 8] = [
+    (b"", 2),
+    (b"\x05\0\0", 2),
+    (b"\0\0\0\0", 2),
+    (b"\0\0\0\0\0", 2),
+    (b"\x01\0\0\0", 0),
+    (b"\xff\xff\xff\x7f", 0),
+    (b"\0\0\0\x80", 2),
+    (b"\x05\0\0\0\0", 3),
+];
+
+#[test]
+fn refuses_for_the_first_reason(rt: HostRuntime) {
+    for (payload, reason) in ENTRIES {
+        assert!(rt; reason_of(rt.alloc(), payload) == reason, "at {payload:?}");
+    }
+}
+
+#[test]
+fn refuses_ids_out_of_range(rt: HostRuntime) {
+    for (payload, reason) in IDS {
+        assert!(rt; reason_of(rt.alloc(), payload) == reason, "at {payload:?}");
+    }
+}
+
+/// A payload of the id 5 and one value of bytes, whose type and length are these.
+pub fn long_payload(alloc: Global, front: &[u8], len: usize) -> Result<Vec<u8>, AllocError> {
+    let mut payload = Vec::from_slice(alloc, front)?;
+    while payload.len() < len {
+        payload.push(7)?;
+    }
+    Ok(payload)
+}
+
+#[test]
+fn reads_4096_bytes_and_no_more(rt: HostRuntime) -> Result<(), Fail> {
+    // A Str and a Raw of 4,085 bytes, and then a byte more, which is no length but makes the payload too long.
+    let fronts: [&[u8]; 2] = [
+        b"\x05\0\0\0\x01\0\0\0\x04\xf5\x0f",
+        b"\x05\0\0\0\x01\0\0\0\x05\xf5\x0f",
+    ];
+    for front in fronts {
+        let mut payload = long_payload(rt.alloc(), front, 4096)?;
+        assert!(rt; payload.len() == 4096);
+        assert!(rt; reason_of(rt.alloc(), &payload) == 0, "at {front:?}");
+        payload.push(7)?;
+        assert!(rt; reason_of(rt.alloc(), &payload) == 1, "at {front:?}");
+    }
+    Ok(())
+}
+
+/// An atom with one value of each kind.
+pub const EACH_KIND: &[u8] = b"\x05\0\0\0\
+    \x01\0\0\x07\x01\xfe\xff\xff\xff\
+    \x02\0\0\0\x02\xfe\xff\xff\xff\xff\xff\xff\xff\
+    \x02\x01\x01\x02\x03\x01\
+    \x02\x01\x02\0\x04\x02\0ab\
+    \x02\x02\0\0\x05\x01\0\xff\
+    \x03\0\0\0\x06\x01\x02\x03\x04";
+
+/// Where its entries end.
+const ENDS: [usize; 7] = [4, 13, 26, 32, 41, 49, 58];
+
+#[test]
+fn finds_each_cut(rt: HostRuntime) {
+    assert!(rt; EACH_KIND.len() == 58);
+    for len in 4..=EACH_KIND.len() {
+        let reason = if ENDS.contains(&len) { 0 } else { 3 };
+        assert!(rt;
+            reason_of(rt.alloc(), &EACH_KIND[..len]) == reason,
+            "at {len}"
+        );
+    }
+}
