@@ -120,8 +120,9 @@ may_have_is before entry passes =
     (is_reset entry) (may_be_state (place_of entry) (kind_of entry.value)) passes in
     record {
       known = leb-true _ _ parts.0;
-      state = λ on. let is = state_is (place_of entry) (kind_of entry.value) (parts.1 on).1 in record
-          { index = is.0; sub = is.1; int = int_is entry.value is.2 };
+      state = λ on.
+          let is = state_is (place_of entry) (kind_of entry.value) (parts.1 on).1 in
+          record { index = is.0; sub = is.1; int = int_is entry.value is.2 };
       reset = parts.2;
       first = λ on. (parts.1 on).0;
     }

@@ -12,7 +12,7 @@ use Rattle.atom_record.specs.declared.atom.Atom.{Atom}
 use Rattle.atom_record.specs.declared.atom.AtomField.{AtomField}
 use Rattle.atom_record.specs.declared.fault.AtomFault.{AtomFault}
 use Rattle.atom_record.specs.AtomReasons.{reason_too_long, reason_bad_id, most_payload}
-use Rattle.atom_record.specs.Id.{IsAtomId, is_atom_id}
+use Rattle.atom_record.specs.Id.{end_of_ids, IsAtomId, is_atom_id}
 use Rattle.atom_record.specs.AtomReading.{reason_of, entry_at, entries_in, entries_at, id_at, atom_at}
 use Rattle.atom_record.specs.AtomSpelling.{entry_bytes, payload_of}
 use Rattle.atom_record.specs.AtomSound.{IsEntry, AreEntries, HasNoFault}
@@ -90,10 +90,10 @@ id_takes bytes x fits read =
     let there = passed (nat_lt (length bytes) 4) reason_bad_id
     (if not (is_atom_id id) then Err reason_bad_id else Ok (id, drop 4 bytes)) x read in
     let may = passed (not (is_atom_id id)) reason_bad_id (Ok (id, drop 4 bytes)) x there.1 in
-    let parts = and_parts (nat_lt 0 id) (nat_lt id (2 ^ 31)) (not-false (is_atom_id id) may.0) in
+    let parts = and_parts (nat_lt 0 id) (nat_lt id end_of_ids) (not-false (is_atom_id id) may.0) in
     let took = front_takes w32 (2 ^ 32) wide32 bytes (ltb-false (length bytes) 4 there.0) fits in
     subst (λ (y : ℕ × List ℕ). Takes bytes (to_le_bytes w32 y.0) y.1 × IsAtomId y.0)
-    (ok_is (id, drop 4 bytes) x may.1) (took.0, (ltb-true 0 id parts.0, ltb-true id (2 ^ 31) parts.1))
+    (ok_is (id, drop 4 bytes) x may.1) (took.0, (ltb-true 0 id parts.0, ltb-true id end_of_ids parts.1))
 
 -- an id that an atom may have is read from its spelling
 id_again : (id : ℕ) (rest : List ℕ) → IsAtomId id → id_at (to_le_bytes w32 id ++ rest) ≡ Ok (id, rest)
@@ -110,8 +110,7 @@ no_entries : AreEntries []
 no_entries = record {
   each = All-nil IsEntry;
   rising = λ i j d less below. absurd (omega arith);
-  one_state = omega
-      arith;
+  one_state = omega arith;
 }
 
 -- an atom that is read has no fault, and the bytes are its payload

@@ -27,8 +27,9 @@ pub AreEntries-filter : (kept : AtomField → Bool) (entries : List AtomField)
 AreEntries-filter kept entries are = record {
   each = All-filter kept IsEntry entries are.each;
   rising = AllPairs-filter IsBelow kept entries are.rising;
-  one_state = let fewer = sum_by-filter-le (λ entry. if is_exclusive entry then 1 else 0) kept entries in omega
-      (arith, are.one_state);
+  one_state =
+      let fewer = sum_by-filter-le (λ entry. if is_exclusive entry then 1 else 0) kept entries in
+      omega (arith, are.one_state);
 }
 
 -- an atom with some of its entries
@@ -44,6 +45,5 @@ HasNoFault-filter kept atom sound =
     record {
       id = sound.id;
       entries = AreEntries-filter kept atom.fields sound.entries;
-      fits = omega
-          (arith, sound.fits);
+      fits = omega (arith, sound.fits);
     }

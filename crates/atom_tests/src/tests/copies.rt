@@ -1,6 +1,6 @@
 //! Copies of values and of atoms.
 use super::keys::values;
-use super::payloads::{EACH_KIND, long_payload};
+use super::payloads::{EACH_KIND, filled};
 use atom_record::{Value, parse_atom};
 use sd_base::Seq;
 use std::alloc::{AllocError, Global};
@@ -25,7 +25,7 @@ fn copies_of_values_equal_their_sources(rt: HostRuntime) -> Result<(), Fail> {
     assert!(rt; short.len() == 6);
     assert!(rt; are_copied(rt.alloc(), short.as_slice())?);
     // Texts of 65,536 bytes, one more than a payload could spell.
-    let text = long_payload(rt.alloc(), b"", 65_536)?;
+    let text = filled(rt.alloc(), b"", 65_536)?;
     let long = values(rt.alloc(), &text)?;
     assert!(rt; are_copied(rt.alloc(), long.as_slice())?);
     Ok(())
@@ -56,7 +56,7 @@ fn most_entries(alloc: Global) -> Result<Vec<u8>, AllocError> {
 fn copies_of_atoms_equal_their_sources(rt: HostRuntime) -> Result<(), Fail> {
     assert!(rt; is_copied(rt.alloc(), b"\x05\0\0\0")?);
     assert!(rt; is_copied(rt.alloc(), EACH_KIND)?);
-    let text = long_payload(rt.alloc(), b"\x05\0\0\0\x01\0\0\0\x04\xf5\x0f", 4096)?;
+    let text = filled(rt.alloc(), b"\x05\0\0\0\x01\0\0\0\x04\xf5\x0f", 4096)?;
     assert!(rt; is_copied(rt.alloc(), &text)?);
     let entries = most_entries(rt.alloc())?;
     assert!(rt; entries.len() == 4096);

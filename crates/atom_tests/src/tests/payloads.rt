@@ -102,24 +102,24 @@ fn refuses_ids_out_of_range(rt: HostRuntime) {
     }
 }
 
-/// A payload of the id 5 and one value of bytes, whose type and length are these.
-pub fn long_payload(alloc: Global, front: &[u8], len: usize) -> Result<Vec<u8>, AllocError> {
-    let mut payload = Vec::from_slice(alloc, front)?;
-    while payload.len() < len {
-        payload.push(7)?;
+/// These bytes, and then sevens, up to this length.
+pub fn filled(alloc: Global, front: &[u8], len: usize) -> Result<Vec<u8>, AllocError> {
+    let mut bytes = Vec::from_slice(alloc, front)?;
+    for _ in front.len()..len {
+        bytes.push(7)?;
     }
-    Ok(payload)
+    Ok(bytes)
 }
 
 #[test]
 fn reads_4096_bytes_and_no_more(rt: HostRuntime) -> Result<(), Fail> {
-    // A Str and a Raw of 4,085 bytes, and then a byte more, which is no length but makes the payload too long.
+    // A Str and a Raw of 4,085 bytes, and then the same with a byte after it.
     let fronts: [&[u8]; 2] = [
         b"\x05\0\0\0\x01\0\0\0\x04\xf5\x0f",
         b"\x05\0\0\0\x01\0\0\0\x05\xf5\x0f",
     ];
     for front in fronts {
-        let mut payload = long_payload(rt.alloc(), front, 4096)?;
+        let mut payload = filled(rt.alloc(), front, 4096)?;
         assert!(rt; payload.len() == 4096);
         assert!(rt; reason_of(rt.alloc(), &payload) == 0, "at {front:?}");
         payload.push(7)?;
