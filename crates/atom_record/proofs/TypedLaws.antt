@@ -3,11 +3,11 @@ use Rattle.std.proofs.Common.{◌≡◌, ℕ, List, [], ◌∷◌, ◌++◌, Ok,
 use Rattle.atom_record.specs.declared.value.Value.{Value}
 use Rattle.atom_record.specs.declared.value.Value.TheVariants as values
 use Rattle.atom_record.specs.AtomReading.{kind_at, value_at}
-use Rattle.atom_record.specs.Spelling.{type_of}
-use Rattle.atom_record.specs.Sound.{IsInRange}
+use Rattle.atom_record.specs.AtomSpelling.{type_of}
+use Rattle.atom_record.specs.AtomSound.{IsInRange}
 use Rattle.atom_record.specs.TypedValue.{typed_bytes, typed_at, HasShortText}
-use Rattle.atom_record.proofs.PartLaws.{IsBytes, IsBytes-rest, bind_ok, Takes}
-use Rattle.atom_record.proofs.ValueLaws.{value_takes, value_again, type_is, kind_takes, kind_again, number_of}
+use Rattle.atom_record.proofs.AtomReadingParts.{IsBytes, IsBytes-rest, bind_ok, Takes}
+use Rattle.atom_record.proofs.AtomReadingValues.{value_takes, value_again, type_is, kind_takes, kind_again, number_of}
 
 -- what was read fits its bytes and is spelled so
 pub typed_takes : (bytes : List ℕ) (x : Value × List ℕ) → IsBytes bytes → typed_at bytes ≡ Ok x

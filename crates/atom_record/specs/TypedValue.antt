@@ -3,8 +3,8 @@ use Rattle.std.specs.Prelude.{ℕ, ◌<◌, ◌^◌, List, [], ◌∷◌, length
 use Rattle.sd_base.specs.Reads.{◌>>=◌}
 use Rattle.atom_record.specs.declared.value.Value.{Value}
 use Rattle.atom_record.specs.declared.value.Value.TheVariants as values
-use Rattle.atom_record.specs.declared.fault.TheConstants.{CUT}
-use Rattle.atom_record.specs.Spelling.{type_of, value_bytes}
+use Rattle.atom_record.specs.AtomReasons.{reason_cut}
+use Rattle.atom_record.specs.AtomSpelling.{type_of, value_bytes}
 use Rattle.atom_record.specs.AtomReading.{kind_at, value_at}
 
 -- the byte of a value's kind, and the value
@@ -13,7 +13,7 @@ typed_bytes value = type_of value ∷ value_bytes value
 
 -- the value that bytes begin with, and the bytes after it
 unfoldable pub typed_at : List ℕ → Result (Value × List ℕ) ℕ
-typed_at [] = Err CUT
+typed_at [] = Err reason_cut
 typed_at (number ∷ bytes) = kind_at number >>= λ kind. value_at kind bytes
 
 -- the number of a text's bytes fits two bytes

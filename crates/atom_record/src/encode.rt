@@ -2,8 +2,8 @@
 ghost use Rattle.std.specs.Prelude.{◌≡◌, ◌∷◌, ◌++◌, ◌<◌, ◌^◌, length, IfOk, OnOk, All};
 ghost use Rattle.std.specs.Int.{w16, w32, w64, to_le_bytes, cast_unsigned};
 ghost use Rattle.std.specs.List.{flat_map};
-ghost use Rattle.atom_record.specs.Spelling.{type_of, truth_byte, counted, value_bytes, entry_bytes, payload_of};
-ghost use Rattle.atom_record.specs.Sound.{HasNoFault};
+ghost use Rattle.atom_record.specs.AtomSpelling.{type_of, truth_byte, sized_bytes, value_bytes, entry_bytes, payload_of};
+ghost use Rattle.atom_record.specs.AtomSound.{HasNoFault};
 ghost use Rattle.atom_record.specs.TypedValue.{typed_bytes, HasShortText};
 
 use crate::{Atom, AtomField, Bytes, Value};
@@ -33,7 +33,7 @@ fn put_i64(number: i64, out: &mut Vec<u8>) -> Result<(), AllocError>
 // Adds the number of bytes, and these.
 fn put_text(text: &[u8], out: &mut Vec<u8>) -> Result<(), AllocError>
     requires { length text.now < 2 ^ 16 }
-    ensures { OnOk result (out.new.items ≡ out.old.items ++ counted text.now) }
+    ensures { OnOk result (out.new.items ≡ out.old.items ++ sized_bytes text.now) }
 {
     out.extend_from_slice(&(text.len() as u16).to_le_bytes())?;
     out.extend_from_slice(text)

@@ -12,7 +12,7 @@ use Rattle.sd_base.specs.Reads.{FailsBy}
 use Rattle.flat_form.specs.ItemReading.{no_item_of, item_at}
 use Rattle.flat_form.specs.ItemSpelling.{spelled_item, spelled_items}
 use Rattle.flat_form.specs.ItemRange.{CanBeSpelled, AreRead, ReadsItems}
-use Rattle.atom_record.proofs.PartLaws.{IsBytes}
+use Rattle.atom_record.proofs.AtomReadingParts.{IsBytes}
 use Rattle.flat_form.proofs.ItemReadingLaws.{ok_is, IsItem, item_takes, item_again}
 
 -- the items are the front of the others

@@ -14,13 +14,13 @@ use Rattle.atom_record.specs.declared.value.Leaf.TheVariants.{Missing, One, Many
 use Rattle.atom_record.specs.declared.value.Slice.{Slice}
 use Rattle.atom_record.specs.declared.value.Slice.TheVariants.{Plain, Group}
 use Rattle.atom_record.specs.AtomReading.{atom_at}
-use Rattle.atom_record.specs.Spelling.{counted, payload_of}
+use Rattle.atom_record.specs.AtomSpelling.{sized_bytes, payload_of}
 use Rattle.atom_record.specs.TypedValue.{typed_bytes, typed_at}
-use Rattle.atom_record.specs.Sound.{IsInRange}
-use Rattle.atom_record.proofs.PartLaws.{IsBytes, IsBytes-rest, IsBytes-take, bind_ok, passed, chosen, Takes, Takes-then, Takes-front, IsWide, wide16, wide32, wide64, front_takes}
-use Rattle.atom_record.proofs.ValueLaws.{signed32, signed64, unsigned32, unsigned64}
+use Rattle.atom_record.specs.AtomSound.{IsInRange}
+use Rattle.atom_record.proofs.AtomReadingParts.{IsBytes, IsBytes-rest, IsBytes-take, bind_ok, passed, chosen, Takes, Takes-then, Takes-front, IsWide, wide16, wide32, wide64, front_takes}
+use Rattle.atom_record.proofs.AtomReadingValues.{signed32, signed64, unsigned32, unsigned64}
 use Rattle.atom_record.proofs.TypedLaws.{typed_takes, typed_again, short_value}
-use Rattle.atom_record.proofs.PayloadLaws.{atom_takes, atom_again}
+use Rattle.atom_record.proofs.AtomReadingPayloads.{atom_takes, atom_again}
 use Rattle.flat_form.specs.declared.item.Item.{Item}
 use Rattle.flat_form.specs.declared.item.Item.TheVariants.{Num, Dims, Slices, AtomItem, Chunk}
 use Rattle.flat_form.specs.ItemReading.{NoItem, Unspelled, without_reason, uint_at, counted_at, value_in, values_at, leaf_at, slice_at, slices_at, dims_at, item_at}
@@ -394,10 +394,10 @@ item_takes (tag ∷ bytes) x fits read =
                         (λ atom. Ok (AtomItem atom, payload.0.1)) x payload.2 in
                         let took = counted_takes w16 (2 ^ 16) wide16 bytes payload.0 rest payload.1 in
                         let sound = atom_takes payload.0.0 atom.0 took.2 (kept (atom_at payload.0.0) atom.0 atom.1) in
-                        let spelled : Takes bytes (counted (payload_of atom.0)) payload.0.1 =
-                        subst (λ (t : List ℕ). Takes bytes (counted t) payload.0.1) sound.1 took.0 in
+                        let spelled : Takes bytes (sized_bytes (payload_of atom.0)) payload.0.1 =
+                        subst (λ (t : List ℕ). Takes bytes (sized_bytes t) payload.0.1) sound.1 took.0 in
                         subst is_read (ok_is (AtomItem atom.0, payload.0.1) x atom.2)
-                        (tagged tag 4 bytes (counted (payload_of atom.0)) payload.0.1 this.0 spelled, (sound.0, tt))
+                        (tagged tag 4 bytes (sized_bytes (payload_of atom.0)) payload.0.1 this.0 spelled, (sound.0, tt))
                     | inr fifth ↦ elim (chosen (tag == 5) (counted_at w32 bytes >>= λ chunk. Ok (Chunk chunk.0, chunk.1))
                         (Err Unspelled) (Ok x) fifth.1) [
                           | inl this ↦

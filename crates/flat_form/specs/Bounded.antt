@@ -16,7 +16,7 @@ use Rattle.atom_record.specs.declared.atom.Atom.{Atom}
 use Rattle.atom_record.specs.declared.atom.AtomField.{AtomField}
 use Rattle.flat_form.specs.declared.item.Item.{Item}
 use Rattle.flat_form.specs.declared.item.Item.TheVariants.{Num, Dims, Slices, AtomItem, Chunk}
-use Rattle.atom_record.specs.Spelling.{value_bytes, entry_bytes}
+use Rattle.atom_record.specs.AtomSpelling.{value_bytes, entry_bytes}
 use Rattle.atom_record.specs.TypedValue.{typed_bytes}
 use Rattle.flat_form.specs.ItemSpelling.{spelled_leaf, spelled_slice, spelled_item, spelled_items}
 use Rattle.flat_form.specs.Flat.{Anything, IsValidPair, number_items, dims_items, key_items, atom_items, pair_items, list_items}

@@ -9,7 +9,7 @@ use Rattle.flat_form.specs.declared.item.Item.{Item}
 use Rattle.flat_form.specs.declared.item.Item.TheVariants.{Num, Dims, Slices, AtomItem, Chunk}
 use Rattle.flat_form.specs.declared.flat_error.FlatError.{FlatError}
 use Rattle.flat_form.specs.declared.flat_error.FlatError.TheVariants.{Bad, Memory}
-use Rattle.atom_record.specs.Sound.{IsInRange}
+use Rattle.atom_record.specs.AtomSound.{IsInRange}
 use Rattle.flat_form.specs.Savable.{AreSavable}
 use Rattle.flat_form.specs.ItemSpelling.{spelled_items}
 

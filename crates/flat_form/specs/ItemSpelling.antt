@@ -8,7 +8,7 @@ use Rattle.atom_record.specs.declared.value.Slice.{Slice}
 use Rattle.atom_record.specs.declared.value.Slice.TheVariants.{Plain, Group}
 use Rattle.flat_form.specs.declared.item.Item.{Item}
 use Rattle.flat_form.specs.declared.item.Item.TheVariants.{Num, Dims, Slices, AtomItem, Chunk}
-use Rattle.atom_record.specs.Spelling.{counted, payload_of}
+use Rattle.atom_record.specs.AtomSpelling.{sized_bytes, payload_of}
 use Rattle.atom_record.specs.TypedValue.{typed_bytes}
 
 -- one leaf
@@ -27,7 +27,7 @@ abbrev pub spelled_item : Item → List ℕ
 spelled_item (Num number) = 1 ∷ to_le_bytes w64 number
 spelled_item (Dims dims) = 2 ∷ (to_le_bytes w16 (length dims) ++ flat_map spelled_leaf dims)
 spelled_item (Slices slices) = 3 ∷ length slices ∷ flat_map spelled_slice slices
-spelled_item (AtomItem atom) = 4 ∷ counted (payload_of atom)
+spelled_item (AtomItem atom) = 4 ∷ sized_bytes (payload_of atom)
 spelled_item (Chunk bytes) = 5 ∷ (to_le_bytes w32 (length bytes) ++ bytes)
 
 -- all items, one after the other

@@ -5,7 +5,7 @@ use Rattle.atom_record.specs.declared.value.Leaf.TheVariants.{Missing, One, Many
 use Rattle.atom_record.specs.declared.value.MetricKey.{MetricKey}
 use Rattle.flat_form.specs.declared.item.Item.{Item}
 use Rattle.flat_form.specs.declared.item.Item.TheVariants.{Num, Dims, Slices, AtomItem, Chunk}
-use Rattle.atom_record.specs.Sound.{HasNoFault}
+use Rattle.atom_record.specs.AtomSound.{HasNoFault}
 use Rattle.atom_record.specs.TypedValue.{HasShortText}
 
 -- the number of a leaf's values fits two bytes, and so do their texts

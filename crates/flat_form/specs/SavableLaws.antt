@@ -5,7 +5,7 @@ use Rattle.std.proofs.lemmas.List.Elements.{All-nil, All-cons, All-head, All-tai
 use Rattle.atom_record.specs.declared.value.Leaf.{Leaf}
 use Rattle.atom_record.specs.declared.value.MetricKey.{MetricKey}
 use Rattle.atom_record.specs.declared.atom.Atom.{Atom}
-use Rattle.atom_record.specs.Sound.{HasNoFault}
+use Rattle.atom_record.specs.AtomSound.{HasNoFault}
 use Rattle.flat_form.specs.declared.item.Item.{Item}
 use Rattle.flat_form.specs.declared.item.Item.TheVariants.{Num, Dims, Slices, AtomItem}
 use Rattle.flat_form.specs.Flat.{Anything, IsValidPair, number_items, dims_items, key_items, atom_items, pair_items, list_items}

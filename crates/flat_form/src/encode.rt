@@ -2,7 +2,7 @@
 ghost use Rattle.std.specs.Prelude.{◌≡◌, ℕ, List, [], ◌∷◌, ◌++◌, ◌<◌, ◌^◌, length, IfOk, OnOk, All};
 ghost use Rattle.std.specs.Int.{w16, w32, w64, to_le_bytes, cast_unsigned};
 ghost use Rattle.std.specs.List.{flat_map};
-ghost use Rattle.atom_record.specs.Spelling.{counted};
+ghost use Rattle.atom_record.specs.AtomSpelling.{sized_bytes};
 ghost use Rattle.flat_form.specs.ItemSpelling.{spelled_items};
 ghost use Rattle.flat_form.specs.Savable.{AreSavable};
 
@@ -127,7 +127,7 @@ impl Encode for Slice {
 // Adds the number of a payload's bytes, and these.
 fn put_payload(payload: &[u8], out: &mut Vec<u8>) -> Result<(), AllocError>
     requires { length payload.now < 2 ^ 16 }
-    ensures { OnOk result (out.new.items ≡ out.old.items ++ counted payload.now) }
+    ensures { OnOk result (out.new.items ≡ out.old.items ++ sized_bytes payload.now) }
 {
     put_u16(payload.len() as u16, out)?;
     out.extend_from_slice(payload)

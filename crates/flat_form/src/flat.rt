@@ -214,7 +214,7 @@ impl Flat for Atom {
     ghost use Rattle.flat_form.specs.Flat.{atom_items};
     ghost use Rattle.flat_form.specs.Bounded.{atom_bounded, none_few};
     ghost use Rattle.flat_form.specs.SavableLaws.{atom_savable};
-    ghost use Rattle.atom_record.specs.Sound.{HasNoFault};
+    ghost use Rattle.atom_record.specs.AtomSound.{HasNoFault};
 
     ghost flat = { atom_items };
 
