@@ -9,8 +9,8 @@ use Rattle.proto_wire.specs.Fields.{BodyOf, FieldOf, Rest}
 use Rattle.proto_wire.specs.WireReading.{Walk, with_field, stopped, walk_on, walk_from, field_at}
 use Rattle.proto_wire.specs.Grammar.{IsGroup, StartsWith}
 use Rattle.proto_wire.proofs.RestReading.{field_at-read, field_at-only, shorter, walk_from-some, walk_from-none}
-use Rattle.config_decode.specs.Values.{records_of, joined}
-use Rattle.config_decode.specs.Laws.{content, contents, read_at, HasNoFaultAt, HasNoFault, AreReadAsOne, PayloadsAreReadAsOne, MessagesSayTheSameAnywhere}
+use Rattle.config_decode.specs.Values.{records_of, records_of_all}
+use Rattle.config_decode.specs.Laws.{content, contents, read_at, IsReadWholeAt, IsReadWhole, AreReadAsOne, PayloadsAreReadAsOne, MessagesSayTheSameAnywhere}
 use Rattle.config_decode.proofs.GroupLemmas.{laid_out-more, group-more}
 
 -- The whole says what the first walk says, and then what the second says, and has the fault of the second.
@@ -107,7 +107,7 @@ nothing : (at depth : ℕ) → read_at at depth [] ≡ stopped None
 nothing at depth = walk_from-none (record { bytes = []; at = at; depth = depth }) refl
 
 -- A message without a fault goes on with what stands behind it, in at most so many turns.
-goes_on_in : (turns : ℕ) (bytes : List ℕ) (here deep : ℕ) → length bytes ≤ turns → HasNoFaultAt here deep bytes
+goes_on_in : (turns : ℕ) (bytes : List ℕ) (here deep : ℕ) → length bytes ≤ turns → IsReadWholeAt here deep bytes
     → (behind : List ℕ) (at depth : ℕ) → depth ≤ deep
     → GoesOn (read_at here deep bytes) (read_at (at + length bytes) depth behind) (read_at at depth (bytes ++ behind))
 goes_on_in turns [] here deep enough whole behind at depth shallow =
@@ -128,7 +128,7 @@ goes_on_in (suc turns) (byte ∷ bytes) here deep enough whole behind at depth s
     (field_at rest) (field_at-read rest) (ap (λ (walk : Walk). walk.fault) (sym walk_is) ∙ whole))
 
 -- a message without a fault goes on with what stands behind it
-goes_on : (bytes : List ℕ) (here deep : ℕ) → HasNoFaultAt here deep bytes
+goes_on : (bytes : List ℕ) (here deep : ℕ) → IsReadWholeAt here deep bytes
     → (behind : List ℕ) (at depth : ℕ) → depth ≤ deep
     → GoesOn (read_at here deep bytes) (read_at (at + length bytes) depth behind) (read_at at depth (bytes ++ behind))
 goes_on bytes here deep = goes_on_in (length bytes) bytes here deep (omega arith)
@@ -139,7 +139,7 @@ record IsLike (first second : Walk) : Type 0 where
   same : contents second.fields ≡ contents first.fields
 
 -- a message without a fault, read elsewhere and no deeper
-elsewhere : (bytes : List ℕ) (here deep : ℕ) → HasNoFaultAt here deep bytes → (at depth : ℕ) → depth ≤ deep
+elsewhere : (bytes : List ℕ) (here deep : ℕ) → IsReadWholeAt here deep bytes → (at depth : ℕ) → depth ≤ deep
     → IsLike (read_at here deep bytes) (read_at at depth bytes)
 elsewhere bytes here deep whole at depth shallow =
     let on = goes_on bytes here deep whole [] at depth shallow in
@@ -161,7 +161,7 @@ same_anywhere bytes at depth whole =
     record { whole = top.whole; same = top.same }
 
 -- a payload in front of others that are read as one
-with_others : (payload : List ℕ) (others : List (List ℕ)) → HasNoFault payload → AreReadAsOne others
+with_others : (payload : List ℕ) (others : List (List ℕ)) → IsReadWhole payload → AreReadAsOne others
     → AreReadAsOne (payload ∷ others)
 with_others payload others whole one =
     let on = goes_on payload 0 0 whole (concat others) 0 0 (omega arith) in
@@ -170,7 +170,7 @@ with_others payload others whole one =
       whole = on.fault ∙ moved.whole;
       same = on.same
           ∙ ap (λ (others : List (ℕ × BodyOf)). contents (records_of payload) ++ others) (moved.same ∙ one.same)
-          ∙ sym (map-append content (records_of payload) (joined others));
+          ∙ sym (map-append content (records_of payload) (records_of_all others));
     }
 
 -- payloads without a fault are read as one
@@ -182,5 +182,5 @@ read_as_one [] whole =
       same = ap (λ (walk : Walk). contents walk.fields) end;
     }
 read_as_one (payload ∷ others) whole =
-    with_others payload others (All-head HasNoFault payload others whole)
-    (read_as_one others (All-tail HasNoFault payload others whole))
+    with_others payload others (All-head IsReadWhole payload others whole)
+    (read_as_one others (All-tail IsReadWhole payload others whole))

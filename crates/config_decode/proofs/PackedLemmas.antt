@@ -70,9 +70,9 @@ packed_at-some at (byte ∷ bytes) some =
     (λ left less. packed_in-agree (length bytes) (length left) at left (omega arith) (omega arith))
 
 -- behind a number that is read, the fault is that of the rest
-pub fault-behind : (at number : ℕ) (bytes left : List ℕ) → 0 < length bytes → varint_at at bytes ≡ Ok (number, left)
+pub fault-after : (at number : ℕ) (bytes left : List ℕ) → 0 < length bytes → varint_at at bytes ≡ Ok (number, left)
     → (packed_at at bytes).fault ≡ (packed_at at left).fault
-fault-behind at number bytes left some read = rw (packed_at-some at bytes some, read) refl
+fault-after at number bytes left some read = rw (packed_at-some at bytes some, read) refl
 
 -- where no number can be read, this is the fault
 pub fault-here : (at : ℕ) (bytes : List ℕ) (fault : WireFault) → 0 < length bytes → varint_at at bytes ≡ Err fault

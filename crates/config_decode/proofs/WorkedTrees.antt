@@ -7,10 +7,10 @@ use Rattle.config_types.specs.declared.fields.Position.TheVariants.{First}
 use Rattle.config_types.specs.declared.matcher.MatcherBody.TheVariants as matcher
 use Rattle.config_types.specs.declared.matcher.Operation.TheVariants.{Or}
 use Rattle.config_types.specs.declared.matcher.Test.TheVariants.{LtInt}
-use Rattle.config_decode.specs.declared.fault.DecodeFault.TheVariants.{Wire, Unsupported}
+use Rattle.config_decode.specs.ConfigFault.{Wire, Unsupported}
 use Rattle.config_decode.specs.Walk as whole
 use Rattle.config_decode.specs.Walk.{packed_at, packed_in, walk_of}
-use Rattle.config_decode.specs.Values.{records_of, chosen}
+use Rattle.config_decode.specs.Values.{records_of, enum_field}
 use Rattle.config_decode.specs.Profile.{position_of}
 use Rattle.config_decode.specs.Tree.{matcher_of, field_matcher_of, field_matcher_in, field_test_of, field_test_in}
 use Rattle.config_decode.specs.Config.{config_of}
@@ -73,6 +73,6 @@ unfolding packed_at packed_in walk_from walk_in field_at field_with head_at head
 first_uid = refl
 
 -- {2: 1, 2: 9}: a number that stands for no position leaves the one before
-unknown_position : chosen position_of 2 (records_of (16 ∷ 1 ∷ 16 ∷ 9 ∷ [])) ≡ Some First
+unknown_position : enum_field position_of 2 (records_of (16 ∷ 1 ∷ 16 ∷ 9 ∷ [])) ≡ Some First
 unfolding packed_at packed_in walk_from walk_in field_at field_with head_at head_of varint_at taken_at
 unknown_position = refl

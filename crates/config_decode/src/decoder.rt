@@ -1,10 +1,12 @@
 //! The decoder of a whole configuration.
-ghost use Rattle.std.specs.Prelude.{◌≡◌, ◌<◌, ◌^◌, length, IfOk, IfErr};
+ghost use Rattle.std.specs.Prelude.{◌≡◌, ◌<◌, ◌^◌, length, IfOk};
 ghost use Rattle.sd_base.specs.Reads.{GivesBy};
-ghost use Rattle.config_decode.specs.Config.{config_of, tree_of, fault_of, HasShortPath};
+ghost use Rattle.config_decode.specs.ConfigFault.{config_fault_of};
+ghost use Rattle.config_decode.specs.Config.{config_of, tree_of};
 
 use crate::DecodeFault;
 use crate::message::Message;
+use crate::numbers;
 use crate::tree::{FromMessage, repeated};
 use crate::walk::first_unsupported;
 use config_types::Config;
@@ -14,12 +16,11 @@ use std::alloc::{AllocError, Global};
 pub const MAX_BYTES: usize = 262_144;
 
 /// The tree of a configuration, or its one fault: too many bytes, the first fault of the wire format, or, where there is
-/// none, the first record that isn't supported. A path has at most 101 numbers.
+/// none, the first record that isn't supported.
 #[tactic(auto, unfolding(crate::specs::Config::config_of))]
 pub fn decode(alloc: Global, bytes: &[u8]) -> Result<Config, DecodeFault>
     requires { length bytes.now < 2 ^ 32 }
-    ensures read { GivesBy fault_of (λ config. config) result (config_of bytes.now) }
-    ensures path { IfErr result HasShortPath }
+    ensures { GivesBy config_fault_of (λ config. config) result (config_of bytes.now) }
 {
     if bytes.len() > MAX_BYTES {
         return Err(DecodeFault::TooLarge(bytes.len() as u32));
@@ -38,15 +39,15 @@ impl FromMessage for Config {
     ghost tree = { tree_of };
 
     fn from_message(alloc: Global, message: &Message<'_>) -> Result<Config, AllocError> {
-        let matchers = repeated(alloc, message, 7)?;
-        let predicates = repeated(alloc, message, 8)?;
-        let states = repeated(alloc, message, 21)?;
-        let events = repeated(alloc, message, 2)?;
-        let counts = repeated(alloc, message, 3)?;
-        let values = repeated(alloc, message, 4)?;
-        let gauges = repeated(alloc, message, 5)?;
-        let durations = repeated(alloc, message, 6)?;
-        let no_report = message.longs(alloc, 13)?;
+        let matchers = repeated(alloc, message, numbers::CONFIG_ATOM_MATCHER)?;
+        let predicates = repeated(alloc, message, numbers::CONFIG_PREDICATE)?;
+        let states = repeated(alloc, message, numbers::CONFIG_STATE)?;
+        let events = repeated(alloc, message, numbers::CONFIG_EVENT_METRIC)?;
+        let counts = repeated(alloc, message, numbers::CONFIG_COUNT_METRIC)?;
+        let values = repeated(alloc, message, numbers::CONFIG_VALUE_METRIC)?;
+        let gauges = repeated(alloc, message, numbers::CONFIG_GAUGE_METRIC)?;
+        let durations = repeated(alloc, message, numbers::CONFIG_DURATION_METRIC)?;
+        let no_report = message.scalars(alloc, numbers::CONFIG_NO_REPORT_METRIC)?;
         Ok(Config {
             matchers,
             predicates,

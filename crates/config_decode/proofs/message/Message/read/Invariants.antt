@@ -2,14 +2,14 @@
 use Rattle.std.proofs.Common.{◌≡◌, ◌++◌, length, map}
 use Rattle.proto_wire.specs.Fields.{seen}
 use Rattle.proto_wire.specs.WireReading.{walk_from}
-use Rattle.config_decode.specs.Short.{AreShort}
+use Rattle.config_decode.specs.Short.{HaveShortPayloads}
 use Rattle.config_decode.specs.Values.{records_of}
-use Rattle.config_decode.proofs.message.Message.join.Given as goal
+use Rattle.config_decode.proofs.message.Message.read.Given as goal
 
 abbrev pub invariant-loop-field : goal.invariant-loop-field
 invariant-loop-field l = record {
-  read : map seen l.self-inside.records.items ++ (walk_from l.records).fields ≡ l.fn.self ++ records_of l.bytes;
-  short : AreShort (map seen l.self-inside.records.items);
+  read : map seen l.message-inside.records.items ++ (walk_from l.records).fields ≡ records_of l.bytes;
+  short : HaveShortPayloads (map seen l.message-inside.records.items);
 }
 
 abbrev pub decreases-loop-field : goal.decreases-loop-field

@@ -9,7 +9,7 @@ use Rattle.std.proofs.lemmas.List.Folds.{list_all-append}
 use Rattle.std.proofs.lemmas.List.Elements.{filter-append}
 use Rattle.proto_wire.specs.declared.field.Field.{Field}
 use Rattle.proto_wire.specs.Fields.{FieldOf, seen}
-use Rattle.config_decode.specs.Values.{all_have, last_run, run_with, with_numbers, set_last}
+use Rattle.config_decode.specs.Values.{all_have, last_run, run_with, with_numbers, oneof_run}
 
 and-true : (a b : Bool) → (a && b) ≡ true → (a ≡ true) × (b ≡ true)
 and-true true b both = (refl, both)
@@ -75,13 +75,13 @@ module _ (members : List ℕ) (fields : List Field) (i : ℕ) (d : Field) (below
 
   -- one more record of a member goes behind the run, or begins a new one
   pub run_more : list_any (λ number. number == (get_or fields i d).number) members ≡ true
-      → set_last members (map seen (take (i + 1) fields))
-      ≡ run_with (seen (get_or fields i d)) (set_last members (map seen (take i fields)))
+      → oneof_run members (map seen (take (i + 1) fields))
+      ≡ run_with (seen (get_or fields i d)) (oneof_run members (map seen (take i fields)))
   run_more member =
       ap last_run (with_more (seen (get_or fields i d) ∷ []) (rw member refl))
       ∙ last_run-push (with_numbers members (map seen (take i fields))) (seen (get_or fields i d))
 
   -- another record is passed over
   pub run_same : list_any (λ number. number == (get_or fields i d).number) members ≡ false
-      → set_last members (map seen (take (i + 1) fields)) ≡ set_last members (map seen (take i fields))
+      → oneof_run members (map seen (take (i + 1) fields)) ≡ oneof_run members (map seen (take i fields))
   run_same other = ap last_run (with_more [] (rw other refl) ∙ append-nil _)

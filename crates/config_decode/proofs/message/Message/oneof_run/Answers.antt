@@ -2,12 +2,12 @@
 use Rattle.std.proofs.Common.{ap, sym, ◌∙◌}
 use Rattle.config_decode.specs.Values.{run_with}
 use Rattle.config_decode.proofs.ValuesLemmas.{short_at}
-use Rattle.config_decode.proofs.RunLemmas.{run_more, run_same}
-use Rattle.config_decode.proofs.message.Message.set_last.Goals as goal
-use Rattle.config_decode.proofs.message.Message.set_last.Goals.{then-contains+in_ok-set, else-contains}
+use Rattle.config_decode.proofs.OneofLemmas.{run_more, run_same}
+use Rattle.config_decode.proofs.message.Message.oneof_run.Goals as goal
+use Rattle.config_decode.proofs.message.Message.oneof_run.Goals.{then-contains+in_ok-push_member, else-contains}
 
-pub set-requires : goal.set-requires
-set-requires c =
+pub push_member-requires : goal.push_member-requires
+push_member-requires c =
     short_at c.deref-field-items.result.now c.self.inside.records.items c.loop-field.field-index _
     c.loop-field-test.true c.deref-field-items.ensures.value c.self.invariant
 
@@ -18,8 +18,8 @@ loop-field-preserved c =
     let i = c.loop-field.field-index in
     let test = sym c.contains.ensures.value in
     elim c.if-contains.branch [
-      | then-contains+in_ok-set w ↦
-          w.run-is ∙ w.in_ok-set.ensures ∙ ap (run_with _) c.loop-field.invariant
+      | then-contains+in_ok-push_member w ↦
+          w.run-is ∙ w.in_ok-push_member.ensures ∙ ap (run_with _) c.loop-field.invariant
           ∙ sym (run_more members fields i _ c.loop-field-test.true (test ∙ w.if-contains.true))
       | else-contains w ↦
           w.run-is ∙ c.loop-field.invariant
