@@ -4,11 +4,10 @@ ghost use Rattle.sd_base.specs.Reads.{GivesBy};
 ghost use Rattle.config_decode.specs.ConfigFault.{config_fault_of};
 ghost use Rattle.config_decode.specs.Config.{config_of, tree_of};
 
-use crate::DecodeFault;
 use crate::message::Message;
-use crate::numbers;
 use crate::tree::{FromMessage, repeated};
 use crate::walk::first_unsupported;
+use crate::{DecodeFault, numbers};
 use config_types::Config;
 use std::alloc::{AllocError, Global};
 

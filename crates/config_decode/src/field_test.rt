@@ -58,8 +58,12 @@ fn test(alloc: Global, levels: u32, run: &Message<'_>) -> Result<Option<Test>, A
     match run.number() {
         None => Ok(None),
         Some(numbers::TEST_MATCHES_TUPLE) => Ok(Some(Test::Tuple(tuple(alloc, levels, run)?))),
-        Some(number @ numbers::TEST_EQ_ANY_STRING) => Ok(Some(Test::AnyOf(strings(alloc, run, number)?))),
-        Some(number @ numbers::TEST_NEQ_ANY_STRING) => Ok(Some(Test::NoneOf(strings(alloc, run, number)?))),
+        Some(number @ numbers::TEST_EQ_ANY_STRING) => Ok(Some(Test::AnyOf(strings(
+            alloc, run, number,
+        )?))),
+        Some(number @ numbers::TEST_NEQ_ANY_STRING) => Ok(Some(Test::NoneOf(strings(
+            alloc, run, number,
+        )?))),
         Some(number @ numbers::TEST_EQ_STRING) => Ok(run.string(alloc, number)?.map(Test::EqStr)),
         Some(number) => Ok(number_test(number, run)),
     }

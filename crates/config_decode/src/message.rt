@@ -249,9 +249,7 @@ fn varint_in(number: u32, field: &Field<'_>) -> Option<u64>
 
 // The bytes of a record, if it is of this field and holds some.
 fn payload_in<'a>(number: u32, field: &Field<'a>) -> Option<&'a [u8]>
-    ensures payload {
-        cons_option (option_copied result) [] ≡ values.payloads number (seen field.now ∷ [])
-    }
+    ensures payload { cons_option (option_copied result) [] ≡ values.payloads number (seen field.now ∷ []) }
     ensures inside { IfSome result (λ bytes. bytes.now ≡ inside_of (seen field.now).body) }
 {
     match field.body {
@@ -262,9 +260,7 @@ fn payload_in<'a>(number: u32, field: &Field<'a>) -> Option<&'a [u8]>
 
 // Adds the numbers of a record, if it is of this field: one, or packed ones.
 fn add_numbers(numbers: &mut Vec<u64>, number: u32, field: &Field<'_>) -> Result<(), AllocError>
-    ensures {
-        OnOk result (numbers.new.items ≡ numbers.old.items ++ values.numbers number (seen field.now ∷ []))
-    }
+    ensures { OnOk result (numbers.new.items ≡ numbers.old.items ++ values.numbers number (seen field.now ∷ [])) }
 {
     match field.body {
         Body::Varint(value) if field.number == number => numbers.push(value)?,
@@ -276,9 +272,7 @@ fn add_numbers(numbers: &mut Vec<u64>, number: u32, field: &Field<'_>) -> Result
 
 // Adds the numbers of a packed record.
 fn unpack(numbers: &mut Vec<u64>, packed: &[u8]) -> Result<(), AllocError>
-    ensures {
-        OnOk result (numbers.new.items ≡ numbers.old.items ++ (packed_at 0 packed.now).numbers)
-    }
+    ensures { OnOk result (numbers.new.items ≡ numbers.old.items ++ (packed_at 0 packed.now).numbers) }
 {
     let mut rest = packed;
     while !rest.is_empty() {

@@ -113,7 +113,12 @@ impl FromMessage for EventDef {
     ghost tree = { event_of };
 
     fn from_message(alloc: Global, message: &Message<'_>) -> Result<EventDef, AllocError> {
-        let common = common(alloc, message, numbers::EVENT_CONDITION, numbers::EVENT_LINKS)?;
+        let common = common(
+            alloc,
+            message,
+            numbers::EVENT_CONDITION,
+            numbers::EVENT_LINKS,
+        )?;
         Ok(EventDef { common })
     }
 }
@@ -124,7 +129,12 @@ impl FromMessage for CountDef {
     ghost tree = { count_of };
 
     fn from_message(alloc: Global, message: &Message<'_>) -> Result<CountDef, AllocError> {
-        let common = common(alloc, message, numbers::COUNT_CONDITION, numbers::COUNT_LINKS)?;
+        let common = common(
+            alloc,
+            message,
+            numbers::COUNT_CONDITION,
+            numbers::COUNT_LINKS,
+        )?;
         let sliced = sliced(
             alloc,
             message,
@@ -143,7 +153,12 @@ impl FromMessage for ValueDef {
     ghost tree = { value_of };
 
     fn from_message(alloc: Global, message: &Message<'_>) -> Result<ValueDef, AllocError> {
-        let common = common(alloc, message, numbers::VALUE_CONDITION, numbers::VALUE_LINKS)?;
+        let common = common(
+            alloc,
+            message,
+            numbers::VALUE_CONDITION,
+            numbers::VALUE_LINKS,
+        )?;
         let sliced = sliced(
             alloc,
             message,
@@ -157,12 +172,22 @@ impl FromMessage for ValueDef {
             common,
             sliced,
             field,
-            agg: message.scalar(numbers::VALUE_AGGREGATION_TYPE).unwrap_or(Aggregation::Sum),
-            abs_reset: message.scalar(numbers::VALUE_USE_ABSOLUTE_VALUE_ON_RESET).unwrap_or(false),
+            agg: message
+                .scalar(numbers::VALUE_AGGREGATION_TYPE)
+                .unwrap_or(Aggregation::Sum),
+            abs_reset: message
+                .scalar(numbers::VALUE_USE_ABSOLUTE_VALUE_ON_RESET)
+                .unwrap_or(false),
             diff: message.scalar(numbers::VALUE_USE_DIFF),
-            direction: message.scalar(numbers::VALUE_DIRECTION).unwrap_or(Direction::Increasing),
-            skip_zero: message.scalar(numbers::VALUE_SKIP_ZERO_DIFF_OUTPUT).unwrap_or(true),
-            zero_base: message.scalar(numbers::VALUE_USE_ZERO_DEFAULT_BASE).unwrap_or(false),
+            direction: message
+                .scalar(numbers::VALUE_DIRECTION)
+                .unwrap_or(Direction::Increasing),
+            skip_zero: message
+                .scalar(numbers::VALUE_SKIP_ZERO_DIFF_OUTPUT)
+                .unwrap_or(true),
+            zero_base: message
+                .scalar(numbers::VALUE_USE_ZERO_DEFAULT_BASE)
+                .unwrap_or(false),
         })
     }
 }
@@ -183,8 +208,18 @@ impl FromMessage for GaugeDef {
     ghost tree = { gauge_of };
 
     fn from_message(alloc: Global, message: &Message<'_>) -> Result<GaugeDef, AllocError> {
-        let common = common(alloc, message, numbers::GAUGE_CONDITION, numbers::GAUGE_LINKS)?;
-        let sliced = unsliced(alloc, message, numbers::GAUGE_DIMENSIONS, numbers::GAUGE_BUCKET)?;
+        let common = common(
+            alloc,
+            message,
+            numbers::GAUGE_CONDITION,
+            numbers::GAUGE_LINKS,
+        )?;
+        let sliced = unsliced(
+            alloc,
+            message,
+            numbers::GAUGE_DIMENSIONS,
+            numbers::GAUGE_BUCKET,
+        )?;
         let filter = filter(alloc, message)?;
         let fields = optional(alloc, &filter, numbers::FILTER_FIELDS)?;
         Ok(GaugeDef {
@@ -192,7 +227,9 @@ impl FromMessage for GaugeDef {
             sliced,
             include_all: filter.scalar(numbers::FILTER_INCLUDE_ALL).unwrap_or(false),
             fields,
-            sampling: message.scalar(numbers::GAUGE_SAMPLING_TYPE).unwrap_or(SamplingType::RandomOne),
+            sampling: message
+                .scalar(numbers::GAUGE_SAMPLING_TYPE)
+                .unwrap_or(SamplingType::RandomOne),
             max_samples: message.scalar(numbers::GAUGE_MAX_NUM_ATOMS),
             trigger: message.scalar(numbers::GAUGE_TRIGGER_EVENT),
         })
@@ -205,7 +242,12 @@ impl FromMessage for DurationDef {
     ghost tree = { duration_of };
 
     fn from_message(alloc: Global, message: &Message<'_>) -> Result<DurationDef, AllocError> {
-        let common = common(alloc, message, numbers::DURATION_CONDITION, numbers::DURATION_LINKS)?;
+        let common = common(
+            alloc,
+            message,
+            numbers::DURATION_CONDITION,
+            numbers::DURATION_LINKS,
+        )?;
         let sliced = sliced(
             alloc,
             message,
@@ -214,7 +256,9 @@ impl FromMessage for DurationDef {
             numbers::DURATION_SLICE_BY_STATE,
             numbers::DURATION_STATE_LINK,
         )?;
-        let runs = message.scalar(numbers::DURATION_AGGREGATION_TYPE).unwrap_or(Runs::Sum);
+        let runs = message
+            .scalar(numbers::DURATION_AGGREGATION_TYPE)
+            .unwrap_or(Runs::Sum);
         Ok(DurationDef {
             common,
             sliced,

@@ -2,9 +2,9 @@
 ghost use Rattle.std.specs.Prelude.{◌≡◌, IfOk};
 ghost use Rattle.config_decode.specs.Tree as tree;
 
-use crate::scalar::InitialValue;
 use crate::message::Message;
 use crate::numbers;
+use crate::scalar::InitialValue;
 use crate::tree::{FromMessage, optional};
 use config_types::{Combo, PredicateBody, PredicateDef, SimplePredicate};
 use std::alloc::{AllocError, Global};
@@ -19,12 +19,16 @@ impl FromMessage for SimplePredicate {
 
     fn from_message(alloc: Global, message: &Message<'_>) -> Result<SimplePredicate, AllocError> {
         let dims = optional(alloc, message, numbers::SIMPLE_PREDICATE_DIMENSIONS)?;
-        let initial = message.scalar(numbers::SIMPLE_PREDICATE_INITIAL_VALUE).unwrap_or(InitialValue::False);
+        let initial = message
+            .scalar(numbers::SIMPLE_PREDICATE_INITIAL_VALUE)
+            .unwrap_or(InitialValue::False);
         Ok(SimplePredicate {
             start: message.scalar(numbers::SIMPLE_PREDICATE_START),
             stop: message.scalar(numbers::SIMPLE_PREDICATE_STOP),
             stop_all: message.scalar(numbers::SIMPLE_PREDICATE_STOP_ALL),
-            nesting: message.scalar(numbers::SIMPLE_PREDICATE_COUNT_NESTING).unwrap_or(true),
+            nesting: message
+                .scalar(numbers::SIMPLE_PREDICATE_COUNT_NESTING)
+                .unwrap_or(true),
             unknown: initial == InitialValue::Unknown,
             dims,
             bound: message.scalar(numbers::KEY_BOUND),

@@ -81,7 +81,10 @@ const CONFIG: [Row; 10] = [
     (numbers::CONFIG_COUNT_METRIC, Shape::Message(Kind::Count)),
     (numbers::CONFIG_VALUE_METRIC, Shape::Message(Kind::Value)),
     (numbers::CONFIG_GAUGE_METRIC, Shape::Message(Kind::Gauge)),
-    (numbers::CONFIG_DURATION_METRIC, Shape::Message(Kind::Duration)),
+    (
+        numbers::CONFIG_DURATION_METRIC,
+        Shape::Message(Kind::Duration),
+    ),
     (numbers::CONFIG_ATOM_MATCHER, Shape::Message(Kind::Matcher)),
     (numbers::CONFIG_PREDICATE, Shape::Message(Kind::Predicate)),
     (numbers::CONFIG_NO_REPORT_METRIC, Shape::Numbers),
@@ -97,7 +100,10 @@ const MATCHER: [Row; 3] = [
 
 const SIMPLE_MATCHER: [Row; 2] = [
     (numbers::SIMPLE_MATCHER_ATOM_ID, Shape::Number),
-    (numbers::SIMPLE_MATCHER_TEST, Shape::Message(Kind::FieldTest)),
+    (
+        numbers::SIMPLE_MATCHER_TEST,
+        Shape::Message(Kind::FieldTest),
+    ),
 ];
 
 const FIELD_TEST: [Row; 12] = [
@@ -115,13 +121,9 @@ const FIELD_TEST: [Row; 12] = [
     (numbers::TEST_NEQ_ANY_STRING, Shape::Message(Kind::Texts)),
 ];
 
-const TUPLE: [Row; 1] = [
-    (numbers::TUPLE_TEST, Shape::Message(Kind::FieldTest)),
-];
+const TUPLE: [Row; 1] = [(numbers::TUPLE_TEST, Shape::Message(Kind::FieldTest))];
 
-const TEXTS: [Row; 1] = [
-    (numbers::STRINGS_STR_VALUE, Shape::Text),
-];
+const TEXTS: [Row; 1] = [(numbers::STRINGS_STR_VALUE, Shape::Text)];
 
 const COMBO: [Row; 2] = [
     (numbers::COMBINATION_OPERATION, Shape::Number),
@@ -130,7 +132,10 @@ const COMBO: [Row; 2] = [
 
 const PREDICATE: [Row; 3] = [
     (numbers::PREDICATE_ID, Shape::Number),
-    (numbers::PREDICATE_SIMPLE, Shape::Message(Kind::SimplePredicate)),
+    (
+        numbers::PREDICATE_SIMPLE,
+        Shape::Message(Kind::SimplePredicate),
+    ),
     (numbers::PREDICATE_COMBINATION, Shape::Message(Kind::Combo)),
 ];
 
@@ -140,7 +145,10 @@ const SIMPLE_PREDICATE: [Row; 7] = [
     (numbers::SIMPLE_PREDICATE_COUNT_NESTING, Shape::Number),
     (numbers::SIMPLE_PREDICATE_STOP_ALL, Shape::Number),
     (numbers::SIMPLE_PREDICATE_INITIAL_VALUE, Shape::Number),
-    (numbers::SIMPLE_PREDICATE_DIMENSIONS, Shape::Message(Kind::FieldMatcher)),
+    (
+        numbers::SIMPLE_PREDICATE_DIMENSIONS,
+        Shape::Message(Kind::FieldMatcher),
+    ),
     (numbers::KEY_BOUND, Shape::Number),
 ];
 
@@ -152,14 +160,26 @@ const FIELD_MATCHER: [Row; 3] = [
 
 const LINK: [Row; 3] = [
     (numbers::CONDITION_LINK_CONDITION, Shape::Number),
-    (numbers::CONDITION_LINK_FIELDS_IN_WHAT, Shape::Message(Kind::FieldMatcher)),
-    (numbers::CONDITION_LINK_FIELDS_IN_CONDITION, Shape::Message(Kind::FieldMatcher)),
+    (
+        numbers::CONDITION_LINK_FIELDS_IN_WHAT,
+        Shape::Message(Kind::FieldMatcher),
+    ),
+    (
+        numbers::CONDITION_LINK_FIELDS_IN_CONDITION,
+        Shape::Message(Kind::FieldMatcher),
+    ),
 ];
 
 const STATE_LINK: [Row; 3] = [
     (numbers::STATE_LINK_ATOM_ID, Shape::Number),
-    (numbers::STATE_LINK_FIELDS_IN_WHAT, Shape::Message(Kind::FieldMatcher)),
-    (numbers::STATE_LINK_FIELDS_IN_STATE, Shape::Message(Kind::FieldMatcher)),
+    (
+        numbers::STATE_LINK_FIELDS_IN_WHAT,
+        Shape::Message(Kind::FieldMatcher),
+    ),
+    (
+        numbers::STATE_LINK_FIELDS_IN_STATE,
+        Shape::Message(Kind::FieldMatcher),
+    ),
 ];
 
 const STATE: [Row; 3] = [
@@ -168,9 +188,7 @@ const STATE: [Row; 3] = [
     (numbers::STATE_MAP, Shape::Message(Kind::StateMap)),
 ];
 
-const STATE_MAP: [Row; 1] = [
-    (numbers::STATE_MAP_GROUP, Shape::Message(Kind::Group)),
-];
+const STATE_MAP: [Row; 1] = [(numbers::STATE_MAP_GROUP, Shape::Message(Kind::Group))];
 
 const GROUP: [Row; 2] = [
     (numbers::STATE_GROUP_ID, Shape::Number),
@@ -193,7 +211,10 @@ const COUNT: [Row; 9] = [
     (numbers::METRIC_ID, Shape::Number),
     (numbers::METRIC_WHAT, Shape::Number),
     (numbers::COUNT_CONDITION, Shape::Number),
-    (numbers::COUNT_DIMENSIONS, Shape::Message(Kind::FieldMatcher)),
+    (
+        numbers::COUNT_DIMENSIONS,
+        Shape::Message(Kind::FieldMatcher),
+    ),
     (numbers::COUNT_BUCKET, Shape::BucketUnit),
     (numbers::COUNT_LINKS, Shape::Message(Kind::Link)),
     (numbers::COUNT_SLICE_BY_STATE, Shape::Numbers),
@@ -206,7 +227,10 @@ const VALUE: [Row; 19] = [
     (numbers::METRIC_WHAT, Shape::Number),
     (numbers::VALUE_FIELD, Shape::Message(Kind::FieldMatcher)),
     (numbers::VALUE_CONDITION, Shape::Number),
-    (numbers::VALUE_DIMENSIONS, Shape::Message(Kind::FieldMatcher)),
+    (
+        numbers::VALUE_DIMENSIONS,
+        Shape::Message(Kind::FieldMatcher),
+    ),
     (numbers::VALUE_BUCKET, Shape::BucketUnit),
     (numbers::VALUE_LINKS, Shape::Message(Kind::Link)),
     (numbers::VALUE_AGGREGATION_TYPE, Shape::ValueAggregation),
@@ -228,7 +252,10 @@ const GAUGE: [Row; 14] = [
     (numbers::METRIC_WHAT, Shape::Number),
     (numbers::GAUGE_FIELDS_FILTER, Shape::Message(Kind::Filter)),
     (numbers::GAUGE_CONDITION, Shape::Number),
-    (numbers::GAUGE_DIMENSIONS, Shape::Message(Kind::FieldMatcher)),
+    (
+        numbers::GAUGE_DIMENSIONS,
+        Shape::Message(Kind::FieldMatcher),
+    ),
     (numbers::GAUGE_BUCKET, Shape::BucketUnit),
     (numbers::GAUGE_LINKS, Shape::Message(Kind::Link)),
     (numbers::GAUGE_SAMPLING_TYPE, Shape::GaugeSampling),
@@ -246,10 +273,16 @@ const DURATION: [Row; 10] = [
     (numbers::DURATION_CONDITION, Shape::Number),
     (numbers::DURATION_LINKS, Shape::Message(Kind::Link)),
     (numbers::DURATION_AGGREGATION_TYPE, Shape::Number),
-    (numbers::DURATION_DIMENSIONS, Shape::Message(Kind::FieldMatcher)),
+    (
+        numbers::DURATION_DIMENSIONS,
+        Shape::Message(Kind::FieldMatcher),
+    ),
     (numbers::DURATION_BUCKET, Shape::BucketUnit),
     (numbers::DURATION_SLICE_BY_STATE, Shape::Numbers),
-    (numbers::DURATION_STATE_LINK, Shape::Message(Kind::StateLink)),
+    (
+        numbers::DURATION_STATE_LINK,
+        Shape::Message(Kind::StateLink),
+    ),
     (numbers::KEY_BOUND, Shape::Number),
 ];
 
@@ -309,9 +342,7 @@ impl Kind {
             (Shape::Ignored, _)
             | (Shape::Number | Shape::Numbers, Body::Varint(_))
             | (Shape::Numbers | Shape::Text | Shape::Message(_), Body::Bytes(_)) => false,
-            (Shape::BucketUnit, Body::Varint(number)) => {
-                TimeUnit::from_varint(number).is_none()
-            }
+            (Shape::BucketUnit, Body::Varint(number)) => { TimeUnit::from_varint(number).is_none() }
             (Shape::ValueAggregation, Body::Varint(number)) => {
                 Aggregation::from_varint(number).is_none()
             }

@@ -4,8 +4,8 @@ ghost use Rattle.proto_wire.specs.Fields.{seen, IsWithin};
 ghost use Rattle.config_decode.specs.Walk.{packed_at, walk_in, most_levels, walk_of_record, walk_of_body, inner_walk, walk_of};
 ghost use Rattle.config_decode.specs.Walks.{Walks, GoesTo, IsUnsupported, PacksWell};
 
-use crate::profile::{Kind, Shape};
 use crate::DecodeFault;
+use crate::profile::{Kind, Shape};
 use proto_wire::{Body, Field, Records, WireFault, varint_of};
 use sd_base::Path;
 use std::alloc::{AllocError, Global};
