@@ -27,7 +27,7 @@ same_back a b same = eq-eqb b a (sym (eqb-true a b same))
 other_back : (a b : ℕ) → (a == b) ≡ false → (b == a) ≡ false
 other_back a b other = ne_eqb b a (λ is. eqb-false a b other (sym is))
 
--- behind records of another number a new run begins
+-- after records of another number a new run begins
 begins : (number : ℕ) (fields : List FieldOf) (field : FieldOf) → all_have number fields ≡ true
     → (field.number == number) ≡ false → run_with field (last_run fields) ≡ field ∷ []
 begins number [] field have other = refl
@@ -73,7 +73,7 @@ module _ (members : List ℕ) (fields : List Field) (i : ℕ) (d : Field) (below
       ∙ filter-append _ (map seen (take i fields)) (seen (get_or fields i d) ∷ [])
       ∙ ap (λ (m : List FieldOf). with_numbers members (map seen (take i fields)) ++ m) one
 
-  -- one more record of a member goes behind the run, or begins a new one
+  -- one more record of a member goes after the run, or begins a new one
   pub run_more : list_any (λ number. number == (get_or fields i d).number) members ≡ true
       → oneof_run members (map seen (take (i + 1) fields))
       ≡ run_with (seen (get_or fields i d)) (oneof_run members (map seen (take i fields)))

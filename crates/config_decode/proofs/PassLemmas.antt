@@ -13,7 +13,7 @@ use Rattle.config_decode.specs.declared.profile.Kind.{Kind}
 use Rattle.config_decode.specs.declared.profile.Shape.{Shape}
 use Rattle.config_decode.specs.declared.profile.Shape.TheVariants.{Message}
 use Rattle.config_decode.specs.Profile.{shape_of}
-use Rattle.config_decode.specs.Values.{bytes_in, with_number, payloads}
+use Rattle.config_decode.specs.Values.{bytes_held, with_number, payloads}
 use Rattle.config_decode.specs.Walk.{Walked, walk_of_entry, walk_of_body, walk_of_record, walk_of_all, walk_of_message, walk_in, inner_walk}
 use Rattle.config_decode.specs.Laws.{IsReadWhole, Passes, PassesRecord, PassedMessagesAreWhole, TheTopIsPassed}
 use Rattle.config_decode.proofs.JoinLemmas.{same_anywhere, read_as_one}
@@ -65,13 +65,15 @@ abbrev inside_of_field : ℕ → FieldOf → Rest
 inside_of_field depth field = record { bytes = inside_of field.body; at = field.payload_at; depth = depth + 1 }
 
 -- what is passed was entered
-was_entered : (walk : Rest → Walked) (depth : ℕ) (field : FieldOf) → IsPassed (walk_of_entry walk (inside_at depth field))
+was_entered : (walk : Rest → Walked) (depth : ℕ) (field : FieldOf)
+    → IsPassed (walk_of_entry walk (inside_at depth field))
     → Ok (inside_of_field depth field) ≡ inside_at depth field
 unfolding inside_at
 was_entered walk depth field none = by_test (nat_lt depth 100) none
   where
     by_test : (test : Bool)
-        → IsPassed (walk_of_entry walk (if test then Ok (inside_of_field depth field) else Err (fault_at field.at TOO_DEEP)))
+        → IsPassed (walk_of_entry walk
+        (if test then Ok (inside_of_field depth field) else Err (fault_at field.at TOO_DEEP)))
         → Ok (inside_of_field depth field)
         ≡ (if test then Ok (inside_of_field depth field) else Err (fault_at field.at TOO_DEEP))
     by_test true none = refl
@@ -116,7 +118,7 @@ module _ (above : List ℕ) (kind : Kind) (depth number : ℕ) (inner : Kind)
     (shape : shape_of kind number ≡ Message inner) where
   -- what one record adds
   body_whole : (field : FieldOf) → PassesRecord above kind depth field → field.number ≡ number
-      → (body : BodyOf) → field.body ≡ body → All IsReadWhole (bytes_in body)
+      → (body : BodyOf) → field.body ≡ body → All IsReadWhole (bytes_held body)
   body_whole field passes same (Bytes payload) is =
       let inside = passes inner payload (ap (shape_of kind) same ∙ shape) is in
       All-cons IsReadWhole payload [] (same_anywhere payload field.payload_at (depth + 1) inside.whole).whole
@@ -131,9 +133,9 @@ module _ (above : List ℕ) (kind : Kind) (depth number : ℕ) (inner : Kind)
   one_more field fields passes others = by_test (field.number == number) refl
     where
       by_test : (test : Bool) → (field.number == number) ≡ test → All IsReadWhole
-          (flat_map (λ (f : FieldOf). bytes_in f.body)
+          (flat_map (λ (f : FieldOf). bytes_held f.body)
           (if test then field ∷ with_number number fields else with_number number fields))
-      by_test true is = All-append IsReadWhole (bytes_in field.body) (payloads number fields)
+      by_test true is = All-append IsReadWhole (bytes_held field.body) (payloads number fields)
           (body_whole field passes (eqb-true _ _ is) field.body refl) others
       by_test false is = others
 

@@ -107,7 +107,8 @@ all_records (payload ∷ others) = ap (λ (l : List FieldOf). records_of payload
 pub no_message : (payloads : List (List ℕ)) → true ≡ (length (map records_of payloads) == 0)
     → records_if_any payloads ≡ None
 no_message [] none = refl
-no_message (payload ∷ others) none = absurd (omega (arith, eqb-true (length (map records_of (payload ∷ others))) 0 (sym none)))
+no_message (payload ∷ others) none =
+    absurd (omega (arith, eqb-true (length (map records_of (payload ∷ others))) 0 (sym none)))
 
 -- and one with any is one
 pub one_message : (payloads : List (List ℕ)) → false ≡ (length (map records_of payloads) == 0)

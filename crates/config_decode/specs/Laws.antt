@@ -79,7 +79,8 @@ pub record IsWholeMessage (above : List ℕ) (kind : Kind) (rest : Rest) : Type 
 
 -- it is so for any message that the walk passes
 abbrev pub PassedMessagesAreWhole : Type 0
-PassedMessagesAreWhole = (above : List ℕ) (kind : Kind) (rest : Rest) → Passes above kind rest → IsWholeMessage above kind rest
+PassedMessagesAreWhole = (above : List ℕ) (kind : Kind) (rest : Rest)
+    → Passes above kind rest → IsWholeMessage above kind rest
 
 -- where the walk of a configuration has no fault, it passes the message at the top
 abbrev pub TheTopIsPassed : Type 0

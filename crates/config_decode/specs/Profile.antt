@@ -97,8 +97,8 @@ runs_of number =
     else None
 
 -- The fields of each message, a row a field. The id of the whole has no place in the tree, and activations come later.
-abbrev pub fields_of : Kind → List (ℕ × Shape)
-fields_of Config =
+abbrev pub profile_rows : Kind → List (ℕ × Shape)
+profile_rows Config =
     (config_event_metric, Message Event)
     ∷ (config_count_metric, Message Count)
     ∷ (config_value_metric, Message Value)
@@ -110,16 +110,16 @@ fields_of Config =
     ∷ (config_metric_activation, Refused)
     ∷ (config_state, Message State)
     ∷ []
-fields_of Matcher =
+profile_rows Matcher =
     (matcher_id, Number)
     ∷ (matcher_simple, Message SimpleMatcher)
     ∷ (matcher_combination, Message Combo)
     ∷ []
-fields_of SimpleMatcher =
+profile_rows SimpleMatcher =
     (simple_matcher_atom_id, Number)
     ∷ (simple_matcher_test, Message FieldTest)
     ∷ []
-fields_of FieldTest =
+profile_rows FieldTest =
     (test_field, Number)
     ∷ (test_position, Number)
     ∷ (test_eq_bool, Number)
@@ -133,22 +133,22 @@ fields_of FieldTest =
     ∷ (test_eq_any_string, Message Texts)
     ∷ (test_neq_any_string, Message Texts)
     ∷ []
-fields_of Tuple =
+profile_rows Tuple =
     (tuple_test, Message FieldTest)
     ∷ []
-fields_of Texts =
+profile_rows Texts =
     (strings_str_value, Text)
     ∷ []
-fields_of Combo =
+profile_rows Combo =
     (combination_operation, Number)
     ∷ (combination_operand, Numbers)
     ∷ []
-fields_of Predicate =
+profile_rows Predicate =
     (predicate_id, Number)
     ∷ (predicate_simple, Message SimplePredicate)
     ∷ (predicate_combination, Message Combo)
     ∷ []
-fields_of SimplePredicate =
+profile_rows SimplePredicate =
     (simple_predicate_start, Number)
     ∷ (simple_predicate_stop, Number)
     ∷ (simple_predicate_count_nesting, Number)
@@ -157,44 +157,44 @@ fields_of SimplePredicate =
     ∷ (simple_predicate_dimensions, Message FieldMatcher)
     ∷ (key_bound, Number)
     ∷ []
-fields_of FieldMatcher =
+profile_rows FieldMatcher =
     (leaf_field, Number)
     ∷ (leaf_position, Number)
     ∷ (leaf_child, Message FieldMatcher)
     ∷ []
-fields_of Link =
+profile_rows Link =
     (condition_link_condition, Number)
     ∷ (condition_link_fields_in_what, Message FieldMatcher)
     ∷ (condition_link_fields_in_condition, Message FieldMatcher)
     ∷ []
-fields_of StateLink =
+profile_rows StateLink =
     (state_link_atom_id, Number)
     ∷ (state_link_fields_in_what, Message FieldMatcher)
     ∷ (state_link_fields_in_state, Message FieldMatcher)
     ∷ []
-fields_of State =
+profile_rows State =
     (state_id, Number)
     ∷ (state_atom_id, Number)
     ∷ (state_map, Message StateMap)
     ∷ []
-fields_of StateMap =
+profile_rows StateMap =
     (state_map_group, Message Group)
     ∷ []
-fields_of Group =
+profile_rows Group =
     (state_group_id, Number)
     ∷ (state_group_value, Numbers)
     ∷ []
-fields_of Filter =
+profile_rows Filter =
     (filter_include_all, Number)
     ∷ (filter_fields, Message FieldMatcher)
     ∷ []
-fields_of Event =
+profile_rows Event =
     (metric_id, Number)
     ∷ (metric_what, Number)
     ∷ (event_condition, Number)
     ∷ (event_links, Message Link)
     ∷ []
-fields_of Count =
+profile_rows Count =
     (metric_id, Number)
     ∷ (metric_what, Number)
     ∷ (count_condition, Number)
@@ -205,7 +205,7 @@ fields_of Count =
     ∷ (count_state_link, Message StateLink)
     ∷ (key_bound, Number)
     ∷ []
-fields_of Value =
+profile_rows Value =
     (metric_id, Number)
     ∷ (metric_what, Number)
     ∷ (value_field, Message FieldMatcher)
@@ -226,7 +226,7 @@ fields_of Value =
     ∷ (value_state_link, Message StateLink)
     ∷ (key_bound, Number)
     ∷ []
-fields_of Gauge =
+profile_rows Gauge =
     (metric_id, Number)
     ∷ (metric_what, Number)
     ∷ (gauge_fields_filter, Message Filter)
@@ -242,7 +242,7 @@ fields_of Gauge =
     ∷ (gauge_split_bucket, Ignored)
     ∷ (key_bound, Number)
     ∷ []
-fields_of Duration =
+profile_rows Duration =
     (metric_id, Number)
     ∷ (metric_what, Number)
     ∷ (duration_condition, Number)
@@ -267,7 +267,7 @@ shape_in other ((own, shape) ∷ rows) number = if own == number then shape else
 
 -- what stands in a field
 abbrev pub shape_of : Kind → ℕ → Shape
-shape_of kind number = shape_in (shape_without_row kind) (fields_of kind) number
+shape_of kind number = shape_in (shape_without_row kind) (profile_rows kind) number
 
 -- the low 32 bits
 abbrev pub low_half : ℕ → ℕ

@@ -12,20 +12,20 @@ abbrev pub records_of : List ℕ → List FieldOf
 records_of bytes = (walk_from (record { bytes = bytes; at = 0; depth = 0 })).fields
 
 -- the number of a record that holds one
-abbrev pub varint_in : BodyOf → List ℕ
-varint_in (Varint number) = number ∷ []
-varint_in _ = []
+abbrev pub varint_held : BodyOf → List ℕ
+varint_held (Varint number) = number ∷ []
+varint_held _ = []
 
 -- all numbers of a record that may be packed
-abbrev pub varints_in : BodyOf → List ℕ
-varints_in (Varint number) = number ∷ []
-varints_in (Bytes bytes) = (packed_at 0 bytes).numbers
-varints_in _ = []
+abbrev pub varints_held : BodyOf → List ℕ
+varints_held (Varint number) = number ∷ []
+varints_held (Bytes bytes) = (packed_at 0 bytes).numbers
+varints_held _ = []
 
 -- the bytes of a record that holds some
-abbrev pub bytes_in : BodyOf → List (List ℕ)
-bytes_in (Bytes bytes) = bytes ∷ []
-bytes_in _ = []
+abbrev pub bytes_held : BodyOf → List (List ℕ)
+bytes_held (Bytes bytes) = bytes ∷ []
+bytes_held _ = []
 
 -- the records with this number
 abbrev pub with_number : ℕ → List FieldOf → List FieldOf
@@ -33,15 +33,15 @@ with_number number fields = filter (λ (field : FieldOf). field.number == number
 
 -- a field that holds one number: all numbers that were given for it
 abbrev pub varints : ℕ → List FieldOf → List ℕ
-varints number fields = flat_map (λ (field : FieldOf). varint_in field.body) (with_number number fields)
+varints number fields = flat_map (λ (field : FieldOf). varint_held field.body) (with_number number fields)
 
 -- a field that holds numbers, packed or not
 abbrev pub numbers : ℕ → List FieldOf → List ℕ
-numbers number fields = flat_map (λ (field : FieldOf). varints_in field.body) (with_number number fields)
+numbers number fields = flat_map (λ (field : FieldOf). varints_held field.body) (with_number number fields)
 
 -- a field that holds bytes: strings, or the payloads of messages
 abbrev pub payloads : ℕ → List FieldOf → List (List ℕ)
-payloads number fields = flat_map (λ (field : FieldOf). bytes_in field.body) (with_number number fields)
+payloads number fields = flat_map (λ (field : FieldOf). bytes_held field.body) (with_number number fields)
 
 -- the last record of a scalar wins
 abbrev pub last : {A : Type 0} → List A → Option A

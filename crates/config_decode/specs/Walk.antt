@@ -81,7 +81,8 @@ abbrev pub walk_of_record : (List ℕ → Kind → Rest → Walked) → Kind →
 walk_of_record walk kind above depth field =
     let path = above ++ field.number ∷ [] in
     let here : Located = record { path = path; kind = kind; field = field } in
-    and_then (walk_of_records (here ∷ [])) (walk_of_body (walk path) depth field (shape_of kind field.number) field.body)
+    and_then (walk_of_records (here ∷ []))
+    (walk_of_body (walk path) depth field (shape_of kind field.number) field.body)
 
 -- these records, and then the fault that ended their message
 abbrev pub walk_of_all : (FieldOf → Walked) → List FieldOf → Option WireFault → Walked

@@ -50,7 +50,8 @@ fn children(
     levels: u32,
     message: &Message<'_>,
 ) -> Result<Seq<FieldMatcher>, AllocError>
-    ensures { IfOk result (λ read. read ≡ tree.children_in levels (values.messages leaf_child message.now)) }
+    ensures { IfOk result (λ read.
+        read ≡ tree.children_in levels (values.messages leaf_child message.now)) }
 {
     let mut children = Seq::new(alloc);
     if levels == 0 {

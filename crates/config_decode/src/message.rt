@@ -161,7 +161,8 @@ impl<'a> Message<'a> {
     /// A field that is a message: all its payloads, read as one.
     #[tactic(auto, using(crate::proofs::ValuesLemmas::all_records))]
     pub fn merged_message(&self, alloc: Global, number: u32) -> Result<Message<'a>, AllocError>
-        ensures { IfOk result (λ message. message ≡ values.records_of_all (values.payloads number self.now)) }
+        ensures { IfOk result (λ message.
+            message ≡ values.records_of_all (values.payloads number self.now)) }
     {
         let messages = self.messages(alloc, number)?;
         let message = Message::of_all(alloc, messages.as_slice())?;
@@ -249,7 +250,8 @@ fn varint_in(number: u32, field: &Field<'_>) -> Option<u64>
 
 // The bytes of a record, if it is of this field and holds some.
 fn payload_in<'a>(number: u32, field: &Field<'a>) -> Option<&'a [u8]>
-    ensures payload { cons_option (option_copied result) [] ≡ values.payloads number (seen field.now ∷ []) }
+    ensures payload { cons_option (option_copied result) []
+        ≡ values.payloads number (seen field.now ∷ []) }
     ensures inside { IfSome result (λ bytes. bytes.now ≡ inside_of (seen field.now).body) }
 {
     match field.body {
@@ -260,7 +262,8 @@ fn payload_in<'a>(number: u32, field: &Field<'a>) -> Option<&'a [u8]>
 
 // Adds the numbers of a record, if it is of this field: one, or packed ones.
 fn add_numbers(numbers: &mut Vec<u64>, number: u32, field: &Field<'_>) -> Result<(), AllocError>
-    ensures { OnOk result (numbers.new.items ≡ numbers.old.items ++ values.numbers number (seen field.now ∷ [])) }
+    ensures { OnOk result (numbers.new.items
+        ≡ numbers.old.items ++ values.numbers number (seen field.now ∷ [])) }
 {
     match field.body {
         Body::Varint(value) if field.number == number => numbers.push(value)?,
@@ -272,7 +275,8 @@ fn add_numbers(numbers: &mut Vec<u64>, number: u32, field: &Field<'_>) -> Result
 
 // Adds the numbers of a packed record.
 fn unpack(numbers: &mut Vec<u64>, packed: &[u8]) -> Result<(), AllocError>
-    ensures { OnOk result (numbers.new.items ≡ numbers.old.items ++ (packed_at 0 packed.now).numbers) }
+    ensures { OnOk result (numbers.new.items
+        ≡ numbers.old.items ++ (packed_at 0 packed.now).numbers) }
 {
     let mut rest = packed;
     while !rest.is_empty() {

@@ -194,7 +194,8 @@ impl FromMessage for ValueDef {
 
 // The filter of a gauge; one that has none says as little as an empty one.
 fn filter<'a>(alloc: Global, message: &Message<'a>) -> Result<Message<'a>, AllocError>
-    ensures { IfOk result (λ read. read ≡ metrics.filter_of (values.message gauge_fields_filter message.now)) }
+    ensures { IfOk result (λ read.
+        read ≡ metrics.filter_of (values.message gauge_fields_filter message.now)) }
 {
     match message.message(alloc, numbers::GAUGE_FIELDS_FILTER)? {
         Some(filter) => Ok(filter),

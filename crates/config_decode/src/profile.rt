@@ -289,7 +289,7 @@ const DURATION: [Row; 10] = [
 impl Kind {
     /// The fields of this message.
     fn rows(self) -> &'static [Row]
-        ensures { result.now ≡ profile.fields_of self }
+        ensures { result.now ≡ profile.profile_rows self }
     {
         match self {
             Kind::Config => &CONFIG,

@@ -43,7 +43,8 @@ impl FromMessage for StateDef {
 
 // The groups of a state, if it has a map.
 fn groups(alloc: Global, state: &Message<'_>) -> Result<Option<Seq<GroupDef>>, AllocError>
-    ensures { IfOk result (λ read. read ≡ option_map tree.state_groups_of (values.message state_map state.now)) }
+    ensures { IfOk result (λ read.
+        read ≡ option_map tree.state_groups_of (values.message state_map state.now)) }
 {
     match state.message(alloc, numbers::STATE_MAP)? {
         Some(map) => Ok(Some(repeated(alloc, &map, numbers::STATE_MAP_GROUP)?)),

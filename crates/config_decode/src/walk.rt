@@ -20,7 +20,7 @@ struct Walker {
     unsupported: Option<Path>,
 }
 
-/// The path of the first record that isn't supported, if there is any, unless a fault of the wire format stands anywhere.
+/// The path of the first record that isn't supported, if there is any, or the first fault of the wire format.
 pub fn first_unsupported(alloc: Global, bytes: &[u8]) -> Result<Option<Path>, DecodeFault>
     requires { length bytes.now < 2 ^ 32 }
     ensures { IsUnsupported (walk_of bytes.now) result }
@@ -40,7 +40,8 @@ impl Walker {
     fn message(&mut self, kind: Kind, records: Records<'_>) -> Result<(), DecodeFault>
         requires depth { length self.old.path.items ≡ records.depth }
         requires shallow { records.depth ≤ most_levels }
-        ensures walked { Walks (walk_in (most_levels - records.entry.depth) self.old.path.items kind records.entry)
+        ensures walked { Walks (walk_in (most_levels - records.entry.depth)
+            self.old.path.items kind records.entry)
             self.old self.new result }
     {
         let mut records = records;
@@ -92,7 +93,8 @@ impl Walker {
     ) -> Result<(), DecodeFault>
         requires depth { length self.old.path.items ≡ records.now.depth + 1 }
         requires within { IsWithin (seen field.now) }
-        ensures walked { Walks (walk_of_body (inner_walk (most_levels - records.now.depth) self.old.path.items)
+        ensures walked { Walks (walk_of_body
+            (inner_walk (most_levels - records.now.depth) self.old.path.items)
             records.now.depth (seen field.now) shape (seen field.now).body) self.old self.new result }
     {
         match (shape, field.body) {

@@ -13,8 +13,8 @@ returns-in_default c =
 pub loop-rest-preserved : goal.loop-rest-preserved
 loop-rest-preserved c =
     let rest = c.loop-rest.rest.now in
-    let behind = c.in-Ok.left.now in
-    let next = numbers-after 0 rest c.loop-rest-test.ensures c.in-Ok.number behind c.in-Ok.ensures.number in
+    let left = c.in-Ok.left.now in
+    let next = numbers-after 0 rest c.loop-rest-test.ensures c.in-Ok.number left c.in-Ok.ensures.number in
     grind (arith, common_steps, append_assoc, next)
 
 pub returns : goal.returns
