@@ -1,4 +1,5 @@
 mod Worked
+pub mod DepthLemmas
 pub mod GroupLemmas
 pub mod JoinLemmas
 pub mod OneofLemmas

@@ -17,7 +17,7 @@ use Rattle.config_decode.specs.Values.{bytes_held, with_number, payloads}
 use Rattle.config_decode.specs.Walk.{Walked, walk_of_entry, walk_of_body, walk_of_record, walk_of_all, walk_of_message, walk_in, inner_walk}
 use Rattle.config_decode.specs.Laws.{IsReadWhole, Passes, PassesRecord, PassedMessagesAreWhole, TheTopIsPassed}
 use Rattle.config_decode.proofs.JoinLemmas.{same_anywhere, read_as_one}
-use Rattle.config_decode.proofs.WalkLemmas.{inside-is, whole-is}
+use Rattle.config_decode.proofs.WalkLemmas.{enters, inside-is, whole-is}
 
 -- A walk has no fault.
 abbrev IsPassed : Walked → Type 0
@@ -111,7 +111,13 @@ module _ (above : List ℕ) (kind : Kind) (depth : ℕ) (field : FieldOf) where
       let passed : Passes path inner_kind (payload_of payload) =
       subst (λ (b : BodyOf). Passes path inner_kind (payload_of (inside_of b))) body
       (inside_passes inner_kind inside) in
-      record { whole = (records_pass path inner_kind (payload_of payload) passed).whole; passed = passed }
+      let entered : Ok (inside_of_field depth field) ≡ inside_at depth field =
+      was_entered (inner inner_kind) depth field inside in
+      record {
+        shallow = (enters depth field (inside_of_field depth field) entered).shallow;
+        whole = (records_pass path inner_kind (payload_of payload) passed).whole;
+        passed = passed;
+      }
 
 -- the payloads of a field that holds messages have no fault by themselves
 module _ (above : List ℕ) (kind : Kind) (depth number : ℕ) (inner : Kind)

@@ -48,6 +48,11 @@ module _ (number : ℕ) (fields : List Field) (i : ℕ) (d : Field) (below : i <
       ≡ payloads number (map seen (take i fields)) ++ payloads number (seen (get_or fields i d) ∷ [])
   payloads_more = found-more _ _ fields i d below
 
+-- the payloads of further records
+pub payloads_append : (number : ℕ) (fields others : List FieldOf)
+    → payloads number (fields ++ others) ≡ payloads number fields ++ payloads number others
+payloads_append number fields others = found-append _ _ fields others
+
 -- the last of further items, if there are any
 pub last_append : {A : Type 0} (o : Option A) (xs ys : List A) → last_or o (xs ++ ys) ≡ last_or (last_or o xs) ys
 last_append o [] ys = refl

@@ -1,15 +1,16 @@
 -- What holds of the records of any bytes. The payloads of messages, joined and read as one, say what each says by
 -- itself; and a message says the same wherever it stands. Where the walk of a configuration passes a message, that
--- message and those inside it have no fault.
-use Rattle.std.specs.Prelude.{◌≡◌, ℕ, ◌+◌, ◌-◌, List, [], ◌∷◌, ◌++◌, map, None, All}
+-- message and those inside it have no fault, and its trees are read to their last level.
+use Rattle.std.specs.Prelude.{◌≡◌, ℕ, ◌+◌, ◌-◌, ◌<◌, ◌≤◌, List, [], ◌∷◌, ◌++◌, map, None, All}
 use Rattle.std.specs.List.{concat}
 use Rattle.proto_wire.specs.Fields.{BodyOf, Bytes, FieldOf, Rest}
 use Rattle.proto_wire.specs.WireReading.{Walk, walk_from}
 use Rattle.config_decode.specs.declared.profile.Kind.{Kind}
-use Rattle.config_decode.specs.declared.profile.Kind.TheVariants.{Config}
+use Rattle.config_decode.specs.declared.profile.Kind.TheVariants.{Config, FieldMatcher, FieldTest}
 use Rattle.config_decode.specs.declared.profile.Shape.TheVariants.{Message}
 use Rattle.config_decode.specs.Profile.{shape_of}
 use Rattle.config_decode.specs.Walk.{most_levels, walk_in, walk_of}
+use Rattle.config_decode.specs.Tree.{field_matcher_in, field_matcher_of, field_test_in, field_test_of}
 use Rattle.config_decode.specs.Values.{records_of, records_of_all, payloads}
 
 -- what a record says, but not where it stands: its number, and what it holds
@@ -54,9 +55,10 @@ MessagesSayTheSameAnywhere = (bytes : List ℕ) (at depth : ℕ) → IsReadWhole
 abbrev pub Passes : List ℕ → Kind → Rest → Type 0
 Passes above kind rest = (walk_in (most_levels - rest.depth) above kind rest).fault ≡ None
 
--- The payload of a record of a message so deep, as a message of such a kind: read where it stands, it has no fault, and
--- the walk goes through it without one.
+-- The payload of a record of a message so deep, as a message of such a kind: it isn't too deep, read where it stands it
+-- has no fault, and the walk goes through it without one.
 pub record PassesInside (above : List ℕ) (depth : ℕ) (field : FieldOf) (inner : Kind) (payload : List ℕ) : Type 0 where
+  pub shallow : depth < most_levels
   pub whole : IsReadWholeAt field.payload_at (depth + 1) payload
   pub passed : Passes (above ++ field.number ∷ []) inner
       (record { bytes = payload; at = field.payload_at; depth = depth + 1 })
@@ -81,6 +83,18 @@ pub record IsWholeMessage (above : List ℕ) (kind : Kind) (rest : Rest) : Type 
 abbrev pub PassedMessagesAreWhole : Type 0
 PassedMessagesAreWhole = (above : List ℕ) (kind : Kind) (rest : Rest)
     → Passes above kind rest → IsWholeMessage above kind rest
+
+-- What a tree of field numbers says is the same with more levels, where its fields say what a passed message says.
+abbrev pub FieldMatchersAreWhole : Type 0
+FieldMatchersAreWhole = (above : List ℕ) (rest : Rest) (fields : List FieldOf)
+    → Passes above FieldMatcher rest → contents fields ≡ contents (walk_from rest).fields
+    → (levels : ℕ) → most_levels ≤ levels → field_matcher_in levels fields ≡ field_matcher_of fields
+
+-- and so is what a test of a field says
+abbrev pub FieldTestsAreWhole : Type 0
+FieldTestsAreWhole = (above : List ℕ) (rest : Rest) (fields : List FieldOf)
+    → Passes above FieldTest rest → contents fields ≡ contents (walk_from rest).fields
+    → (levels : ℕ) → most_levels ≤ levels → field_test_in levels fields ≡ field_test_of fields
 
 -- where the walk of a configuration has no fault, it passes the message at the top
 abbrev pub TheTopIsPassed : Type 0

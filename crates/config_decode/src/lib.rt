@@ -19,4 +19,6 @@ mod walk;
 
 pub use decoder::{MAX_BYTES, decode};
 pub use fault::DecodeFault;
-pub use laws::{payloads_are_read_as_one, the_walk_passes_whole_messages};
+pub use laws::{
+    passed_trees_are_read_to_their_end, payloads_are_read_as_one, the_walk_passes_whole_messages,
+};
