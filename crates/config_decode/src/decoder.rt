@@ -14,8 +14,8 @@ use std::alloc::{AllocError, Global};
 /// The most bytes of a configuration.
 pub const MAX_BYTES: usize = 262_144;
 
-/// The tree of a configuration, or its one fault: too many bytes, or the first fault of the wire format, or, where there
-/// is none, the first record that isn't supported.
+/// The tree of a configuration, or its one fault: too many bytes, or the first fault of the wire format, or, where
+/// there is none, the first record that isn't supported.
 #[tactic(auto, unfolding(crate::specs::Config::config_of))]
 pub fn decode(alloc: Global, bytes: &[u8]) -> Result<Config, DecodeFault>
     requires { length bytes.now < 2 ^ 32 }

@@ -342,7 +342,7 @@ impl Kind {
             (Shape::Ignored, _)
             | (Shape::Number | Shape::Numbers, Body::Varint(_))
             | (Shape::Numbers | Shape::Text | Shape::Message(_), Body::Bytes(_)) => false,
-            (Shape::BucketUnit, Body::Varint(number)) => { TimeUnit::from_varint(number).is_none() }
+            (Shape::BucketUnit, Body::Varint(number)) => TimeUnit::from_varint(number).is_none(),
             (Shape::ValueAggregation, Body::Varint(number)) => {
                 Aggregation::from_varint(number).is_none()
             }
