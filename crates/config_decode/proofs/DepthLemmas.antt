@@ -1,4 +1,4 @@
--- Lemmas on `specs/Laws.antt`: what the walk passes is no deeper than a tree is read.
+-- Lemmas on `specs/Laws.antt`, for the law of trees: what the walk passes is no deeper than a tree is read.
 use Rattle.std.proofs.Common.{◌≡◌, ℕ, zero, suc, ◌+◌, ◌≤◌, List, [], ◌∷◌, ◌++◌, map, Bool, true, false, Option, None, Some, refl, sym, ap, ap₂, ◌∙◌, subst, arith}
 use Rattle.std.specs.Prelude.{if◌then◌else◌, ◌==◌, All}
 use Rattle.std.specs.List.{flat_map}

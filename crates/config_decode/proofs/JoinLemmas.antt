@@ -1,4 +1,5 @@
--- A message and what comes after it are one message, wherever that begins.
+-- Lemmas on `specs/Laws.antt`, for the laws of joined payloads: a message and what comes after it are one message,
+-- wherever that begins.
 use Rattle.std.proofs.Common.{◌≡◌, ℕ, zero, suc, ◌+◌, ◌-◌, ◌<◌, ◌≤◌, List, [], ◌∷◌, ◌++◌, length, None, Result, Ok, Err, refl, sym, ap, ◌∙◌, subst, arith, append_assoc}
 use Rattle.std.specs.List.{concat}
 use Rattle.std.specs.Result.{IfOk}

@@ -1,4 +1,5 @@
--- Packed numbers: any number of turns that is enough reads the same.
+-- Lemmas on packed numbers of `specs/Walk.antt`, for the loops over them: any number of turns that is enough reads the
+-- same.
 use Rattle.std.proofs.Common.{◌≡◌, ℕ, zero, suc, ◌<◌, ◌≤◌, List, [], ◌∷◌, length, None, Some, Result, Ok, Err, false, refl, sym, ap, ◌∙◌, arith}
 use Rattle.std.specs.Prelude.{◌==◌}
 use Rattle.std.specs.Result.{IfOk}

@@ -1,4 +1,5 @@
--- A message that the walk passes has no fault, and neither has any listed message inside.
+-- Lemmas on `specs/Laws.antt`, for the laws of the walk: a message that it passes has no fault, and neither has any
+-- listed message inside.
 use Rattle.std.proofs.Common.{◌≡◌, ℕ, zero, suc, ◌+◌, ◌-◌, List, [], ◌∷◌, ◌++◌, Bool, true, false, Option, None, Some, Ok, Err, refl, sym, ap, ◌∙◌, subst}
 use Rattle.std.specs.Prelude.{if◌then◌else◌, nat_lt, ◌==◌, All}
 use Rattle.std.specs.Option.{option_or}

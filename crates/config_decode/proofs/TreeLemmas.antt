@@ -1,4 +1,4 @@
--- How messages inside one another are read: one level, and what is below it.
+-- Lemmas on `specs/Tree.antt`, for `field_matcher` and `field_test`: one level of messages, and what is below it.
 use Rattle.std.proofs.Common.{◌≡◌, ℕ, zero, suc, ◌-◌, ◌<◌, List, map, refl, arith}
 use native.Mathlib.Numerals.{unary_clauses}
 use Rattle.proto_wire.specs.Fields.{FieldOf}

@@ -1,4 +1,5 @@
--- Fields of a message, while its records are gone through one by one.
+-- Lemmas on `specs/Values.antt`, for the loops of `message.rt`: fields of a message, while its records are gone through
+-- one by one.
 use Rattle.std.proofs.Common.{◌≡◌, ℕ, zero, suc, ◌+◌, ◌^◌, ◌<◌, Bool, true, false, refl, sym, ap, ◌∙◌, subst, arith}
 use Rattle.std.proofs.Common.{List, [], ◌∷◌, ◌++◌, length, map, take, get_or, Option, Some, None, Ok, Err}
 use Rattle.std.specs.Prelude.{◌==◌}

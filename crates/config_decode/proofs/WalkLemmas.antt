@@ -1,4 +1,4 @@
--- A walk, record by record.
+-- Lemmas on `specs/Walk.antt` and `specs/Walks.antt`, for the walker and PassLemmas: a walk, record by record.
 use Rattle.std.proofs.Common.{◌≡◌, ℕ, zero, suc, ◌+◌, ◌-◌, ◌<◌, List, [], ◌∷◌, ◌++◌, length, Bool, true, false, Option, None, Some, Result, Ok, Err, refl, sym, ap, ◌∙◌, subst, arith}
 use Rattle.std.specs.Prelude.{if◌then◌else◌, nat_lt}
 use Rattle.std.specs.Option.{option_or, IfSome}

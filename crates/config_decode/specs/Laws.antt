@@ -17,6 +17,7 @@ use Rattle.config_decode.specs.Values.{records_of, records_of_all, payloads}
 abbrev pub content : FieldOf → ℕ × BodyOf
 content field = (field.number, field.body)
 
+-- what records say, in order
 abbrev pub contents : List FieldOf → List (ℕ × BodyOf)
 contents fields = map content fields
 

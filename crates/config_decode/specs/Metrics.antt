@@ -26,6 +26,7 @@ use Rattle.config_decode.specs.Tree.{field_matcher_of}
 abbrev pub fields_at : ℕ → List FieldOf → Option FieldMatcher
 fields_at number fields = option_map field_matcher_of (message number fields)
 
+-- a link from a metric to a condition
 abbrev pub link_of : List FieldOf → LinkDef
 link_of fields = record {
   condition = int64_field condition_link_condition fields;
@@ -33,6 +34,7 @@ link_of fields = record {
   in_condition = fields_at condition_link_fields_in_condition fields;
 }
 
+-- a link from a metric to a state
 abbrev pub state_link_of : List FieldOf → StateLinkDef
 state_link_of fields = record {
   atom_id = int32_field state_link_atom_id fields;
@@ -69,15 +71,18 @@ sliced_of dims bucket slices links fields = record {
   state_links = map state_link_of (messages links fields);
 }
 
+-- a metric that lists atoms
 abbrev pub event_of : List FieldOf → EventDef
 event_of fields = record { common = common_of event_condition event_links fields }
 
+-- a metric that counts
 abbrev pub count_of : List FieldOf → CountDef
 count_of fields = record {
   common = common_of count_condition count_links fields;
   sliced = sliced_of count_dimensions count_bucket count_slice_by_state count_state_link fields;
 }
 
+-- a metric of values: sums by default, of values that go up, where a difference of zero is left out
 abbrev pub value_of : List FieldOf → ValueDef
 value_of fields = record {
   common = common_of value_condition value_links fields;
@@ -95,6 +100,7 @@ value_of fields = record {
 abbrev pub filter_of : Option (List FieldOf) → List FieldOf
 filter_of filter = unwrap_or filter []
 
+-- a metric of samples: one at random by default
 abbrev pub gauge_of : List FieldOf → GaugeDef
 gauge_of fields =
     let filter = filter_of (message gauge_fields_filter fields) in
@@ -108,10 +114,12 @@ gauge_of fields =
       trigger = int64_field gauge_trigger_event fields;
     }
 
+-- whether the longest run counts, and not the sum of all
 abbrev pub keeps_longest : Runs → Bool
 keeps_longest runs.Sum = false
 keeps_longest runs.MaxSparse = true
 
+-- a metric of durations: sums by default
 abbrev pub duration_of : List FieldOf → DurationDef
 duration_of fields = record {
   common = common_of duration_condition duration_links fields;

@@ -44,6 +44,7 @@ abbrev pub children_in : ℕ → List (List FieldOf) → List FieldMatcher
 children_in zero messages = []
 children_in (suc levels) messages = map (field_matcher_in levels) messages
 
+-- a tree of field numbers
 abbrev pub field_matcher_of : List FieldOf → FieldMatcher
 field_matcher_of fields = field_matcher_in most_levels fields
 
@@ -77,6 +78,7 @@ test_with tests (Some number) run =
     else if number == test_eq_string then option_map EqStr (last (payloads test_eq_string run))
     else number_test_of number run
 
+-- what is asked, by the first of these records
 abbrev pub test_of : (List (List FieldOf) → List FieldTest) → List FieldOf → Option Test
 test_of tests run = test_with tests (first_number run) run
 
@@ -86,6 +88,7 @@ test_members =
     test_eq_bool ∷ test_eq_string ∷ test_eq_int ∷ test_lt_int ∷ test_gt_int ∷ test_lte_int ∷ test_gte_int
     ∷ test_matches_tuple ∷ test_eq_any_string ∷ test_neq_any_string ∷ []
 
+-- a test of a field, whose tuple is read by the first argument
 abbrev pub field_test_with : (List (List FieldOf) → List FieldTest) → List FieldOf → FieldTest
 field_test_with tests fields =
     record {
@@ -104,21 +107,25 @@ abbrev pub tests_in : ℕ → List (List FieldOf) → List FieldTest
 tests_in zero messages = []
 tests_in (suc levels) messages = map (field_test_in levels) messages
 
+-- a test of a field
 abbrev pub field_test_of : List FieldOf → FieldTest
 field_test_of fields = field_test_in most_levels fields
 
+-- a matcher of the atoms of one id
 abbrev pub simple_matcher_of : List FieldOf → SimpleMatcher
 simple_matcher_of fields = record {
   atom_id = int32_field simple_matcher_atom_id fields;
   tests = map field_test_of (messages simple_matcher_test fields);
 }
 
+-- a combination, of matchers or of predicates
 abbrev pub combo_of : List FieldOf → Combo
 combo_of fields = record {
   op = enum_field operation_of combination_operation fields;
   children = int64_fields combination_operand fields;
 }
 
+-- what a matcher asks, by the number of its member that was set last
 abbrev pub matcher_body_with : Option ℕ → List FieldOf → Option MatcherBody
 matcher_body_with None run = None
 matcher_body_with (Some number) run =
@@ -130,16 +137,19 @@ matcher_body_with (Some number) run =
 abbrev pub matcher_body_of : List FieldOf → Option MatcherBody
 matcher_body_of run = matcher_body_with (first_number run) run
 
+-- a matcher
 abbrev pub matcher_of : List FieldOf → MatcherDef
 matcher_of fields = record {
   id = int64_field matcher_id fields;
   body = matcher_body_of (oneof_run (matcher_simple ∷ matcher_combination ∷ []) fields);
 }
 
+-- whether a key that was never started is unknown, and not false
 abbrev pub is_unknown : InitialValue → Bool
 is_unknown initial.Unknown = true
 is_unknown initial.False = false
 
+-- a predicate that atoms start and stop: it counts starts, and is false at first, by default
 abbrev pub simple_predicate_of : List FieldOf → SimplePredicate
 simple_predicate_of fields = record {
   start = int64_field simple_predicate_start fields;
@@ -151,6 +161,7 @@ simple_predicate_of fields = record {
   bound = int32_field key_bound fields;
 }
 
+-- what a predicate is, by the number of its member that was set last
 abbrev pub predicate_body_with : Option ℕ → List FieldOf → Option PredicateBody
 predicate_body_with None run = None
 predicate_body_with (Some number) run =
@@ -162,21 +173,25 @@ predicate_body_with (Some number) run =
 abbrev pub predicate_body_of : List FieldOf → Option PredicateBody
 predicate_body_of run = predicate_body_with (first_number run) run
 
+-- a predicate
 abbrev pub predicate_of : List FieldOf → PredicateDef
 predicate_of fields = record {
   id = int64_field predicate_id fields;
   body = predicate_body_of (oneof_run (predicate_simple ∷ predicate_combination ∷ []) fields);
 }
 
+-- a group of a state's values
 abbrev pub state_group_of : List FieldOf → GroupDef
 state_group_of fields = record {
   group = int64_field state_group_id fields;
   values = int32_fields state_group_value fields;
 }
 
+-- the groups of a state's values
 abbrev pub state_groups_of : List FieldOf → List GroupDef
 state_groups_of fields = map state_group_of (messages state_map_group fields)
 
+-- a state
 abbrev pub state_of : List FieldOf → StateDef
 state_of fields = record {
   id = int64_field state_id fields;

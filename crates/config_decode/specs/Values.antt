@@ -64,12 +64,15 @@ bool_of number = Some (not (number == 0))
 abbrev pub scalar : {E : Type 0} → (ℕ → Option E) → ℕ → List FieldOf → Option E
 scalar meaning number fields = last (filter_map meaning (varints number fields))
 
+-- a field of type int64
 abbrev pub int64_field : ℕ → List FieldOf → Option ℤ
 int64_field number fields = scalar int64_of number fields
 
+-- a field of type int32
 abbrev pub int32_field : ℕ → List FieldOf → Option ℤ
 int32_field number fields = scalar int32_of number fields
 
+-- a field of type bool
 abbrev pub bool_field : ℕ → List FieldOf → Option Bool
 bool_field number fields = scalar bool_of number fields
 
@@ -81,9 +84,11 @@ enum_field table number fields = scalar (λ (n : ℕ). table (low_half n)) numbe
 abbrev pub scalars : {E : Type 0} → (ℕ → Option E) → ℕ → List FieldOf → List E
 scalars meaning number fields = filter_map meaning (numbers number fields)
 
+-- a repeated field of type int64
 abbrev pub int64_fields : ℕ → List FieldOf → List ℤ
 int64_fields number fields = scalars int64_of number fields
 
+-- a repeated field of type int32
 abbrev pub int32_fields : ℕ → List FieldOf → List ℤ
 int32_fields number fields = scalars int32_of number fields
 
@@ -104,6 +109,7 @@ abbrev pub records_if_any : List (List ℕ) → Option (List FieldOf)
 records_if_any [] = None
 records_if_any (payload ∷ others) = Some (records_of_all (payload ∷ others))
 
+-- a field that is a message, as the records of all its payloads
 abbrev pub message : ℕ → List FieldOf → Option (List FieldOf)
 message number fields = records_if_any (payloads number fields)
 
@@ -111,6 +117,7 @@ message number fields = records_if_any (payloads number fields)
 abbrev pub with_numbers : List ℕ → List FieldOf → List FieldOf
 with_numbers numbers fields = filter (λ (field : FieldOf). list_any (λ number. number == field.number) numbers) fields
 
+-- whether all these records have that number
 abbrev pub all_have : ℕ → List FieldOf → Bool
 all_have number fields = list_all (λ (field : FieldOf). field.number == number) fields
 
