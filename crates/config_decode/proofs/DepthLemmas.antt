@@ -208,7 +208,8 @@ no_tests (suc levels) = refl
 tuples_stand : (depth : ℕ) (fields : List FieldOf) → All (Holds kind.FieldTest depth) (contents fields)
     → All (StandsInside depth kind.Tuple) (payloads test_matches_tuple (run_of fields))
 tuples_stand depth fields holds =
-    payloads_stand kind.FieldTest depth test_matches_tuple kind.Tuple refl (run_of fields) (run_holds depth fields holds)
+    payloads_stand kind.FieldTest depth test_matches_tuple kind.Tuple refl (run_of fields)
+    (run_holds depth fields holds)
 
 -- with more levels than are left of a hundred, a test says the same
 test_same : (levels depth : ℕ) → 100 ≤ depth + levels → (fields : List FieldOf)
