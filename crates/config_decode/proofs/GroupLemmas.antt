@@ -1,4 +1,5 @@
--- A group is one also where more groups may be open inside one another.
+-- Lemmas on proto_wire's `Grammar`, for JoinLemmas: a group is one also where more groups may be open inside one
+-- another.
 use Rattle.std.proofs.Common.{ℕ, zero, suc, ◌≤◌, List, [], ◌∷◌, arith}
 use Rattle.std.specs.List.{AllByRecursion}
 use Rattle.proto_wire.specs.Fields.{BodyOf, Varint, Fixed64, Bytes, Group, Fixed32}

@@ -1,10 +1,11 @@
 mod Worked
+pub mod DepthLemmas
 pub mod GroupLemmas
 pub mod JoinLemmas
-pub mod Levels
+pub mod OneofLemmas
 pub mod PackedLemmas
 pub mod PassLemmas
-pub mod RunLemmas
+pub mod TreeLemmas
 pub mod ValuesLemmas
 pub mod WalkLemmas
 mod WorkedTrees

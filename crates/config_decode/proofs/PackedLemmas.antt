@@ -1,4 +1,5 @@
--- Packed numbers: any number of turns that is enough reads the same.
+-- Lemmas on packed numbers of `specs/Walk.antt`, for the loops over them: any number of turns that is enough reads the
+-- same.
 use Rattle.std.proofs.Common.{◌≡◌, ℕ, zero, suc, ◌<◌, ◌≤◌, List, [], ◌∷◌, length, None, Some, Result, Ok, Err, false, refl, sym, ap, ◌∙◌, arith}
 use Rattle.std.specs.Prelude.{◌==◌}
 use Rattle.std.specs.Result.{IfOk}
@@ -9,7 +10,7 @@ use Rattle.proto_wire.specs.WireReading.{varint_at}
 use Rattle.proto_wire.proofs.VarintReading.{VarintRead, varint_at-read}
 use Rattle.config_decode.specs.Walk.{Packed, packed_on, packed_in, packed_at}
 
--- less is left behind a number
+-- less is left after a number
 less_left : (bytes : List ℕ) (read : Result (ℕ × List ℕ) WireFault) → IfOk read (VarintRead bytes)
     → IfOk read (λ number. length number.1 < length bytes)
 less_left bytes (Ok number) told =
@@ -17,13 +18,13 @@ less_left bytes (Ok number) told =
 less_left bytes (Err fault) told = tt
 
 -- the rest decides what a number and the rest are
-packed_on-agree : (behind other : List ℕ → Packed) (read : Result (ℕ × List ℕ) WireFault) (bytes : List ℕ)
+packed_on-agree : (after other : List ℕ → Packed) (read : Result (ℕ × List ℕ) WireFault) (bytes : List ℕ)
     → IfOk read (λ number. length number.1 < length bytes)
-    → ((left : List ℕ) → length left < length bytes → behind left ≡ other left)
-    → packed_on behind read ≡ packed_on other read
-packed_on-agree behind other (Ok number) bytes less same =
+    → ((left : List ℕ) → length left < length bytes → after left ≡ other left)
+    → packed_on after read ≡ packed_on other read
+packed_on-agree after other (Ok number) bytes less same =
     ap (λ (packed : Packed). packed_on (λ left. packed) (Ok number)) (same number.1 less)
-packed_on-agree behind other (Err fault) bytes less same = refl
+packed_on-agree after other (Err fault) bytes less same = refl
 
 abbrev nothing : Packed
 nothing = record { numbers = []; fault = None }
@@ -69,10 +70,10 @@ packed_at-some at (byte ∷ bytes) some =
     (less_left (byte ∷ bytes) (varint_at at (byte ∷ bytes)) (varint_at-read at (byte ∷ bytes)))
     (λ left less. packed_in-agree (length bytes) (length left) at left (omega arith) (omega arith))
 
--- behind a number that is read, the fault is that of the rest
-pub fault-behind : (at number : ℕ) (bytes left : List ℕ) → 0 < length bytes → varint_at at bytes ≡ Ok (number, left)
+-- after a number that is read, the fault is that of the rest
+pub fault-after : (at number : ℕ) (bytes left : List ℕ) → 0 < length bytes → varint_at at bytes ≡ Ok (number, left)
     → (packed_at at bytes).fault ≡ (packed_at at left).fault
-fault-behind at number bytes left some read = rw (packed_at-some at bytes some, read) refl
+fault-after at number bytes left some read = rw (packed_at-some at bytes some, read) refl
 
 -- where no number can be read, this is the fault
 pub fault-here : (at : ℕ) (bytes : List ℕ) (fault : WireFault) → 0 < length bytes → varint_at at bytes ≡ Err fault

@@ -1,8 +1,10 @@
--- Fields of a message, while its records are gone through one by one.
+-- Lemmas on `specs/Values.antt`, for the loops of `message.rt`: fields of a message, while its records are gone through
+-- one by one.
 use Rattle.std.proofs.Common.{◌≡◌, ℕ, zero, suc, ◌+◌, ◌^◌, ◌<◌, Bool, true, false, refl, sym, ap, ◌∙◌, subst, arith}
 use Rattle.std.proofs.Common.{List, [], ◌∷◌, ◌++◌, length, map, take, get_or, Option, Some, None, Ok, Err}
 use Rattle.std.specs.Prelude.{◌==◌}
-use Rattle.std.specs.List.{filter, flat_map, last_or, cons_option}
+use Rattle.std.specs.List.{filter, flat_map, last_or}
+use Rattle.std.specs.Option.{option_to_list, IsSome}
 use Rattle.std.proofs.lemmas.Bool.{eqb-true, eqb-false}
 use Rattle.std.proofs.lemmas.List.{map_more}
 use Rattle.std.proofs.lemmas.List.Concat.{flat_map-append}
@@ -12,9 +14,8 @@ use Rattle.proto_wire.specs.declared.fault.WireFault.{WireFault}
 use Rattle.proto_wire.specs.Fields.{FieldOf, seen, inside_of}
 use Rattle.proto_wire.specs.WireReading.{varint_at}
 use Rattle.config_decode.specs.Walk.{Packed, packed_at}
-use Rattle.config_decode.specs.Short.{AreShort}
-use Rattle.config_decode.specs.Values.{singles, payloads, numbers, listed, last, joined, joined_if_any, records_of}
-use Rattle.config_decode.specs.Profile.{low_half}
+use Rattle.config_decode.specs.Short.{HaveShortPayloads}
+use Rattle.config_decode.specs.Values.{varints, payloads, numbers, last, records_of_all, records_if_any, records_of, together}
 use Rattle.config_decode.proofs.PackedLemmas.{packed_at-none, packed_at-some}
 
 module _ {A : Type 0} (held : FieldOf → List A) (passes : FieldOf → Bool) where
@@ -36,9 +37,9 @@ module _ {A : Type 0} (held : FieldOf → List A) (passes : FieldOf → Bool) wh
 
 -- What one more record adds to what is found for a number.
 module _ (number : ℕ) (fields : List Field) (i : ℕ) (d : Field) (below : i < length fields) where
-  pub singles_more : singles number (map seen (take (i + 1) fields))
-      ≡ singles number (map seen (take i fields)) ++ singles number (seen (get_or fields i d) ∷ [])
-  singles_more = found-more _ _ fields i d below
+  pub varints_more : varints number (map seen (take (i + 1) fields))
+      ≡ varints number (map seen (take i fields)) ++ varints number (seen (get_or fields i d) ∷ [])
+  varints_more = found-more _ _ fields i d below
 
   pub numbers_more : numbers number (map seen (take (i + 1) fields))
       ≡ numbers number (map seen (take i fields)) ++ numbers number (seen (get_or fields i d) ∷ [])
@@ -48,23 +49,15 @@ module _ (number : ℕ) (fields : List Field) (i : ℕ) (d : Field) (below : i <
       ≡ payloads number (map seen (take i fields)) ++ payloads number (seen (get_or fields i d) ∷ [])
   payloads_more = found-more _ _ fields i d below
 
+-- the payloads of further records
+pub payloads_append : (number : ℕ) (fields others : List FieldOf)
+    → payloads number (fields ++ others) ≡ payloads number fields ++ payloads number others
+payloads_append number fields others = found-append _ _ fields others
+
 -- the last of further items, if there are any
 pub last_append : {A : Type 0} (o : Option A) (xs ys : List A) → last_or o (xs ++ ys) ≡ last_or (last_or o xs) ys
 last_append o [] ys = refl
 last_append o (x ∷ xs) ys = last_append (Some x) xs ys
-
--- what further numbers stand for
-pub listed_append : {E : Type 0} (table : ℕ → Option E) (numbers others : List ℕ)
-    → listed table (numbers ++ others) ≡ listed table numbers ++ listed table others
-listed_append table [] others = refl
-listed_append table (number ∷ numbers) others =
-    ap (cons_option (table (low_half number))) (listed_append table numbers others)
-    ∙ cons_option-append (table (low_half number)) (listed table numbers) (listed table others)
-  where
-    cons_option-append : {E : Type 0} (o : Option E) (xs ys : List E)
-        → cons_option o (xs ++ ys) ≡ cons_option o xs ++ ys
-    cons_option-append (Some x) xs ys = refl
-    cons_option-append None xs ys = refl
 
 some_left : (bytes : List ℕ) → false ≡ (length bytes == 0) → 0 < length bytes
 some_left bytes full = let some = eqb-false (length bytes) 0 (sym full) in omega (arith, some)
@@ -78,9 +71,9 @@ module _ (at : ℕ) (bytes : List ℕ) where
 
   module _ (full : false ≡ (length bytes == 0)) where
     -- a number
-    pub numbers-behind : (number : ℕ) (left : List ℕ) → varint_at at bytes ≡ Ok (number, left)
+    pub numbers-after : (number : ℕ) (left : List ℕ) → varint_at at bytes ≡ Ok (number, left)
         → (packed_at at bytes).numbers ≡ number ∷ (packed_at at left).numbers
-    numbers-behind number left read = rw (packed_at-some at bytes (some_left bytes full), read) refl
+    numbers-after number left read = rw (packed_at-some at bytes (some_left bytes full), read) refl
 
     -- no whole number
     pub numbers-broken : (fault : WireFault) → varint_at at bytes ≡ Err fault → (packed_at at bytes).numbers ≡ []
@@ -88,31 +81,43 @@ module _ (at : ℕ) (bytes : List ℕ) where
 
 -- the payload of a record at some place is short, where all are
 pub short_at : (fields items : List Field) (i : ℕ) (d : Field) → i < length fields → fields ≡ items
-    → AreShort (map seen items) → length (inside_of (seen (get_or fields i d)).body) < 2 ^ 32
+    → HaveShortPayloads (map seen items) → length (inside_of (seen (get_or fields i d)).body) < 2 ^ 32
 short_at fields items i d below is short =
-    at_place fields i below (subst (λ (f : List Field). AreShort (map seen f)) (sym is) short)
+    at_place fields i below (subst (λ (f : List Field). HaveShortPayloads (map seen f)) (sym is) short)
   where
-    at_place : (fields : List Field) (i : ℕ) → i < length fields → AreShort (map seen fields)
+    at_place : (fields : List Field) (i : ℕ) → i < length fields → HaveShortPayloads (map seen fields)
         → length (inside_of (seen (get_or fields i d)).body) < 2 ^ 32
     at_place [] i below short = absurd (omega arith)
     at_place (field ∷ fields) zero below short = short.0
     at_place (field ∷ fields) (suc i) below short = at_place fields i (omega arith) short.1
 
--- the records of further payloads
-pub joined_append : (payloads others : List (List ℕ))
-    → joined (payloads ++ others) ≡ joined payloads ++ joined others
-joined_append payloads others = flat_map-append records_of payloads others
+-- further records are short too
+pub short_append : (fields others : List Field) → HaveShortPayloads (map seen fields)
+    → HaveShortPayloads (map seen others) → HaveShortPayloads (map seen (fields ++ others))
+short_append [] others short more = more
+short_append (field ∷ fields) others short more = (short.0, short_append fields others short.1 more)
 
--- a field that holds a payload is a message, and one that holds none isn't
-pub joined_if_last : (payloads : List (List ℕ)) (payload : List ℕ) → Some payload ≡ last payloads
-    → joined_if_any payloads ≡ Some (joined payloads)
-joined_if_last [] payload there = absurd (cc)
-joined_if_last (first ∷ others) payload there = refl
+-- the item that was taken off the end of a list is its last
+pub last_taken : {A : Type 0} (xs front : List A) (taken : Option A) → xs ≡ front ++ option_to_list taken
+    → (0 < length xs → IsSome taken) → taken ≡ last xs
+last_taken xs front (Some x) parts there = sym (ap last parts ∙ last_append None front (x ∷ []))
+last_taken [] front None parts there = refl
+last_taken (x ∷ xs) front None parts there = absurd (cc (there (omega arith)))
 
-pub none_joined : (payloads : List (List ℕ)) → None ≡ last payloads → joined_if_any payloads ≡ None
-none_joined [] none = refl
-none_joined (first ∷ others) none = absurd (some_last first others none)
-  where
-    some_last : (first : List ℕ) (others : List (List ℕ)) → None ≡ last_or (Some first) others → ⊥
-    some_last first [] none = cc
-    some_last first (next ∷ others) none = some_last next others none
+-- the records of messages, one after another, are those of all their payloads
+pub all_records : (payloads : List (List ℕ)) → together (map records_of payloads) ≡ records_of_all payloads
+all_records [] = refl
+all_records (payload ∷ others) = ap (λ (l : List FieldOf). records_of payload ++ l) (all_records others)
+
+-- a field without a payload is no message
+pub no_message : (payloads : List (List ℕ)) → true ≡ (length (map records_of payloads) == 0)
+    → records_if_any payloads ≡ None
+no_message [] none = refl
+no_message (payload ∷ others) none =
+    absurd (omega (arith, eqb-true (length (map records_of (payload ∷ others))) 0 (sym none)))
+
+-- and one with any is one
+pub one_message : (payloads : List (List ℕ)) → false ≡ (length (map records_of payloads) == 0)
+    → records_if_any payloads ≡ Some (together (map records_of payloads))
+one_message [] some = absurd (cc)
+one_message (payload ∷ others) some = ap (λ (fields : List FieldOf). Some fields) (sym (all_records (payload ∷ others)))

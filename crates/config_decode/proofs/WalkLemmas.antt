@@ -1,4 +1,4 @@
--- A walk, record by record.
+-- Lemmas on `specs/Walk.antt` and `specs/Walks.antt`, for the walker and PassLemmas: a walk, record by record.
 use Rattle.std.proofs.Common.{◌≡◌, ℕ, zero, suc, ◌+◌, ◌-◌, ◌<◌, List, [], ◌∷◌, ◌++◌, length, Bool, true, false, Option, None, Some, Result, Ok, Err, refl, sym, ap, ◌∙◌, subst, arith}
 use Rattle.std.specs.Prelude.{if◌then◌else◌, nat_lt}
 use Rattle.std.specs.Option.{option_or, IfSome}
@@ -17,7 +17,7 @@ use Rattle.config_decode.specs.declared.profile.Kind.{Kind}
 use Rattle.config_decode.specs.declared.profile.Kind.TheVariants.{Config}
 use Rattle.config_decode.specs.declared.walk.Walker.{Walker}
 use Rattle.config_decode.specs.Profile.{refuses}
-use Rattle.config_decode.specs.Walk.{Located, Walked, halted, and_then, entered, record_walked, all_walked, message_walked, walk_in, walk_of, inner_walk, first_refused}
+use Rattle.config_decode.specs.Walk.{Located, Walked, walk_to_fault, and_then, walk_of_entry, walk_of_record, walk_of_all, walk_of_message, walk_in, walk_of, inner_walk, first_refused}
 use Rattle.config_decode.specs.Walks.{FailsAt, LeavesOff, Walks}
 
 or_else : (test : Bool) (path : List ℕ) (first second : Option (List ℕ))
@@ -26,13 +26,13 @@ or_else true path first second = refl
 or_else false path first second = refl
 
 -- the first of two lists is that of the first list, or else that of the second
-first_refused-append : (front behind : List Located)
-    → first_refused (front ++ behind) ≡ option_or (first_refused front) (first_refused behind)
-first_refused-append [] behind = refl
-first_refused-append (found ∷ others) behind =
+first_refused-append : (front back : List Located)
+    → first_refused (front ++ back) ≡ option_or (first_refused front) (first_refused back)
+first_refused-append [] back = refl
+first_refused-append (found ∷ others) back =
     ap (λ (rest : Option (List ℕ)). if refuses found.kind found.field then Some found.path else rest)
-    (first_refused-append others behind)
-    ∙ or_else (refuses found.kind found.field) found.path (first_refused others) (first_refused behind)
+    (first_refused-append others back)
+    ∙ or_else (refuses found.kind found.field) found.path (first_refused others) (first_refused back)
 
 or-none : {A : Type 0} (first : Option A) → first ≡ option_or first None
 or-none None = refl
@@ -43,7 +43,7 @@ or-assoc : {A : Type 0} (first second third : Option A)
 or-assoc None second third = refl
 or-assoc (Some x) second third = refl
 
--- one walk behind another
+-- one walk after another
 module _ (first second : Walked) (old mid last : Walker) (left : LeavesOff first old mid) where
   leaves-then : LeavesOff second mid last → LeavesOff (and_then first second) old last
   leaves-then after = record {
@@ -52,7 +52,6 @@ module _ (first second : Walked) (old mid last : Walker) (left : LeavesOff first
     found = rw (left.whole, first_refused-append first.records second.records) (after.found
         ∙ ap (λ (found : Option (List ℕ)). option_or found (first_refused second.records)) left.found
         ∙ or-assoc old.unsupported (first_refused first.records) (first_refused second.records));
-    short = λ short. after.short (left.short short);
   }
 
   pub walks-then : (result : Result Unit DecodeFault) → Walks second mid last result
@@ -69,7 +68,7 @@ fails-first first second (TooLarge size) failed = failed
 fails-first first second (Unsupported path) failed = failed
 
 -- how a message is walked by its levels
-walk_in-message : (levels : ℕ) → walk_in levels ≡ message_walked (inner_walk levels)
+walk_in-message : (levels : ℕ) → walk_in levels ≡ walk_of_message (inner_walk levels)
 unfolding walk_in
 walk_in-message zero = refl
 walk_in-message (suc levels) = refl
@@ -78,7 +77,7 @@ walk_in-message (suc levels) = refl
 module _ (levels : ℕ) (above : List ℕ) (kind : Kind) where
   abbrev fields_walked : ℕ → Walk → Walked
   fields_walked depth fields =
-      all_walked (record_walked (inner_walk levels) kind above depth) fields.fields fields.fault
+      walk_of_all (walk_of_record (inner_walk levels) kind above depth) fields.fields fields.fault
 
   walk_in-fields : (rest : Rest) (fields : Walk) → walk_from rest ≡ fields
       → walk_in levels above kind rest ≡ fields_walked rest.depth fields
@@ -89,15 +88,15 @@ module _ (levels : ℕ) (above : List ℕ) (kind : Kind) where
   walk_in-field : (rest new : Rest) (field : FieldOf) (depth : ℕ) → walk_from rest ≡ with_field field (walk_from new)
       → rest.depth ≡ depth → new.depth ≡ depth
       → walk_in levels above kind rest
-      ≡ and_then (record_walked (inner_walk levels) kind above depth field) (walk_in levels above kind new)
+      ≡ and_then (walk_of_record (inner_walk levels) kind above depth field) (walk_in levels above kind new)
   walk_in-field rest new field depth is here there =
       walk_in-fields rest _ is
       ∙ ap (λ (d : ℕ). fields_walked d (with_field field (walk_from new))) here
-      ∙ ap (and_then (record_walked (inner_walk levels) kind above depth field))
+      ∙ ap (and_then (walk_of_record (inner_walk levels) kind above depth field))
       (ap (λ (d : ℕ). fields_walked d (walk_from new)) (sym there) ∙ sym (walk_in-fields new (walk_from new) refl))
 
   walk_in-end : (rest : Rest) (fault : Option WireFault) → walk_from rest ≡ stopped fault
-      → walk_in levels above kind rest ≡ halted fault
+      → walk_in levels above kind rest ≡ walk_to_fault fault
   walk_in-end rest fault is = walk_in-fields rest _ is
 
   -- a message that can't be read further
@@ -110,7 +109,7 @@ module _ (levels : ℕ) (above : List ℕ) (kind : Kind) where
       → LeavesOff (walk_in levels above kind rest) walker walker
   ends rest walker is =
       subst (λ (walked : Walked). LeavesOff walked walker walker) (sym (walk_in-end rest None is))
-      (record { whole = refl; path = refl; found = or-none walker.unsupported; short = λ short. short })
+      (record { whole = refl; path = refl; found = or-none walker.unsupported })
 
 -- A call for the next field took this one.
 pub record Takes (rest : Rest) (field : FieldOf) (new : Rest) : Type 0 where
@@ -143,7 +142,7 @@ takes_none rest new (Some given) is walk = absurd (cc is)
 module _ (depth : ℕ) (above : List ℕ) (kind : Kind) (rest new : Rest) (field : FieldOf) (old : Walker)
     (taken : Takes rest field new) (here : rest.depth ≡ depth) (path : old.path.items ≡ above) where
   abbrev walked_at : List ℕ → ℕ → Walked
-  walked_at above depth = record_walked (inner_walk (100 - depth)) kind above depth field
+  walked_at above depth = walk_of_record (inner_walk (100 - depth)) kind above depth field
 
   first_is : walked_at old.path.items new.depth ≡ walked_at above depth
   first_is = ap (λ (a : List ℕ). walked_at a new.depth) path ∙ ap (walked_at above) (taken.depth ∙ here)
@@ -197,12 +196,12 @@ one_less levels above kind inside more is = ap (λ (n : ℕ). inner_walk n above
 
 pub inside-is : (depth : ℕ) (above : List ℕ) (kind : Kind) (field : FieldOf) (inside : Rest)
     → Ok inside ≡ inside_at depth field
-    → entered (inner_walk (100 - depth) above kind) (inside_at depth field)
+    → walk_of_entry (inner_walk (100 - depth) above kind) (inside_at depth field)
     ≡ walk_in (100 - inside.depth) above kind inside
 inside-is depth above kind field inside is =
     let there = enters depth field inside is in
     let more : 100 - depth ≡ suc (100 - inside.depth) = omega (arith, there.deeper, there.shallow) in
-    ap (entered (inner_walk (100 - depth) above kind)) (sym is)
+    ap (walk_of_entry (inner_walk (100 - depth) above kind)) (sym is)
     ∙ one_less (100 - inside.depth) above kind inside (100 - depth) more
 
 -- the whole is walked from its top

@@ -1,8 +1,10 @@
+pub mod FieldNumbers
 pub mod Profile
 pub mod Walk
 pub mod Values
 pub mod Tree
 pub mod Metrics
+pub mod ConfigFault
 pub mod Config
 pub mod Short
 pub mod Walks

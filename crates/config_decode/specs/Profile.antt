@@ -1,6 +1,6 @@
 -- The profile: which fields the messages of a configuration have, by their numbers, and what stands in them.
 -- Every field that isn't named is refused, and at the top ignored.
-use Rattle.std.specs.Prelude.{ℕ, Bool, true, false, not, ◌||◌, ◌==◌, ◌%◌, ◌^◌, Option, Some, None, is_none, if◌then◌else◌}
+use Rattle.std.specs.Prelude.{ℕ, Bool, true, false, not, ◌==◌, ◌%◌, ◌^◌, List, [], ◌∷◌, Option, Some, None, is_none, if◌then◌else◌}
 use Rattle.proto_wire.specs.Fields.{BodyOf, Varint, Bytes, FieldOf}
 use Rattle.config_types.specs.declared.bucket.TimeUnit.{TimeUnit}
 use Rattle.config_types.specs.declared.bucket.TimeUnit.TheVariants.{OneMinute, FiveMinutes, TenMinutes, ThirtyMinutes, OneHour, ThreeHours, SixHours, TwelveHours, OneDay, Cts}
@@ -14,14 +14,15 @@ use Rattle.config_types.specs.declared.metric.Direction.{Direction}
 use Rattle.config_types.specs.declared.metric.Direction.TheVariants as direction
 use Rattle.config_types.specs.declared.metric.SamplingType.{SamplingType}
 use Rattle.config_types.specs.declared.metric.SamplingType.TheVariants.{RandomOne, ChangeToTrue, FirstN}
-use Rattle.config_decode.specs.declared.listed.InitialValue.{InitialValue}
-use Rattle.config_decode.specs.declared.listed.InitialValue.TheVariants as initial
-use Rattle.config_decode.specs.declared.listed.Runs.{Runs}
-use Rattle.config_decode.specs.declared.listed.Runs.TheVariants as runs
+use Rattle.config_decode.specs.declared.scalar.InitialValue.{InitialValue}
+use Rattle.config_decode.specs.declared.scalar.InitialValue.TheVariants as initial
+use Rattle.config_decode.specs.declared.scalar.Runs.{Runs}
+use Rattle.config_decode.specs.declared.scalar.Runs.TheVariants as runs
 use Rattle.config_decode.specs.declared.profile.Kind.{Kind}
 use Rattle.config_decode.specs.declared.profile.Kind.TheVariants.{Config, Matcher, SimpleMatcher, FieldTest, Tuple, Texts, Combo, Predicate, SimplePredicate, FieldMatcher, Link, StateLink, State, StateMap, Group, Filter, Event, Count, Value, Gauge, Duration}
 use Rattle.config_decode.specs.declared.profile.Shape.{Shape}
 use Rattle.config_decode.specs.declared.profile.Shape.TheVariants.{Number, Numbers, Text, Message, BucketUnit, ValueAggregation, GaugeSampling, Ignored, Refused}
+use Rattle.config_decode.specs.FieldNumbers.{config_event_metric, config_count_metric, config_value_metric, config_gauge_metric, config_duration_metric, config_atom_matcher, config_predicate, config_no_report_metric, config_metric_activation, config_state, matcher_id, matcher_simple, matcher_combination, combination_operation, combination_operand, simple_matcher_atom_id, simple_matcher_test, test_field, test_position, test_eq_bool, test_eq_string, test_eq_int, test_lt_int, test_gt_int, test_lte_int, test_gte_int, test_matches_tuple, test_eq_any_string, test_neq_any_string, tuple_test, strings_str_value, predicate_id, predicate_simple, predicate_combination, simple_predicate_start, simple_predicate_stop, simple_predicate_count_nesting, simple_predicate_stop_all, simple_predicate_initial_value, simple_predicate_dimensions, leaf_field, leaf_position, leaf_child, condition_link_condition, condition_link_fields_in_what, condition_link_fields_in_condition, state_link_atom_id, state_link_fields_in_what, state_link_fields_in_state, state_id, state_atom_id, state_map, state_map_group, state_group_id, state_group_value, filter_include_all, filter_fields, metric_id, metric_what, key_bound, event_condition, event_links, count_condition, count_dimensions, count_bucket, count_links, count_slice_by_state, count_state_link, value_field, value_condition, value_dimensions, value_bucket, value_links, value_aggregation_type, value_min_bucket_size, value_use_absolute_value_on_reset, value_use_diff, value_direction, value_skip_zero_diff_output, value_use_zero_default_base, value_max_pull_delay, value_split_bucket, value_slice_by_state, value_state_link, gauge_fields_filter, gauge_condition, gauge_dimensions, gauge_bucket, gauge_links, gauge_sampling_type, gauge_min_bucket_size, gauge_max_num_atoms, gauge_trigger_event, gauge_max_pull_delay, gauge_split_bucket, duration_condition, duration_links, duration_aggregation_type, duration_dimensions, duration_bucket, duration_slice_by_state, duration_state_link}
 
 -- which entries of a repeated field are meant
 abbrev pub position_of : ℕ → Option Position
@@ -95,197 +96,178 @@ runs_of number =
     else if number == 2 then Some runs.MaxSparse
     else None
 
--- the whole; its id (1) has no place in the tree, and activations (17) come later
-abbrev pub config_field : ℕ → Shape
-config_field number =
-    if number == 2 then Message Event
-    else if number == 3 then Message Count
-    else if number == 4 then Message Value
-    else if number == 5 then Message Gauge
-    else if number == 6 then Message Duration
-    else if number == 7 then Message Matcher
-    else if number == 8 then Message Predicate
-    else if number == 13 then Numbers
-    else if number == 17 then Refused
-    else if number == 21 then Message State
-    else Ignored
+-- The fields of each message, a row a field. The id of the whole has no place in the tree, and activations come later.
+abbrev pub profile_rows : Kind → List (ℕ × Shape)
+profile_rows Config =
+    (config_event_metric, Message Event)
+    ∷ (config_count_metric, Message Count)
+    ∷ (config_value_metric, Message Value)
+    ∷ (config_gauge_metric, Message Gauge)
+    ∷ (config_duration_metric, Message Duration)
+    ∷ (config_atom_matcher, Message Matcher)
+    ∷ (config_predicate, Message Predicate)
+    ∷ (config_no_report_metric, Numbers)
+    ∷ (config_metric_activation, Refused)
+    ∷ (config_state, Message State)
+    ∷ []
+profile_rows Matcher =
+    (matcher_id, Number)
+    ∷ (matcher_simple, Message SimpleMatcher)
+    ∷ (matcher_combination, Message Combo)
+    ∷ []
+profile_rows SimpleMatcher =
+    (simple_matcher_atom_id, Number)
+    ∷ (simple_matcher_test, Message FieldTest)
+    ∷ []
+profile_rows FieldTest =
+    (test_field, Number)
+    ∷ (test_position, Number)
+    ∷ (test_eq_bool, Number)
+    ∷ (test_eq_string, Text)
+    ∷ (test_eq_int, Number)
+    ∷ (test_lt_int, Number)
+    ∷ (test_gt_int, Number)
+    ∷ (test_lte_int, Number)
+    ∷ (test_gte_int, Number)
+    ∷ (test_matches_tuple, Message Tuple)
+    ∷ (test_eq_any_string, Message Texts)
+    ∷ (test_neq_any_string, Message Texts)
+    ∷ []
+profile_rows Tuple =
+    (tuple_test, Message FieldTest)
+    ∷ []
+profile_rows Texts =
+    (strings_str_value, Text)
+    ∷ []
+profile_rows Combo =
+    (combination_operation, Number)
+    ∷ (combination_operand, Numbers)
+    ∷ []
+profile_rows Predicate =
+    (predicate_id, Number)
+    ∷ (predicate_simple, Message SimplePredicate)
+    ∷ (predicate_combination, Message Combo)
+    ∷ []
+profile_rows SimplePredicate =
+    (simple_predicate_start, Number)
+    ∷ (simple_predicate_stop, Number)
+    ∷ (simple_predicate_count_nesting, Number)
+    ∷ (simple_predicate_stop_all, Number)
+    ∷ (simple_predicate_initial_value, Number)
+    ∷ (simple_predicate_dimensions, Message FieldMatcher)
+    ∷ (key_bound, Number)
+    ∷ []
+profile_rows FieldMatcher =
+    (leaf_field, Number)
+    ∷ (leaf_position, Number)
+    ∷ (leaf_child, Message FieldMatcher)
+    ∷ []
+profile_rows Link =
+    (condition_link_condition, Number)
+    ∷ (condition_link_fields_in_what, Message FieldMatcher)
+    ∷ (condition_link_fields_in_condition, Message FieldMatcher)
+    ∷ []
+profile_rows StateLink =
+    (state_link_atom_id, Number)
+    ∷ (state_link_fields_in_what, Message FieldMatcher)
+    ∷ (state_link_fields_in_state, Message FieldMatcher)
+    ∷ []
+profile_rows State =
+    (state_id, Number)
+    ∷ (state_atom_id, Number)
+    ∷ (state_map, Message StateMap)
+    ∷ []
+profile_rows StateMap =
+    (state_map_group, Message Group)
+    ∷ []
+profile_rows Group =
+    (state_group_id, Number)
+    ∷ (state_group_value, Numbers)
+    ∷ []
+profile_rows Filter =
+    (filter_include_all, Number)
+    ∷ (filter_fields, Message FieldMatcher)
+    ∷ []
+profile_rows Event =
+    (metric_id, Number)
+    ∷ (metric_what, Number)
+    ∷ (event_condition, Number)
+    ∷ (event_links, Message Link)
+    ∷ []
+profile_rows Count =
+    (metric_id, Number)
+    ∷ (metric_what, Number)
+    ∷ (count_condition, Number)
+    ∷ (count_dimensions, Message FieldMatcher)
+    ∷ (count_bucket, BucketUnit)
+    ∷ (count_links, Message Link)
+    ∷ (count_slice_by_state, Numbers)
+    ∷ (count_state_link, Message StateLink)
+    ∷ (key_bound, Number)
+    ∷ []
+profile_rows Value =
+    (metric_id, Number)
+    ∷ (metric_what, Number)
+    ∷ (value_field, Message FieldMatcher)
+    ∷ (value_condition, Number)
+    ∷ (value_dimensions, Message FieldMatcher)
+    ∷ (value_bucket, BucketUnit)
+    ∷ (value_links, Message Link)
+    ∷ (value_aggregation_type, ValueAggregation)
+    ∷ (value_min_bucket_size, Ignored)
+    ∷ (value_use_absolute_value_on_reset, Number)
+    ∷ (value_use_diff, Number)
+    ∷ (value_direction, Number)
+    ∷ (value_skip_zero_diff_output, Number)
+    ∷ (value_use_zero_default_base, Number)
+    ∷ (value_max_pull_delay, Ignored)
+    ∷ (value_split_bucket, Ignored)
+    ∷ (value_slice_by_state, Numbers)
+    ∷ (value_state_link, Message StateLink)
+    ∷ (key_bound, Number)
+    ∷ []
+profile_rows Gauge =
+    (metric_id, Number)
+    ∷ (metric_what, Number)
+    ∷ (gauge_fields_filter, Message Filter)
+    ∷ (gauge_condition, Number)
+    ∷ (gauge_dimensions, Message FieldMatcher)
+    ∷ (gauge_bucket, BucketUnit)
+    ∷ (gauge_links, Message Link)
+    ∷ (gauge_sampling_type, GaugeSampling)
+    ∷ (gauge_min_bucket_size, Ignored)
+    ∷ (gauge_max_num_atoms, Number)
+    ∷ (gauge_trigger_event, Number)
+    ∷ (gauge_max_pull_delay, Ignored)
+    ∷ (gauge_split_bucket, Ignored)
+    ∷ (key_bound, Number)
+    ∷ []
+profile_rows Duration =
+    (metric_id, Number)
+    ∷ (metric_what, Number)
+    ∷ (duration_condition, Number)
+    ∷ (duration_links, Message Link)
+    ∷ (duration_aggregation_type, Number)
+    ∷ (duration_dimensions, Message FieldMatcher)
+    ∷ (duration_bucket, BucketUnit)
+    ∷ (duration_slice_by_state, Numbers)
+    ∷ (duration_state_link, Message StateLink)
+    ∷ (key_bound, Number)
+    ∷ []
 
--- id; and by the atom itself, or by what other matchers say of it
-abbrev pub matcher_field : ℕ → Shape
-matcher_field number =
-    if number == 1 then Number
-    else if number == 2 then Message SimpleMatcher
-    else if number == 3 then Message Combo
-    else Refused
+-- what stands in a field that has no row
+abbrev pub shape_without_row : Kind → Shape
+shape_without_row Config = Ignored
+shape_without_row _ = Refused
 
--- the atom's id; tests of its fields
-abbrev pub simple_matcher_field : ℕ → Shape
-simple_matcher_field number =
-    if number == 1 then Number
-    else if number == 2 then Message FieldTest
-    else Refused
-
--- field, position, and one of: a truth, a text, five tests of a number, a message, two tests of texts
-abbrev pub field_test_field : ℕ → Shape
-field_test_field number =
-    if number == 1 || number == 2 || number == 3 || number == 5 || number == 6 || number == 7 || number == 10 || number == 11 then Number
-    else if number == 4 then Text
-    else if number == 12 then Message Tuple
-    else if number == 13 || number == 14 then Message Texts
-    else Refused
-
--- tests of the fields of a message
-abbrev pub tuple_field : ℕ → Shape
-tuple_field number =
-    if number == 1 then Message FieldTest
-    else Refused
-
--- texts
-abbrev pub texts_field : ℕ → Shape
-texts_field number =
-    if number == 1 then Text
-    else Refused
-
--- operation; the ids of what is combined
-abbrev pub combo_field : ℕ → Shape
-combo_field number =
-    if number == 1 then Number
-    else if number == 2 then Numbers
-    else Refused
-
--- id; and by atoms, or by other predicates
-abbrev pub predicate_field : ℕ → Shape
-predicate_field number =
-    if number == 1 then Number
-    else if number == 2 then Message SimplePredicate
-    else if number == 3 then Message Combo
-    else Refused
-
--- start, stop, whether starts are counted, stop at all keys, the value at first, the bound; the key's fields
-abbrev pub simple_predicate_field : ℕ → Shape
-simple_predicate_field number =
-    if number == 1 || number == 2 || number == 3 || number == 4 || number == 5 || number == 1001 then Number
-    else if number == 6 then Message FieldMatcher
-    else Refused
-
--- field, position; what is below it
-abbrev pub field_matcher_field : ℕ → Shape
-field_matcher_field number =
-    if number == 1 || number == 2 then Number
-    else if number == 3 then Message FieldMatcher
-    else Refused
-
--- a condition or a state's atom; the two sides
-abbrev pub link_field : ℕ → Shape
-link_field number =
-    if number == 1 then Number
-    else if number == 2 || number == 3 then Message FieldMatcher
-    else Refused
-
--- id, the atom's id; groups of its values
-abbrev pub state_field : ℕ → Shape
-state_field number =
-    if number == 1 || number == 2 then Number
-    else if number == 3 then Message StateMap
-    else Refused
-
--- groups
-abbrev pub state_map_field : ℕ → Shape
-state_map_field number =
-    if number == 1 then Message Group
-    else Refused
-
--- id; values
-abbrev pub group_field : ℕ → Shape
-group_field number =
-    if number == 1 then Number
-    else if number == 2 then Numbers
-    else Refused
-
--- whether all entries are meant; which else
-abbrev pub filter_field : ℕ → Shape
-filter_field number =
-    if number == 1 then Number
-    else if number == 2 then Message FieldMatcher
-    else Refused
-
--- id, what, condition; links
-abbrev pub event_field : ℕ → Shape
-event_field number =
-    if number == 1 || number == 2 || number == 3 then Number
-    else if number == 4 then Message Link
-    else Refused
-
--- id, what, condition, bound; key, bucket, links, slices and their links
-abbrev pub count_field : ℕ → Shape
-count_field number =
-    if number == 1 || number == 2 || number == 3 || number == 1001 then Number
-    else if number == 4 then Message FieldMatcher
-    else if number == 5 then BucketUnit
-    else if number == 6 then Message Link
-    else if number == 8 then Numbers
-    else if number == 9 then Message StateLink
-    else Refused
-
--- id, what, condition, five ways to take differences, bound; the value's field, key, bucket, links, aggregation, slices and their links
-abbrev pub value_field : ℕ → Shape
-value_field number =
-    if number == 1 || number == 2 || number == 4 || number == 11 || number == 12 || number == 13 || number == 14 || number == 15 || number == 1001 then Number
-    else if number == 3 || number == 5 then Message FieldMatcher
-    else if number == 6 then BucketUnit
-    else if number == 7 then Message Link
-    else if number == 8 then ValueAggregation
-    else if number == 10 || number == 16 || number == 17 then Ignored
-    else if number == 18 then Numbers
-    else if number == 19 then Message StateLink
-    else Refused
-
--- id, what, condition, how many samples, trigger, bound; filter, key, bucket, links, sampling
-abbrev pub gauge_field : ℕ → Shape
-gauge_field number =
-    if number == 1 || number == 2 || number == 4 || number == 11 || number == 12 || number == 1001 then Number
-    else if number == 3 then Message Filter
-    else if number == 5 then Message FieldMatcher
-    else if number == 6 then BucketUnit
-    else if number == 7 then Message Link
-    else if number == 9 then GaugeSampling
-    else if number == 10 || number == 13 || number == 14 then Ignored
-    else Refused
-
--- id, what, condition, how runs come to one, bound; links, key, bucket, slices and their links
-abbrev pub duration_field : ℕ → Shape
-duration_field number =
-    if number == 1 || number == 2 || number == 3 || number == 5 || number == 1001 then Number
-    else if number == 4 then Message Link
-    else if number == 6 then Message FieldMatcher
-    else if number == 7 then BucketUnit
-    else if number == 9 then Numbers
-    else if number == 10 then Message StateLink
-    else Refused
+-- the shape in the row of a number, or another where there is no such row
+abbrev pub shape_in : Shape → List (ℕ × Shape) → ℕ → Shape
+shape_in other [] number = other
+shape_in other ((own, shape) ∷ rows) number = if own == number then shape else shape_in other rows number
 
 -- what stands in a field
 abbrev pub shape_of : Kind → ℕ → Shape
-shape_of Config number = config_field number
-shape_of Matcher number = matcher_field number
-shape_of SimpleMatcher number = simple_matcher_field number
-shape_of FieldTest number = field_test_field number
-shape_of Tuple number = tuple_field number
-shape_of Texts number = texts_field number
-shape_of Combo number = combo_field number
-shape_of Predicate number = predicate_field number
-shape_of SimplePredicate number = simple_predicate_field number
-shape_of FieldMatcher number = field_matcher_field number
-shape_of Link number = link_field number
-shape_of StateLink number = link_field number
-shape_of State number = state_field number
-shape_of StateMap number = state_map_field number
-shape_of Group number = group_field number
-shape_of Filter number = filter_field number
-shape_of Event number = event_field number
-shape_of Count number = count_field number
-shape_of Value number = value_field number
-shape_of Gauge number = gauge_field number
-shape_of Duration number = duration_field number
+shape_of kind number = shape_in (shape_without_row kind) (profile_rows kind) number
 
 -- the low 32 bits
 abbrev pub low_half : ℕ → ℕ

@@ -3,8 +3,10 @@ use Rattle.std.specs.Prelude.{◌<◌, ◌^◌, List, length}
 use Rattle.std.specs.List.{AllByRecursion}
 use Rattle.proto_wire.specs.Fields.{FieldOf, inside_of}
 
-abbrev pub IsShort : FieldOf → Type 0
-IsShort field = length (inside_of field.body) < 2 ^ 32
+-- the payload of this record, if it has one
+abbrev pub HasShortPayload : FieldOf → Type 0
+HasShortPayload field = length (inside_of field.body) < 2 ^ 32
 
-abbrev pub AreShort : List FieldOf → Type 0
-AreShort fields = AllByRecursion IsShort fields
+-- those of all these records
+abbrev pub HaveShortPayloads : List FieldOf → Type 0
+HaveShortPayloads fields = AllByRecursion HasShortPayload fields

@@ -16,11 +16,11 @@ pub record Packed : Type 0 where
   pub numbers : List ℕ
   pub fault : Option WireFault
 
--- a number and what is behind it, or the fault
+-- a number and what comes after it, or the fault
 abbrev pub packed_on : (List ℕ → Packed) → Result (ℕ × List ℕ) WireFault → Packed
-packed_on behind (Ok first) =
-    let others = behind first.1 in record { numbers = first.0 ∷ others.numbers; fault = others.fault }
-packed_on behind (Err fault) = record { numbers = []; fault = Some fault }
+packed_on after (Ok first) =
+    let others = after first.1 in record { numbers = first.0 ∷ others.numbers; fault = others.fault }
+packed_on after (Err fault) = record { numbers = []; fault = Some fault }
 
 -- in at most so many turns
 unfoldable pub packed_in : ℕ → ℕ → List ℕ → Packed
@@ -44,66 +44,74 @@ pub record Walked : Type 0 where
   pub records : List Located
   pub fault : Option WireFault
 
-abbrev pub just : List Located → Walked
-just records = record { records = records; fault = None }
+-- these records, without a fault
+abbrev pub walk_of_records : List Located → Walked
+walk_of_records records = record { records = records; fault = None }
 
-abbrev pub halted : Option WireFault → Walked
-halted fault = record { records = []; fault = fault }
+-- no record, and then this fault, if it is one
+abbrev pub walk_to_fault : Option WireFault → Walked
+walk_to_fault fault = record { records = []; fault = fault }
 
--- a second walk comes only behind one without a fault
-abbrev pub unless_halted : Option WireFault → List Located → List Located
-unless_halted None records = records
-unless_halted (Some fault) records = []
+-- a second walk comes only after one without a fault
+abbrev pub records_unless : Option WireFault → List Located → List Located
+records_unless None records = records
+records_unless (Some fault) records = []
 
 -- one walk, and then another
 abbrev pub and_then : Walked → Walked → Walked
 and_then first second = record {
-  records = first.records ++ unless_halted first.fault second.records;
+  records = first.records ++ records_unless first.fault second.records;
   fault = option_or first.fault second.fault;
 }
 
 -- what is one level deeper, or that it is too deep
-abbrev pub entered : (Rest → Walked) → Result Rest WireFault → Walked
-entered walk (Ok inside) = walk inside
-entered walk (Err fault) = halted (Some fault)
+abbrev pub walk_of_entry : (Rest → Walked) → Result Rest WireFault → Walked
+walk_of_entry walk (Ok inside) = walk inside
+walk_of_entry walk (Err fault) = walk_to_fault (Some fault)
 
 -- What a record holds, where messages inside are walked by the first argument. A packed record is read to its end;
 -- nothing else is looked into.
-abbrev pub inside_walked : (Kind → Rest → Walked) → ℕ → FieldOf → Shape → BodyOf → Walked
-inside_walked walk depth field (Message kind) (Bytes bytes) = entered (walk kind) (inside_at depth field)
-inside_walked walk depth field Numbers (Bytes bytes) = halted (packed_at field.at bytes).fault
-inside_walked walk depth field _ body = just []
+abbrev pub walk_of_body : (Kind → Rest → Walked) → ℕ → FieldOf → Shape → BodyOf → Walked
+walk_of_body walk depth field (Message kind) (Bytes bytes) = walk_of_entry (walk kind) (inside_at depth field)
+walk_of_body walk depth field Numbers (Bytes bytes) = walk_to_fault (packed_at field.at bytes).fault
+walk_of_body walk depth field _ body = walk_of_records []
 
 -- a record of such a message, with what it holds
-abbrev pub record_walked : (List ℕ → Kind → Rest → Walked) → Kind → List ℕ → ℕ → FieldOf → Walked
-record_walked walk kind above depth field =
+abbrev pub walk_of_record : (List ℕ → Kind → Rest → Walked) → Kind → List ℕ → ℕ → FieldOf → Walked
+walk_of_record walk kind above depth field =
     let path = above ++ field.number ∷ [] in
-    and_then (just (record { path = path; kind = kind; field = field } ∷ [])) (inside_walked (walk path) depth field (shape_of kind field.number) field.body)
+    let here : Located = record { path = path; kind = kind; field = field } in
+    and_then (walk_of_records (here ∷ []))
+    (walk_of_body (walk path) depth field (shape_of kind field.number) field.body)
 
 -- these records, and then the fault that ended their message
-abbrev pub all_walked : (FieldOf → Walked) → List FieldOf → Option WireFault → Walked
-all_walked walk [] fault = halted fault
-all_walked walk (field ∷ fields) fault = and_then (walk field) (all_walked walk fields fault)
+abbrev pub walk_of_all : (FieldOf → Walked) → List FieldOf → Option WireFault → Walked
+walk_of_all walk [] fault = walk_to_fault fault
+walk_of_all walk (field ∷ fields) fault = and_then (walk field) (walk_of_all walk fields fault)
 
 -- A message, to which these numbers lead, where messages inside are walked by the first argument.
-abbrev pub message_walked : (List ℕ → Kind → Rest → Walked) → List ℕ → Kind → Rest → Walked
-message_walked walk above kind rest =
+abbrev pub walk_of_message : (List ℕ → Kind → Rest → Walked) → List ℕ → Kind → Rest → Walked
+walk_of_message walk above kind rest =
     let fields = walk_from rest in
-    all_walked (record_walked walk kind above rest.depth) fields.fields fields.fault
+    walk_of_all (walk_of_record walk kind above rest.depth) fields.fields fields.fault
+
+-- How many messages may stand inside one another. What is deeper is a fault of the wire format.
+abbrev pub most_levels : ℕ
+most_levels = 100
 
 -- A message with so many levels inside it; at the last, nothing is entered.
 unfoldable pub walk_in : ℕ → List ℕ → Kind → Rest → Walked
-walk_in zero = message_walked (λ above kind rest. just [])
-walk_in (suc levels) = message_walked (walk_in levels)
+walk_in zero = walk_of_message (λ above kind rest. walk_of_records [])
+walk_in (suc levels) = walk_of_message (walk_in levels)
 
 -- how the messages inside such a message are walked
 abbrev pub inner_walk : ℕ → List ℕ → Kind → Rest → Walked
-inner_walk zero above kind rest = just []
+inner_walk zero above kind rest = walk_of_records []
 inner_walk (suc levels) above kind rest = walk_in levels above kind rest
 
--- the whole configuration: a message inside a hundred others is too deep
+-- the whole configuration
 unfoldable pub walk_of : List ℕ → Walked
-walk_of bytes = walk_in 100 [] Config (record { bytes = bytes; at = 0; depth = 0 })
+walk_of bytes = walk_in most_levels [] Config (record { bytes = bytes; at = 0; depth = 0 })
 
 -- the path of the first record that isn't supported
 abbrev pub first_refused : List Located → Option (List ℕ)

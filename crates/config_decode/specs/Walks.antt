@@ -1,5 +1,5 @@
 -- What the code of a walk leaves, against the walk of the definition.
-use Rattle.std.specs.Prelude.{◌≡◌, ◌≤◌, ℕ, List, [], ◌∷◌, ◌++◌, length, Option, None, Some, Result, Ok, Err, IfSome, if◌then◌else◌}
+use Rattle.std.specs.Prelude.{◌≡◌, ℕ, List, [], ◌∷◌, ◌++◌, Option, None, Some, Result, Ok, Err, if◌then◌else◌}
 use Rattle.std.specs.Option.{option_or}
 use Rattle.proto_wire.specs.declared.fault.WireFault.{WireFault}
 use Rattle.proto_wire.specs.Fields.{FieldOf}
@@ -17,16 +17,11 @@ FailsAt fault Memory = Unit {0}
 FailsAt fault (TooLarge size) = ⊥
 FailsAt fault (Unsupported path) = ⊥
 
--- the path, if there is one, has at most a number for each level and one for the record
-abbrev pub IsShortPath : Option (List ℕ) → Type 0
-IsShortPath found = IfSome found (λ path. length path ≤ 101)
-
 -- A walk without a fault leaves the walker where it was, with the first record that isn't supported.
 pub record LeavesOff (walked : Walked) (old new : Walker) : Type 0 where
   pub whole : walked.fault ≡ None
   pub path : new.path.items ≡ old.path.items
   pub found : new.unsupported ≡ option_or old.unsupported (first_refused walked.records)
-  pub short : IsShortPath old.unsupported → IsShortPath new.unsupported
 
 -- the call came to the walk's end, or failed at its first fault or for want of memory
 abbrev pub Walks : Walked → Walker → Walker → Result Unit DecodeFault → Type 0
@@ -37,7 +32,6 @@ Walks walked old new (Err fault) = FailsAt walked.fault fault
 pub record GoesTo (kind : Kind) (field : FieldOf) (old new : Walker) : Type 0 where
   pub path : new.path.items ≡ old.path.items ++ field.number ∷ []
   pub found : new.unsupported ≡ option_or old.unsupported (if refuses kind field then Some new.path.items else None)
-  pub short : IsShortPath old.unsupported → IsShortPath new.unsupported
 
 -- the call found the first record that isn't supported, unless there is a fault
 abbrev pub IsUnsupported : Walked → Result (Option (List ℕ)) DecodeFault → Type 0

@@ -2,12 +2,9 @@
 ghost use Rattle.std.specs.Prelude.{◌≡◌};
 
 use proto_wire::WireFault;
-use sd_base::Seq;
+use sd_base::Path;
 use std::alloc::{AllocError, AllocFailed};
 use thiserror::Error;
-
-/// The field numbers that lead from the top of a configuration to a record.
-pub type Path = Seq<u32>;
 
 /// Why there is no tree.
 #[derive(Debug, Drop, PartialEq, Eq, Error)]
@@ -18,9 +15,10 @@ pub enum DecodeFault {
     /// The first fault of the wire format.
     #[error("malformed: {0:?}")]
     Wire(WireFault),
-    /// The first record that the profile doesn't have.
+    /// The path of the first record that isn't supported.
     #[error("unsupported: {0:?}")]
     Unsupported(Path),
+    /// The allocator gave no memory.
     #[error("out of memory")]
     Memory,
 }

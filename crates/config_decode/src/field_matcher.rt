@@ -1,9 +1,11 @@
 //! Trees of field numbers.
 ghost use Rattle.std.specs.Prelude.{◌≡◌, IfOk};
+ghost use Rattle.config_decode.specs.FieldNumbers.{leaf_child};
 ghost use Rattle.config_decode.specs.Tree as tree;
 ghost use Rattle.config_decode.specs.Values as values;
 
 use crate::message::Message;
+use crate::numbers;
 use crate::tree::FromMessage;
 use config_types::FieldMatcher;
 use sd_base::Seq;
@@ -22,9 +24,9 @@ impl FromMessage for FieldMatcher {
     }
 }
 
-/// A tree in which so many may stand inside one another.
+// A tree in which so many messages may stand inside one another.
 #[cycle(levels)]
-#[tactic(auto, using(crate::proofs::Levels::field_matcher_step))]
+#[tactic(auto, using(crate::proofs::TreeLemmas::field_matcher_step))]
 fn field_matcher(
     alloc: Global,
     levels: u32,
@@ -34,27 +36,28 @@ fn field_matcher(
 {
     let children = children(alloc, levels, message)?;
     Ok(FieldMatcher {
-        field: message.int(1),
-        position: message.chosen(2),
+        field: message.scalar(numbers::LEAF_FIELD),
+        position: message.scalar(numbers::LEAF_POSITION),
         children,
     })
 }
 
-/// What is below such a tree.
+// What is below such a tree.
 #[cycle(levels)]
-#[tactic(auto, using(crate::proofs::Levels::children_step))]
+#[tactic(auto, using(crate::proofs::TreeLemmas::children_step))]
 fn children(
     alloc: Global,
     levels: u32,
     message: &Message<'_>,
 ) -> Result<Seq<FieldMatcher>, AllocError>
-    ensures { IfOk result (λ read. read ≡ tree.children_in levels (values.messages 3 message.now)) }
+    ensures { IfOk result (λ read.
+        read ≡ tree.children_in levels (values.messages leaf_child message.now)) }
 {
     let mut children = Seq::new(alloc);
     if levels == 0 {
         return Ok(children);
     }
-    let messages = message.messages(alloc, 3)?;
+    let messages = message.messages(alloc, numbers::LEAF_CHILD)?;
     for inner in messages.iter() {
         children.push(field_matcher(alloc, levels - 1, inner)?)?;
     }

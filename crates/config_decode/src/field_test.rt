@@ -5,13 +5,25 @@ ghost use Rattle.config_decode.specs.Values as values;
 
 use crate::field_matcher::MAX_LEVELS;
 use crate::message::Message;
+use crate::numbers;
 use crate::tree::FromMessage;
 use config_types::{Bytes, FieldTest, Test};
 use sd_base::Seq;
 use std::alloc::{AllocError, Global};
 
-/// The members of a test's oneof.
-const MEMBERS: [u32; 10] = [3, 4, 5, 6, 7, 10, 11, 12, 13, 14];
+// The members of a test's oneof.
+const MEMBERS: [u32; 10] = [
+    numbers::TEST_EQ_BOOL,
+    numbers::TEST_EQ_STRING,
+    numbers::TEST_EQ_INT,
+    numbers::TEST_LT_INT,
+    numbers::TEST_GT_INT,
+    numbers::TEST_LTE_INT,
+    numbers::TEST_GTE_INT,
+    numbers::TEST_MATCHES_TUPLE,
+    numbers::TEST_EQ_ANY_STRING,
+    numbers::TEST_NEQ_ANY_STRING,
+];
 
 impl FromMessage for FieldTest {
     ghost use Rattle.config_decode.specs.Tree.{field_test_of};
@@ -23,73 +35,77 @@ impl FromMessage for FieldTest {
     }
 }
 
-/// A test in which so many tuples may stand inside one another.
+// A test in which so many tuples may stand inside one another.
 #[cycle(levels)]
-#[tactic(auto, using(crate::proofs::Levels::field_test_step))]
+#[tactic(auto, using(crate::proofs::TreeLemmas::field_test_step))]
 fn field_test(alloc: Global, levels: u32, message: &Message<'_>) -> Result<FieldTest, AllocError>
     ensures { IfOk result (λ read. read ≡ tree.field_test_in levels message.now) }
 {
-    let run = message.set_last(alloc, &MEMBERS)?;
+    let run = message.oneof_run(alloc, &MEMBERS)?;
     let test = test(alloc, levels, &run)?;
     Ok(FieldTest {
-        field: message.int(1),
-        position: message.chosen(2),
+        field: message.scalar(numbers::TEST_FIELD),
+        position: message.scalar(numbers::TEST_POSITION),
         test,
     })
 }
 
-/// What is asked, by the records of the member that was set last.
+// What is asked, by the records of the member that was set last.
 #[cycle(levels)]
 fn test(alloc: Global, levels: u32, run: &Message<'_>) -> Result<Option<Test>, AllocError>
     ensures { IfOk result (λ read. read ≡ tree.test_of (tree.tests_in levels) run.now) }
 {
     match run.number() {
         None => Ok(None),
-        Some(12) => Ok(Some(Test::Tuple(tuple(alloc, levels, run)?))),
-        Some(13) => Ok(Some(Test::AnyOf(texts(alloc, run, 13)?))),
-        Some(14) => Ok(Some(Test::NoneOf(texts(alloc, run, 14)?))),
-        Some(4) => Ok(run.text(alloc, 4)?.map(Test::EqStr)),
+        Some(numbers::TEST_MATCHES_TUPLE) => Ok(Some(Test::Tuple(tuple(alloc, levels, run)?))),
+        Some(number @ numbers::TEST_EQ_ANY_STRING) => Ok(Some(Test::AnyOf(strings(
+            alloc, run, number,
+        )?))),
+        Some(number @ numbers::TEST_NEQ_ANY_STRING) => Ok(Some(Test::NoneOf(strings(
+            alloc, run, number,
+        )?))),
+        Some(number @ numbers::TEST_EQ_STRING) => Ok(run.string(alloc, number)?.map(Test::EqStr)),
         Some(number) => Ok(number_test(number, run)),
     }
 }
 
-/// What is asked of a number or a truth.
+// What is asked of a number or a truth value.
 fn number_test(number: u32, run: &Message<'_>) -> Option<Test>
     ensures { result ≡ tree.number_test_of number run.now }
 {
     match number {
-        3 => run.truth(3).map(Test::EqBool),
-        5 => run.long(5).map(Test::EqInt),
-        6 => run.long(6).map(Test::LtInt),
-        7 => run.long(7).map(Test::GtInt),
-        10 => run.long(10).map(Test::LteInt),
-        11 => run.long(11).map(Test::GteInt),
+        numbers::TEST_EQ_BOOL => run.scalar(number).map(Test::EqBool),
+        numbers::TEST_EQ_INT => run.scalar(number).map(Test::EqInt),
+        numbers::TEST_LT_INT => run.scalar(number).map(Test::LtInt),
+        numbers::TEST_GT_INT => run.scalar(number).map(Test::GtInt),
+        numbers::TEST_LTE_INT => run.scalar(number).map(Test::LteInt),
+        numbers::TEST_GTE_INT => run.scalar(number).map(Test::GteInt),
         _ => None,
     }
 }
 
-/// The tests of a tuple.
+// The tests of a tuple.
 #[cycle(levels)]
-#[tactic(auto, using(crate::proofs::Levels::tests_step))]
+#[tactic(auto, using(crate::proofs::TreeLemmas::tests_step))]
 fn tuple(alloc: Global, levels: u32, run: &Message<'_>) -> Result<Seq<FieldTest>, AllocError>
-    ensures { IfOk result (λ read. read ≡ tree.tests_in levels (values.messages 1 (values.joined (values.payloads 12 run.now)))) }
+    ensures { IfOk result (λ read. read ≡ tree.tests_in levels (tree.tuple_messages run.now)) }
 {
     let mut tests = Seq::new(alloc);
     if levels == 0 {
         return Ok(tests);
     }
-    let inside = run.joined(alloc, 12)?;
-    let messages = inside.messages(alloc, 1)?;
+    let inside = run.merged_message(alloc, numbers::TEST_MATCHES_TUPLE)?;
+    let messages = inside.messages(alloc, numbers::TUPLE_TEST)?;
     for inner in messages.iter() {
         tests.push(field_test(alloc, levels - 1, inner)?)?;
     }
     Ok(tests)
 }
 
-/// The texts of a list.
-fn texts(alloc: Global, run: &Message<'_>, number: u32) -> Result<Seq<Bytes>, AllocError>
-    ensures { IfOk result (λ read. read ≡ tree.texts_of (values.payloads number run.now)) }
+// The strings of a list.
+fn strings(alloc: Global, run: &Message<'_>, number: u32) -> Result<Seq<Bytes>, AllocError>
+    ensures { IfOk result (λ read. read ≡ tree.strings_of (values.payloads number run.now)) }
 {
-    let list = run.joined(alloc, number)?;
-    list.texts(alloc, 1)
+    let list = run.merged_message(alloc, number)?;
+    list.strings(alloc, numbers::STRINGS_STR_VALUE)
 }

@@ -4,12 +4,13 @@ ghost use Rattle.config_decode.specs.Tree as tree;
 ghost use Rattle.config_decode.specs.Values as values;
 
 use crate::message::Message;
+use crate::numbers;
 use crate::tree::{FromMessage, repeated};
 use config_types::{Combo, MatcherBody, MatcherDef, SimpleMatcher};
 use std::alloc::{AllocError, Global};
 
-/// The members of the oneof of a matcher, and of a predicate.
-pub const BODIES: [u32; 2] = [2, 3];
+// The members of a matcher's oneof.
+const MEMBERS: [u32; 2] = [numbers::MATCHER_SIMPLE, numbers::MATCHER_COMBINATION];
 
 impl FromMessage for SimpleMatcher {
     ghost use Rattle.config_decode.specs.Tree.{simple_matcher_of};
@@ -17,9 +18,9 @@ impl FromMessage for SimpleMatcher {
     ghost tree = { simple_matcher_of };
 
     fn from_message(alloc: Global, message: &Message<'_>) -> Result<SimpleMatcher, AllocError> {
-        let tests = repeated(alloc, message, 2)?;
+        let tests = repeated(alloc, message, numbers::SIMPLE_MATCHER_TEST)?;
         Ok(SimpleMatcher {
-            atom_id: message.int(1),
+            atom_id: message.scalar(numbers::SIMPLE_MATCHER_ATOM_ID),
             tests,
         })
     }
@@ -31,9 +32,9 @@ impl FromMessage for Combo {
     ghost tree = { combo_of };
 
     fn from_message(alloc: Global, message: &Message<'_>) -> Result<Combo, AllocError> {
-        let children = message.longs(alloc, 2)?;
+        let children = message.scalars(alloc, numbers::COMBINATION_OPERAND)?;
         Ok(Combo {
-            op: message.chosen(1),
+            op: message.scalar(numbers::COMBINATION_OPERATION),
             children,
         })
     }
@@ -45,26 +46,26 @@ impl FromMessage for MatcherDef {
     ghost tree = { matcher_of };
 
     fn from_message(alloc: Global, message: &Message<'_>) -> Result<MatcherDef, AllocError> {
-        let run = message.set_last(alloc, &BODIES)?;
+        let run = message.oneof_run(alloc, &MEMBERS)?;
         let body = body(alloc, &run)?;
         Ok(MatcherDef {
-            id: message.long(1),
+            id: message.scalar(numbers::MATCHER_ID),
             body,
         })
     }
 }
 
-/// The body, by the records of the member that was set last.
+// The body, by the records of the member that was set last.
 fn body(alloc: Global, run: &Message<'_>) -> Result<Option<MatcherBody>, AllocError>
     ensures { IfOk result (λ read. read ≡ tree.matcher_body_of run.now) }
 {
     let Some(number) = run.number() else {
         return Ok(None);
     };
-    if number == 2 {
-        let simple = run.joined(alloc, 2)?;
+    if number == numbers::MATCHER_SIMPLE {
+        let simple = run.merged_message(alloc, number)?;
         return Ok(Some(MatcherBody::Simple(SimpleMatcher::from_message(alloc, &simple)?)));
     }
-    let combo = run.joined(alloc, 3)?;
+    let combo = run.merged_message(alloc, numbers::MATCHER_COMBINATION)?;
     Ok(Some(MatcherBody::Combo(Combo::from_message(alloc, &combo)?)))
 }

@@ -1,10 +1,12 @@
 //! Metrics.
 ghost use Rattle.std.specs.Prelude.{◌≡◌, IfOk};
+ghost use Rattle.config_decode.specs.FieldNumbers.{gauge_fields_filter};
 ghost use Rattle.config_decode.specs.Metrics as metrics;
 ghost use Rattle.config_decode.specs.Values as values;
 
-use crate::listed::Runs;
 use crate::message::Message;
+use crate::numbers;
+use crate::scalar::Runs;
 use crate::tree::{FromMessage, optional, repeated};
 use config_types::{
     Aggregation, Common, CountDef, Direction, DurationDef, EventDef, GaugeDef, LinkDef,
@@ -19,10 +21,10 @@ impl FromMessage for LinkDef {
     ghost tree = { link_of };
 
     fn from_message(alloc: Global, message: &Message<'_>) -> Result<LinkDef, AllocError> {
-        let in_what = optional(alloc, message, 2)?;
-        let in_condition = optional(alloc, message, 3)?;
+        let in_what = optional(alloc, message, numbers::CONDITION_LINK_FIELDS_IN_WHAT)?;
+        let in_condition = optional(alloc, message, numbers::CONDITION_LINK_FIELDS_IN_CONDITION)?;
         Ok(LinkDef {
-            condition: message.long(1),
+            condition: message.scalar(numbers::CONDITION_LINK_CONDITION),
             in_what,
             in_condition,
         })
@@ -35,17 +37,17 @@ impl FromMessage for StateLinkDef {
     ghost tree = { state_link_of };
 
     fn from_message(alloc: Global, message: &Message<'_>) -> Result<StateLinkDef, AllocError> {
-        let in_what = optional(alloc, message, 2)?;
-        let in_state = optional(alloc, message, 3)?;
+        let in_what = optional(alloc, message, numbers::STATE_LINK_FIELDS_IN_WHAT)?;
+        let in_state = optional(alloc, message, numbers::STATE_LINK_FIELDS_IN_STATE)?;
         Ok(StateLinkDef {
-            atom_id: message.int(1),
+            atom_id: message.scalar(numbers::STATE_LINK_ATOM_ID),
             in_what,
             in_state,
         })
     }
 }
 
-/// What every metric has, where the condition and the links have these numbers.
+// What every metric has, where the condition and the links have these numbers.
 fn common(
     alloc: Global,
     message: &Message<'_>,
@@ -56,14 +58,14 @@ fn common(
 {
     let links = repeated(alloc, message, links)?;
     Ok(Common {
-        id: message.long(1),
-        what: message.long(2),
-        condition: message.long(condition),
+        id: message.scalar(numbers::METRIC_ID),
+        what: message.scalar(numbers::METRIC_WHAT),
+        condition: message.scalar(condition),
         links,
     })
 }
 
-/// What a metric with buckets has that isn't sliced by states, where the key and the bucket have these numbers.
+// What a metric with buckets has that isn't sliced by states, where the key and the bucket have these numbers.
 fn unsliced(
     alloc: Global,
     message: &Message<'_>,
@@ -75,14 +77,14 @@ fn unsliced(
     let dims = optional(alloc, message, dims)?;
     Ok(Sliced {
         dims,
-        bucket: message.chosen(bucket),
-        bound: message.int(1001),
+        bucket: message.scalar(bucket),
+        bound: message.scalar(numbers::KEY_BOUND),
         slices: Seq::new(alloc),
         state_links: Seq::new(alloc),
     })
 }
 
-/// The same with slices and their links, which have these numbers.
+// What a metric with buckets and slices has, where the key, the bucket, the slices and their links have these numbers.
 fn sliced(
     alloc: Global,
     message: &Message<'_>,
@@ -94,12 +96,12 @@ fn sliced(
     ensures { IfOk result (λ read. read ≡ metrics.sliced_of dims bucket slices links message.now) }
 {
     let dims = optional(alloc, message, dims)?;
-    let slices = message.longs(alloc, slices)?;
+    let slices = message.scalars(alloc, slices)?;
     let state_links = repeated(alloc, message, links)?;
     Ok(Sliced {
         dims,
-        bucket: message.chosen(bucket),
-        bound: message.int(1001),
+        bucket: message.scalar(bucket),
+        bound: message.scalar(numbers::KEY_BOUND),
         slices,
         state_links,
     })
@@ -111,7 +113,12 @@ impl FromMessage for EventDef {
     ghost tree = { event_of };
 
     fn from_message(alloc: Global, message: &Message<'_>) -> Result<EventDef, AllocError> {
-        let common = common(alloc, message, 3, 4)?;
+        let common = common(
+            alloc,
+            message,
+            numbers::EVENT_CONDITION,
+            numbers::EVENT_LINKS,
+        )?;
         Ok(EventDef { common })
     }
 }
@@ -122,8 +129,20 @@ impl FromMessage for CountDef {
     ghost tree = { count_of };
 
     fn from_message(alloc: Global, message: &Message<'_>) -> Result<CountDef, AllocError> {
-        let common = common(alloc, message, 3, 6)?;
-        let sliced = sliced(alloc, message, 4, 5, 8, 9)?;
+        let common = common(
+            alloc,
+            message,
+            numbers::COUNT_CONDITION,
+            numbers::COUNT_LINKS,
+        )?;
+        let sliced = sliced(
+            alloc,
+            message,
+            numbers::COUNT_DIMENSIONS,
+            numbers::COUNT_BUCKET,
+            numbers::COUNT_SLICE_BY_STATE,
+            numbers::COUNT_STATE_LINK,
+        )?;
         Ok(CountDef { common, sliced })
     }
 }
@@ -134,28 +153,51 @@ impl FromMessage for ValueDef {
     ghost tree = { value_of };
 
     fn from_message(alloc: Global, message: &Message<'_>) -> Result<ValueDef, AllocError> {
-        let common = common(alloc, message, 4, 7)?;
-        let sliced = sliced(alloc, message, 5, 6, 18, 19)?;
-        let field = optional(alloc, message, 3)?;
+        let common = common(
+            alloc,
+            message,
+            numbers::VALUE_CONDITION,
+            numbers::VALUE_LINKS,
+        )?;
+        let sliced = sliced(
+            alloc,
+            message,
+            numbers::VALUE_DIMENSIONS,
+            numbers::VALUE_BUCKET,
+            numbers::VALUE_SLICE_BY_STATE,
+            numbers::VALUE_STATE_LINK,
+        )?;
+        let field = optional(alloc, message, numbers::VALUE_FIELD)?;
         Ok(ValueDef {
             common,
             sliced,
             field,
-            agg: message.chosen(8).unwrap_or(Aggregation::Sum),
-            abs_reset: message.truth(11).unwrap_or(false),
-            diff: message.truth(12),
-            direction: message.chosen(13).unwrap_or(Direction::Increasing),
-            skip_zero: message.truth(14).unwrap_or(true),
-            zero_base: message.truth(15).unwrap_or(false),
+            agg: message
+                .scalar(numbers::VALUE_AGGREGATION_TYPE)
+                .unwrap_or(Aggregation::Sum),
+            abs_reset: message
+                .scalar(numbers::VALUE_USE_ABSOLUTE_VALUE_ON_RESET)
+                .unwrap_or(false),
+            diff: message.scalar(numbers::VALUE_USE_DIFF),
+            direction: message
+                .scalar(numbers::VALUE_DIRECTION)
+                .unwrap_or(Direction::Increasing),
+            skip_zero: message
+                .scalar(numbers::VALUE_SKIP_ZERO_DIFF_OUTPUT)
+                .unwrap_or(true),
+            zero_base: message
+                .scalar(numbers::VALUE_USE_ZERO_DEFAULT_BASE)
+                .unwrap_or(false),
         })
     }
 }
 
-/// The filter of a gauge; one that has none says as little as an empty one.
+// The filter of a gauge; one that has none says as little as an empty one.
 fn filter<'a>(alloc: Global, message: &Message<'a>) -> Result<Message<'a>, AllocError>
-    ensures { IfOk result (λ read. read ≡ metrics.filter_of (values.message 3 message.now)) }
+    ensures { IfOk result (λ read.
+        read ≡ metrics.filter_of (values.message gauge_fields_filter message.now)) }
 {
-    match message.message(alloc, 3)? {
+    match message.message(alloc, numbers::GAUGE_FIELDS_FILTER)? {
         Some(filter) => Ok(filter),
         None => Ok(Message::new(alloc)),
     }
@@ -167,18 +209,30 @@ impl FromMessage for GaugeDef {
     ghost tree = { gauge_of };
 
     fn from_message(alloc: Global, message: &Message<'_>) -> Result<GaugeDef, AllocError> {
-        let common = common(alloc, message, 4, 7)?;
-        let sliced = unsliced(alloc, message, 5, 6)?;
+        let common = common(
+            alloc,
+            message,
+            numbers::GAUGE_CONDITION,
+            numbers::GAUGE_LINKS,
+        )?;
+        let sliced = unsliced(
+            alloc,
+            message,
+            numbers::GAUGE_DIMENSIONS,
+            numbers::GAUGE_BUCKET,
+        )?;
         let filter = filter(alloc, message)?;
-        let fields = optional(alloc, &filter, 2)?;
+        let fields = optional(alloc, &filter, numbers::FILTER_FIELDS)?;
         Ok(GaugeDef {
             common,
             sliced,
-            include_all: filter.truth(1).unwrap_or(false),
+            include_all: filter.scalar(numbers::FILTER_INCLUDE_ALL).unwrap_or(false),
             fields,
-            sampling: message.chosen(9).unwrap_or(SamplingType::RandomOne),
-            max_samples: message.long(11),
-            trigger: message.long(12),
+            sampling: message
+                .scalar(numbers::GAUGE_SAMPLING_TYPE)
+                .unwrap_or(SamplingType::RandomOne),
+            max_samples: message.scalar(numbers::GAUGE_MAX_NUM_ATOMS),
+            trigger: message.scalar(numbers::GAUGE_TRIGGER_EVENT),
         })
     }
 }
@@ -189,9 +243,23 @@ impl FromMessage for DurationDef {
     ghost tree = { duration_of };
 
     fn from_message(alloc: Global, message: &Message<'_>) -> Result<DurationDef, AllocError> {
-        let common = common(alloc, message, 3, 4)?;
-        let sliced = sliced(alloc, message, 6, 7, 9, 10)?;
-        let runs = message.chosen(5).unwrap_or(Runs::Sum);
+        let common = common(
+            alloc,
+            message,
+            numbers::DURATION_CONDITION,
+            numbers::DURATION_LINKS,
+        )?;
+        let sliced = sliced(
+            alloc,
+            message,
+            numbers::DURATION_DIMENSIONS,
+            numbers::DURATION_BUCKET,
+            numbers::DURATION_SLICE_BY_STATE,
+            numbers::DURATION_STATE_LINK,
+        )?;
+        let runs = message
+            .scalar(numbers::DURATION_AGGREGATION_TYPE)
+            .unwrap_or(Runs::Sum);
         Ok(DurationDef {
             common,
             sliced,

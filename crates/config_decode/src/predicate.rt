@@ -2,12 +2,15 @@
 ghost use Rattle.std.specs.Prelude.{◌≡◌, IfOk};
 ghost use Rattle.config_decode.specs.Tree as tree;
 
-use crate::listed::InitialValue;
-use crate::matcher::BODIES;
 use crate::message::Message;
+use crate::numbers;
+use crate::scalar::InitialValue;
 use crate::tree::{FromMessage, optional};
 use config_types::{Combo, PredicateBody, PredicateDef, SimplePredicate};
 use std::alloc::{AllocError, Global};
+
+// The members of a predicate's oneof.
+const MEMBERS: [u32; 2] = [numbers::PREDICATE_SIMPLE, numbers::PREDICATE_COMBINATION];
 
 impl FromMessage for SimplePredicate {
     ghost use Rattle.config_decode.specs.Tree.{simple_predicate_of};
@@ -15,16 +18,20 @@ impl FromMessage for SimplePredicate {
     ghost tree = { simple_predicate_of };
 
     fn from_message(alloc: Global, message: &Message<'_>) -> Result<SimplePredicate, AllocError> {
-        let dims = optional(alloc, message, 6)?;
-        let initial = message.chosen(5).unwrap_or(InitialValue::False);
+        let dims = optional(alloc, message, numbers::SIMPLE_PREDICATE_DIMENSIONS)?;
+        let initial = message
+            .scalar(numbers::SIMPLE_PREDICATE_INITIAL_VALUE)
+            .unwrap_or(InitialValue::False);
         Ok(SimplePredicate {
-            start: message.long(1),
-            stop: message.long(2),
-            stop_all: message.long(4),
-            nesting: message.truth(3).unwrap_or(true),
+            start: message.scalar(numbers::SIMPLE_PREDICATE_START),
+            stop: message.scalar(numbers::SIMPLE_PREDICATE_STOP),
+            stop_all: message.scalar(numbers::SIMPLE_PREDICATE_STOP_ALL),
+            nesting: message
+                .scalar(numbers::SIMPLE_PREDICATE_COUNT_NESTING)
+                .unwrap_or(true),
             unknown: initial == InitialValue::Unknown,
             dims,
-            bound: message.int(1001),
+            bound: message.scalar(numbers::KEY_BOUND),
         })
     }
 }
@@ -35,26 +42,26 @@ impl FromMessage for PredicateDef {
     ghost tree = { predicate_of };
 
     fn from_message(alloc: Global, message: &Message<'_>) -> Result<PredicateDef, AllocError> {
-        let run = message.set_last(alloc, &BODIES)?;
+        let run = message.oneof_run(alloc, &MEMBERS)?;
         let body = body(alloc, &run)?;
         Ok(PredicateDef {
-            id: message.long(1),
+            id: message.scalar(numbers::PREDICATE_ID),
             body,
         })
     }
 }
 
-/// The body, by the records of the member that was set last.
+// The body, by the records of the member that was set last.
 fn body(alloc: Global, run: &Message<'_>) -> Result<Option<PredicateBody>, AllocError>
     ensures { IfOk result (λ read. read ≡ tree.predicate_body_of run.now) }
 {
     let Some(number) = run.number() else {
         return Ok(None);
     };
-    if number == 2 {
-        let simple = run.joined(alloc, 2)?;
+    if number == numbers::PREDICATE_SIMPLE {
+        let simple = run.merged_message(alloc, number)?;
         return Ok(Some(PredicateBody::Simple(SimplePredicate::from_message(alloc, &simple)?)));
     }
-    let combo = run.joined(alloc, 3)?;
+    let combo = run.merged_message(alloc, numbers::PREDICATE_COMBINATION)?;
     Ok(Some(PredicateBody::Combo(Combo::from_message(alloc, &combo)?)))
 }

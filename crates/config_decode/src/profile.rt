@@ -3,7 +3,8 @@ ghost use Rattle.std.specs.Prelude.{◌≡◌};
 ghost use Rattle.proto_wire.specs.Fields.{seen};
 ghost use Rattle.config_decode.specs.Profile as profile;
 
-use crate::listed::Listed;
+use crate::numbers;
+use crate::scalar::Scalar;
 use config_types::{Aggregation, SamplingType, TimeUnit};
 use proto_wire::{Body, Field};
 
@@ -72,33 +73,264 @@ pub enum Shape {
     Refused,
 }
 
+/// A field: its number, and what stands in it.
+type Row = (u32, Shape);
+
+const CONFIG: [Row; 10] = [
+    (numbers::CONFIG_EVENT_METRIC, Shape::Message(Kind::Event)),
+    (numbers::CONFIG_COUNT_METRIC, Shape::Message(Kind::Count)),
+    (numbers::CONFIG_VALUE_METRIC, Shape::Message(Kind::Value)),
+    (numbers::CONFIG_GAUGE_METRIC, Shape::Message(Kind::Gauge)),
+    (
+        numbers::CONFIG_DURATION_METRIC,
+        Shape::Message(Kind::Duration),
+    ),
+    (numbers::CONFIG_ATOM_MATCHER, Shape::Message(Kind::Matcher)),
+    (numbers::CONFIG_PREDICATE, Shape::Message(Kind::Predicate)),
+    (numbers::CONFIG_NO_REPORT_METRIC, Shape::Numbers),
+    (numbers::CONFIG_METRIC_ACTIVATION, Shape::Refused),
+    (numbers::CONFIG_STATE, Shape::Message(Kind::State)),
+];
+
+const MATCHER: [Row; 3] = [
+    (numbers::MATCHER_ID, Shape::Number),
+    (numbers::MATCHER_SIMPLE, Shape::Message(Kind::SimpleMatcher)),
+    (numbers::MATCHER_COMBINATION, Shape::Message(Kind::Combo)),
+];
+
+const SIMPLE_MATCHER: [Row; 2] = [
+    (numbers::SIMPLE_MATCHER_ATOM_ID, Shape::Number),
+    (
+        numbers::SIMPLE_MATCHER_TEST,
+        Shape::Message(Kind::FieldTest),
+    ),
+];
+
+const FIELD_TEST: [Row; 12] = [
+    (numbers::TEST_FIELD, Shape::Number),
+    (numbers::TEST_POSITION, Shape::Number),
+    (numbers::TEST_EQ_BOOL, Shape::Number),
+    (numbers::TEST_EQ_STRING, Shape::Text),
+    (numbers::TEST_EQ_INT, Shape::Number),
+    (numbers::TEST_LT_INT, Shape::Number),
+    (numbers::TEST_GT_INT, Shape::Number),
+    (numbers::TEST_LTE_INT, Shape::Number),
+    (numbers::TEST_GTE_INT, Shape::Number),
+    (numbers::TEST_MATCHES_TUPLE, Shape::Message(Kind::Tuple)),
+    (numbers::TEST_EQ_ANY_STRING, Shape::Message(Kind::Texts)),
+    (numbers::TEST_NEQ_ANY_STRING, Shape::Message(Kind::Texts)),
+];
+
+const TUPLE: [Row; 1] = [(numbers::TUPLE_TEST, Shape::Message(Kind::FieldTest))];
+
+const TEXTS: [Row; 1] = [(numbers::STRINGS_STR_VALUE, Shape::Text)];
+
+const COMBO: [Row; 2] = [
+    (numbers::COMBINATION_OPERATION, Shape::Number),
+    (numbers::COMBINATION_OPERAND, Shape::Numbers),
+];
+
+const PREDICATE: [Row; 3] = [
+    (numbers::PREDICATE_ID, Shape::Number),
+    (
+        numbers::PREDICATE_SIMPLE,
+        Shape::Message(Kind::SimplePredicate),
+    ),
+    (numbers::PREDICATE_COMBINATION, Shape::Message(Kind::Combo)),
+];
+
+const SIMPLE_PREDICATE: [Row; 7] = [
+    (numbers::SIMPLE_PREDICATE_START, Shape::Number),
+    (numbers::SIMPLE_PREDICATE_STOP, Shape::Number),
+    (numbers::SIMPLE_PREDICATE_COUNT_NESTING, Shape::Number),
+    (numbers::SIMPLE_PREDICATE_STOP_ALL, Shape::Number),
+    (numbers::SIMPLE_PREDICATE_INITIAL_VALUE, Shape::Number),
+    (
+        numbers::SIMPLE_PREDICATE_DIMENSIONS,
+        Shape::Message(Kind::FieldMatcher),
+    ),
+    (numbers::KEY_BOUND, Shape::Number),
+];
+
+const FIELD_MATCHER: [Row; 3] = [
+    (numbers::LEAF_FIELD, Shape::Number),
+    (numbers::LEAF_POSITION, Shape::Number),
+    (numbers::LEAF_CHILD, Shape::Message(Kind::FieldMatcher)),
+];
+
+const LINK: [Row; 3] = [
+    (numbers::CONDITION_LINK_CONDITION, Shape::Number),
+    (
+        numbers::CONDITION_LINK_FIELDS_IN_WHAT,
+        Shape::Message(Kind::FieldMatcher),
+    ),
+    (
+        numbers::CONDITION_LINK_FIELDS_IN_CONDITION,
+        Shape::Message(Kind::FieldMatcher),
+    ),
+];
+
+const STATE_LINK: [Row; 3] = [
+    (numbers::STATE_LINK_ATOM_ID, Shape::Number),
+    (
+        numbers::STATE_LINK_FIELDS_IN_WHAT,
+        Shape::Message(Kind::FieldMatcher),
+    ),
+    (
+        numbers::STATE_LINK_FIELDS_IN_STATE,
+        Shape::Message(Kind::FieldMatcher),
+    ),
+];
+
+const STATE: [Row; 3] = [
+    (numbers::STATE_ID, Shape::Number),
+    (numbers::STATE_ATOM_ID, Shape::Number),
+    (numbers::STATE_MAP, Shape::Message(Kind::StateMap)),
+];
+
+const STATE_MAP: [Row; 1] = [(numbers::STATE_MAP_GROUP, Shape::Message(Kind::Group))];
+
+const GROUP: [Row; 2] = [
+    (numbers::STATE_GROUP_ID, Shape::Number),
+    (numbers::STATE_GROUP_VALUE, Shape::Numbers),
+];
+
+const FILTER: [Row; 2] = [
+    (numbers::FILTER_INCLUDE_ALL, Shape::Number),
+    (numbers::FILTER_FIELDS, Shape::Message(Kind::FieldMatcher)),
+];
+
+const EVENT: [Row; 4] = [
+    (numbers::METRIC_ID, Shape::Number),
+    (numbers::METRIC_WHAT, Shape::Number),
+    (numbers::EVENT_CONDITION, Shape::Number),
+    (numbers::EVENT_LINKS, Shape::Message(Kind::Link)),
+];
+
+const COUNT: [Row; 9] = [
+    (numbers::METRIC_ID, Shape::Number),
+    (numbers::METRIC_WHAT, Shape::Number),
+    (numbers::COUNT_CONDITION, Shape::Number),
+    (
+        numbers::COUNT_DIMENSIONS,
+        Shape::Message(Kind::FieldMatcher),
+    ),
+    (numbers::COUNT_BUCKET, Shape::BucketUnit),
+    (numbers::COUNT_LINKS, Shape::Message(Kind::Link)),
+    (numbers::COUNT_SLICE_BY_STATE, Shape::Numbers),
+    (numbers::COUNT_STATE_LINK, Shape::Message(Kind::StateLink)),
+    (numbers::KEY_BOUND, Shape::Number),
+];
+
+const VALUE: [Row; 19] = [
+    (numbers::METRIC_ID, Shape::Number),
+    (numbers::METRIC_WHAT, Shape::Number),
+    (numbers::VALUE_FIELD, Shape::Message(Kind::FieldMatcher)),
+    (numbers::VALUE_CONDITION, Shape::Number),
+    (
+        numbers::VALUE_DIMENSIONS,
+        Shape::Message(Kind::FieldMatcher),
+    ),
+    (numbers::VALUE_BUCKET, Shape::BucketUnit),
+    (numbers::VALUE_LINKS, Shape::Message(Kind::Link)),
+    (numbers::VALUE_AGGREGATION_TYPE, Shape::ValueAggregation),
+    (numbers::VALUE_MIN_BUCKET_SIZE, Shape::Ignored),
+    (numbers::VALUE_USE_ABSOLUTE_VALUE_ON_RESET, Shape::Number),
+    (numbers::VALUE_USE_DIFF, Shape::Number),
+    (numbers::VALUE_DIRECTION, Shape::Number),
+    (numbers::VALUE_SKIP_ZERO_DIFF_OUTPUT, Shape::Number),
+    (numbers::VALUE_USE_ZERO_DEFAULT_BASE, Shape::Number),
+    (numbers::VALUE_MAX_PULL_DELAY, Shape::Ignored),
+    (numbers::VALUE_SPLIT_BUCKET, Shape::Ignored),
+    (numbers::VALUE_SLICE_BY_STATE, Shape::Numbers),
+    (numbers::VALUE_STATE_LINK, Shape::Message(Kind::StateLink)),
+    (numbers::KEY_BOUND, Shape::Number),
+];
+
+const GAUGE: [Row; 14] = [
+    (numbers::METRIC_ID, Shape::Number),
+    (numbers::METRIC_WHAT, Shape::Number),
+    (numbers::GAUGE_FIELDS_FILTER, Shape::Message(Kind::Filter)),
+    (numbers::GAUGE_CONDITION, Shape::Number),
+    (
+        numbers::GAUGE_DIMENSIONS,
+        Shape::Message(Kind::FieldMatcher),
+    ),
+    (numbers::GAUGE_BUCKET, Shape::BucketUnit),
+    (numbers::GAUGE_LINKS, Shape::Message(Kind::Link)),
+    (numbers::GAUGE_SAMPLING_TYPE, Shape::GaugeSampling),
+    (numbers::GAUGE_MIN_BUCKET_SIZE, Shape::Ignored),
+    (numbers::GAUGE_MAX_NUM_ATOMS, Shape::Number),
+    (numbers::GAUGE_TRIGGER_EVENT, Shape::Number),
+    (numbers::GAUGE_MAX_PULL_DELAY, Shape::Ignored),
+    (numbers::GAUGE_SPLIT_BUCKET, Shape::Ignored),
+    (numbers::KEY_BOUND, Shape::Number),
+];
+
+const DURATION: [Row; 10] = [
+    (numbers::METRIC_ID, Shape::Number),
+    (numbers::METRIC_WHAT, Shape::Number),
+    (numbers::DURATION_CONDITION, Shape::Number),
+    (numbers::DURATION_LINKS, Shape::Message(Kind::Link)),
+    (numbers::DURATION_AGGREGATION_TYPE, Shape::Number),
+    (
+        numbers::DURATION_DIMENSIONS,
+        Shape::Message(Kind::FieldMatcher),
+    ),
+    (numbers::DURATION_BUCKET, Shape::BucketUnit),
+    (numbers::DURATION_SLICE_BY_STATE, Shape::Numbers),
+    (
+        numbers::DURATION_STATE_LINK,
+        Shape::Message(Kind::StateLink),
+    ),
+    (numbers::KEY_BOUND, Shape::Number),
+];
+
 impl Kind {
+    /// The fields of this message.
+    fn rows(self) -> &'static [Row]
+        ensures { result.now ≡ profile.profile_rows self }
+    {
+        match self {
+            Kind::Config => &CONFIG,
+            Kind::Matcher => &MATCHER,
+            Kind::SimpleMatcher => &SIMPLE_MATCHER,
+            Kind::FieldTest => &FIELD_TEST,
+            Kind::Tuple => &TUPLE,
+            Kind::Texts => &TEXTS,
+            Kind::Combo => &COMBO,
+            Kind::Predicate => &PREDICATE,
+            Kind::SimplePredicate => &SIMPLE_PREDICATE,
+            Kind::FieldMatcher => &FIELD_MATCHER,
+            Kind::Link => &LINK,
+            Kind::StateLink => &STATE_LINK,
+            Kind::State => &STATE,
+            Kind::StateMap => &STATE_MAP,
+            Kind::Group => &GROUP,
+            Kind::Filter => &FILTER,
+            Kind::Event => &EVENT,
+            Kind::Count => &COUNT,
+            Kind::Value => &VALUE,
+            Kind::Gauge => &GAUGE,
+            Kind::Duration => &DURATION,
+        }
+    }
+
+    /// What stands in a field that has no row.
+    fn shape_without_row(self) -> Shape
+        ensures { result ≡ profile.shape_without_row self }
+    {
+        match self {
+            Kind::Config => Shape::Ignored,
+            _ => Shape::Refused,
+        }
+    }
+
     /// What stands in the field of this number.
     pub fn shape(self, number: u32) -> Shape
         ensures { result ≡ profile.shape_of self number }
     {
-        match self {
-            Kind::Config => config_field(number),
-            Kind::Matcher => matcher_field(number),
-            Kind::SimpleMatcher => simple_matcher_field(number),
-            Kind::FieldTest => field_test_field(number),
-            Kind::Tuple => tuple_field(number),
-            Kind::Texts => texts_field(number),
-            Kind::Combo => combo_field(number),
-            Kind::Predicate => predicate_field(number),
-            Kind::SimplePredicate => simple_predicate_field(number),
-            Kind::FieldMatcher => field_matcher_field(number),
-            Kind::Link | Kind::StateLink => link_field(number),
-            Kind::State => state_field(number),
-            Kind::StateMap => state_map_field(number),
-            Kind::Group => group_field(number),
-            Kind::Filter => filter_field(number),
-            Kind::Event => event_field(number),
-            Kind::Count => count_field(number),
-            Kind::Value => value_field(number),
-            Kind::Gauge => gauge_field(number),
-            Kind::Duration => duration_field(number),
-        }
+        shape_in(self.shape_without_row(), self.rows(), number)
     }
 
     /// Whether a record of this message isn't supported: no field of its number, another wire type than that of its
@@ -110,14 +342,12 @@ impl Kind {
             (Shape::Ignored, _)
             | (Shape::Number | Shape::Numbers, Body::Varint(_))
             | (Shape::Numbers | Shape::Text | Shape::Message(_), Body::Bytes(_)) => false,
-            (Shape::BucketUnit, Body::Varint(number)) => {
-                TimeUnit::with_number(low_half(number)).is_none()
-            }
+            (Shape::BucketUnit, Body::Varint(number)) => TimeUnit::from_varint(number).is_none(),
             (Shape::ValueAggregation, Body::Varint(number)) => {
-                Aggregation::with_number(low_half(number)).is_none()
+                Aggregation::from_varint(number).is_none()
             }
             (Shape::GaugeSampling, Body::Varint(number)) => {
-                SamplingType::with_number(low_half(number)).is_none()
+                SamplingType::from_varint(number).is_none()
             }
             (Shape::Refused, _) => true,
             _ => self != Kind::Config,
@@ -132,230 +362,15 @@ pub fn low_half(number: u64) -> u32
     (number % (1 << 32)) as u32
 }
 
-fn config_field(number: u32) -> Shape
-    ensures { result ≡ profile.config_field number }
+// The shape in the row of a number, or another where there is no such row.
+fn shape_in(other: Shape, mut rows: &[Row], number: u32) -> Shape
+    ensures { result ≡ profile.shape_in other rows.entry.now number }
 {
-    match number {
-        2 => Shape::Message(Kind::Event),
-        3 => Shape::Message(Kind::Count),
-        4 => Shape::Message(Kind::Value),
-        5 => Shape::Message(Kind::Gauge),
-        6 => Shape::Message(Kind::Duration),
-        7 => Shape::Message(Kind::Matcher),
-        8 => Shape::Message(Kind::Predicate),
-        13 => Shape::Numbers,
-        17 => Shape::Refused,
-        21 => Shape::Message(Kind::State),
-        _ => Shape::Ignored,
+    while let [row, rest @ ..] = rows {
+        if row.0 == number {
+            return row.1;
+        }
+        rows = rest;
     }
-}
-
-fn matcher_field(number: u32) -> Shape
-    ensures { result ≡ profile.matcher_field number }
-{
-    match number {
-        1 => Shape::Number,
-        2 => Shape::Message(Kind::SimpleMatcher),
-        3 => Shape::Message(Kind::Combo),
-        _ => Shape::Refused,
-    }
-}
-
-fn simple_matcher_field(number: u32) -> Shape
-    ensures { result ≡ profile.simple_matcher_field number }
-{
-    match number {
-        1 => Shape::Number,
-        2 => Shape::Message(Kind::FieldTest),
-        _ => Shape::Refused,
-    }
-}
-
-fn field_test_field(number: u32) -> Shape
-    ensures { result ≡ profile.field_test_field number }
-{
-    match number {
-        1 | 2 | 3 | 5 | 6 | 7 | 10 | 11 => Shape::Number,
-        4 => Shape::Text,
-        12 => Shape::Message(Kind::Tuple),
-        13 | 14 => Shape::Message(Kind::Texts),
-        _ => Shape::Refused,
-    }
-}
-
-fn tuple_field(number: u32) -> Shape
-    ensures { result ≡ profile.tuple_field number }
-{
-    match number {
-        1 => Shape::Message(Kind::FieldTest),
-        _ => Shape::Refused,
-    }
-}
-
-fn texts_field(number: u32) -> Shape
-    ensures { result ≡ profile.texts_field number }
-{
-    match number {
-        1 => Shape::Text,
-        _ => Shape::Refused,
-    }
-}
-
-fn combo_field(number: u32) -> Shape
-    ensures { result ≡ profile.combo_field number }
-{
-    match number {
-        1 => Shape::Number,
-        2 => Shape::Numbers,
-        _ => Shape::Refused,
-    }
-}
-
-fn predicate_field(number: u32) -> Shape
-    ensures { result ≡ profile.predicate_field number }
-{
-    match number {
-        1 => Shape::Number,
-        2 => Shape::Message(Kind::SimplePredicate),
-        3 => Shape::Message(Kind::Combo),
-        _ => Shape::Refused,
-    }
-}
-
-fn simple_predicate_field(number: u32) -> Shape
-    ensures { result ≡ profile.simple_predicate_field number }
-{
-    match number {
-        1 | 2 | 3 | 4 | 5 | 1001 => Shape::Number,
-        6 => Shape::Message(Kind::FieldMatcher),
-        _ => Shape::Refused,
-    }
-}
-
-fn field_matcher_field(number: u32) -> Shape
-    ensures { result ≡ profile.field_matcher_field number }
-{
-    match number {
-        1 | 2 => Shape::Number,
-        3 => Shape::Message(Kind::FieldMatcher),
-        _ => Shape::Refused,
-    }
-}
-
-fn link_field(number: u32) -> Shape
-    ensures { result ≡ profile.link_field number }
-{
-    match number {
-        1 => Shape::Number,
-        2 | 3 => Shape::Message(Kind::FieldMatcher),
-        _ => Shape::Refused,
-    }
-}
-
-fn state_field(number: u32) -> Shape
-    ensures { result ≡ profile.state_field number }
-{
-    match number {
-        1 | 2 => Shape::Number,
-        3 => Shape::Message(Kind::StateMap),
-        _ => Shape::Refused,
-    }
-}
-
-fn state_map_field(number: u32) -> Shape
-    ensures { result ≡ profile.state_map_field number }
-{
-    match number {
-        1 => Shape::Message(Kind::Group),
-        _ => Shape::Refused,
-    }
-}
-
-fn group_field(number: u32) -> Shape
-    ensures { result ≡ profile.group_field number }
-{
-    match number {
-        1 => Shape::Number,
-        2 => Shape::Numbers,
-        _ => Shape::Refused,
-    }
-}
-
-fn filter_field(number: u32) -> Shape
-    ensures { result ≡ profile.filter_field number }
-{
-    match number {
-        1 => Shape::Number,
-        2 => Shape::Message(Kind::FieldMatcher),
-        _ => Shape::Refused,
-    }
-}
-
-fn event_field(number: u32) -> Shape
-    ensures { result ≡ profile.event_field number }
-{
-    match number {
-        1 | 2 | 3 => Shape::Number,
-        4 => Shape::Message(Kind::Link),
-        _ => Shape::Refused,
-    }
-}
-
-fn count_field(number: u32) -> Shape
-    ensures { result ≡ profile.count_field number }
-{
-    match number {
-        1 | 2 | 3 | 1001 => Shape::Number,
-        4 => Shape::Message(Kind::FieldMatcher),
-        5 => Shape::BucketUnit,
-        6 => Shape::Message(Kind::Link),
-        8 => Shape::Numbers,
-        9 => Shape::Message(Kind::StateLink),
-        _ => Shape::Refused,
-    }
-}
-
-fn value_field(number: u32) -> Shape
-    ensures { result ≡ profile.value_field number }
-{
-    match number {
-        1 | 2 | 4 | 11 | 12 | 13 | 14 | 15 | 1001 => Shape::Number,
-        3 | 5 => Shape::Message(Kind::FieldMatcher),
-        6 => Shape::BucketUnit,
-        7 => Shape::Message(Kind::Link),
-        8 => Shape::ValueAggregation,
-        10 | 16 | 17 => Shape::Ignored,
-        18 => Shape::Numbers,
-        19 => Shape::Message(Kind::StateLink),
-        _ => Shape::Refused,
-    }
-}
-
-fn gauge_field(number: u32) -> Shape
-    ensures { result ≡ profile.gauge_field number }
-{
-    match number {
-        1 | 2 | 4 | 11 | 12 | 1001 => Shape::Number,
-        3 => Shape::Message(Kind::Filter),
-        5 => Shape::Message(Kind::FieldMatcher),
-        6 => Shape::BucketUnit,
-        7 => Shape::Message(Kind::Link),
-        9 => Shape::GaugeSampling,
-        10 | 13 | 14 => Shape::Ignored,
-        _ => Shape::Refused,
-    }
-}
-
-fn duration_field(number: u32) -> Shape
-    ensures { result ≡ profile.duration_field number }
-{
-    match number {
-        1 | 2 | 3 | 5 | 1001 => Shape::Number,
-        4 => Shape::Message(Kind::Link),
-        6 => Shape::Message(Kind::FieldMatcher),
-        7 => Shape::BucketUnit,
-        9 => Shape::Numbers,
-        10 => Shape::Message(Kind::StateLink),
-        _ => Shape::Refused,
-    }
+    other
 }

@@ -1,24 +1,26 @@
 //! States.
 ghost use Rattle.std.specs.Prelude.{◌≡◌, IfOk};
 ghost use Rattle.std.specs.Option.{option_map};
+ghost use Rattle.config_decode.specs.FieldNumbers.{state_map};
 ghost use Rattle.config_decode.specs.Tree as tree;
 ghost use Rattle.config_decode.specs.Values as values;
 
 use crate::message::Message;
+use crate::numbers;
 use crate::tree::{FromMessage, repeated};
 use config_types::{GroupDef, StateDef};
 use sd_base::Seq;
 use std::alloc::{AllocError, Global};
 
 impl FromMessage for GroupDef {
-    ghost use Rattle.config_decode.specs.Tree.{group_of};
+    ghost use Rattle.config_decode.specs.Tree.{state_group_of};
 
-    ghost tree = { group_of };
+    ghost tree = { state_group_of };
 
     fn from_message(alloc: Global, message: &Message<'_>) -> Result<GroupDef, AllocError> {
-        let values = message.ints(alloc, 2)?;
+        let values = message.scalars(alloc, numbers::STATE_GROUP_VALUE)?;
         Ok(GroupDef {
-            group: message.long(1),
+            group: message.scalar(numbers::STATE_GROUP_ID),
             values,
         })
     }
@@ -32,19 +34,20 @@ impl FromMessage for StateDef {
     fn from_message(alloc: Global, message: &Message<'_>) -> Result<StateDef, AllocError> {
         let map = groups(alloc, message)?;
         Ok(StateDef {
-            id: message.long(1),
-            atom_id: message.int(2),
+            id: message.scalar(numbers::STATE_ID),
+            atom_id: message.scalar(numbers::STATE_ATOM_ID),
             map,
         })
     }
 }
 
-/// The groups of a state, if it has a map.
+// The groups of a state, if it has a map.
 fn groups(alloc: Global, state: &Message<'_>) -> Result<Option<Seq<GroupDef>>, AllocError>
-    ensures { IfOk result (λ read. read ≡ option_map tree.groups_of (values.message 3 state.now)) }
+    ensures { IfOk result (λ read.
+        read ≡ option_map tree.state_groups_of (values.message state_map state.now)) }
 {
-    match state.message(alloc, 3)? {
-        Some(map) => Ok(Some(repeated(alloc, &map, 1)?)),
+    match state.message(alloc, numbers::STATE_MAP)? {
+        Some(map) => Ok(Some(repeated(alloc, &map, numbers::STATE_MAP_GROUP)?)),
         None => Ok(None),
     }
 }

@@ -1,14 +1,13 @@
-//! The walk over a configuration, which looks for the first fault of the wire format and for the first record that isn't
-//! supported.
-ghost use Rattle.std.specs.Prelude.{◌≡◌, ◌≤◌, ◌<◌, ◌+◌, ◌-◌, ◌^◌, length, OnOk, IfOk, IfSome};
-ghost use Rattle.proto_wire.specs.Fields.{seen, FitsOffsets};
-ghost use Rattle.config_decode.specs.Walk.{packed_at, walk_in, record_walked, inside_walked, inner_walk, walk_of};
+//! The walk over a configuration: the first fault of the wire format, and the first record that isn't supported.
+ghost use Rattle.std.specs.Prelude.{◌≡◌, ◌≤◌, ◌<◌, ◌+◌, ◌-◌, ◌^◌, length, OnOk};
+ghost use Rattle.proto_wire.specs.Fields.{seen, IsWithin};
+ghost use Rattle.config_decode.specs.Walk.{packed_at, walk_in, most_levels, walk_of_record, walk_of_body, inner_walk, walk_of};
 ghost use Rattle.config_decode.specs.Walks.{Walks, GoesTo, IsUnsupported, PacksWell};
 
+use crate::DecodeFault;
 use crate::profile::{Kind, Shape};
-use crate::{DecodeFault, Path};
 use proto_wire::{Body, Field, Records, WireFault, varint_of};
-use sd_base::Seq;
+use sd_base::Path;
 use std::alloc::{AllocError, Global};
 
 /// Where a walk is, and what it found.
@@ -21,11 +20,10 @@ struct Walker {
     unsupported: Option<Path>,
 }
 
-/// The path of the first record that isn't supported, if there is any, unless a fault of the wire format stands anywhere.
+/// The path of the first record that isn't supported, if there is any, or the first fault of the wire format.
 pub fn first_unsupported(alloc: Global, bytes: &[u8]) -> Result<Option<Path>, DecodeFault>
     requires { length bytes.now < 2 ^ 32 }
-    ensures found { IsUnsupported (walk_of bytes.now) result }
-    ensures path { IfOk result (λ found. IfSome found (λ path. length path ≤ 101)) }
+    ensures { IsUnsupported (walk_of bytes.now) result }
 {
     let mut walker = Walker {
         alloc,
@@ -37,12 +35,13 @@ pub fn first_unsupported(alloc: Global, bytes: &[u8]) -> Result<Option<Path>, De
 }
 
 impl Walker {
-    /// Walks the records of a message.
+    // Walks the records of a message.
     #[cycle(walk)]
     fn message(&mut self, kind: Kind, records: Records<'_>) -> Result<(), DecodeFault>
         requires depth { length self.old.path.items ≡ records.depth }
-        requires shallow { records.depth ≤ 100 }
-        ensures walked { Walks (walk_in (100 - records.entry.depth) self.old.path.items kind records.entry)
+        requires shallow { records.depth ≤ most_levels }
+        ensures walked { Walks (walk_in (most_levels - records.entry.depth)
+            self.old.path.items kind records.entry)
             self.old self.new result }
     {
         let mut records = records;
@@ -52,7 +51,7 @@ impl Walker {
         Ok(())
     }
 
-    /// Walks one record of a message, and what it holds.
+    // Walks one record of a message, and what it holds.
     #[cycle(walk)]
     fn record(
         &mut self,
@@ -61,10 +60,10 @@ impl Walker {
         field: &Field<'_>,
     ) -> Result<(), DecodeFault>
         requires depth { length self.old.path.items ≡ records.now.depth }
-        requires shallow { records.now.depth ≤ 100 }
-        requires within { FitsOffsets (seen field.now) }
-        ensures walked { Walks (record_walked (inner_walk (100 - records.now.depth)) kind self.old.path.items
-            records.now.depth (seen field.now)) self.old self.new result }
+        requires shallow { records.now.depth ≤ most_levels }
+        requires within { IsWithin (seen field.now) }
+        ensures walked { Walks (walk_of_record (inner_walk (most_levels - records.now.depth))
+            kind self.old.path.items records.now.depth (seen field.now)) self.old self.new result }
     {
         self.note(kind, field)?;
         self.inside(kind.shape(field.number), records, field)?;
@@ -72,19 +71,19 @@ impl Walker {
         Ok(())
     }
 
-    /// Goes to a record, and notes its path if it is the first that isn't supported.
+    // Goes to a record, and notes its path if it is the first that isn't supported.
     fn note(&mut self, kind: Kind, field: &Field<'_>) -> Result<(), AllocError>
-        requires { length self.old.path.items ≤ 100 }
+        requires { length self.old.path.items ≤ most_levels }
         ensures { OnOk result (GoesTo kind (seen field.now) self.old self.new) }
     {
         self.path.push(field.number)?;
         if self.unsupported.is_none() && kind.refuses(field) {
-            self.unsupported = Some(Seq::from_slice(self.alloc, self.path.as_slice())?);
+            self.unsupported = Some(Path::from_slice(self.alloc, self.path.as_slice())?);
         }
         Ok(())
     }
 
-    /// Walks what a record holds, to which the path leads.
+    // Walks what a record holds, to which the path leads.
     #[cycle(walk)]
     fn inside(
         &mut self,
@@ -93,8 +92,9 @@ impl Walker {
         field: &Field<'_>,
     ) -> Result<(), DecodeFault>
         requires depth { length self.old.path.items ≡ records.now.depth + 1 }
-        requires within { FitsOffsets (seen field.now) }
-        ensures walked { Walks (inside_walked (inner_walk (100 - records.now.depth) self.old.path.items)
+        requires within { IsWithin (seen field.now) }
+        ensures walked { Walks (walk_of_body
+            (inner_walk (most_levels - records.now.depth) self.old.path.items)
             records.now.depth (seen field.now) shape (seen field.now).body) self.old self.new result }
     {
         match (shape, field.body) {
@@ -105,14 +105,14 @@ impl Walker {
     }
 }
 
-/// Reads packed numbers to their end. A fault is told of the record that begins at `at`.
+// Reads packed numbers to their end. A fault is told of the record that begins at `at`.
 fn check_packed(at: u32, packed: &[u8]) -> Result<(), WireFault>
     ensures { PacksWell (packed_at at packed.now) result }
 {
     let mut rest = packed;
     while !rest.is_empty() {
-        let (_, behind) = varint_of(at, rest)?;
-        rest = behind;
+        let (_, left) = varint_of(at, rest)?;
+        rest = left;
     }
     Ok(())
 }

@@ -10,4 +10,6 @@ decreases-field_matcher l = 2 * l.levels + 1
 
 -- what was read, and what the messages that are left will say
 abbrev pub invariant-children-loop-inner : goal.invariant-children-loop-inner
-invariant-children-loop-inner l = l.children ++ map (field_matcher_in (l.levels - 1)) (drop l.inner-index l.inner-items) ≡ map (field_matcher_in (l.levels - 1)) l.inner-items
+invariant-children-loop-inner l =
+    l.children ++ map (field_matcher_in (l.levels - 1)) (drop l.inner-index l.inner-items)
+    ≡ map (field_matcher_in (l.levels - 1)) l.inner-items

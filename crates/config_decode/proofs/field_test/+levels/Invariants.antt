@@ -13,4 +13,6 @@ decreases-field_test l = 3 * l.levels + 2
 
 -- what was read, and what the messages that are left will say
 abbrev pub invariant-tuple-loop-inner : goal.invariant-tuple-loop-inner
-invariant-tuple-loop-inner l = l.tests ++ map (field_test_in (l.levels - 1)) (drop l.inner-index l.inner-items) ≡ map (field_test_in (l.levels - 1)) l.inner-items
+invariant-tuple-loop-inner l =
+    l.tests ++ map (field_test_in (l.levels - 1)) (drop l.inner-index l.inner-items)
+    ≡ map (field_test_in (l.levels - 1)) l.inner-items

@@ -3,4 +3,5 @@ use Rattle.config_decode.proofs.tree.repeated.Given as goal
 
 -- what was read, and what the messages that are left will say
 abbrev pub invariant-loop-inner : goal.invariant-loop-inner
-invariant-loop-inner g l = l.read ++ map g.T.FromMessage.tree (drop l.inner-index l.inner-items) ≡ map g.T.FromMessage.tree l.inner-items
+invariant-loop-inner g l =
+    l.read ++ map g.T.FromMessage.tree (drop l.inner-index l.inner-items) ≡ map g.T.FromMessage.tree l.inner-items

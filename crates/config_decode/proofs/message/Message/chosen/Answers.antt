@@ -1,8 +1,0 @@
--- One more record: the last of what was found is what it stands for, or stays.
-use Rattle.std.proofs.Common.{arith}
-use Rattle.std.proofs.lemmas.Grind.{common_steps}
-use Rattle.config_decode.proofs.ValuesLemmas.{singles_more, last_append, listed_append}
-use Rattle.config_decode.proofs.message.Message.chosen.Goals as goal
-
-pub loop-field-preserved : goal.loop-field-preserved
-loop-field-preserved g c = grind (arith, common_steps, singles_more, last_append, listed_append)

@@ -1,8 +1,0 @@
-use Rattle.std.proofs.Common.{◌≡◌, map, take}
-use Rattle.proto_wire.specs.Fields.{seen}
-use Rattle.config_decode.specs.Values as values
-use Rattle.config_decode.proofs.message.Message.chosen.Given as goal
-
-abbrev pub invariant-loop-field : goal.invariant-loop-field
-invariant-loop-field g l =
-    l.last ≡ values.chosen g.E.Listed.table l.number (map seen (take l.field-index l.field-items))

@@ -1,9 +1,0 @@
-use Rattle.std.proofs.Common.{◌≡◌, map, take}
-use Rattle.std.specs.Option.{option_copied}
-use Rattle.proto_wire.specs.Fields.{seen}
-use Rattle.config_decode.specs.Values as values
-use Rattle.config_decode.proofs.message.Message.payload.Given as goal
-
-abbrev pub invariant-loop-field : goal.invariant-loop-field
-invariant-loop-field l =
-    option_copied l.last ≡ values.last (values.payloads l.number (map seen (take l.field-index l.field-items)))

@@ -1,7 +1,0 @@
-use Rattle.std.proofs.Common.{◌≡◌, map, take}
-use Rattle.proto_wire.specs.Fields.{seen}
-use Rattle.config_decode.specs.Values as values
-use Rattle.config_decode.proofs.message.Message.set_last.Given as goal
-
-abbrev pub invariant-loop-field : goal.invariant-loop-field
-invariant-loop-field l = l.run ≡ values.set_last l.members (map seen (take l.field-index l.field-items))
