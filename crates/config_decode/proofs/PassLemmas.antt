@@ -7,7 +7,7 @@ use Rattle.std.specs.List.{flat_map}
 use Rattle.std.proofs.lemmas.Bool.{eqb-true}
 use Rattle.std.proofs.lemmas.List.Elements.{All-nil, All-cons, All-head, All-tail, All-append, All-weaker}
 use Rattle.proto_wire.specs.declared.fault.WireFault.{WireFault}
-use Rattle.proto_wire.specs.declared.fault.TheConstants.{TOO_DEEP}
+use Rattle.proto_wire.specs.WireCauses.{cause_too_deep}
 use Rattle.proto_wire.specs.Fields.{BodyOf, Varint, Fixed64, Bytes, Group, Fixed32, FieldOf, Rest, inside_of}
 use Rattle.proto_wire.specs.WireReading.{fault_at, inside_at, walk_from}
 use Rattle.config_decode.specs.declared.profile.Kind.{Kind}
@@ -74,9 +74,9 @@ was_entered walk depth field none = by_test (nat_lt depth 100) none
   where
     by_test : (test : Bool)
         → IsPassed (walk_of_entry walk
-        (if test then Ok (inside_of_field depth field) else Err (fault_at field.at TOO_DEEP)))
+        (if test then Ok (inside_of_field depth field) else Err (fault_at field.at cause_too_deep)))
         → Ok (inside_of_field depth field)
-        ≡ (if test then Ok (inside_of_field depth field) else Err (fault_at field.at TOO_DEEP))
+        ≡ (if test then Ok (inside_of_field depth field) else Err (fault_at field.at cause_too_deep))
     by_test true none = refl
     by_test false none = absurd (cc none)
 

@@ -1,6 +1,6 @@
 //! The walk over a configuration: the first fault of the wire format, and the first record that isn't supported.
 ghost use Rattle.std.specs.Prelude.{◌≡◌, ◌≤◌, ◌<◌, ◌+◌, ◌-◌, ◌^◌, length, OnOk};
-ghost use Rattle.proto_wire.specs.Fields.{seen, IsWithin};
+ghost use Rattle.proto_wire.specs.Fields.{seen, FitsOffsets};
 ghost use Rattle.config_decode.specs.Walk.{packed_at, walk_in, most_levels, walk_of_record, walk_of_body, inner_walk, walk_of};
 ghost use Rattle.config_decode.specs.Walks.{Walks, GoesTo, IsUnsupported, PacksWell};
 
@@ -61,7 +61,7 @@ impl Walker {
     ) -> Result<(), DecodeFault>
         requires depth { length self.old.path.items ≡ records.now.depth }
         requires shallow { records.now.depth ≤ most_levels }
-        requires within { IsWithin (seen field.now) }
+        requires within { FitsOffsets (seen field.now) }
         ensures walked { Walks (walk_of_record (inner_walk (most_levels - records.now.depth))
             kind self.old.path.items records.now.depth (seen field.now)) self.old self.new result }
     {
@@ -92,7 +92,7 @@ impl Walker {
         field: &Field<'_>,
     ) -> Result<(), DecodeFault>
         requires depth { length self.old.path.items ≡ records.now.depth + 1 }
-        requires within { IsWithin (seen field.now) }
+        requires within { FitsOffsets (seen field.now) }
         ensures walked { Walks (walk_of_body
             (inner_walk (most_levels - records.now.depth) self.old.path.items)
             records.now.depth (seen field.now) shape (seen field.now).body) self.old self.new result }
