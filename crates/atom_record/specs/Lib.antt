@@ -1,3 +1,4 @@
+pub mod AtomReasons
 pub mod Bounded
 pub mod Equal
 pub mod Flags
