@@ -5,12 +5,15 @@ ghost use Rattle.sd_base.specs.Reads.{GivesBy, many};
 ghost use Rattle.atom_record.specs.Id.{IsAtomId};
 ghost use Rattle.atom_record.specs.Sound.{HasNoFault};
 ghost use Rattle.atom_record.specs.AtomReading.{atom_at};
-ghost use Rattle.session_frames.specs.Frames as frames;
-ghost use Rattle.session_frames.specs.Frames.{IsFaultless, IsInTime, IsPulledAtom, IsOutcome};
-ghost use Rattle.session_frames.specs.Bodies.{fault_of, HasSoundBody};
+ghost use Rattle.session_frames.specs.Faultless.{IsFaultless, IsInTime, IsPulledAtom, IsOutcome};
+ghost use Rattle.session_frames.specs.FrameReading as frames;
+ghost use Rattle.session_frames.specs.Frames.{clock_after};
+ghost use Rattle.session_frames.specs.Bodies.{fault_in, HasSoundBody};
 
-use crate::frame::{BAD_FLAG, LATE, LEFT_OVER, TOO_MANY_ATOMS, TOO_SHORT};
-use crate::{Frame, SessionFault};
+use crate::frame::{
+    ATOM, BAD_FLAG, INSTALL, LATE, LEFT_OVER, PULL, REMOVE, REPORT, TICK, TOO_MANY_ATOMS, TOO_SHORT,
+};
+use crate::{Frame, FrameFault};
 use atom_record::{
     Atom, AtomFault, BAD_ID, LogFrame, MAX_BYTES, OTHER_ID, PullOutcome, is_atom_id, parse_atom,
 };
@@ -21,28 +24,15 @@ use std::alloc::{AllocError, Global};
 const HOUR: u64 = 3_600_000_000_000;
 
 // The first time that is too late to be one.
-const NO_TIME: u64 = 1 << 63;
+const FIRST_LATE_TIME: u64 = 1 << 63;
 
 // The most atoms of a recorded pull.
 const MAX_ATOMS: u16 = 200;
 
-// The kinds of frames.
-const TICK: u8 = 1;
-
-const ATOM: u8 = 2;
-
-const PULL: u8 = 3;
-
-const INSTALL: u8 = 16;
-
-const REMOVE: u8 = 17;
-
-const REPORT: u8 = 18;
-
 /// Why a frame wasn't read.
-#[derive(Debug, Drop)]
+#[derive(Drop)]
 pub enum BodyError {
-    Fault(SessionFault),
+    Fault(FrameFault),
     Memory,
 }
 
@@ -59,20 +49,20 @@ impl From<AllocError> for BodyError {
 
 // The body isn't of its kind's form.
 fn bad_body(reason: u8) -> BodyError
-    ensures { result ≡ BodyError.Fault (SessionFault.BadBody reason) }
+    ensures { result ≡ BodyError.Fault (FrameFault.BadBody reason) }
 {
-    BodyError::Fault(SessionFault::BadBody(reason))
+    BodyError::Fault(FrameFault::BadBody(reason))
 }
 
 // An atom isn't well-formed.
 fn bad_atom(reason: u8) -> BodyError
-    ensures { result ≡ BodyError.Fault (SessionFault.BadAtom reason) }
+    ensures { result ≡ BodyError.Fault (FrameFault.BadAtom reason) }
 {
-    BodyError::Fault(SessionFault::BadAtom(reason))
+    BodyError::Fault(FrameFault::BadAtom(reason))
 }
 
 fn u16_at(bytes: &[u8]) -> Result<(u16, &[u8]), BodyError>
-    ensures { GivesBy fault_of (λ x. (x.0, x.1.now)) result (frames.number_at w16 bytes.now) }
+    ensures { GivesBy fault_in (λ x. (x.0, x.1.now)) result (frames.uint_at w16 bytes.now) }
 {
     let Some((front, rest)) = bytes.split_first_chunk::<2>() else {
         return Err(bad_body(TOO_SHORT));
@@ -81,7 +71,7 @@ fn u16_at(bytes: &[u8]) -> Result<(u16, &[u8]), BodyError>
 }
 
 fn u32_at(bytes: &[u8]) -> Result<(u32, &[u8]), BodyError>
-    ensures { GivesBy fault_of (λ x. (x.0, x.1.now)) result (frames.number_at w32 bytes.now) }
+    ensures { GivesBy fault_in (λ x. (x.0, x.1.now)) result (frames.uint_at w32 bytes.now) }
 {
     let Some((front, rest)) = bytes.split_first_chunk::<4>() else {
         return Err(bad_body(TOO_SHORT));
@@ -90,7 +80,7 @@ fn u32_at(bytes: &[u8]) -> Result<(u32, &[u8]), BodyError>
 }
 
 fn u64_at(bytes: &[u8]) -> Result<(u64, &[u8]), BodyError>
-    ensures { GivesBy fault_of (λ x. (x.0, x.1.now)) result (frames.number_at w64 bytes.now) }
+    ensures { GivesBy fault_in (λ x. (x.0, x.1.now)) result (frames.uint_at w64 bytes.now) }
 {
     let Some((front, rest)) = bytes.split_first_chunk::<8>() else {
         return Err(bad_body(TOO_SHORT));
@@ -99,19 +89,19 @@ fn u64_at(bytes: &[u8]) -> Result<(u64, &[u8]), BodyError>
 }
 
 // A time in nanoseconds.
-#[tactic(auto, unfolding(crate::specs::Frames::time_at))]
+#[tactic(auto, unfolding(crate::specs::FrameReading::time_at))]
 fn time_at(bytes: &[u8]) -> Result<(u64, &[u8]), BodyError>
-    ensures { GivesBy fault_of (λ x. (x.0, x.1.now)) result (frames.time_at bytes.now) }
+    ensures { GivesBy fault_in (λ x. (x.0, x.1.now)) result (frames.time_at bytes.now) }
 {
     let (at, rest) = u64_at(bytes)?;
-    if at >= NO_TIME {
+    if at >= FIRST_LATE_TIME {
         return Err(bad_body(LATE));
     }
     Ok((at, rest))
 }
 
 fn flag_at(bytes: &[u8]) -> Result<(bool, &[u8]), BodyError>
-    ensures { GivesBy fault_of (λ x. (x.0, x.1.now)) result (frames.flag_at bytes.now) }
+    ensures { GivesBy fault_in (λ x. (x.0, x.1.now)) result (frames.flag_at bytes.now) }
 {
     match bytes {
         [] => Err(bad_body(TOO_SHORT)),
@@ -122,7 +112,7 @@ fn flag_at(bytes: &[u8]) -> Result<(bool, &[u8]), BodyError>
 
 // The frame, where nothing is left over.
 fn at_end(frame: Frame, rest: &[u8]) -> Result<Frame, BodyError>
-    ensures exact { GivesBy fault_of (λ frame. frame) result (frames.at_end frame rest.now) }
+    ensures exact { GivesBy fault_in (λ frame. frame) result (frames.at_end frame rest.now) }
     ensures same { IfOk result (λ found. found ≡ frame) }
 {
     if !rest.is_empty() {
@@ -131,9 +121,9 @@ fn at_end(frame: Frame, rest: &[u8]) -> Result<Frame, BodyError>
     Ok(frame)
 }
 
-#[tactic(auto, unfolding(crate::specs::Frames::tick_body))]
+#[tactic(auto, unfolding(crate::specs::FrameReading::tick_body))]
 fn read_tick(body: &[u8]) -> Result<Frame, BodyError>
-    ensures exact { GivesBy fault_of (λ frame. frame) result (frames.tick_body body.now) }
+    ensures exact { GivesBy fault_in (λ frame. frame) result (frames.tick_body body.now) }
     ensures sound { IfOk result HasSoundBody }
 {
     let (at, rest) = time_at(body)?;
@@ -142,7 +132,7 @@ fn read_tick(body: &[u8]) -> Result<Frame, BodyError>
 
 // The atom of a payload.
 fn atom_of(alloc: Global, payload: &[u8]) -> Result<Atom, BodyError>
-    ensures exact { GivesBy fault_of (λ atom. atom) result (frames.of_payload (atom_at payload.now)) }
+    ensures exact { GivesBy fault_in (λ atom. atom) result (frames.of_payload (atom_at payload.now)) }
     ensures sound { IfOk result HasNoFault }
 {
     match parse_atom(alloc, payload) {
@@ -152,9 +142,9 @@ fn atom_of(alloc: Global, payload: &[u8]) -> Result<Atom, BodyError>
     }
 }
 
-#[tactic(auto, unfolding(crate::specs::Frames::atom_body))]
+#[tactic(auto, unfolding(crate::specs::FrameReading::atom_body))]
 fn read_atom(alloc: Global, body: &[u8]) -> Result<Frame, BodyError>
-    ensures exact { GivesBy fault_of (λ frame. frame) result (frames.atom_body body.now) }
+    ensures exact { GivesBy fault_in (λ frame. frame) result (frames.atom_body body.now) }
     ensures sound { IfOk result HasSoundBody }
 {
     let (at, rest) = time_at(body)?;
@@ -178,7 +168,7 @@ fn is_of_other(id: u32, payload: &[u8]) -> bool
 
 // The atom of a payload in a pull of this id.
 fn pulled_atom_of(alloc: Global, id: u32, payload: &[u8]) -> Result<Atom, BodyError>
-    ensures exact { GivesBy fault_of (λ atom. atom) result (frames.of_payload (frames.pulled_atom id payload.now)) }
+    ensures exact { GivesBy fault_in (λ atom. atom) result (frames.of_payload (frames.pulled_atom id payload.now)) }
     ensures sound { IfOk result (IsPulledAtom id) }
 {
     if is_of_other(id, payload) {
@@ -187,10 +177,10 @@ fn pulled_atom_of(alloc: Global, id: u32, payload: &[u8]) -> Result<Atom, BodyEr
     atom_of(alloc, payload)
 }
 
-// A payload behind its length.
-#[tactic(auto, unfolding(crate::specs::Frames::payload_at))]
+// A payload, after its length.
+#[tactic(auto, unfolding(crate::specs::FrameReading::payload_at))]
 fn payload_at(bytes: &[u8]) -> Result<(&[u8], &[u8]), BodyError>
-    ensures { GivesBy fault_of (λ x. (x.0.now, x.1.now)) result (frames.payload_at bytes.now) }
+    ensures { GivesBy fault_in (λ x. (x.0.now, x.1.now)) result (frames.payload_at bytes.now) }
 {
     let (len, rest) = u16_at(bytes)?;
     let len = usize::from(len);
@@ -201,9 +191,9 @@ fn payload_at(bytes: &[u8]) -> Result<(&[u8], &[u8]), BodyError>
 }
 
 // The next atom of a pull of this id.
-#[tactic(auto, unfolding(crate::specs::Frames::pulled_at))]
+#[tactic(auto, unfolding(crate::specs::FrameReading::pulled_at))]
 fn pulled_at(alloc: Global, id: u32, bytes: &[u8]) -> Result<(Atom, &[u8]), BodyError>
-    ensures exact { GivesBy fault_of (λ x. (x.0, x.1.now)) result (frames.pulled_at id bytes.now) }
+    ensures exact { GivesBy fault_in (λ x. (x.0, x.1.now)) result (frames.pulled_at id bytes.now) }
     ensures sound { IfOk result (λ x. IsPulledAtom id x.0) }
 {
     let (payload, rest) = payload_at(bytes)?;
@@ -218,23 +208,23 @@ fn atoms_at(
     count: u16,
     bytes: &[u8],
 ) -> Result<(Seq<Atom>, &[u8]), BodyError>
-    ensures exact { GivesBy fault_of (λ x. (x.0, x.1.now)) result (many (frames.pulled_at id) count bytes.now) }
+    ensures exact { GivesBy fault_in (λ x. (x.0, x.1.now)) result (many (frames.pulled_at id) count bytes.now) }
     ensures sound { IfOk result (λ x. (length x.0 ≡ count) × All (IsPulledAtom id) x.0) }
 {
     let mut atoms = Seq::new(alloc);
     let mut rest = bytes;
     for _turn in 0..count {
-        let (atom, behind) = pulled_at(alloc, id, rest)?;
+        let (atom, after) = pulled_at(alloc, id, rest)?;
         atoms.push(atom)?;
-        rest = behind;
+        rest = after;
     }
     Ok((atoms, rest))
 }
 
-// The atoms of a pull of this id, behind their count.
-#[tactic(auto, unfolding(crate::specs::Frames::snapshot_at))]
+// The atoms of a pull of this id, after their count.
+#[tactic(auto, unfolding(crate::specs::FrameReading::snapshot_at))]
 fn snapshot_at(alloc: Global, id: u32, bytes: &[u8]) -> Result<(Seq<Atom>, &[u8]), BodyError>
-    ensures exact { GivesBy fault_of (λ x. (x.0, x.1.now)) result (frames.snapshot_at id bytes.now) }
+    ensures exact { GivesBy fault_in (λ x. (x.0, x.1.now)) result (frames.snapshot_at id bytes.now) }
     ensures sound { IfOk result (λ x. IsOutcome id (PullOutcome.Atoms x.0)) }
 {
     let (count, rest) = u16_at(bytes)?;
@@ -244,14 +234,15 @@ fn snapshot_at(alloc: Global, id: u32, bytes: &[u8]) -> Result<(Seq<Atom>, &[u8]
     atoms_at(alloc, id, count, rest)
 }
 
-#[tactic(auto, unfolding(crate::specs::Frames::outcome_at))]
+// What a pull of this id gave, where the flag says whether it failed.
+#[tactic(auto, unfolding(crate::specs::FrameReading::outcome_at))]
 fn outcome_at(
     alloc: Global,
     id: u32,
     failed: bool,
     bytes: &[u8],
 ) -> Result<(PullOutcome, &[u8]), BodyError>
-    ensures exact { GivesBy fault_of (λ x. (x.0, x.1.now)) result (frames.outcome_at id failed bytes.now) }
+    ensures exact { GivesBy fault_in (λ x. (x.0, x.1.now)) result (frames.outcome_at id failed bytes.now) }
     ensures sound { IfOk result (λ x. IsOutcome id x.0) }
 {
     if failed {
@@ -262,9 +253,9 @@ fn outcome_at(
 }
 
 // The id of a pull.
-#[tactic(auto, unfolding(crate::specs::Frames::pull_id_at))]
+#[tactic(auto, unfolding(crate::specs::FrameReading::pull_id_at))]
 fn pull_id_at(bytes: &[u8]) -> Result<(u32, &[u8]), BodyError>
-    ensures exact { GivesBy fault_of (λ x. (x.0, x.1.now)) result (frames.pull_id_at bytes.now) }
+    ensures exact { GivesBy fault_in (λ x. (x.0, x.1.now)) result (frames.pull_id_at bytes.now) }
     ensures sound { IfOk result (λ x. IsAtomId x.0) }
 {
     let (id, rest) = u32_at(bytes)?;
@@ -274,9 +265,9 @@ fn pull_id_at(bytes: &[u8]) -> Result<(u32, &[u8]), BodyError>
     Ok((id, rest))
 }
 
-#[tactic(auto, unfolding(crate::specs::Frames::pull_body))]
+#[tactic(auto, unfolding(crate::specs::FrameReading::pull_body))]
 fn read_pull(alloc: Global, body: &[u8]) -> Result<Frame, BodyError>
-    ensures exact { GivesBy fault_of (λ frame. frame) result (frames.pull_body body.now) }
+    ensures exact { GivesBy fault_in (λ frame. frame) result (frames.pull_body body.now) }
     ensures sound { IfOk result HasSoundBody }
 {
     let (at, rest) = time_at(body)?;
@@ -286,9 +277,9 @@ fn read_pull(alloc: Global, body: &[u8]) -> Result<Frame, BodyError>
     at_end(Frame::Log(LogFrame::Pull { at, id, outcome }), rest)
 }
 
-#[tactic(auto, unfolding(crate::specs::Frames::install_body))]
+#[tactic(auto, unfolding(crate::specs::FrameReading::install_body))]
 fn read_install(alloc: Global, body: &[u8]) -> Result<Frame, BodyError>
-    ensures exact { GivesBy fault_of (λ frame. frame) result (frames.install_body body.now) }
+    ensures exact { GivesBy fault_in (λ frame. frame) result (frames.install_body body.now) }
     ensures sound { IfOk result HasSoundBody }
 {
     let (uid, rest) = u32_at(body)?;
@@ -301,9 +292,9 @@ fn read_install(alloc: Global, body: &[u8]) -> Result<Frame, BodyError>
     })
 }
 
-#[tactic(auto, unfolding(crate::specs::Frames::remove_body))]
+#[tactic(auto, unfolding(crate::specs::FrameReading::remove_body))]
 fn read_remove(body: &[u8]) -> Result<Frame, BodyError>
-    ensures exact { GivesBy fault_of (λ frame. frame) result (frames.remove_body body.now) }
+    ensures exact { GivesBy fault_in (λ frame. frame) result (frames.remove_body body.now) }
     ensures sound { IfOk result HasSoundBody }
 {
     let (uid, rest) = u32_at(body)?;
@@ -315,9 +306,9 @@ fn read_remove(body: &[u8]) -> Result<Frame, BodyError>
     at_end(frame, rest)
 }
 
-#[tactic(auto, unfolding(crate::specs::Frames::report_body))]
+#[tactic(auto, unfolding(crate::specs::FrameReading::report_body))]
 fn read_report(body: &[u8]) -> Result<Frame, BodyError>
-    ensures exact { GivesBy fault_of (λ frame. frame) result (frames.report_body body.now) }
+    ensures exact { GivesBy fault_in (λ frame. frame) result (frames.report_body body.now) }
     ensures sound { IfOk result HasSoundBody }
 {
     let (uid, rest) = u32_at(body)?;
@@ -332,7 +323,7 @@ fn read_report(body: &[u8]) -> Result<Frame, BodyError>
 }
 
 fn read_body(alloc: Global, kind: u8, body: &[u8]) -> Result<Frame, BodyError>
-    ensures exact { GivesBy fault_of (λ frame. frame) result (frames.body_of kind body.now) }
+    ensures exact { GivesBy fault_in (λ frame. frame) result (frames.frame_of_kind kind body.now) }
     ensures sound { IfOk result HasSoundBody }
 {
     match kind {
@@ -342,7 +333,7 @@ fn read_body(alloc: Global, kind: u8, body: &[u8]) -> Result<Frame, BodyError>
         INSTALL => read_install(alloc, body),
         REMOVE => read_remove(body),
         REPORT => read_report(body),
-        _ => Err(BodyError::Fault(SessionFault::UnknownKind(kind))),
+        _ => Err(BodyError::Fault(FrameFault::UnknownKind(kind))),
     }
 }
 
@@ -357,17 +348,17 @@ fn log_time(frame: &LogFrame) -> u64
 
 // The same frame, unless it is of the log and comes before the clock or after the hour.
 fn timed(clock: u64, kind: u8, frame: Frame) -> Result<Frame, BodyError>
-    ensures exact { GivesBy fault_of (λ frame. frame) result (frames.timed clock kind frame) }
+    ensures exact { GivesBy fault_in (λ frame. frame) result (frames.timed clock kind frame) }
     ensures sound { HasSoundBody frame → IfOk result (λ f. IsFaultless f × IsInTime clock f) }
 {
     match frame {
         Frame::Log(log) => {
             let at = log_time(&log);
             if at < clock {
-                return Err(BodyError::Fault(SessionFault::TimeBackwards(clock, at)));
+                return Err(BodyError::Fault(FrameFault::TimeBackwards(clock, at)));
             }
             if at >= HOUR {
-                return Err(BodyError::Fault(SessionFault::UnknownKind(kind)));
+                return Err(BodyError::Fault(FrameFault::UnknownKind(kind)));
             }
             Ok(Frame::Log(log))
         }
@@ -377,19 +368,19 @@ fn timed(clock: u64, kind: u8, frame: Frame) -> Result<Frame, BodyError>
 
 /// The frame that is this kind byte and body, where the clock stands at a time.
 pub fn read_frame(alloc: Global, clock: u64, content: &[u8]) -> Result<Frame, BodyError>
-    ensures exact { GivesBy fault_of (λ frame. frame) result (frames.frame_of clock content.now) }
+    ensures exact { GivesBy fault_in (λ frame. frame) result (frames.frame_of clock content.now) }
     ensures sound { IfOk result (λ f. IsFaultless f × IsInTime clock f) }
 {
     let [kind, body @ ..] = content else {
-        return Err(BodyError::Fault(SessionFault::BadLength));
+        return Err(BodyError::Fault(FrameFault::BadLength));
     };
     let frame = read_body(alloc, *kind, body)?;
     timed(clock, *kind, frame)
 }
 
-/// The clock behind a frame, where it stood at a time before it.
-pub fn clock_behind(clock: u64, frame: &Frame) -> u64
-    ensures { result ≡ frames.clock_behind clock frame.now }
+/// The clock after a frame, where it stood at a time before it.
+pub fn clock_after(clock: u64, frame: &Frame) -> u64
+    ensures { result ≡ clock_after clock frame.now }
 {
     match frame {
         Frame::Log(log) => log_time(log),

@@ -3,4 +3,5 @@ use Rattle.session_frames.proofs.WritingLemmas.{length-path}
 use Rattle.session_frames.proofs.writing.refusal_len.Goals as goal
 
 pub returns-in-Unsupported-clause-len : goal.returns-in-Unsupported-clause-len
-returns-in-Unsupported-clause-len c = rw c.in-Unsupported.is (omega (arith, c.len.ensures, length-path c.in-Unsupported.path))
+returns-in-Unsupported-clause-len c =
+    rw c.in-Unsupported.is (omega (arith, c.len.ensures, length-path c.in-Unsupported.path))
