@@ -7,7 +7,6 @@ use Rattle.std.specs.Int.{w32, from_le_bytes}
 use Rattle.session_frames.specs.declared.frame.Frame.{Frame}
 use Rattle.session_frames.specs.declared.frame.FrameFault.{FrameFault}
 use Rattle.session_frames.specs.declared.frame.FrameFault.TheVariants.{Cut, TooLong, BadLength, UnknownKind, BadBody, BadAtom, TimeBackwards}
-use Rattle.session_frames.specs.declared.frame.SessionFault.{SessionFault}
 use Rattle.session_frames.specs.declared.frame.SessionFault.TheVariants.{TooManyFrames}
 use Rattle.session_frames.specs.FrameLimits.{most_body, most_input}
 use Rattle.session_frames.specs.FrameReading.{frame_of}

@@ -9,7 +9,7 @@ use Rattle.sd_io.specs.Causes.{Appends, AppendsFront}
 use Rattle.session_frames.specs.declared.reply.Reply.{Reply}
 use Rattle.session_frames.specs.Replies.{answer_bytes, content_bytes, reply_bytes}
 use Rattle.session_frames.specs.ReplyLayout.{head_bytes}
-use Rattle.sd_io.proofs.CausesLemmas.{Appends-trans, front_behind, front_before}
+use Rattle.sd_io.proofs.CausesLemmas.{front_behind, front_before}
 
 -- four bytes a number
 pub length-path : (path : List ℕ) → length (flat_map (to_le_bytes w32) path) ≡ 4 * length path

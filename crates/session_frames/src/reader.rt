@@ -7,7 +7,7 @@ ghost use Rattle.session_frames.specs.Frames as frames;
 ghost use Rattle.session_frames.specs.Reader.{unread, IsInStep, GivesFrame, StaysAtEnd, Refuses, HasReadCause};
 ghost use Rattle.session_frames.specs.Bodies.{FindsNext, Fills, Judges};
 
-use crate::body::{BodyError, clock_after, read_frame};
+use crate::body::{BodyError, next_clock, read_frame};
 use crate::{Frame, FrameError, FrameFault, SessionFault};
 use sd_io::Source;
 use std::alloc::{AllocError, Global};
@@ -69,7 +69,8 @@ impl FrameReader {
         // What stands next is given.
         ensures gives { IsInStep self (S.left src.old)
             → IfOk result (λ r. GivesFrame (S.left src.old) (S.left src.new) self r.0 r.1) }
-        ensures faultless { IfOk result (λ r. IfSome r.1 (λ f. IsFaultless f × IsInTime self.place.clock f)) }
+        ensures faultless { IfOk result (λ r.
+            IfSome r.1 (λ f. IsFaultless f × IsInTime self.place.clock f)) }
         ensures end { IfOk result (λ r. IfNone r.1 (StaysAtEnd self r.0)) }
 
         // Each error has its cause.
@@ -105,13 +106,14 @@ impl FrameReader {
     fn judge(mut self) -> Result<(FrameReader, Option<Frame>), FrameError>
         requires { IsTrue self.ended }
         ensures judges { Judges self result }
-        ensures sound { IfOk result (λ r. IfSome r.1 (λ f. IsFaultless f × IsInTime self.place.clock f)) }
+        ensures sound { IfOk result (λ r.
+            IfSome r.1 (λ f. IsFaultless f × IsInTime self.place.clock f)) }
     {
         match next_in(self.alloc, self.clock, &self.bytes[self.at..]) {
             Ok(None) => Ok((self, None)),
             Ok(Some((frame, rest))) => {
                 self.at = self.bytes.len() - rest.len();
-                self.clock = clock_after(self.clock, &frame);
+                self.clock = next_clock(self.clock, &frame);
                 self.frames += 1;
                 Ok((self, Some(frame)))
             }
@@ -128,7 +130,8 @@ impl FrameReader {
 #[tactic(auto, unfolding(crate::specs::Frames::next_frame))]
 fn next_in(alloc: Global, clock: u64, left: &[u8]) -> Result<Option<(Frame, &[u8])>, BodyError>
     ensures exact { FindsNext (λ bytes. bytes.now) result (frames.next_frame clock left.now) }
-    ensures sound { IfOk result (λ found. IfSome found (λ x. IsFaultless x.0 × IsInTime clock x.0)) }
+    ensures sound { IfOk result (λ found.
+        IfSome found (λ x. IsFaultless x.0 × IsInTime clock x.0)) }
 {
     if left.is_empty() {
         return Ok(None);

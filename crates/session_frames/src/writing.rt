@@ -15,7 +15,8 @@ use sd_io::{Sink, WriteFailed};
 
 /// Writes a reply with its length in front. It takes no memory.
 pub fn write_reply<K: Sink>(reply: &Reply, out: &mut K) -> Result<(), WriteFailed>
-    ensures bytes { PutAppends (K.written out.old) (K.written out.new) result (reply_bytes reply.now) }
+    ensures bytes { PutAppends (K.written out.old) (K.written out.new) result
+        (reply_bytes reply.now) }
     ensures cause { HasCause (K.faults out.old) (K.faults out.new) result }
 {
     out.put(&head(reply))?;
@@ -34,6 +35,7 @@ fn head(reply: &Reply) -> [u8; 21]
     head
 }
 
+// The kind byte of an answer.
 fn kind(body: &ReplyBody) -> u8
     ensures { result ≡ kind_of body.now }
 {
@@ -48,6 +50,7 @@ fn kind(body: &ReplyBody) -> u8
     }
 }
 
+// How many bytes come after the kind, the uid and the id.
 fn body_len(body: &ReplyBody) -> u64
     ensures len { result ≡ length (answer_bytes body.now) }
     ensures room { result < 2 ^ 63 }
@@ -60,6 +63,7 @@ fn body_len(body: &ReplyBody) -> u64
     }
 }
 
+// How many bytes a refusal has.
 fn refusal_len(refusal: &Refusal) -> u64
     ensures len { result ≡ length (refusal_bytes refusal.now) }
     ensures room { result < 2 ^ 63 }
@@ -80,8 +84,10 @@ fn size(bytes: &[u8]) -> u64
     bytes.len() as u64
 }
 
+// Writes what comes after the kind, the uid and the id.
 fn write_body<K: Sink>(body: &ReplyBody, out: &mut K) -> Result<(), WriteFailed>
-    ensures bytes { PutAppends (K.written out.old) (K.written out.new) result (answer_bytes body.now) }
+    ensures bytes { PutAppends (K.written out.old) (K.written out.new) result
+        (answer_bytes body.now) }
     ensures cause { HasCause (K.faults out.old) (K.faults out.new) result }
 {
     match body {
@@ -94,8 +100,10 @@ fn write_body<K: Sink>(body: &ReplyBody, out: &mut K) -> Result<(), WriteFailed>
     }
 }
 
+// Writes a class byte, and what the class says.
 fn write_refusal<K: Sink>(refusal: &Refusal, out: &mut K) -> Result<(), WriteFailed>
-    ensures bytes { PutAppends (K.written out.old) (K.written out.new) result (refusal_bytes refusal.now) }
+    ensures bytes { PutAppends (K.written out.old) (K.written out.new) result
+        (refusal_bytes refusal.now) }
     ensures cause { HasCause (K.faults out.old) (K.faults out.new) result }
 {
     match refusal {
@@ -123,6 +131,7 @@ fn write_refusal<K: Sink>(refusal: &Refusal, out: &mut K) -> Result<(), WriteFai
     }
 }
 
+// Writes the numbers of a path, four bytes each.
 fn write_path<K: Sink>(path: &[u32], out: &mut K) -> Result<(), WriteFailed>
     ensures bytes { PutAppends (K.written out.old) (K.written out.new) result
         (flat_map (to_le_bytes w32) path.now) }

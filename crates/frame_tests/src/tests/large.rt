@@ -45,23 +45,26 @@ fn code_at(number: usize) -> usize {
     }
 }
 
-// How many frames have the codes that they should have, before the end or the first other.
-fn count_good(alloc: Global, source: &mut MemSource) -> usize {
+// How many frames come before the end, each with the code that it should have.
+fn count_good(alloc: Global, source: &mut MemSource) -> Option<usize> {
     let mut reader = FrameReader::new(alloc);
     for number in 0..10_000 {
-        match reader.next(source) {
-            Ok((next, Some(frame))) if code(&frame) == code_at(number) => reader = next,
-            Ok((_, None)) => return number,
-            _ => return 0,
+        let (next, frame) = reader.next(source).ok()?;
+        reader = next;
+        let Some(frame) = frame else {
+            return Some(number);
+        };
+        if code(&frame) != code_at(number) {
+            return None;
         }
     }
-    0
+    None
 }
 
 #[test]
 fn reads_two_mebibytes_to_the_end(rt: HostRuntime) -> Result<(), Fail> {
     bytes_have_one_reading();
     let mut source = MemSource::new(session(rt.alloc())?, 50_000, Vec::new(rt.alloc()));
-    assert!(rt; count_good(rt.alloc(), &mut source) == 6_002);
+    assert!(rt; count_good(rt.alloc(), &mut source) == Some(6_002));
     Ok(())
 }

@@ -22,22 +22,20 @@ pub fn read(alloc: Global, source: &mut MemSource) -> Result<Session, AllocError
     let mut frames = Vec::new(alloc);
     let mut reader = FrameReader::new(alloc);
     for _ in 0..100 {
-        match reader.next(source) {
-            Ok((next, Some(frame))) => {
-                reader = next;
-                frames.push(frame)?;
-            }
-            Ok((_, None)) => {
-                let end = format!(in alloc; "end")?;
-                return Ok(Session { frames, end });
-            }
+        let (next, frame) = match reader.next(source) {
+            Ok(given) => given,
             Err(e) => {
                 let end = format!(in alloc; "{e}")?;
                 return Ok(Session { frames, end });
             }
-        }
+        };
+        reader = next;
+        let Some(frame) = frame else {
+            break;
+        };
+        frames.push(frame)?;
     }
-    let end = format!(in alloc; "more than a hundred frames")?;
+    let end = format!(in alloc; "end")?;
     Ok(Session { frames, end })
 }
 

@@ -25,7 +25,7 @@ invariant_of-self c =
     let found = c.in-Ok-Some in
     let next = rw found.field-0-is at found.ensures.exact in
     let whole = on_rest bytes c.deref.result.now held.at held.clock (Whole found.frame found.rest.now)
-        c.deref.ensures.value next in
+    c.deref.ensures.value next in
     let is_len = c.len.ensures ∙ sym c.deref.ensures.len ∙ ap length c.deref.ensures.value in
     let ended = subst (λ (reading : Reading). IsTrue reading.ended) (sym c.self.view_is) c.requires in
     record {
@@ -48,10 +48,10 @@ returns-in-Ok-Some-clause-judges c =
     let at = c.len.result - length found.rest.now in
     let after : Reading = record {
       pending = drop at bytes;
-      place = record { bytes = at; clock = c.clock_after.result; frames = held.frames + 1 };
+      place = record { bytes = at; clock = c.next_clock.result; frames = held.frames + 1 };
       ended = held.ended;
     } in
     let ended = subst (λ (reading : Reading). IsTrue reading.ended) (sym c.self.view_is) c.requires in
     subst (λ before. Judges before (Ok (after, Some found.frame))) c.self.view_is
     (Judges-frame bytes held.at held.clock held.frames c.len.result found.frame found.rest.now is_len whole
-    held.ended c.clock_after.result c.clock_after.ensures ended)
+    held.ended c.next_clock.result c.next_clock.ensures ended)

@@ -6,7 +6,7 @@ use Rattle.std.proofs.lemmas.List.{length-append}
 use Rattle.session_frames.specs.Faultless.{IsPulledAtom}
 use Rattle.session_frames.specs.FrameReading.{pulled_at}
 use Rattle.session_frames.proofs.BodyLemmas.{goes_on, ends, is_done}
-use Rattle.session_frames.proofs.body.atoms_at.Goals as goal
+use Rattle.session_frames.proofs.body.read_atoms.Goals as goal
 
 pub returns-in_err-atom-clause-exact : goal.returns-in_err-atom-clause-exact
 returns-in_err-atom-clause-exact c =
