@@ -1,25 +1,29 @@
--- The bodies of recorded pulls: their atoms have the pull's id, and are read one behind the other, as a loop does.
+-- On specs/Bodies.antt, for the readers of recorded pulls: their atoms have the pull's id, and are read one after
+-- the other, as a loop does.
 use Rattle.std.proofs.Common.{◌≡◌, ℕ, zero, suc, ◌+◌, ◌-◌, ◌<◌, ◌≤◌, Bool, true, false, not, ◌&&◌, ◌==◌, nat_lt, List, [], ◌∷◌, ◌++◌, length, Result, Ok, Err, IfOk, if◌then◌else◌, refl, sym, ap, ◌∙◌, append_assoc, arith}
 use Rattle.std.proofs.lemmas.Bool.Decides.{nat_tests}
 use Rattle.std.proofs.lemmas.List.{append-nil}
 use Rattle.sd_base.specs.Reads.{◌>>=◌, GivesBy, FailsBy, many, with_front}
 use Rattle.atom_record.specs.declared.atom.Atom.{Atom}
-use Rattle.atom_record.specs.declared.parse.TheConstants.{MAX_BYTES}
+use Rattle.atom_record.specs.AtomReasons.{most_payload}
 use Rattle.atom_record.specs.AtomReading.{id_at, entries_at, atom_at}
-use Rattle.atom_record.specs.Sound.{HasNoFault}
+use Rattle.atom_record.specs.AtomSound.{HasNoFault}
 use Rattle.session_frames.specs.declared.body.BodyError.{BodyError}
 use Rattle.session_frames.specs.declared.body.BodyError.TheVariants.{Fault, Memory}
-use Rattle.session_frames.specs.declared.frame.SessionFault.{SessionFault}
-use Rattle.session_frames.specs.Frames.{of_payload, is_other, is_of_other, IsPulledAtom}
-use Rattle.session_frames.specs.Bodies.{fault_of}
+use Rattle.session_frames.specs.declared.frame.FrameFault.{FrameFault}
+use Rattle.session_frames.specs.Faultless.{IsPulledAtom}
+use Rattle.session_frames.specs.FrameReading.{of_payload, is_other, is_of_other}
+use Rattle.session_frames.specs.Bodies.{fault_in}
 
 -- what one reading gives on to the next, where both are good
-bound : {A B F : Type 0} (read : Result A F) (next : A → Result B F) (good : B) → (read >>= next) ≡ Ok good → (x : A) × (read ≡ Ok x) × (next x ≡ Ok good)
+bound : {A B F : Type 0} (read : Result A F) (next : A → Result B F) (good : B)
+    → (read >>= next) ≡ Ok good → (x : A) × (read ≡ Ok x) × (next x ≡ Ok good)
 bound (Ok x) next good e = (x, refl, e)
 bound (Err fault) next good e = absurd (cc)
 
 -- a choice that isn't its first branch is its second
-other_branch : {A : Type 0} (test : Bool) (x y z : A) → (x ≡ z → ⊥) → (if test then x else y) ≡ z → (test ≡ false) × (y ≡ z)
+other_branch : {A : Type 0} (test : Bool) (x y z : A)
+    → (x ≡ z → ⊥) → (if test then x else y) ≡ z → (test ≡ false) × (y ≡ z)
 other_branch true x y z differs e = absurd (differs e)
 other_branch false x y z differs e = (refl, e)
 
@@ -27,20 +31,23 @@ same_id : (id own : ℕ) → not (own == id) ≡ false → own ≡ id
 same_id id own e = grind (arith, nat_tests)
 
 -- a payload that isn't too long and isn't of another atom begins with this id
-is_own : (id : ℕ) (long : Bool) (read : Result (ℕ × List ℕ) ℕ) (own : ℕ × List ℕ) → long ≡ false → read ≡ Ok own → (not long && is_other id read) ≡ false → own.0 ≡ id
+is_own : (id : ℕ) (long : Bool) (read : Result (ℕ × List ℕ) ℕ) (own : ℕ × List ℕ)
+    → long ≡ false → read ≡ Ok own → (not long && is_other id read) ≡ false → own.0 ≡ id
 is_own id true read own short e other = absurd (cc)
 is_own id false (Err reason) own short e other = absurd (cc)
-is_own id false (Ok found) own short e other = let same : found ≡ own = cc in ap (λ (p : ℕ × List ℕ). p.0) (sym same) ∙ same_id id found.0 other
+is_own id false (Ok found) own short e other =
+    let same : found ≡ own = cc in ap (λ (p : ℕ × List ℕ). p.0) (sym same) ∙ same_id id found.0 other
 
 -- the atom of such a payload has this id
 has_id : (id : ℕ) (bytes : List ℕ) (atom : Atom) → is_of_other id bytes ≡ false → atom_at bytes ≡ Ok atom → atom.id ≡ id
 unfolding atom_at
 has_id id bytes atom other read =
-    let short = other_branch (nat_lt MAX_BYTES (length bytes)) _ _ (Ok atom) (λ p. cc) read in
+    let short = other_branch (nat_lt most_payload (length bytes)) _ _ (Ok atom) (λ p. cc) read in
     let own = bound (id_at bytes) _ atom short.1 in
     let fields = bound (entries_at [] own.0.1) _ atom own.2 in
     let made : (let a : Atom = record { id = own.0.0; fields = fields.0 } in a) ≡ atom = cc (fields.2) in
-    ap (λ (a : Atom). a.id) (sym made) ∙ is_own id (nat_lt MAX_BYTES (length bytes)) (id_at bytes) own.0 short.0 own.1 other
+    ap (λ (a : Atom). a.id) (sym made) ∙ is_own id (nat_lt most_payload (length bytes)) (id_at bytes) own.0 short.0
+    own.1 other
 
 payload_good : (read : Result Atom ℕ) (atom : Atom) → of_payload read ≡ Ok atom → read ≡ Ok atom
 payload_good (Ok found) atom e = cc
@@ -48,14 +55,11 @@ payload_good (Err reason) atom e = absurd (cc)
 
 -- what is read of it is an atom that the pull may hold
 pub pulled_sound : (id : ℕ) (bytes : List ℕ) (answer : Result Atom BodyError) → is_of_other id bytes ≡ false
-    → GivesBy fault_of (λ atom. atom) answer (of_payload (atom_at bytes)) → IfOk answer HasNoFault → IfOk answer (IsPulledAtom id)
-pulled_sound id bytes (Ok atom) other gives sound = (has_id id bytes atom other (payload_good (atom_at bytes) atom gives), sound)
+    → GivesBy fault_in (λ atom. atom) answer (of_payload (atom_at bytes)) → IfOk answer HasNoFault
+    → IfOk answer (IsPulledAtom id)
+pulled_sound id bytes (Ok atom) other gives sound =
+    (has_id id bytes atom other (payload_good (atom_at bytes) atom gives), sound)
 pulled_sound id bytes (Err e) other gives sound = tt
-
--- nothing in front changes nothing
-pub front_of_none : {X F : Type 0} (read : Result (List X × List ℕ) F) → with_front [] read ≡ read
-front_of_none (Ok x) = refl
-front_of_none (Err fault) = refl
 
 -- one more in front
 front_and_one : {X F : Type 0} (before : List X) (x : X) (read : Result (List X × List ℕ) F)
@@ -64,10 +68,12 @@ front_and_one before x (Ok others) = ap (λ l. Ok (l, others.1)) (sym (append_as
 front_and_one before x (Err fault) = refl
 
 -- one more is read
-reads_one : {X F : Type 0} (one : List ℕ → Result (X × List ℕ) F) (before : List X) (n : ℕ) (bytes : List ℕ) (x : X) (behind : List ℕ)
-    → one bytes ≡ Ok (x, behind) → with_front (before ++ x ∷ []) (many one n behind) ≡ with_front before (many one (suc n) bytes)
+reads_one : {X F : Type 0} (one : List ℕ → Result (X × List ℕ) F) (before : List X) (n : ℕ) (bytes : List ℕ)
+    (x : X) (after : List ℕ)
+    → one bytes ≡ Ok (x, after)
+    → with_front (before ++ x ∷ []) (many one n after) ≡ with_front before (many one (suc n) bytes)
 unfolding many
-reads_one one before n bytes x behind read = rw read (sym (front_and_one before x (many one n behind)))
+reads_one one before n bytes x after read = rw read (sym (front_and_one before x (many one n after)))
 
 -- the next has a fault
 fails_one : {X F : Type 0} (one : List ℕ → Result (X × List ℕ) F) (before : List X) (n : ℕ) (bytes : List ℕ) (fault : F)
@@ -76,7 +82,8 @@ unfolding many
 fails_one one before n bytes fault read = rw read refl
 
 -- no more is asked for
-reads_none : {X F : Type 0} (one : List ℕ → Result (X × List ℕ) F) (before : List X) (bytes : List ℕ) → with_front before (many one zero bytes) ≡ Ok (before, bytes)
+reads_none : {X F : Type 0} (one : List ℕ → Result (X × List ℕ) F) (before : List X) (bytes : List ℕ)
+    → with_front before (many one zero bytes) ≡ Ok (before, bytes)
 unfolding many
 reads_none one before bytes = ap (λ l. Ok (l, bytes)) (append-nil before)
 
@@ -86,14 +93,24 @@ one_left turn count more = omega arith
 none_left : (turn count : ℕ) → count ≤ turn → count - turn ≡ 0
 none_left turn count done = omega arith
 
--- A turn of a loop that reads so many, one behind the other: with these in front, and the rest behind them, the whole is read.
-module _ {X : Type 0} (one : List ℕ → Result (X × List ℕ) SessionFault) (before : List X) (turn count : ℕ) (rest : List ℕ) (whole : Result (List X × List ℕ) SessionFault) (reads : with_front before (many one (count - turn) rest) ≡ whole) where
-  pub goes_on : (x : X) (behind : List ℕ) → turn < count → one rest ≡ Ok (x, behind) → with_front (before ++ x ∷ []) (many one (count - (turn + 1)) behind) ≡ whole
-  goes_on x behind more read = reads_one one before (count - (turn + 1)) rest x behind read ∙ ap (λ n. with_front before (many one n rest)) (sym (one_left turn count more)) ∙ reads
+-- A turn of a loop that reads so many, one after the other: with these in front, and the rest after them, all is read.
+module _ {X : Type 0} (one : List ℕ → Result (X × List ℕ) FrameFault) (before : List X) (turn count : ℕ)
+    (rest : List ℕ) (whole : Result (List X × List ℕ) FrameFault)
+    (reads : with_front before (many one (count - turn) rest) ≡ whole) where
+  pub goes_on : (x : X) (after : List ℕ)
+      → turn < count → one rest ≡ Ok (x, after)
+      → with_front (before ++ x ∷ []) (many one (count - (turn + 1)) after) ≡ whole
+  goes_on x after more read =
+      reads_one one before (count - (turn + 1)) rest x after read
+      ∙ ap (λ n. with_front before (many one n rest)) (sym (one_left turn count more)) ∙ reads
 
-  pub ends : (e : BodyError) → turn < count → FailsBy (fault_of e) (one rest) → FailsBy (fault_of e) whole
+  pub ends : (e : BodyError) → turn < count → FailsBy (fault_in e) (one rest) → FailsBy (fault_in e) whole
   ends Memory more failed = tt
-  ends (Fault fault) more failed = sym reads ∙ ap (λ n. with_front before (many one n rest)) (one_left turn count more) ∙ fails_one one before (count - (turn + 1)) rest fault failed
+  ends (Fault fault) more failed =
+      sym reads ∙ ap (λ n. with_front before (many one n rest)) (one_left turn count more)
+      ∙ fails_one one before (count - (turn + 1)) rest fault failed
 
   pub is_done : count ≤ turn → whole ≡ Ok (before, rest)
-  is_done done = sym reads ∙ ap (λ n. with_front before (many one n rest)) (none_left turn count done) ∙ reads_none one before rest
+  is_done done =
+      sym reads ∙ ap (λ n. with_front before (many one n rest)) (none_left turn count done)
+      ∙ reads_none one before rest

@@ -7,17 +7,20 @@ use Rattle.atom_record.specs.declared.value.Value.TheVariants.{Int}
 use Rattle.atom_record.specs.AtomReading.{atom_at, id_at, entries_in, entry_at, value_at}
 use Rattle.session_frames.specs.declared.frame.Frame.{Frame}
 use Rattle.session_frames.specs.declared.frame.Frame.TheVariants.{Log, Install, Remove, Report}
-use Rattle.session_frames.specs.declared.frame.SessionFault.TheVariants.{Cut, TooLong, BadLength, UnknownKind, BadBody, BadAtom, TimeBackwards}
+use Rattle.session_frames.specs.declared.frame.FrameFault.TheVariants.{Cut, TooLong, BadLength, UnknownKind, BadBody, BadAtom, TimeBackwards}
 use Rattle.session_frames.specs.declared.reply.ReplyBody.TheVariants.{Installed, NoConfig}
-use Rattle.session_frames.specs.Frames.{next_frame, Broken, Whole, start, Reads, Clean, time_at, tick_body, atom_body, pull_id_at, payload_at, pulled_at, snapshot_at, outcome_at, pull_body, install_body, remove_body, report_body}
+use Rattle.session_frames.specs.FrameReading.{time_at, tick_body, atom_body, pull_id_at, payload_at, pulled_at, snapshot_at, outcome_at, pull_body, install_body, remove_body, report_body}
+use Rattle.session_frames.specs.Frames.{next_frame, Broken, Whole, start, Reads, Clean}
 use Rattle.session_frames.specs.Replies.{reply_bytes}
 
 -- an install, two atoms and a report with a cut
 abbrev install : List ℕ
-install = 27 ∷ 0 ∷ 0 ∷ 0 ∷ 16 ∷ 10 ∷ 0 ∷ 0 ∷ 0 ∷ 7 ∷ 0 ∷ 0 ∷ 0 ∷ 0 ∷ 0 ∷ 0 ∷ 0 ∷ 58 ∷ 6 ∷ 8 ∷ 1 ∷ 18 ∷ 2 ∷ 8 ∷ 5 ∷ 26 ∷ 4 ∷ 8 ∷ 100 ∷ 16 ∷ 1 ∷ []
+install = 27 ∷ 0 ∷ 0 ∷ 0 ∷ 16 ∷ 10 ∷ 0 ∷ 0 ∷ 0 ∷ 7 ∷ 0 ∷ 0 ∷ 0 ∷ 0 ∷ 0 ∷ 0 ∷ 0 ∷ 58 ∷ 6 ∷ 8 ∷ 1 ∷ 18 ∷ 2 ∷ 8 ∷ 5 ∷ 26
+    ∷ 4 ∷ 8 ∷ 100 ∷ 16 ∷ 1 ∷ []
 
 abbrev further : List ℕ
-further = 13 ∷ 0 ∷ 0 ∷ 0 ∷ 2 ∷ 2 ∷ 0 ∷ 0 ∷ 0 ∷ 0 ∷ 0 ∷ 0 ∷ 0 ∷ 5 ∷ 0 ∷ 0 ∷ 0 ∷ 13 ∷ 0 ∷ 0 ∷ 0 ∷ 2 ∷ 3 ∷ 0 ∷ 0 ∷ 0 ∷ 0 ∷ 0 ∷ 0 ∷ 0 ∷ 5 ∷ 0 ∷ 0 ∷ 0 ∷ 14 ∷ 0 ∷ 0 ∷ 0 ∷ 18 ∷ 10 ∷ 0 ∷ 0 ∷ 0 ∷ 7 ∷ 0 ∷ 0 ∷ 0 ∷ 0 ∷ 0 ∷ 0 ∷ 0 ∷ 1 ∷ []
+further = 13 ∷ 0 ∷ 0 ∷ 0 ∷ 2 ∷ 2 ∷ 0 ∷ 0 ∷ 0 ∷ 0 ∷ 0 ∷ 0 ∷ 0 ∷ 5 ∷ 0 ∷ 0 ∷ 0 ∷ 13 ∷ 0 ∷ 0 ∷ 0 ∷ 2 ∷ 3 ∷ 0 ∷ 0 ∷ 0 ∷ 0
+    ∷ 0 ∷ 0 ∷ 0 ∷ 5 ∷ 0 ∷ 0 ∷ 0 ∷ 14 ∷ 0 ∷ 0 ∷ 0 ∷ 18 ∷ 10 ∷ 0 ∷ 0 ∷ 0 ∷ 7 ∷ 0 ∷ 0 ∷ 0 ∷ 0 ∷ 0 ∷ 0 ∷ 0 ∷ 1 ∷ []
 
 abbrev config : List ℕ
 config = 58 ∷ 6 ∷ 8 ∷ 1 ∷ 18 ∷ 2 ∷ 8 ∷ 5 ∷ 26 ∷ 4 ∷ 8 ∷ 100 ∷ 16 ∷ 1 ∷ []
@@ -32,7 +35,8 @@ unfolding next_frame time_at atom_body atom_at id_at entries_in install_body rep
 least_session = (_, refl, (_, refl, (_, refl, (_, refl, refl))))
 
 -- a uid and an id below 0
-below_zero : next_frame 0 (14 ∷ 0 ∷ 0 ∷ 0 ∷ 18 ∷ 255 ∷ 255 ∷ 255 ∷ 255 ∷ 254 ∷ 255 ∷ 255 ∷ 255 ∷ 255 ∷ 255 ∷ 255 ∷ 255 ∷ 0 ∷ 9 ∷ []) ≡ Whole (Report (negsuc 0) (negsuc 1) false) (9 ∷ [])
+below_zero : next_frame 0 (14 ∷ 0 ∷ 0 ∷ 0 ∷ 18 ∷ 255 ∷ 255 ∷ 255 ∷ 255 ∷ 254 ∷ 255 ∷ 255 ∷ 255 ∷ 255 ∷ 255 ∷ 255 ∷ 255
+    ∷ 0 ∷ 9 ∷ []) ≡ Whole (Report (negsuc 0) (negsuc 1) false) (9 ∷ [])
 unfolding next_frame report_body
 below_zero = refl
 
@@ -61,7 +65,7 @@ kind_nine : next_frame 0 (1 ∷ 0 ∷ 0 ∷ 0 ∷ 9 ∷ []) ≡ Broken (UnknownK
 unfolding next_frame
 kind_nine = refl
 
--- a tick, at the clock, and its faults: a byte short, a byte over, a time of 2^63, the clock behind it
+-- a tick, at the clock, and its faults: a byte short, a byte over, a time of 2^63, a time before the clock
 a_tick : next_frame 3 (9 ∷ 0 ∷ 0 ∷ 0 ∷ 1 ∷ 3 ∷ 0 ∷ 0 ∷ 0 ∷ 0 ∷ 0 ∷ 0 ∷ 0 ∷ 7 ∷ []) ≡ Whole (Log (Tick 3)) (7 ∷ [])
 unfolding next_frame time_at tick_body
 a_tick = refl
@@ -87,16 +91,24 @@ tick_hour : next_frame 0 (9 ∷ 0 ∷ 0 ∷ 0 ∷ 1 ∷ 0 ∷ 160 ∷ 184 ∷ 48
 unfolding next_frame time_at tick_body
 tick_hour = refl
 
-last_of_the_hour : next_frame 0 (9 ∷ 0 ∷ 0 ∷ 0 ∷ 1 ∷ 255 ∷ 159 ∷ 184 ∷ 48 ∷ 70 ∷ 3 ∷ 0 ∷ 0 ∷ []) ≡ Whole (Log (Tick 3599999999999)) []
+last_of_the_hour : next_frame 0 (9 ∷ 0 ∷ 0 ∷ 0 ∷ 1 ∷ 255 ∷ 159 ∷ 184 ∷ 48 ∷ 70 ∷ 3 ∷ 0 ∷ 0 ∷ [])
+    ≡ Whole (Log (Tick 3599999999999)) []
 unfolding next_frame time_at tick_body
 last_of_the_hour = refl
 
 -- an atom with an entry; a late time is told before the id 0, and the id before time that falls
-an_atom : next_frame 0 (22 ∷ 0 ∷ 0 ∷ 0 ∷ 2 ∷ 2 ∷ 0 ∷ 0 ∷ 0 ∷ 0 ∷ 0 ∷ 0 ∷ 0 ∷ 5 ∷ 0 ∷ 0 ∷ 0 ∷ 1 ∷ 0 ∷ 0 ∷ 0 ∷ 1 ∷ 7 ∷ 0 ∷ 0 ∷ 0 ∷ []) ≡ Whole (Log (AtomAt 2 (record { id = 5; fields = record { field = 1; index = 0; sub = 0; flags = 0; value = Int (pos 7) } ∷ [] }))) []
+an_atom : next_frame 0 (22 ∷ 0 ∷ 0 ∷ 0 ∷ 2 ∷ 2 ∷ 0 ∷ 0 ∷ 0 ∷ 0 ∷ 0 ∷ 0 ∷ 0 ∷ 5 ∷ 0 ∷ 0 ∷ 0 ∷ 1 ∷ 0 ∷ 0 ∷ 0 ∷ 1 ∷ 7 ∷ 0
+    ∷ 0 ∷ 0 ∷ [])
+    ≡ Whole (Log (AtomAt 2 (record {
+      id = 5;
+      fields = record { field = 1; index = 0; sub = 0; flags = 0; value = Int (pos 7) }
+          ∷ [];
+    }))) []
 unfolding next_frame time_at atom_body atom_at id_at entries_in entry_at value_at
 an_atom = refl
 
-late_before_the_atom : next_frame 0 (13 ∷ 0 ∷ 0 ∷ 0 ∷ 2 ∷ 0 ∷ 0 ∷ 0 ∷ 0 ∷ 0 ∷ 0 ∷ 0 ∷ 128 ∷ 0 ∷ 0 ∷ 0 ∷ 0 ∷ []) ≡ Broken (BadBody 4)
+late_before_the_atom : next_frame 0 (13 ∷ 0 ∷ 0 ∷ 0 ∷ 2 ∷ 0 ∷ 0 ∷ 0 ∷ 0 ∷ 0 ∷ 0 ∷ 0 ∷ 128 ∷ 0 ∷ 0 ∷ 0 ∷ 0 ∷ [])
+    ≡ Broken (BadBody 4)
 unfolding next_frame time_at atom_body atom_at id_at entries_in entry_at value_at
 late_before_the_atom = refl
 
@@ -108,79 +120,113 @@ id_short : next_frame 0 (12 ∷ 0 ∷ 0 ∷ 0 ∷ 2 ∷ 2 ∷ 0 ∷ 0 ∷ 0 ∷ 
 unfolding next_frame time_at atom_body atom_at id_at entries_in entry_at value_at
 id_short = refl
 
-entry_cut : next_frame 0 (14 ∷ 0 ∷ 0 ∷ 0 ∷ 2 ∷ 2 ∷ 0 ∷ 0 ∷ 0 ∷ 0 ∷ 0 ∷ 0 ∷ 0 ∷ 5 ∷ 0 ∷ 0 ∷ 0 ∷ 1 ∷ []) ≡ Broken (BadAtom 3)
+entry_cut : next_frame 0 (14 ∷ 0 ∷ 0 ∷ 0 ∷ 2 ∷ 2 ∷ 0 ∷ 0 ∷ 0 ∷ 0 ∷ 0 ∷ 0 ∷ 0 ∷ 5 ∷ 0 ∷ 0 ∷ 0 ∷ 1 ∷ [])
+    ≡ Broken (BadAtom 3)
 unfolding next_frame time_at atom_body atom_at id_at entries_in entry_at value_at
 entry_cut = refl
 
-backwards : next_frame 3 (13 ∷ 0 ∷ 0 ∷ 0 ∷ 2 ∷ 2 ∷ 0 ∷ 0 ∷ 0 ∷ 0 ∷ 0 ∷ 0 ∷ 0 ∷ 5 ∷ 0 ∷ 0 ∷ 0 ∷ []) ≡ Broken (TimeBackwards 3 2)
+backwards : next_frame 3 (13 ∷ 0 ∷ 0 ∷ 0 ∷ 2 ∷ 2 ∷ 0 ∷ 0 ∷ 0 ∷ 0 ∷ 0 ∷ 0 ∷ 0 ∷ 5 ∷ 0 ∷ 0 ∷ 0 ∷ [])
+    ≡ Broken (TimeBackwards 3 2)
 unfolding next_frame time_at atom_body atom_at id_at entries_in entry_at value_at
 backwards = refl
 
 -- a pull of two atoms, of none, and one that failed
-a_pull : next_frame 0 (37 ∷ 0 ∷ 0 ∷ 0 ∷ 3 ∷ 2 ∷ 0 ∷ 0 ∷ 0 ∷ 0 ∷ 0 ∷ 0 ∷ 0 ∷ 17 ∷ 39 ∷ 0 ∷ 0 ∷ 0 ∷ 2 ∷ 0 ∷ 4 ∷ 0 ∷ 17 ∷ 39 ∷ 0 ∷ 0 ∷ 13 ∷ 0 ∷ 17 ∷ 39 ∷ 0 ∷ 0 ∷ 1 ∷ 0 ∷ 0 ∷ 0 ∷ 1 ∷ 7 ∷ 0 ∷ 0 ∷ 0 ∷ []) ≡ Whole (Log (Pull 2 10001 (Atoms (record { id = 10001; fields = [] } ∷ record { id = 10001; fields = record { field = 1; index = 0; sub = 0; flags = 0; value = Int (pos 7) } ∷ [] } ∷ [])))) []
-unfolding next_frame time_at pull_body pull_id_at outcome_at snapshot_at many pulled_at payload_at atom_at id_at entries_in entry_at value_at
+a_pull : next_frame 0 (37 ∷ 0 ∷ 0 ∷ 0 ∷ 3 ∷ 2 ∷ 0 ∷ 0 ∷ 0 ∷ 0 ∷ 0 ∷ 0 ∷ 0 ∷ 17 ∷ 39 ∷ 0 ∷ 0 ∷ 0 ∷ 2 ∷ 0 ∷ 4 ∷ 0 ∷ 17
+    ∷ 39 ∷ 0 ∷ 0 ∷ 13 ∷ 0 ∷ 17 ∷ 39 ∷ 0 ∷ 0 ∷ 1 ∷ 0 ∷ 0 ∷ 0 ∷ 1 ∷ 7 ∷ 0 ∷ 0 ∷ 0 ∷ [])
+    ≡ Whole (Log (Pull 2 10001 (Atoms (record { id = 10001; fields = [] }
+    ∷ record { id = 10001; fields = record { field = 1; index = 0; sub = 0; flags = 0; value = Int (pos 7) } ∷ [] }
+    ∷ [])))) []
+unfolding next_frame time_at pull_body pull_id_at outcome_at snapshot_at many pulled_at payload_at atom_at id_at
+    entries_in entry_at value_at
 a_pull = refl
 
-pull_of_none : next_frame 0 (16 ∷ 0 ∷ 0 ∷ 0 ∷ 3 ∷ 2 ∷ 0 ∷ 0 ∷ 0 ∷ 0 ∷ 0 ∷ 0 ∷ 0 ∷ 17 ∷ 39 ∷ 0 ∷ 0 ∷ 0 ∷ 0 ∷ 0 ∷ []) ≡ Whole (Log (Pull 2 10001 (Atoms []))) []
-unfolding next_frame time_at pull_body pull_id_at outcome_at snapshot_at many pulled_at payload_at atom_at id_at entries_in entry_at value_at
+pull_of_none : next_frame 0 (16 ∷ 0 ∷ 0 ∷ 0 ∷ 3 ∷ 2 ∷ 0 ∷ 0 ∷ 0 ∷ 0 ∷ 0 ∷ 0 ∷ 0 ∷ 17 ∷ 39 ∷ 0 ∷ 0 ∷ 0 ∷ 0 ∷ 0 ∷ [])
+    ≡ Whole (Log (Pull 2 10001 (Atoms []))) []
+unfolding next_frame time_at pull_body pull_id_at outcome_at snapshot_at many pulled_at payload_at atom_at id_at
+    entries_in entry_at value_at
 pull_of_none = refl
 
-pull_failed : next_frame 0 (14 ∷ 0 ∷ 0 ∷ 0 ∷ 3 ∷ 2 ∷ 0 ∷ 0 ∷ 0 ∷ 0 ∷ 0 ∷ 0 ∷ 0 ∷ 17 ∷ 39 ∷ 0 ∷ 0 ∷ 1 ∷ []) ≡ Whole (Log (Pull 2 10001 Failed)) []
-unfolding next_frame time_at pull_body pull_id_at outcome_at snapshot_at many pulled_at payload_at atom_at id_at entries_in entry_at value_at
+pull_failed : next_frame 0 (14 ∷ 0 ∷ 0 ∷ 0 ∷ 3 ∷ 2 ∷ 0 ∷ 0 ∷ 0 ∷ 0 ∷ 0 ∷ 0 ∷ 0 ∷ 17 ∷ 39 ∷ 0 ∷ 0 ∷ 1 ∷ [])
+    ≡ Whole (Log (Pull 2 10001 Failed)) []
+unfolding next_frame time_at pull_body pull_id_at outcome_at snapshot_at many pulled_at payload_at atom_at id_at
+    entries_in entry_at value_at
 pull_failed = refl
 
-pull_failed_over : next_frame 0 (15 ∷ 0 ∷ 0 ∷ 0 ∷ 3 ∷ 2 ∷ 0 ∷ 0 ∷ 0 ∷ 0 ∷ 0 ∷ 0 ∷ 0 ∷ 17 ∷ 39 ∷ 0 ∷ 0 ∷ 1 ∷ 0 ∷ []) ≡ Broken (BadBody 2)
-unfolding next_frame time_at pull_body pull_id_at outcome_at snapshot_at many pulled_at payload_at atom_at id_at entries_in entry_at value_at
+pull_failed_over : next_frame 0 (15 ∷ 0 ∷ 0 ∷ 0 ∷ 3 ∷ 2 ∷ 0 ∷ 0 ∷ 0 ∷ 0 ∷ 0 ∷ 0 ∷ 0 ∷ 17 ∷ 39 ∷ 0 ∷ 0 ∷ 1 ∷ 0 ∷ [])
+    ≡ Broken (BadBody 2)
+unfolding next_frame time_at pull_body pull_id_at outcome_at snapshot_at many pulled_at payload_at atom_at id_at
+    entries_in entry_at value_at
 pull_failed_over = refl
 
 -- a pull's id is judged before its flag, its count before its atoms
-id_before_flag : next_frame 0 (14 ∷ 0 ∷ 0 ∷ 0 ∷ 3 ∷ 2 ∷ 0 ∷ 0 ∷ 0 ∷ 0 ∷ 0 ∷ 0 ∷ 0 ∷ 0 ∷ 0 ∷ 0 ∷ 0 ∷ 2 ∷ []) ≡ Broken (BadAtom 2)
-unfolding next_frame time_at pull_body pull_id_at outcome_at snapshot_at many pulled_at payload_at atom_at id_at entries_in entry_at value_at
+id_before_flag : next_frame 0 (14 ∷ 0 ∷ 0 ∷ 0 ∷ 3 ∷ 2 ∷ 0 ∷ 0 ∷ 0 ∷ 0 ∷ 0 ∷ 0 ∷ 0 ∷ 0 ∷ 0 ∷ 0 ∷ 0 ∷ 2 ∷ [])
+    ≡ Broken (BadAtom 2)
+unfolding next_frame time_at pull_body pull_id_at outcome_at snapshot_at many pulled_at payload_at atom_at id_at
+    entries_in entry_at value_at
 id_before_flag = refl
 
-flag_two : next_frame 0 (15 ∷ 0 ∷ 0 ∷ 0 ∷ 3 ∷ 2 ∷ 0 ∷ 0 ∷ 0 ∷ 0 ∷ 0 ∷ 0 ∷ 0 ∷ 17 ∷ 39 ∷ 0 ∷ 0 ∷ 2 ∷ 0 ∷ []) ≡ Broken (BadBody 3)
-unfolding next_frame time_at pull_body pull_id_at outcome_at snapshot_at many pulled_at payload_at atom_at id_at entries_in entry_at value_at
+flag_two : next_frame 0 (15 ∷ 0 ∷ 0 ∷ 0 ∷ 3 ∷ 2 ∷ 0 ∷ 0 ∷ 0 ∷ 0 ∷ 0 ∷ 0 ∷ 0 ∷ 17 ∷ 39 ∷ 0 ∷ 0 ∷ 2 ∷ 0 ∷ [])
+    ≡ Broken (BadBody 3)
+unfolding next_frame time_at pull_body pull_id_at outcome_at snapshot_at many pulled_at payload_at atom_at id_at
+    entries_in entry_at value_at
 flag_two = refl
 
 no_flag : next_frame 0 (13 ∷ 0 ∷ 0 ∷ 0 ∷ 3 ∷ 2 ∷ 0 ∷ 0 ∷ 0 ∷ 0 ∷ 0 ∷ 0 ∷ 0 ∷ 17 ∷ 39 ∷ 0 ∷ 0 ∷ []) ≡ Broken (BadBody 1)
-unfolding next_frame time_at pull_body pull_id_at outcome_at snapshot_at many pulled_at payload_at atom_at id_at entries_in entry_at value_at
+unfolding next_frame time_at pull_body pull_id_at outcome_at snapshot_at many pulled_at payload_at atom_at id_at
+    entries_in entry_at value_at
 no_flag = refl
 
-too_many_atoms : next_frame 0 (16 ∷ 0 ∷ 0 ∷ 0 ∷ 3 ∷ 2 ∷ 0 ∷ 0 ∷ 0 ∷ 0 ∷ 0 ∷ 0 ∷ 0 ∷ 17 ∷ 39 ∷ 0 ∷ 0 ∷ 0 ∷ 201 ∷ 0 ∷ []) ≡ Broken (BadBody 5)
-unfolding next_frame time_at pull_body pull_id_at outcome_at snapshot_at many pulled_at payload_at atom_at id_at entries_in entry_at value_at
+too_many_atoms : next_frame 0 (16 ∷ 0 ∷ 0 ∷ 0 ∷ 3 ∷ 2 ∷ 0 ∷ 0 ∷ 0 ∷ 0 ∷ 0 ∷ 0 ∷ 0 ∷ 17 ∷ 39 ∷ 0 ∷ 0 ∷ 0 ∷ 201 ∷ 0
+    ∷ []) ≡ Broken (BadBody 5)
+unfolding next_frame time_at pull_body pull_id_at outcome_at snapshot_at many pulled_at payload_at atom_at id_at
+    entries_in entry_at value_at
 too_many_atoms = refl
 
-atoms_short : next_frame 0 (16 ∷ 0 ∷ 0 ∷ 0 ∷ 3 ∷ 2 ∷ 0 ∷ 0 ∷ 0 ∷ 0 ∷ 0 ∷ 0 ∷ 0 ∷ 17 ∷ 39 ∷ 0 ∷ 0 ∷ 0 ∷ 200 ∷ 0 ∷ []) ≡ Broken (BadBody 1)
-unfolding next_frame time_at pull_body pull_id_at outcome_at snapshot_at many pulled_at payload_at atom_at id_at entries_in entry_at value_at
+atoms_short : next_frame 0 (16 ∷ 0 ∷ 0 ∷ 0 ∷ 3 ∷ 2 ∷ 0 ∷ 0 ∷ 0 ∷ 0 ∷ 0 ∷ 0 ∷ 0 ∷ 17 ∷ 39 ∷ 0 ∷ 0 ∷ 0 ∷ 200 ∷ 0 ∷ [])
+    ≡ Broken (BadBody 1)
+unfolding next_frame time_at pull_body pull_id_at outcome_at snapshot_at many pulled_at payload_at atom_at id_at
+    entries_in entry_at value_at
 atoms_short = refl
 
--- a payload that is not whole is told before its id, another id before the entries, an id that none has before another one
-payload_cut : next_frame 0 (22 ∷ 0 ∷ 0 ∷ 0 ∷ 3 ∷ 2 ∷ 0 ∷ 0 ∷ 0 ∷ 0 ∷ 0 ∷ 0 ∷ 0 ∷ 17 ∷ 39 ∷ 0 ∷ 0 ∷ 0 ∷ 1 ∷ 0 ∷ 5 ∷ 0 ∷ 0 ∷ 0 ∷ 0 ∷ 0 ∷ []) ≡ Broken (BadBody 1)
-unfolding next_frame time_at pull_body pull_id_at outcome_at snapshot_at many pulled_at payload_at atom_at id_at entries_in entry_at value_at
+-- a payload that isn't whole is told before its id, another id before the entries, an id that none has before both
+payload_cut : next_frame 0 (22 ∷ 0 ∷ 0 ∷ 0 ∷ 3 ∷ 2 ∷ 0 ∷ 0 ∷ 0 ∷ 0 ∷ 0 ∷ 0 ∷ 0 ∷ 17 ∷ 39 ∷ 0 ∷ 0 ∷ 0 ∷ 1 ∷ 0 ∷ 5 ∷ 0
+    ∷ 0 ∷ 0 ∷ 0 ∷ 0 ∷ []) ≡ Broken (BadBody 1)
+unfolding next_frame time_at pull_body pull_id_at outcome_at snapshot_at many pulled_at payload_at atom_at id_at
+    entries_in entry_at value_at
 payload_cut = refl
 
-other_id : next_frame 0 (23 ∷ 0 ∷ 0 ∷ 0 ∷ 3 ∷ 2 ∷ 0 ∷ 0 ∷ 0 ∷ 0 ∷ 0 ∷ 0 ∷ 0 ∷ 17 ∷ 39 ∷ 0 ∷ 0 ∷ 0 ∷ 1 ∷ 0 ∷ 5 ∷ 0 ∷ 18 ∷ 39 ∷ 0 ∷ 0 ∷ 1 ∷ []) ≡ Broken (BadAtom 8)
-unfolding next_frame time_at pull_body pull_id_at outcome_at snapshot_at many pulled_at payload_at atom_at id_at entries_in entry_at value_at
+other_id : next_frame 0 (23 ∷ 0 ∷ 0 ∷ 0 ∷ 3 ∷ 2 ∷ 0 ∷ 0 ∷ 0 ∷ 0 ∷ 0 ∷ 0 ∷ 0 ∷ 17 ∷ 39 ∷ 0 ∷ 0 ∷ 0 ∷ 1 ∷ 0 ∷ 5 ∷ 0 ∷ 18
+    ∷ 39 ∷ 0 ∷ 0 ∷ 1 ∷ []) ≡ Broken (BadAtom 8)
+unfolding next_frame time_at pull_body pull_id_at outcome_at snapshot_at many pulled_at payload_at atom_at id_at
+    entries_in entry_at value_at
 other_id = refl
 
-no_id_before_other : next_frame 0 (22 ∷ 0 ∷ 0 ∷ 0 ∷ 3 ∷ 2 ∷ 0 ∷ 0 ∷ 0 ∷ 0 ∷ 0 ∷ 0 ∷ 0 ∷ 17 ∷ 39 ∷ 0 ∷ 0 ∷ 0 ∷ 1 ∷ 0 ∷ 4 ∷ 0 ∷ 0 ∷ 0 ∷ 0 ∷ 0 ∷ []) ≡ Broken (BadAtom 2)
-unfolding next_frame time_at pull_body pull_id_at outcome_at snapshot_at many pulled_at payload_at atom_at id_at entries_in entry_at value_at
+no_id_before_other : next_frame 0 (22 ∷ 0 ∷ 0 ∷ 0 ∷ 3 ∷ 2 ∷ 0 ∷ 0 ∷ 0 ∷ 0 ∷ 0 ∷ 0 ∷ 0 ∷ 17 ∷ 39 ∷ 0 ∷ 0 ∷ 0 ∷ 1 ∷ 0
+    ∷ 4 ∷ 0 ∷ 0 ∷ 0 ∷ 0 ∷ 0 ∷ []) ≡ Broken (BadAtom 2)
+unfolding next_frame time_at pull_body pull_id_at outcome_at snapshot_at many pulled_at payload_at atom_at id_at
+    entries_in entry_at value_at
 no_id_before_other = refl
 
-entry_before_left_over : next_frame 0 (24 ∷ 0 ∷ 0 ∷ 0 ∷ 3 ∷ 2 ∷ 0 ∷ 0 ∷ 0 ∷ 0 ∷ 0 ∷ 0 ∷ 0 ∷ 17 ∷ 39 ∷ 0 ∷ 0 ∷ 0 ∷ 1 ∷ 0 ∷ 5 ∷ 0 ∷ 17 ∷ 39 ∷ 0 ∷ 0 ∷ 1 ∷ 9 ∷ []) ≡ Broken (BadAtom 3)
-unfolding next_frame time_at pull_body pull_id_at outcome_at snapshot_at many pulled_at payload_at atom_at id_at entries_in entry_at value_at
+entry_before_left_over : next_frame 0 (24 ∷ 0 ∷ 0 ∷ 0 ∷ 3 ∷ 2 ∷ 0 ∷ 0 ∷ 0 ∷ 0 ∷ 0 ∷ 0 ∷ 0 ∷ 17 ∷ 39 ∷ 0 ∷ 0 ∷ 0 ∷ 1
+    ∷ 0 ∷ 5 ∷ 0 ∷ 17 ∷ 39 ∷ 0 ∷ 0 ∷ 1 ∷ 9 ∷ []) ≡ Broken (BadAtom 3)
+unfolding next_frame time_at pull_body pull_id_at outcome_at snapshot_at many pulled_at payload_at atom_at id_at
+    entries_in entry_at value_at
 entry_before_left_over = refl
 
-pull_left_over : next_frame 3 (17 ∷ 0 ∷ 0 ∷ 0 ∷ 3 ∷ 2 ∷ 0 ∷ 0 ∷ 0 ∷ 0 ∷ 0 ∷ 0 ∷ 0 ∷ 17 ∷ 39 ∷ 0 ∷ 0 ∷ 0 ∷ 0 ∷ 0 ∷ 9 ∷ []) ≡ Broken (BadBody 2)
-unfolding next_frame time_at pull_body pull_id_at outcome_at snapshot_at many pulled_at payload_at atom_at id_at entries_in entry_at value_at
+pull_left_over : next_frame 3 (17 ∷ 0 ∷ 0 ∷ 0 ∷ 3 ∷ 2 ∷ 0 ∷ 0 ∷ 0 ∷ 0 ∷ 0 ∷ 0 ∷ 0 ∷ 17 ∷ 39 ∷ 0 ∷ 0 ∷ 0 ∷ 0 ∷ 0 ∷ 9
+    ∷ []) ≡ Broken (BadBody 2)
+unfolding next_frame time_at pull_body pull_id_at outcome_at snapshot_at many pulled_at payload_at atom_at id_at
+    entries_in entry_at value_at
 pull_left_over = refl
 
 -- commands have no time
-a_remove : next_frame 9 (13 ∷ 0 ∷ 0 ∷ 0 ∷ 17 ∷ 10 ∷ 0 ∷ 0 ∷ 0 ∷ 7 ∷ 0 ∷ 0 ∷ 0 ∷ 0 ∷ 0 ∷ 0 ∷ 0 ∷ []) ≡ Whole (Remove (pos 10) (pos 7)) []
+a_remove : next_frame 9 (13 ∷ 0 ∷ 0 ∷ 0 ∷ 17 ∷ 10 ∷ 0 ∷ 0 ∷ 0 ∷ 7 ∷ 0 ∷ 0 ∷ 0 ∷ 0 ∷ 0 ∷ 0 ∷ 0 ∷ [])
+    ≡ Whole (Remove (pos 10) (pos 7)) []
 unfolding next_frame remove_body
 a_remove = refl
 
-remove_over : next_frame 0 (14 ∷ 0 ∷ 0 ∷ 0 ∷ 17 ∷ 10 ∷ 0 ∷ 0 ∷ 0 ∷ 7 ∷ 0 ∷ 0 ∷ 0 ∷ 0 ∷ 0 ∷ 0 ∷ 0 ∷ 0 ∷ []) ≡ Broken (BadBody 2)
+remove_over : next_frame 0 (14 ∷ 0 ∷ 0 ∷ 0 ∷ 17 ∷ 10 ∷ 0 ∷ 0 ∷ 0 ∷ 7 ∷ 0 ∷ 0 ∷ 0 ∷ 0 ∷ 0 ∷ 0 ∷ 0 ∷ 0 ∷ [])
+    ≡ Broken (BadBody 2)
 unfolding next_frame remove_body
 remove_over = refl
 
@@ -188,30 +234,37 @@ remove_short : next_frame 0 (12 ∷ 0 ∷ 0 ∷ 0 ∷ 17 ∷ 10 ∷ 0 ∷ 0 ∷ 
 unfolding next_frame remove_body
 remove_short = refl
 
-install_short : next_frame 0 (12 ∷ 0 ∷ 0 ∷ 0 ∷ 16 ∷ 10 ∷ 0 ∷ 0 ∷ 0 ∷ 7 ∷ 0 ∷ 0 ∷ 0 ∷ 0 ∷ 0 ∷ 0 ∷ []) ≡ Broken (BadBody 1)
+install_short : next_frame 0 (12 ∷ 0 ∷ 0 ∷ 0 ∷ 16 ∷ 10 ∷ 0 ∷ 0 ∷ 0 ∷ 7 ∷ 0 ∷ 0 ∷ 0 ∷ 0 ∷ 0 ∷ 0 ∷ [])
+    ≡ Broken (BadBody 1)
 unfolding next_frame install_body
 install_short = refl
 
-install_empty : next_frame 0 (13 ∷ 0 ∷ 0 ∷ 0 ∷ 16 ∷ 10 ∷ 0 ∷ 0 ∷ 0 ∷ 7 ∷ 0 ∷ 0 ∷ 0 ∷ 0 ∷ 0 ∷ 0 ∷ 0 ∷ []) ≡ Whole (Install (pos 10) (pos 7) []) []
+install_empty : next_frame 0 (13 ∷ 0 ∷ 0 ∷ 0 ∷ 16 ∷ 10 ∷ 0 ∷ 0 ∷ 0 ∷ 7 ∷ 0 ∷ 0 ∷ 0 ∷ 0 ∷ 0 ∷ 0 ∷ 0 ∷ [])
+    ≡ Whole (Install (pos 10) (pos 7) []) []
 unfolding next_frame install_body
 install_empty = refl
 
 -- a flag of 2 is told before a byte that is left over
-report_flag_two : next_frame 0 (15 ∷ 0 ∷ 0 ∷ 0 ∷ 18 ∷ 10 ∷ 0 ∷ 0 ∷ 0 ∷ 7 ∷ 0 ∷ 0 ∷ 0 ∷ 0 ∷ 0 ∷ 0 ∷ 0 ∷ 2 ∷ 0 ∷ []) ≡ Broken (BadBody 3)
+report_flag_two : next_frame 0 (15 ∷ 0 ∷ 0 ∷ 0 ∷ 18 ∷ 10 ∷ 0 ∷ 0 ∷ 0 ∷ 7 ∷ 0 ∷ 0 ∷ 0 ∷ 0 ∷ 0 ∷ 0 ∷ 0 ∷ 2 ∷ 0 ∷ [])
+    ≡ Broken (BadBody 3)
 unfolding next_frame report_body
 report_flag_two = refl
 
-report_over : next_frame 0 (15 ∷ 0 ∷ 0 ∷ 0 ∷ 18 ∷ 10 ∷ 0 ∷ 0 ∷ 0 ∷ 7 ∷ 0 ∷ 0 ∷ 0 ∷ 0 ∷ 0 ∷ 0 ∷ 0 ∷ 1 ∷ 0 ∷ []) ≡ Broken (BadBody 2)
+report_over : next_frame 0 (15 ∷ 0 ∷ 0 ∷ 0 ∷ 18 ∷ 10 ∷ 0 ∷ 0 ∷ 0 ∷ 7 ∷ 0 ∷ 0 ∷ 0 ∷ 0 ∷ 0 ∷ 0 ∷ 0 ∷ 1 ∷ 0 ∷ [])
+    ≡ Broken (BadBody 2)
 unfolding next_frame report_body
 report_over = refl
 
-report_no_flag : next_frame 0 (13 ∷ 0 ∷ 0 ∷ 0 ∷ 18 ∷ 10 ∷ 0 ∷ 0 ∷ 0 ∷ 7 ∷ 0 ∷ 0 ∷ 0 ∷ 0 ∷ 0 ∷ 0 ∷ 0 ∷ []) ≡ Broken (BadBody 1)
+report_no_flag : next_frame 0 (13 ∷ 0 ∷ 0 ∷ 0 ∷ 18 ∷ 10 ∷ 0 ∷ 0 ∷ 0 ∷ 7 ∷ 0 ∷ 0 ∷ 0 ∷ 0 ∷ 0 ∷ 0 ∷ 0 ∷ [])
+    ≡ Broken (BadBody 1)
 unfolding next_frame report_body
 report_no_flag = refl
 
 -- replies without a body
-installed : reply_bytes (record { uid = pos 10; id = pos 7; body = Installed }) ≡ 13 ∷ 0 ∷ 0 ∷ 0 ∷ 0 ∷ 0 ∷ 0 ∷ 0 ∷ 1 ∷ 10 ∷ 0 ∷ 0 ∷ 0 ∷ 7 ∷ 0 ∷ 0 ∷ 0 ∷ 0 ∷ 0 ∷ 0 ∷ 0 ∷ []
+installed : reply_bytes (record { uid = pos 10; id = pos 7; body = Installed }) ≡ 13 ∷ 0 ∷ 0 ∷ 0 ∷ 0 ∷ 0 ∷ 0 ∷ 0 ∷ 1
+    ∷ 10 ∷ 0 ∷ 0 ∷ 0 ∷ 7 ∷ 0 ∷ 0 ∷ 0 ∷ 0 ∷ 0 ∷ 0 ∷ 0 ∷ []
 installed = refl
 
-no_config : reply_bytes (record { uid = negsuc 0; id = negsuc 1; body = NoConfig }) ≡ 13 ∷ 0 ∷ 0 ∷ 0 ∷ 0 ∷ 0 ∷ 0 ∷ 0 ∷ 5 ∷ 255 ∷ 255 ∷ 255 ∷ 255 ∷ 254 ∷ 255 ∷ 255 ∷ 255 ∷ 255 ∷ 255 ∷ 255 ∷ 255 ∷ []
+no_config : reply_bytes (record { uid = negsuc 0; id = negsuc 1; body = NoConfig }) ≡ 13 ∷ 0 ∷ 0 ∷ 0 ∷ 0 ∷ 0 ∷ 0 ∷ 0
+    ∷ 5 ∷ 255 ∷ 255 ∷ 255 ∷ 255 ∷ 254 ∷ 255 ∷ 255 ∷ 255 ∷ 255 ∷ 255 ∷ 255 ∷ 255 ∷ []
 no_config = refl

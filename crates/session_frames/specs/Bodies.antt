@@ -7,14 +7,15 @@ use Rattle.session_frames.specs.declared.frame.Frame.{Frame}
 use Rattle.session_frames.specs.declared.frame.Frame.TheVariants.{Log}
 use Rattle.session_frames.specs.declared.frame.FrameError.{FrameError}
 use Rattle.session_frames.specs.declared.frame.FrameError.TheVariants as failed
-use Rattle.session_frames.specs.declared.frame.SessionFault.{SessionFault}
-use Rattle.session_frames.specs.Frames.{HasSoundAtoms, Next, Ended, Broken, Whole, next_frame, past}
-use Rattle.session_frames.specs.Reader.{Reading, IsWithin}
+use Rattle.session_frames.specs.declared.frame.FrameFault.{FrameFault}
+use Rattle.session_frames.specs.Faultless.{HasSoundAtoms}
+use Rattle.session_frames.specs.Frames.{Next, Ended, Broken, Whole, next_frame, past, BreaksBy}
+use Rattle.session_frames.specs.Reader.{Reading, FitsSession}
 
 -- the fault that an error names; want of memory names none
-abbrev pub fault_of : BodyError → Option SessionFault
-fault_of (Fault fault) = Some fault
-fault_of Memory = None
+abbrev pub fault_in : BodyError → Option FrameFault
+fault_in (Fault fault) = Some fault
+fault_in Memory = None
 
 -- the atoms of a frame have no fault: commands have none
 abbrev pub HasSoundBody : Frame → Type 0
@@ -22,13 +23,14 @@ HasSoundBody (Log frame) = HasSoundAtoms frame
 HasSoundBody _ = Unit {0}
 
 -- the call answers what stands next in what is left
-abbrev pub GivesNext : {Slice : Type 0} → (Slice → List ℕ) → Result (Option (Frame × Slice)) BodyError → Next → Type 0
-GivesNext bytes (Ok None) next = next ≡ Ended
-GivesNext bytes (Ok (Some found)) next = next ≡ Whole found.0 (bytes found.1)
-GivesNext bytes (Err (Fault fault)) next = next ≡ Broken fault
-GivesNext bytes (Err Memory) next = Unit {0}
+abbrev pub FindsNext : {Slice : Type 0}
+    → (Slice → List ℕ) → Result (Option (Frame × Slice)) BodyError → Next → Type 0
+FindsNext bytes (Ok None) next = next ≡ Ended
+FindsNext bytes (Ok (Some found)) next = next ≡ Whole found.0 (bytes found.1)
+FindsNext bytes (Err (Fault fault)) next = next ≡ Broken fault
+FindsNext bytes (Err Memory) next = Unit {0}
 
--- The whole of a source was read behind what a reader had, and it isn't too much.
+-- The whole of a source was read after what a reader had, and it isn't too much.
 pub record Fills (old new : Option (List ℕ)) (before after : Reading) : Type 0 where
   pub taken : List ℕ
   pub consumes : Consumes old new taken
@@ -36,7 +38,7 @@ pub record Fills (old new : Option (List ℕ)) (before after : Reading) : Type 0
   pub pending : after.pending ≡ before.pending ++ taken
   pub place : after.place ≡ before.place
   pub ended : IsTrue after.ended
-  pub within : IsWithin after.place after.pending
+  pub within : FitsSession after.place after.pending
 
 -- what a reader that has the whole of a source gives: it judges what stands next in it
 abbrev pub Judges : Reading → Result (Reading × Option Frame) FrameError → Type 0
@@ -44,6 +46,7 @@ Judges before (Ok answer) = MatchOption answer.1
     ((next_frame before.place.clock before.pending ≡ Ended) × (answer.0 ≡ before))
     (λ frame. (next_frame before.place.clock before.pending ≡ Whole frame answer.0.pending)
     × (answer.0.place ≡ past before.place before.pending frame answer.0.pending) × IsTrue answer.0.ended)
-Judges before (Err (failed.Session at fault)) = (at ≡ before.place.bytes) × (next_frame before.place.clock before.pending ≡ Broken fault)
+Judges before (Err (failed.Session at fault)) =
+    (at ≡ before.place.bytes) × BreaksBy (next_frame before.place.clock before.pending) fault
 Judges before (Err failed.Read) = ⊥
 Judges before (Err failed.Memory) = Unit {0}

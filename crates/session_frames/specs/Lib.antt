@@ -1,3 +1,10 @@
+pub mod BodyReasons
+pub mod FrameKinds
+pub mod FrameLimits
+pub mod ReplyKinds
+pub mod FrameReading
+pub mod Faultless
+pub mod SessionFaults
 pub mod Frames
 pub mod Bodies
 pub mod Reader

@@ -1,17 +1,19 @@
 -- What a contract sees of a reader of frames, and what one of its calls does to it and to its source.
-use Rattle.std.specs.Prelude.{◌⊎◌, ◌≡◌, ℕ, ◌+◌, ◌≤◌, Bool, false, IsTrue, List, [], ◌++◌, length, Option, MatchOption}
+use Rattle.std.specs.Prelude.{◌⊎◌, ◌≡◌, ℕ, ◌+◌, ◌≤◌, Bool, false, IsTrue, List, [], ◌++◌, length, Option, MatchOption, Result, IsErrOf}
 use Rattle.std.specs.Io.KnownBytes.{Consumes, IsAtEnd}
+use Rattle.sd_io.specs.Causes.{Rose}
 use Rattle.session_frames.specs.declared.frame.Frame.{Frame}
 use Rattle.session_frames.specs.declared.frame.FrameError.{FrameError}
 use Rattle.session_frames.specs.declared.frame.FrameError.TheVariants.{Session, Read, Memory}
 use Rattle.session_frames.specs.declared.frame.SessionFault.{SessionFault}
 use Rattle.session_frames.specs.declared.frame.SessionFault.TheVariants.{TooManyFrames}
-use Rattle.session_frames.specs.Frames.{most_input, Ended, Broken, Whole, next_frame, Place, start, past, is_too_much}
+use Rattle.session_frames.specs.FrameLimits.{most_input}
+use Rattle.session_frames.specs.Frames.{Ended, Whole, next_frame, Place, start, past, BreaksBy, is_too_much}
 
 pub record Reading : Type 0 where
-  -- the bytes that were taken and stand behind the frames given so far
+  -- the bytes that were taken and come after the frames given so far
   pub pending : List ℕ
-  -- where these begin, and the clock there
+  -- where these begin, with the clock and the number of frames there
   pub place : Place
   -- the source was read to its end
   pub ended : Bool
@@ -25,48 +27,55 @@ abbrev pub IsInStep : Reading → Option (List ℕ) → Type 0
 IsInStep reading left = IsTrue reading.ended → IsAtEnd left
 
 -- bytes that are left at a place belong to a session that isn't too long
-abbrev pub IsWithin : Place → List ℕ → Type 0
-IsWithin place left = place.bytes + length left ≤ most_input
+abbrev pub FitsSession : Place → List ℕ → Type 0
+FitsSession place left = place.bytes + length left ≤ most_input
+
+-- what stands next in these bytes was given, where the reader stood so: a frame and the place after it, or the end
+abbrev pub GivesNextOf : Reading → List ℕ → Option (List ℕ) → Reading → Option Frame → Type 0
+GivesNextOf before left new after frame =
+    MatchOption frame
+    ((next_frame before.place.clock left ≡ Ended) × IsAtEnd new)
+    (λ f. (next_frame before.place.clock left ≡ Whole f after.pending)
+    × (after.place ≡ past before.place left f after.pending))
 
 -- A call took bytes from the source, and gave what stands next in those that were left with them: a frame, or the end.
-pub record Gives (old new : Option (List ℕ)) (before after : Reading) (frame : Option Frame) : Type 0 where
+pub record GivesFrame (old new : Option (List ℕ)) (before after : Reading) (frame : Option Frame) : Type 0 where
   pub taken : List ℕ
   pub consumes : Consumes old new taken
   pub in_step : IsInStep after new
-  pub within : IsWithin before.place (before.pending ++ taken)
-  pub next : MatchOption frame
-      ((next_frame before.place.clock (before.pending ++ taken) ≡ Ended) × IsAtEnd new)
-      (λ f. (next_frame before.place.clock (before.pending ++ taken) ≡ Whole f after.pending) × (after.place ≡ past before.place (before.pending ++ taken) f after.pending))
+  pub within : FitsSession before.place (before.pending ++ taken)
+  pub next : GivesNextOf before (before.pending ++ taken) new after frame
 
 -- At the end of its source a reader stays where it stood, and nothing is left.
-pub record IsDone (before after : Reading) : Type 0 where
+pub record StaysAtEnd (before after : Reading) : Type 0 where
   pub nothing : after.pending ≡ []
   pub place : after.place ≡ before.place
   pub ended : IsTrue after.ended
 
 -- This fault stands next in what is left, and all of the source is in it.
-pub record IsFaultNext (at : ℕ) (fault : SessionFault) (before : Reading) (left : List ℕ) (new : Option (List ℕ)) : Type 0 where
+pub record IsFaultNext
+    (at : ℕ) (fault : SessionFault) (before : Reading) (left : List ℕ) (new : Option (List ℕ)) : Type 0 where
   pub placed : at ≡ before.place.bytes
-  pub broken : next_frame before.place.clock left ≡ Broken fault
+  pub broken : BreaksBy (next_frame before.place.clock left) fault
   pub at_end : IsAtEnd new
-  pub within : IsWithin before.place left
+  pub within : FitsSession before.place left
 
 -- More came than a session may have, before any frame was judged.
-pub record IsTooMuch (at : ℕ) (before : Reading) (left : List ℕ) : Type 0 where
+pub record IsTooMuch (at : ℕ) (fault : SessionFault) (before : Reading) (left : List ℕ) : Type 0 where
   pub placed : at ≡ most_input
+  pub is : fault ≡ TooManyFrames
   pub first : before ≡ unread
   pub too_much : IsTrue (is_too_much left)
 
 -- a reader that stood so may answer this fault at this offset, where these bytes are left
 abbrev pub HasFault : ℕ → SessionFault → Reading → List ℕ → Option (List ℕ) → Type 0
-HasFault at TooManyFrames before left new = IsTooMuch at before left
-HasFault at fault before left new = IsFaultNext at fault before left new
+HasFault at fault before left new = IsFaultNext at fault before left new ⊎ IsTooMuch at fault before left
 
 -- a reader that stood so may give no frame for this reason, where these bytes are left
 abbrev pub IsCause : FrameError → Reading → List ℕ → Option (List ℕ) → Type 0
 IsCause (Session at fault) before left new = HasFault at fault before left new
 IsCause Read before left new = before ≡ unread
-IsCause Memory before left new = IsWithin before.place left ⊎ (before ≡ unread)
+IsCause Memory before left new = FitsSession before.place left ⊎ (before ≡ unread)
 
 -- A call took bytes from the source, and failed for cause.
 pub record Refuses (old new : Option (List ℕ)) (before : Reading) (e : FrameError) : Type 0 where
@@ -74,8 +83,15 @@ pub record Refuses (old new : Option (List ℕ)) (before : Reading) (e : FrameEr
   pub consumes : Consumes old new taken
   pub cause : IsCause e before (before.pending ++ taken) new
 
--- what a reader holds always: a place in the bytes that it has, and none before the first call
-pub record IsHeld (bytes : List ℕ) (at clock : ℕ) (ended : Bool) : Type 0 where
+-- The source's count of faults never falls, and it rose where the call tells a read fault.
+pub record HasReadCause {T : Type 0} (before now : ℕ) (result : Result T FrameError) : Type 0 where
+  pub later : before ≤ now
+  pub failed : IsErrOf result Read → Rose before now
+
+-- what a reader holds always: a place in the bytes that it has, with no more frames than bytes before it, and the
+-- beginning before the first call
+pub record IsHeld (bytes : List ℕ) (at clock frames : ℕ) (ended : Bool) : Type 0 where
   pub placed : at ≤ length bytes
   pub within : length bytes ≤ most_input
+  pub counted : frames ≤ at
   pub first : ended ≡ false → (bytes ≡ []) × (at ≡ 0) × (clock ≡ 0)

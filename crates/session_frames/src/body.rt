@@ -3,14 +3,17 @@ ghost use Rattle.std.specs.Prelude.{◌≡◌, ◌≤◌, length, All, IfOk};
 ghost use Rattle.std.specs.Int.{w16, w32, w64};
 ghost use Rattle.sd_base.specs.Reads.{GivesBy, many};
 ghost use Rattle.atom_record.specs.Id.{IsAtomId};
-ghost use Rattle.atom_record.specs.Sound.{HasNoFault};
+ghost use Rattle.atom_record.specs.AtomSound.{HasNoFault};
 ghost use Rattle.atom_record.specs.AtomReading.{atom_at};
-ghost use Rattle.session_frames.specs.Frames as frames;
-ghost use Rattle.session_frames.specs.Frames.{IsFaultless, IsInTime, IsPulledAtom, IsOutcome};
-ghost use Rattle.session_frames.specs.Bodies.{fault_of, HasSoundBody};
+ghost use Rattle.session_frames.specs.Faultless.{IsFaultless, IsInTime, IsPulledAtom, IsOutcome};
+ghost use Rattle.session_frames.specs.FrameReading as frames;
+ghost use Rattle.session_frames.specs.Frames.{clock_after};
+ghost use Rattle.session_frames.specs.Bodies.{fault_in, HasSoundBody};
 
-use crate::frame::{BAD_FLAG, LATE, LEFT_OVER, TOO_MANY_ATOMS, TOO_SHORT};
-use crate::{Frame, SessionFault};
+use crate::frame::{
+    ATOM, BAD_FLAG, INSTALL, LATE, LEFT_OVER, PULL, REMOVE, REPORT, TICK, TOO_MANY_ATOMS, TOO_SHORT,
+};
+use crate::{Frame, FrameFault};
 use atom_record::{
     Atom, AtomFault, BAD_ID, LogFrame, MAX_BYTES, OTHER_ID, PullOutcome, is_atom_id, parse_atom,
 };
@@ -21,28 +24,15 @@ use std::alloc::{AllocError, Global};
 const HOUR: u64 = 3_600_000_000_000;
 
 // The first time that is too late to be one.
-const NO_TIME: u64 = 1 << 63;
+const FIRST_LATE_TIME: u64 = 1 << 63;
 
 // The most atoms of a recorded pull.
 const MAX_ATOMS: u16 = 200;
 
-// The kinds of frames.
-const TICK: u8 = 1;
-
-const ATOM: u8 = 2;
-
-const PULL: u8 = 3;
-
-const INSTALL: u8 = 16;
-
-const REMOVE: u8 = 17;
-
-const REPORT: u8 = 18;
-
 /// Why a frame wasn't read.
-#[derive(Debug, Drop)]
+#[derive(Drop)]
 pub enum BodyError {
-    Fault(SessionFault),
+    Fault(FrameFault),
     Memory,
 }
 
@@ -59,20 +49,21 @@ impl From<AllocError> for BodyError {
 
 // The body isn't of its kind's form.
 fn bad_body(reason: u8) -> BodyError
-    ensures { result ≡ BodyError.Fault (SessionFault.BadBody reason) }
+    ensures { result ≡ BodyError.Fault (FrameFault.BadBody reason) }
 {
-    BodyError::Fault(SessionFault::BadBody(reason))
+    BodyError::Fault(FrameFault::BadBody(reason))
 }
 
 // An atom isn't well-formed.
 fn bad_atom(reason: u8) -> BodyError
-    ensures { result ≡ BodyError.Fault (SessionFault.BadAtom reason) }
+    ensures { result ≡ BodyError.Fault (FrameFault.BadAtom reason) }
 {
-    BodyError::Fault(SessionFault::BadAtom(reason))
+    BodyError::Fault(FrameFault::BadAtom(reason))
 }
 
-fn u16_at(bytes: &[u8]) -> Result<(u16, &[u8]), BodyError>
-    ensures { GivesBy fault_of (λ x. (x.0, x.1.now)) result (frames.number_at w16 bytes.now) }
+// A number of two bytes, low byte first.
+fn read_u16(bytes: &[u8]) -> Result<(u16, &[u8]), BodyError>
+    ensures { GivesBy fault_in (λ x. (x.0, x.1.now)) result (frames.uint_at w16 bytes.now) }
 {
     let Some((front, rest)) = bytes.split_first_chunk::<2>() else {
         return Err(bad_body(TOO_SHORT));
@@ -80,8 +71,9 @@ fn u16_at(bytes: &[u8]) -> Result<(u16, &[u8]), BodyError>
     Ok((u16::from_le_bytes(*front), rest))
 }
 
-fn u32_at(bytes: &[u8]) -> Result<(u32, &[u8]), BodyError>
-    ensures { GivesBy fault_of (λ x. (x.0, x.1.now)) result (frames.number_at w32 bytes.now) }
+// A number of four bytes, low byte first.
+fn read_u32(bytes: &[u8]) -> Result<(u32, &[u8]), BodyError>
+    ensures { GivesBy fault_in (λ x. (x.0, x.1.now)) result (frames.uint_at w32 bytes.now) }
 {
     let Some((front, rest)) = bytes.split_first_chunk::<4>() else {
         return Err(bad_body(TOO_SHORT));
@@ -89,8 +81,9 @@ fn u32_at(bytes: &[u8]) -> Result<(u32, &[u8]), BodyError>
     Ok((u32::from_le_bytes(*front), rest))
 }
 
-fn u64_at(bytes: &[u8]) -> Result<(u64, &[u8]), BodyError>
-    ensures { GivesBy fault_of (λ x. (x.0, x.1.now)) result (frames.number_at w64 bytes.now) }
+// A number of eight bytes, low byte first.
+fn read_u64(bytes: &[u8]) -> Result<(u64, &[u8]), BodyError>
+    ensures { GivesBy fault_in (λ x. (x.0, x.1.now)) result (frames.uint_at w64 bytes.now) }
 {
     let Some((front, rest)) = bytes.split_first_chunk::<8>() else {
         return Err(bad_body(TOO_SHORT));
@@ -99,19 +92,20 @@ fn u64_at(bytes: &[u8]) -> Result<(u64, &[u8]), BodyError>
 }
 
 // A time in nanoseconds.
-#[tactic(auto, unfolding(crate::specs::Frames::time_at))]
-fn time_at(bytes: &[u8]) -> Result<(u64, &[u8]), BodyError>
-    ensures { GivesBy fault_of (λ x. (x.0, x.1.now)) result (frames.time_at bytes.now) }
+#[tactic(auto, unfolding(crate::specs::FrameReading::time_at))]
+fn read_time(bytes: &[u8]) -> Result<(u64, &[u8]), BodyError>
+    ensures { GivesBy fault_in (λ x. (x.0, x.1.now)) result (frames.time_at bytes.now) }
 {
-    let (at, rest) = u64_at(bytes)?;
-    if at >= NO_TIME {
+    let (at, rest) = read_u64(bytes)?;
+    if at >= FIRST_LATE_TIME {
         return Err(bad_body(LATE));
     }
     Ok((at, rest))
 }
 
-fn flag_at(bytes: &[u8]) -> Result<(bool, &[u8]), BodyError>
-    ensures { GivesBy fault_of (λ x. (x.0, x.1.now)) result (frames.flag_at bytes.now) }
+// A flag, 0 or 1.
+fn read_flag(bytes: &[u8]) -> Result<(bool, &[u8]), BodyError>
+    ensures { GivesBy fault_in (λ x. (x.0, x.1.now)) result (frames.flag_at bytes.now) }
 {
     match bytes {
         [] => Err(bad_body(TOO_SHORT)),
@@ -121,8 +115,8 @@ fn flag_at(bytes: &[u8]) -> Result<(bool, &[u8]), BodyError>
 }
 
 // The frame, where nothing is left over.
-fn at_end(frame: Frame, rest: &[u8]) -> Result<Frame, BodyError>
-    ensures exact { GivesBy fault_of (λ frame. frame) result (frames.at_end frame rest.now) }
+fn expect_end(frame: Frame, rest: &[u8]) -> Result<Frame, BodyError>
+    ensures exact { GivesBy fault_in (λ frame. frame) result (frames.at_end frame rest.now) }
     ensures same { IfOk result (λ found. found ≡ frame) }
 {
     if !rest.is_empty() {
@@ -131,18 +125,20 @@ fn at_end(frame: Frame, rest: &[u8]) -> Result<Frame, BodyError>
     Ok(frame)
 }
 
-#[tactic(auto, unfolding(crate::specs::Frames::tick_body))]
+// The body of a tick.
+#[tactic(auto, unfolding(crate::specs::FrameReading::tick_body))]
 fn read_tick(body: &[u8]) -> Result<Frame, BodyError>
-    ensures exact { GivesBy fault_of (λ frame. frame) result (frames.tick_body body.now) }
+    ensures exact { GivesBy fault_in (λ frame. frame) result (frames.tick_body body.now) }
     ensures sound { IfOk result HasSoundBody }
 {
-    let (at, rest) = time_at(body)?;
-    at_end(Frame::Log(LogFrame::Tick { at }), rest)
+    let (at, rest) = read_time(body)?;
+    expect_end(Frame::Log(LogFrame::Tick { at }), rest)
 }
 
 // The atom of a payload.
 fn atom_of(alloc: Global, payload: &[u8]) -> Result<Atom, BodyError>
-    ensures exact { GivesBy fault_of (λ atom. atom) result (frames.of_payload (atom_at payload.now)) }
+    ensures exact { GivesBy fault_in (λ atom. atom) result
+        (frames.of_payload (atom_at payload.now)) }
     ensures sound { IfOk result HasNoFault }
 {
     match parse_atom(alloc, payload) {
@@ -152,19 +148,20 @@ fn atom_of(alloc: Global, payload: &[u8]) -> Result<Atom, BodyError>
     }
 }
 
-#[tactic(auto, unfolding(crate::specs::Frames::atom_body))]
+// The body of an atom: its payload is the rest.
+#[tactic(auto, unfolding(crate::specs::FrameReading::atom_body))]
 fn read_atom(alloc: Global, body: &[u8]) -> Result<Frame, BodyError>
-    ensures exact { GivesBy fault_of (λ frame. frame) result (frames.atom_body body.now) }
+    ensures exact { GivesBy fault_in (λ frame. frame) result (frames.atom_body body.now) }
     ensures sound { IfOk result HasSoundBody }
 {
-    let (at, rest) = time_at(body)?;
+    let (at, rest) = read_time(body)?;
     let atom = atom_of(alloc, rest)?;
     Ok(Frame::Log(LogFrame::AtomAt { at, atom }))
 }
 
 // Whether a payload that isn't too long begins with the id of another atom.
 #[tactic(auto, unfolding(atom_record::specs::AtomReading::id_at))]
-fn is_of_other(id: u32, payload: &[u8]) -> bool
+fn has_other_id(id: u32, payload: &[u8]) -> bool
     ensures { result ≡ frames.is_of_other id payload.now }
 {
     match payload.split_first_chunk::<4>() {
@@ -178,21 +175,22 @@ fn is_of_other(id: u32, payload: &[u8]) -> bool
 
 // The atom of a payload in a pull of this id.
 fn pulled_atom_of(alloc: Global, id: u32, payload: &[u8]) -> Result<Atom, BodyError>
-    ensures exact { GivesBy fault_of (λ atom. atom) result (frames.of_payload (frames.pulled_atom id payload.now)) }
+    ensures exact { GivesBy fault_in (λ atom. atom) result
+        (frames.of_payload (frames.pulled_atom id payload.now)) }
     ensures sound { IfOk result (IsPulledAtom id) }
 {
-    if is_of_other(id, payload) {
+    if has_other_id(id, payload) {
         return Err(bad_atom(OTHER_ID));
     }
     atom_of(alloc, payload)
 }
 
-// A payload behind its length.
-#[tactic(auto, unfolding(crate::specs::Frames::payload_at))]
-fn payload_at(bytes: &[u8]) -> Result<(&[u8], &[u8]), BodyError>
-    ensures { GivesBy fault_of (λ x. (x.0.now, x.1.now)) result (frames.payload_at bytes.now) }
+// A payload, after its length.
+#[tactic(auto, unfolding(crate::specs::FrameReading::payload_at))]
+fn read_payload(bytes: &[u8]) -> Result<(&[u8], &[u8]), BodyError>
+    ensures { GivesBy fault_in (λ x. (x.0.now, x.1.now)) result (frames.payload_at bytes.now) }
 {
-    let (len, rest) = u16_at(bytes)?;
+    let (len, rest) = read_u16(bytes)?;
     let len = usize::from(len);
     if rest.len() < len {
         return Err(bad_body(TOO_SHORT));
@@ -201,98 +199,104 @@ fn payload_at(bytes: &[u8]) -> Result<(&[u8], &[u8]), BodyError>
 }
 
 // The next atom of a pull of this id.
-#[tactic(auto, unfolding(crate::specs::Frames::pulled_at))]
-fn pulled_at(alloc: Global, id: u32, bytes: &[u8]) -> Result<(Atom, &[u8]), BodyError>
-    ensures exact { GivesBy fault_of (λ x. (x.0, x.1.now)) result (frames.pulled_at id bytes.now) }
+#[tactic(auto, unfolding(crate::specs::FrameReading::pulled_at))]
+fn read_pulled(alloc: Global, id: u32, bytes: &[u8]) -> Result<(Atom, &[u8]), BodyError>
+    ensures exact { GivesBy fault_in (λ x. (x.0, x.1.now)) result (frames.pulled_at id bytes.now) }
     ensures sound { IfOk result (λ x. IsPulledAtom id x.0) }
 {
-    let (payload, rest) = payload_at(bytes)?;
+    let (payload, rest) = read_payload(bytes)?;
     let atom = pulled_atom_of(alloc, id, payload)?;
     Ok((atom, rest))
 }
 
 // So many atoms of a pull of this id.
-fn atoms_at(
+fn read_atoms(
     alloc: Global,
     id: u32,
     count: u16,
     bytes: &[u8],
 ) -> Result<(Seq<Atom>, &[u8]), BodyError>
-    ensures exact { GivesBy fault_of (λ x. (x.0, x.1.now)) result (many (frames.pulled_at id) count bytes.now) }
+    ensures exact { GivesBy fault_in (λ x. (x.0, x.1.now)) result
+        (many (frames.pulled_at id) count bytes.now) }
     ensures sound { IfOk result (λ x. (length x.0 ≡ count) × All (IsPulledAtom id) x.0) }
 {
     let mut atoms = Seq::new(alloc);
     let mut rest = bytes;
     for _turn in 0..count {
-        let (atom, behind) = pulled_at(alloc, id, rest)?;
+        let (atom, after) = read_pulled(alloc, id, rest)?;
         atoms.push(atom)?;
-        rest = behind;
+        rest = after;
     }
     Ok((atoms, rest))
 }
 
-// The atoms of a pull of this id, behind their count.
-#[tactic(auto, unfolding(crate::specs::Frames::snapshot_at))]
-fn snapshot_at(alloc: Global, id: u32, bytes: &[u8]) -> Result<(Seq<Atom>, &[u8]), BodyError>
-    ensures exact { GivesBy fault_of (λ x. (x.0, x.1.now)) result (frames.snapshot_at id bytes.now) }
+// The atoms of a pull of this id, after their count.
+#[tactic(auto, unfolding(crate::specs::FrameReading::snapshot_at))]
+fn read_snapshot(alloc: Global, id: u32, bytes: &[u8]) -> Result<(Seq<Atom>, &[u8]), BodyError>
+    ensures exact { GivesBy fault_in (λ x. (x.0, x.1.now)) result
+        (frames.snapshot_at id bytes.now) }
     ensures sound { IfOk result (λ x. IsOutcome id (PullOutcome.Atoms x.0)) }
 {
-    let (count, rest) = u16_at(bytes)?;
+    let (count, rest) = read_u16(bytes)?;
     if count > MAX_ATOMS {
         return Err(bad_body(TOO_MANY_ATOMS));
     }
-    atoms_at(alloc, id, count, rest)
+    read_atoms(alloc, id, count, rest)
 }
 
-#[tactic(auto, unfolding(crate::specs::Frames::outcome_at))]
-fn outcome_at(
+// What a pull of this id gave, where the flag says whether it failed.
+#[tactic(auto, unfolding(crate::specs::FrameReading::outcome_at))]
+fn read_outcome(
     alloc: Global,
     id: u32,
     failed: bool,
     bytes: &[u8],
 ) -> Result<(PullOutcome, &[u8]), BodyError>
-    ensures exact { GivesBy fault_of (λ x. (x.0, x.1.now)) result (frames.outcome_at id failed bytes.now) }
+    ensures exact { GivesBy fault_in (λ x. (x.0, x.1.now)) result
+        (frames.outcome_at id failed bytes.now) }
     ensures sound { IfOk result (λ x. IsOutcome id x.0) }
 {
     if failed {
         return Ok((PullOutcome::Failed, bytes));
     }
-    let (atoms, rest) = snapshot_at(alloc, id, bytes)?;
+    let (atoms, rest) = read_snapshot(alloc, id, bytes)?;
     Ok((PullOutcome::Atoms(atoms), rest))
 }
 
 // The id of a pull.
-#[tactic(auto, unfolding(crate::specs::Frames::pull_id_at))]
-fn pull_id_at(bytes: &[u8]) -> Result<(u32, &[u8]), BodyError>
-    ensures exact { GivesBy fault_of (λ x. (x.0, x.1.now)) result (frames.pull_id_at bytes.now) }
+#[tactic(auto, unfolding(crate::specs::FrameReading::pull_id_at))]
+fn read_pull_id(bytes: &[u8]) -> Result<(u32, &[u8]), BodyError>
+    ensures exact { GivesBy fault_in (λ x. (x.0, x.1.now)) result (frames.pull_id_at bytes.now) }
     ensures sound { IfOk result (λ x. IsAtomId x.0) }
 {
-    let (id, rest) = u32_at(bytes)?;
+    let (id, rest) = read_u32(bytes)?;
     if !is_atom_id(id) {
         return Err(bad_atom(BAD_ID));
     }
     Ok((id, rest))
 }
 
-#[tactic(auto, unfolding(crate::specs::Frames::pull_body))]
+// The body of a recorded pull.
+#[tactic(auto, unfolding(crate::specs::FrameReading::pull_body))]
 fn read_pull(alloc: Global, body: &[u8]) -> Result<Frame, BodyError>
-    ensures exact { GivesBy fault_of (λ frame. frame) result (frames.pull_body body.now) }
+    ensures exact { GivesBy fault_in (λ frame. frame) result (frames.pull_body body.now) }
     ensures sound { IfOk result HasSoundBody }
 {
-    let (at, rest) = time_at(body)?;
-    let (id, rest) = pull_id_at(rest)?;
-    let (failed, rest) = flag_at(rest)?;
-    let (outcome, rest) = outcome_at(alloc, id, failed, rest)?;
-    at_end(Frame::Log(LogFrame::Pull { at, id, outcome }), rest)
+    let (at, rest) = read_time(body)?;
+    let (id, rest) = read_pull_id(rest)?;
+    let (failed, rest) = read_flag(rest)?;
+    let (outcome, rest) = read_outcome(alloc, id, failed, rest)?;
+    expect_end(Frame::Log(LogFrame::Pull { at, id, outcome }), rest)
 }
 
-#[tactic(auto, unfolding(crate::specs::Frames::install_body))]
+// The body of an install: the configuration is the rest.
+#[tactic(auto, unfolding(crate::specs::FrameReading::install_body))]
 fn read_install(alloc: Global, body: &[u8]) -> Result<Frame, BodyError>
-    ensures exact { GivesBy fault_of (λ frame. frame) result (frames.install_body body.now) }
+    ensures exact { GivesBy fault_in (λ frame. frame) result (frames.install_body body.now) }
     ensures sound { IfOk result HasSoundBody }
 {
-    let (uid, rest) = u32_at(body)?;
-    let (id, rest) = u64_at(rest)?;
+    let (uid, rest) = read_u32(body)?;
+    let (id, rest) = read_u64(rest)?;
     let config = Seq::from_slice(alloc, rest)?;
     Ok(Frame::Install {
         uid: uid.cast_signed(),
@@ -301,38 +305,41 @@ fn read_install(alloc: Global, body: &[u8]) -> Result<Frame, BodyError>
     })
 }
 
-#[tactic(auto, unfolding(crate::specs::Frames::remove_body))]
+// The body of a remove.
+#[tactic(auto, unfolding(crate::specs::FrameReading::remove_body))]
 fn read_remove(body: &[u8]) -> Result<Frame, BodyError>
-    ensures exact { GivesBy fault_of (λ frame. frame) result (frames.remove_body body.now) }
+    ensures exact { GivesBy fault_in (λ frame. frame) result (frames.remove_body body.now) }
     ensures sound { IfOk result HasSoundBody }
 {
-    let (uid, rest) = u32_at(body)?;
-    let (id, rest) = u64_at(rest)?;
+    let (uid, rest) = read_u32(body)?;
+    let (id, rest) = read_u64(rest)?;
     let frame = Frame::Remove {
         uid: uid.cast_signed(),
         id: id.cast_signed(),
     };
-    at_end(frame, rest)
+    expect_end(frame, rest)
 }
 
-#[tactic(auto, unfolding(crate::specs::Frames::report_body))]
+// The body of a request for a report.
+#[tactic(auto, unfolding(crate::specs::FrameReading::report_body))]
 fn read_report(body: &[u8]) -> Result<Frame, BodyError>
-    ensures exact { GivesBy fault_of (λ frame. frame) result (frames.report_body body.now) }
+    ensures exact { GivesBy fault_in (λ frame. frame) result (frames.report_body body.now) }
     ensures sound { IfOk result HasSoundBody }
 {
-    let (uid, rest) = u32_at(body)?;
-    let (id, rest) = u64_at(rest)?;
-    let (include_current, rest) = flag_at(rest)?;
+    let (uid, rest) = read_u32(body)?;
+    let (id, rest) = read_u64(rest)?;
+    let (include_current, rest) = read_flag(rest)?;
     let frame = Frame::Report {
         uid: uid.cast_signed(),
         id: id.cast_signed(),
         include_current,
     };
-    at_end(frame, rest)
+    expect_end(frame, rest)
 }
 
+// The frame of a kind that has this body.
 fn read_body(alloc: Global, kind: u8, body: &[u8]) -> Result<Frame, BodyError>
-    ensures exact { GivesBy fault_of (λ frame. frame) result (frames.body_of kind body.now) }
+    ensures exact { GivesBy fault_in (λ frame. frame) result (frames.frame_of_kind kind body.now) }
     ensures sound { IfOk result HasSoundBody }
 {
     match kind {
@@ -342,12 +349,12 @@ fn read_body(alloc: Global, kind: u8, body: &[u8]) -> Result<Frame, BodyError>
         INSTALL => read_install(alloc, body),
         REMOVE => read_remove(body),
         REPORT => read_report(body),
-        _ => Err(BodyError::Fault(SessionFault::UnknownKind(kind))),
+        _ => Err(BodyError::Fault(FrameFault::UnknownKind(kind))),
     }
 }
 
 // The time of a frame of the log.
-fn log_time(frame: &LogFrame) -> u64
+fn time_of(frame: &LogFrame) -> u64
     ensures { result ≡ frames.log_time frame.now }
 {
     match frame {
@@ -356,18 +363,18 @@ fn log_time(frame: &LogFrame) -> u64
 }
 
 // The same frame, unless it is of the log and comes before the clock or after the hour.
-fn timed(clock: u64, kind: u8, frame: Frame) -> Result<Frame, BodyError>
-    ensures exact { GivesBy fault_of (λ frame. frame) result (frames.timed clock kind frame) }
+fn check_time(clock: u64, kind: u8, frame: Frame) -> Result<Frame, BodyError>
+    ensures exact { GivesBy fault_in (λ frame. frame) result (frames.timed clock kind frame) }
     ensures sound { HasSoundBody frame → IfOk result (λ f. IsFaultless f × IsInTime clock f) }
 {
     match frame {
         Frame::Log(log) => {
-            let at = log_time(&log);
+            let at = time_of(&log);
             if at < clock {
-                return Err(BodyError::Fault(SessionFault::TimeBackwards(clock, at)));
+                return Err(BodyError::Fault(FrameFault::TimeBackwards(clock, at)));
             }
             if at >= HOUR {
-                return Err(BodyError::Fault(SessionFault::UnknownKind(kind)));
+                return Err(BodyError::Fault(FrameFault::UnknownKind(kind)));
             }
             Ok(Frame::Log(log))
         }
@@ -377,22 +384,22 @@ fn timed(clock: u64, kind: u8, frame: Frame) -> Result<Frame, BodyError>
 
 /// The frame that is this kind byte and body, where the clock stands at a time.
 pub fn read_frame(alloc: Global, clock: u64, content: &[u8]) -> Result<Frame, BodyError>
-    ensures exact { GivesBy fault_of (λ frame. frame) result (frames.frame_of clock content.now) }
+    ensures exact { GivesBy fault_in (λ frame. frame) result (frames.frame_of clock content.now) }
     ensures sound { IfOk result (λ f. IsFaultless f × IsInTime clock f) }
 {
     let [kind, body @ ..] = content else {
-        return Err(BodyError::Fault(SessionFault::BadLength));
+        return Err(BodyError::Fault(FrameFault::BadLength));
     };
     let frame = read_body(alloc, *kind, body)?;
-    timed(clock, *kind, frame)
+    check_time(clock, *kind, frame)
 }
 
-/// The clock behind a frame, where it stood at a time before it.
-pub fn clock_behind(clock: u64, frame: &Frame) -> u64
-    ensures { result ≡ frames.clock_behind clock frame.now }
+/// The clock after a frame, where it stood at a time before it.
+pub fn next_clock(clock: u64, frame: &Frame) -> u64
+    ensures { result ≡ clock_after clock frame.now }
 {
     match frame {
-        Frame::Log(log) => log_time(log),
+        Frame::Log(log) => time_of(log),
         _ => clock,
     }
 }

@@ -1,5 +1,8 @@
 //! What a session is made of, and what ends one.
 use atom_record::{Bytes, LogFrame};
+use sd_io::ReadFailed;
+use std::alloc::AllocError;
+use thiserror::Error;
 
 /// One frame of a session: one step of the log, or one command of a client.
 #[derive(Debug, Drop, PartialEq, Eq)]
@@ -25,10 +28,49 @@ pub enum Frame {
     },
 }
 
+// The kinds of frames, by their numbers.
+pub(crate) const TICK: u8 = 1;
+
+pub(crate) const ATOM: u8 = 2;
+
+pub(crate) const PULL: u8 = 3;
+
+pub(crate) const INSTALL: u8 = 16;
+
+pub(crate) const REMOVE: u8 = 17;
+
+pub(crate) const REPORT: u8 = 18;
+
+/// Why a frame can't be read.
+#[derive(Clone, Copy, Debug, PartialEq, Eq, Error)]
+pub enum FrameFault {
+    /// The bytes end inside the frame.
+    #[error("cut")]
+    Cut,
+    /// The frame's length is above the limit.
+    #[error("too long: {0} bytes")]
+    TooLong(u32),
+    /// The frame's length is 0.
+    #[error("bad length")]
+    BadLength,
+    /// There is no such kind of frame, or a frame of this kind has a time of an hour or more.
+    #[error("unknown kind {0}")]
+    UnknownKind(u8),
+    /// The frame's body isn't of its kind's form, for one of the reasons below.
+    #[error("bad body {0}")]
+    BadBody(u8),
+    /// An atom isn't well-formed, with the reason's number.
+    #[error("bad atom {0}")]
+    BadAtom(u8),
+    /// The frame's time is below the one before: the previous time, and this one, in nanoseconds.
+    #[error("time backwards: {1} after {0}")]
+    TimeBackwards(u64, u64),
+}
+
 /// The body is too short for its kind.
 pub const TOO_SHORT: u8 = 1;
 
-/// Bytes are left over behind the body.
+/// Bytes are left over after the body.
 pub const LEFT_OVER: u8 = 2;
 
 /// A flag is neither 0 nor 1.
@@ -40,34 +82,86 @@ pub const LATE: u8 = 4;
 /// A recorded pull has more than 200 atoms.
 pub const TOO_MANY_ATOMS: u8 = 5;
 
-/// Why a session can't be read on.
-#[derive(Clone, Copy, Debug, PartialEq, Eq)]
+/// Why a session can't be read on: a fault of its first bad frame, or its own.
+#[derive(Clone, Copy, Debug, PartialEq, Eq, Error)]
 pub enum SessionFault {
     /// The bytes end inside a frame.
+    #[error("cut")]
     Cut,
     /// A frame's length is above the limit.
+    #[error("too long: {0} bytes")]
     TooLong(u32),
     /// A frame's length is 0.
+    #[error("bad length")]
     BadLength,
-    /// There is no such kind of frame.
+    /// There is no such kind of frame, or a frame of this kind has a time of an hour or more.
+    #[error("unknown kind {0}")]
     UnknownKind(u8),
     /// A frame's body isn't of its kind's form, for one of the reasons above.
+    #[error("bad body {0}")]
     BadBody(u8),
     /// An atom isn't well-formed, with the reason's number.
+    #[error("bad atom {0}")]
     BadAtom(u8),
     /// A log time is below the one before: the previous time, and this one, in nanoseconds.
+    #[error("time backwards: {1} after {0}")]
     TimeBackwards(u64, u64),
-    /// The session has more frames than can be read.
+    /// The session has more than 2^30 bytes.
+    #[error("too many frames")]
     TooManyFrames,
 }
 
+impl From<FrameFault> for SessionFault {
+    ghost use Rattle.std.specs.Prelude.{◌≡◌};
+    ghost use Rattle.session_frames.specs.SessionFaults.{session_fault};
+
+    ghost from_gives = { λ fault e. e ≡ session_fault fault };
+
+    fn from(fault: FrameFault) -> SessionFault {
+        match fault {
+            FrameFault::Cut => SessionFault::Cut,
+            FrameFault::TooLong(size) => SessionFault::TooLong(size),
+            FrameFault::BadLength => SessionFault::BadLength,
+            FrameFault::UnknownKind(kind) => SessionFault::UnknownKind(kind),
+            FrameFault::BadBody(reason) => SessionFault::BadBody(reason),
+            FrameFault::BadAtom(reason) => SessionFault::BadAtom(reason),
+            FrameFault::TimeBackwards(last, now) => SessionFault::TimeBackwards(last, now),
+        }
+    }
+}
+
 /// Why a reader gave no frame.
-#[derive(Debug, Drop, PartialEq, Eq)]
+#[derive(Debug, Drop, PartialEq, Eq, Error)]
 pub enum FrameError {
     /// The session has a fault, at a frame whose first byte has this offset.
+    #[error("bad session at {at}: {fault}")]
     Session { at: u64, fault: SessionFault },
     /// The source failed.
+    #[error("the source failed")]
     Read,
     /// Memory was wanting.
+    #[error("out of memory")]
     Memory,
+}
+
+impl From<AllocError> for FrameError {
+    ghost use Rattle.std.specs.Prelude.{◌≡◌};
+    ghost use Rattle.session_frames.specs.declared.frame.FrameError.TheVariants.{Memory};
+
+    ghost from_gives = { λ _ e. e ≡ Memory };
+
+    fn from(_: AllocError) -> FrameError {
+        FrameError::Memory
+    }
+}
+
+impl From<ReadFailed> for FrameError {
+    ghost use Rattle.std.specs.Prelude.{◌≡◌};
+    ghost use Rattle.session_frames.specs.declared.frame.FrameError.TheVariants.{Read};
+
+    ghost from_gives = { λ _ e. e ≡ Read };
+
+    fn from(_: ReadFailed) -> FrameError {
+        FrameError::Read
+    }
 }

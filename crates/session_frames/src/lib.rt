@@ -9,12 +9,10 @@ mod reply;
 mod writing;
 
 pub use frame::{
-    BAD_FLAG, Frame, FrameError, LATE, LEFT_OVER, SessionFault, TOO_MANY_ATOMS, TOO_SHORT,
+    BAD_FLAG, Frame, FrameError, FrameFault, LATE, LEFT_OVER, SessionFault, TOO_MANY_ATOMS,
+    TOO_SHORT,
 };
 pub use laws::bytes_have_one_reading;
 pub use reader::FrameReader;
 pub use reply::{Refusal, Reply, ReplyBody};
 pub use writing::write_reply;
-
-#[cfg(test)]
-mod tests;

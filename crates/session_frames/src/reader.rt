@@ -1,75 +1,159 @@
 //! The reader of frames.
-ghost use Rattle.std.specs.Prelude.{◌≡◌, ◌<◌, ◌≤◌, length, vec_len, IsTrue, IfOk, IfErr, OnOk, IfSome, IfNone, IsErrOf};
-ghost use Rattle.sd_io.specs.Causes.{Rose, Consumes, IsAtEnd};
+ghost use Rattle.std.specs.Prelude.{◌≡◌, ◌<◌, ◌≤◌, length, vec_len, IsTrue, IfOk, IfErr, OnOk, IfSome, IfNone};
+ghost use Rattle.sd_io.specs.Causes.{Consumes, IsAtEnd};
+ghost use Rattle.session_frames.specs.Faultless.{IsFaultless, IsInTime};
+ghost use Rattle.session_frames.specs.FrameLimits.{most_input};
 ghost use Rattle.session_frames.specs.Frames as frames;
-ghost use Rattle.session_frames.specs.Frames.{IsFaultless, IsInTime};
-ghost use Rattle.session_frames.specs.Reader.{unread, IsInStep, Gives, IsDone, Refuses};
-ghost use Rattle.session_frames.specs.Bodies.{GivesNext, Fills, Judges};
+ghost use Rattle.session_frames.specs.Reader.{unread, IsInStep, GivesFrame, StaysAtEnd, Refuses, HasReadCause};
+ghost use Rattle.session_frames.specs.Bodies.{FindsNext, Fills, Judges};
 
-use crate::body::{BodyError, clock_behind, read_frame};
-use crate::{Frame, FrameError, SessionFault};
-use sd_io::{ReadFailed, Source};
+use crate::body::{BodyError, next_clock, read_frame};
+use crate::{Frame, FrameError, FrameFault, SessionFault};
+use sd_io::Source;
 use std::alloc::{AllocError, Global};
 use std::marker::Model;
 
-// The most bytes of a frame behind its length.
+// The most bytes of a session.
+const MAX_INPUT: usize = 1 << 30;
+
+// The most bytes of a frame after its length.
 const MAX_BODY: u32 = 1 << 20;
 
-// What stands next in what is left: a frame and the bytes behind it, or nothing at the end.
+// How many bytes are asked of a source at once.
+const PIECE: usize = 65_536;
+
+/// Reads the frames of a session. Its first call reads the source to the end; a call that fails takes the reader.
+#[derive(Debug, Drop)]
+pub struct FrameReader {
+    alloc: Global,
+    bytes: Vec<u8>,
+    at: usize,
+    clock: u64,
+    frames: u64,
+    ended: bool,
+}
+
+impl Model for FrameReader {
+    ghost use Rattle.std.specs.Prelude.{drop};
+    ghost use Rattle.session_frames.specs.Reader.{Reading, IsHeld};
+
+    ghost Value = { Reading };
+
+    ghost view = { λ s. record {
+      pending = drop s.at s.bytes.items;
+      place = record { bytes = s.at; clock = s.clock; frames = s.frames };
+      ended = s.ended;
+    } };
+
+    ghost invariant = { λ s. IsHeld s.bytes.items s.at s.clock s.frames s.ended };
+}
+
+impl FrameReader {
+    /// A reader that has taken nothing. It takes no memory yet.
+    pub fn new(alloc: Global) -> FrameReader
+        ensures { result ≡ unread }
+    {
+        FrameReader {
+            alloc,
+            bytes: Vec::new(alloc),
+            at: 0,
+            clock: 0,
+            frames: 0,
+            ended: false,
+        }
+    }
+
+    /// The next frame, or `None` where the source ended at a frame's end. Of what the reader holds, the bytes of
+    /// configurations and the texts of atoms are copied.
+    pub fn next<S: Source>(self, src: &mut S) -> Result<(FrameReader, Option<Frame>), FrameError>
+        // What stands next is given.
+        ensures gives { IsInStep self (S.left src.old)
+            → IfOk result (λ r. GivesFrame (S.left src.old) (S.left src.new) self r.0 r.1) }
+        ensures faultless { IfOk result (λ r.
+            IfSome r.1 (λ f. IsFaultless f × IsInTime self.place.clock f)) }
+        ensures end { IfOk result (λ r. IfNone r.1 (StaysAtEnd self r.0)) }
+
+        // Each error has its cause.
+        ensures refuses { IsInStep self (S.left src.old)
+            → IfErr result (λ e. Refuses (S.left src.old) (S.left src.new) self e) }
+        ensures cause { HasReadCause (S.faults src.old) (S.faults src.new) result }
+    {
+        let filled = self.fill(src)?;
+        filled.judge()
+    }
+
+    // The whole of the source is read, if it wasn't before.
+    fn fill<S: Source>(mut self, src: &mut S) -> Result<FrameReader, FrameError>
+        // The reader has the rest of the source, and stands where it stood.
+        ensures fills { IsInStep self (S.left src.old)
+            → IfOk result (λ r. Fills (S.left src.old) (S.left src.new) self r) }
+        ensures ended { IfOk result (λ r. IsTrue r.ended) }
+        ensures place { IfOk result (λ r. r.place ≡ self.place) }
+
+        // Each error has its cause.
+        ensures refuses { IfErr result (λ e. Refuses (S.left src.old) (S.left src.new) self e) }
+        ensures cause { HasReadCause (S.faults src.old) (S.faults src.new) result }
+    {
+        if self.ended {
+            return Ok(self);
+        }
+        self.bytes = read_all(self.alloc, src)?;
+        self.ended = true;
+        Ok(self)
+    }
+
+    // What stands next in what is held.
+    fn judge(mut self) -> Result<(FrameReader, Option<Frame>), FrameError>
+        requires { IsTrue self.ended }
+        ensures judges { Judges self result }
+        ensures sound { IfOk result (λ r.
+            IfSome r.1 (λ f. IsFaultless f × IsInTime self.place.clock f)) }
+    {
+        match next_in(self.alloc, self.clock, &self.bytes[self.at..]) {
+            Ok(None) => Ok((self, None)),
+            Ok(Some((frame, rest))) => {
+                self.at = self.bytes.len() - rest.len();
+                self.clock = next_clock(self.clock, &frame);
+                self.frames += 1;
+                Ok((self, Some(frame)))
+            }
+            Err(BodyError::Fault(fault)) => Err(FrameError::Session {
+                at: self.at as u64,
+                fault: SessionFault::from(fault),
+            }),
+            Err(BodyError::Memory) => Err(FrameError::Memory),
+        }
+    }
+}
+
+// What stands next in what is left: a frame and the bytes after it, or nothing at the end.
 #[tactic(auto, unfolding(crate::specs::Frames::next_frame))]
 fn next_in(alloc: Global, clock: u64, left: &[u8]) -> Result<Option<(Frame, &[u8])>, BodyError>
-    ensures exact { GivesNext (λ bytes. bytes.now) result (frames.next_frame clock left.now) }
-    ensures sound { IfOk result (λ found. IfSome found (λ x. IsFaultless x.0 × IsInTime clock x.0)) }
+    ensures exact { FindsNext (λ bytes. bytes.now) result (frames.next_frame clock left.now) }
+    ensures sound { IfOk result (λ found.
+        IfSome found (λ x. IsFaultless x.0 × IsInTime clock x.0)) }
 {
     if left.is_empty() {
         return Ok(None);
     }
     if left.len() < 4 {
-        return Err(BodyError::Fault(SessionFault::Cut));
+        return Err(BodyError::Fault(FrameFault::Cut));
     }
-    let (front, behind) = left.split_at(4);
+    let (front, after) = left.split_at(4);
     let size = u32::from_le_bytes([front[0], front[1], front[2], front[3]]);
     if size == 0 {
-        return Err(BodyError::Fault(SessionFault::BadLength));
+        return Err(BodyError::Fault(FrameFault::BadLength));
     }
     if size > MAX_BODY {
-        return Err(BodyError::Fault(SessionFault::TooLong(size)));
+        return Err(BodyError::Fault(FrameFault::TooLong(size)));
     }
     let size = size as usize;
-    if behind.len() < size {
-        return Err(BodyError::Fault(SessionFault::Cut));
+    if after.len() < size {
+        return Err(BodyError::Fault(FrameFault::Cut));
     }
-    let (content, rest) = behind.split_at(size);
+    let (content, rest) = after.split_at(size);
     let frame = read_frame(alloc, clock, content)?;
     Ok(Some((frame, rest)))
-}
-
-// The most bytes of a session.
-const MAX_INPUT: usize = 1 << 30;
-
-// How many bytes are asked of a source at once.
-const PIECE: usize = 65_536;
-
-impl From<AllocError> for FrameError {
-    ghost use Rattle.std.specs.Prelude.{◌≡◌};
-    ghost use Rattle.session_frames.specs.declared.frame.FrameError.TheVariants.{Memory};
-
-    ghost from_gives = { λ _ e. e ≡ Memory };
-
-    fn from(_: AllocError) -> FrameError {
-        FrameError::Memory
-    }
-}
-
-impl From<ReadFailed> for FrameError {
-    ghost use Rattle.std.specs.Prelude.{◌≡◌};
-    ghost use Rattle.session_frames.specs.declared.frame.FrameError.TheVariants.{Read};
-
-    ghost from_gives = { λ _ e. e ≡ Read };
-
-    fn from(_: ReadFailed) -> FrameError {
-        FrameError::Read
-    }
 }
 
 // Room for what one call of a source gives.
@@ -81,12 +165,14 @@ fn piece(alloc: Global) -> Result<Vec<u8>, AllocError>
 
 // The whole of a source, unless it is more than a session may have.
 fn read_all<S: Source>(alloc: Global, src: &mut S) -> Result<Vec<u8>, FrameError>
+    // What is read is all that there is.
     ensures whole { IfOk result (λ bytes. Consumes (S.left src.old) (S.left src.new) bytes.items) }
     ensures at_end { OnOk result (IsAtEnd (S.left src.new)) }
-    ensures within { IfOk result (λ bytes. length bytes.items ≤ frames.most_input) }
+    ensures within { IfOk result (λ bytes. length bytes.items ≤ most_input) }
+
+    // Each error has its cause.
     ensures refuses { IfErr result (λ e. Refuses (S.left src.old) (S.left src.new) unread e) }
-    ensures read { IsErrOf result FrameError.Read → Rose (S.faults src.old) (S.faults src.new) }
-    ensures later { S.faults src.old ≤ S.faults src.new }
+    ensures cause { HasReadCause (S.faults src.old) (S.faults src.new) result }
 {
     let mut piece = piece(alloc)?;
     let mut bytes = Vec::new(alloc);
@@ -101,96 +187,6 @@ fn read_all<S: Source>(alloc: Global, src: &mut S) -> Result<Vec<u8>, FrameError
                 at: MAX_INPUT as u64,
                 fault: SessionFault::TooManyFrames,
             });
-        }
-    }
-}
-
-/// Reads the frames of a session. Its first call reads the source to the end; a call that fails takes the reader.
-#[derive(Debug, Drop)]
-pub struct FrameReader {
-    alloc: Global,
-    bytes: Vec<u8>,
-    at: usize,
-    clock: u64,
-    ended: bool,
-}
-
-impl Model for FrameReader {
-    ghost use Rattle.std.specs.Prelude.{drop};
-    ghost use Rattle.session_frames.specs.Reader.{Reading, IsHeld};
-
-    ghost Value = { Reading };
-
-    ghost view = { λ s. record { pending = drop s.at s.bytes.items; place = record { bytes = s.at; clock = s.clock }; ended = s.ended } };
-
-    ghost invariant = { λ s. IsHeld s.bytes.items s.at s.clock s.ended };
-}
-
-impl FrameReader {
-    /// A reader that has taken nothing. It takes no memory yet.
-    pub fn new(alloc: Global) -> FrameReader
-        ensures { result ≡ unread }
-    {
-        FrameReader {
-            alloc,
-            bytes: Vec::new(alloc),
-            at: 0,
-            clock: 0,
-            ended: false,
-        }
-    }
-
-    /// The next frame, or `None` where the source ended at a frame's end. Only a configuration's bytes are copied.
-    pub fn next<S: Source>(self, src: &mut S) -> Result<(FrameReader, Option<Frame>), FrameError>
-        ensures gives { IsInStep self (S.left src.old)
-            → IfOk result (λ r. Gives (S.left src.old) (S.left src.new) self r.0 r.1) }
-        ensures refuses { IsInStep self (S.left src.old)
-            → IfErr result (λ e. Refuses (S.left src.old) (S.left src.new) self e) }
-        ensures end { IfOk result (λ r. IfNone r.1 (IsDone self r.0)) }
-        ensures faultless { IfOk result (λ r. IfSome r.1 (λ f. IsFaultless f × IsInTime self.place.clock f)) }
-        ensures read { IsErrOf result FrameError.Read → Rose (S.faults src.old) (S.faults src.new) }
-        ensures later { S.faults src.old ≤ S.faults src.new }
-    {
-        let filled = self.fill(src)?;
-        filled.judge()
-    }
-
-    // The whole of the source is read, if it wasn't before.
-    fn fill<S: Source>(mut self, src: &mut S) -> Result<FrameReader, FrameError>
-        ensures fills { IsInStep self (S.left src.old)
-            → IfOk result (λ r. Fills (S.left src.old) (S.left src.new) self r) }
-        ensures refuses { IfErr result (λ e. Refuses (S.left src.old) (S.left src.new) self e) }
-        ensures ended { IfOk result (λ r. IsTrue r.ended) }
-        ensures place { IfOk result (λ r. r.place ≡ self.place) }
-        ensures read { IsErrOf result FrameError.Read → Rose (S.faults src.old) (S.faults src.new) }
-        ensures later { S.faults src.old ≤ S.faults src.new }
-    {
-        if self.ended {
-            return Ok(self);
-        }
-        self.bytes = read_all(self.alloc, src)?;
-        self.ended = true;
-        Ok(self)
-    }
-
-    // What stands next in what is held.
-    fn judge(mut self) -> Result<(FrameReader, Option<Frame>), FrameError>
-        requires { IsTrue self.ended }
-        ensures judges { Judges self result }
-        ensures sound { IfOk result (λ r. IfSome r.1 (λ f. IsFaultless f × IsInTime self.place.clock f)) }
-    {
-        match next_in(self.alloc, self.clock, &self.bytes[self.at..]) {
-            Ok(None) => Ok((self, None)),
-            Ok(Some((frame, rest))) => {
-                self.at = self.bytes.len() - rest.len();
-                self.clock = clock_behind(self.clock, &frame);
-                Ok((self, Some(frame)))
-            }
-            Err(BodyError::Fault(fault)) => Err(FrameError::Session {
-                at: self.at as u64,
-                fault,
-            }),
-            Err(BodyError::Memory) => Err(FrameError::Memory),
         }
     }
 }

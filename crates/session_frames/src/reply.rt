@@ -1,6 +1,6 @@
 //! The answers to commands.
 use atom_record::Bytes;
-use sd_base::Seq;
+use sd_base::Path;
 
 /// The answer to one command, with the command's uid and configuration id.
 #[derive(Debug, Drop, PartialEq, Eq)]
@@ -29,6 +29,21 @@ pub enum ReplyBody {
     ClientFull(u32),
 }
 
+// The kinds of answers, by their numbers.
+pub(crate) const INSTALLED: u8 = 1;
+
+pub(crate) const REPLACED: u8 = 2;
+
+pub(crate) const REFUSED: u8 = 3;
+
+pub(crate) const REMOVED: u8 = 4;
+
+pub(crate) const NO_CONFIG: u8 = 5;
+
+pub(crate) const REPORT_BYTES: u8 = 6;
+
+pub(crate) const CLIENT_FULL: u8 = 7;
+
 /// Why a configuration was refused.
 #[derive(Debug, Drop, PartialEq, Eq)]
 pub enum Refusal {
@@ -37,7 +52,16 @@ pub enum Refusal {
     /// It isn't well-formed as a message: the cause's number, and where.
     Wire { cause: u8, offset: u32 },
     /// It uses what isn't supported: the field numbers from the top to it.
-    Unsupported(Seq<u32>),
+    Unsupported(Path),
     /// Its parts don't fit together: the fault's number, its reason, and the value at fault.
     Link { number: u8, reason: u8, value: i64 },
 }
+
+// The classes of refusals, by their numbers.
+pub(crate) const TOO_LARGE: u8 = 1;
+
+pub(crate) const WIRE: u8 = 2;
+
+pub(crate) const UNSUPPORTED: u8 = 3;
+
+pub(crate) const LINK: u8 = 4;

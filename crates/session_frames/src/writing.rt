@@ -4,15 +4,19 @@ ghost use Rattle.std.specs.List.{flat_map};
 ghost use Rattle.std.specs.Int.{w32, to_le_bytes};
 ghost use Rattle.sd_io.specs.Causes.{HasCause, PutAppends};
 ghost use Rattle.session_frames.specs.ReplyLayout.{head_bytes};
-ghost use Rattle.session_frames.specs.Replies.{HasShortPath, body_bytes, kind_of, refusal_bytes, reply_bytes};
+ghost use Rattle.session_frames.specs.Replies.{answer_bytes, kind_of, refusal_bytes, reply_bytes};
 
+use crate::reply::{
+    CLIENT_FULL, INSTALLED, LINK, NO_CONFIG, REFUSED, REMOVED, REPLACED, REPORT_BYTES, TOO_LARGE,
+    UNSUPPORTED, WIRE,
+};
 use crate::{Refusal, Reply, ReplyBody};
 use sd_io::{Sink, WriteFailed};
 
 /// Writes a reply with its length in front. It takes no memory.
 pub fn write_reply<K: Sink>(reply: &Reply, out: &mut K) -> Result<(), WriteFailed>
-    requires { HasShortPath reply.now.body }
-    ensures bytes { PutAppends (K.written out.old) (K.written out.new) result (reply_bytes reply.now) }
+    ensures bytes { PutAppends (K.written out.old) (K.written out.new) result
+        (reply_bytes reply.now) }
     ensures cause { HasCause (K.faults out.old) (K.faults out.new) result }
 {
     out.put(&head(reply))?;
@@ -21,7 +25,6 @@ pub fn write_reply<K: Sink>(reply: &Reply, out: &mut K) -> Result<(), WriteFaile
 
 // The length, the kind, the uid and the configuration's id.
 fn head(reply: &Reply) -> [u8; 21]
-    requires { HasShortPath reply.now.body }
     ensures { result ≡ head_bytes reply.now }
 {
     let mut head = [0; 21];
@@ -32,23 +35,24 @@ fn head(reply: &Reply) -> [u8; 21]
     head
 }
 
+// The kind byte of an answer.
 fn kind(body: &ReplyBody) -> u8
     ensures { result ≡ kind_of body.now }
 {
     match body {
-        ReplyBody::Installed => 1,
-        ReplyBody::Replaced => 2,
-        ReplyBody::Refused(_) => 3,
-        ReplyBody::Removed => 4,
-        ReplyBody::NoConfig => 5,
-        ReplyBody::ReportBytes(_) => 6,
-        ReplyBody::ClientFull(_) => 7,
+        ReplyBody::Installed => INSTALLED,
+        ReplyBody::Replaced => REPLACED,
+        ReplyBody::Refused(_) => REFUSED,
+        ReplyBody::Removed => REMOVED,
+        ReplyBody::NoConfig => NO_CONFIG,
+        ReplyBody::ReportBytes(_) => REPORT_BYTES,
+        ReplyBody::ClientFull(_) => CLIENT_FULL,
     }
 }
 
+// How many bytes come after the kind, the uid and the id.
 fn body_len(body: &ReplyBody) -> u64
-    requires { HasShortPath body.now }
-    ensures len { result ≡ length (body_bytes body.now) }
+    ensures len { result ≡ length (answer_bytes body.now) }
     ensures room { result < 2 ^ 63 }
 {
     match body {
@@ -59,15 +63,15 @@ fn body_len(body: &ReplyBody) -> u64
     }
 }
 
+// How many bytes a refusal has.
 fn refusal_len(refusal: &Refusal) -> u64
-    requires { HasShortPath (ReplyBody.Refused refusal.now) }
     ensures len { result ≡ length (refusal_bytes refusal.now) }
     ensures room { result < 2 ^ 63 }
 {
     match refusal {
         Refusal::TooLarge(_) => 5,
         Refusal::Wire { .. } => 6,
-        Refusal::Unsupported(path) => 2 + 4 * path.len() as u64,
+        Refusal::Unsupported(path) => 2 + 4 * path.as_slice().len() as u64,
         Refusal::Link { .. } => 11,
     }
 }
@@ -80,9 +84,10 @@ fn size(bytes: &[u8]) -> u64
     bytes.len() as u64
 }
 
+// Writes what comes after the kind, the uid and the id.
 fn write_body<K: Sink>(body: &ReplyBody, out: &mut K) -> Result<(), WriteFailed>
-    requires { HasShortPath body.now }
-    ensures bytes { PutAppends (K.written out.old) (K.written out.new) result (body_bytes body.now) }
+    ensures bytes { PutAppends (K.written out.old) (K.written out.new) result
+        (answer_bytes body.now) }
     ensures cause { HasCause (K.faults out.old) (K.faults out.new) result }
 {
     match body {
@@ -95,23 +100,25 @@ fn write_body<K: Sink>(body: &ReplyBody, out: &mut K) -> Result<(), WriteFailed>
     }
 }
 
+// Writes a class byte, and what the class says.
 fn write_refusal<K: Sink>(refusal: &Refusal, out: &mut K) -> Result<(), WriteFailed>
-    requires { HasShortPath (ReplyBody.Refused refusal.now) }
-    ensures bytes { PutAppends (K.written out.old) (K.written out.new) result (refusal_bytes refusal.now) }
+    ensures bytes { PutAppends (K.written out.old) (K.written out.new) result
+        (refusal_bytes refusal.now) }
     ensures cause { HasCause (K.faults out.old) (K.faults out.new) result }
 {
     match refusal {
         Refusal::TooLarge(size) => {
             let [a, b, c, d] = size.to_le_bytes();
-            out.put(&[1, a, b, c, d])
+            out.put(&[TOO_LARGE, a, b, c, d])
         }
         Refusal::Wire { cause, offset } => {
             let [a, b, c, d] = offset.to_le_bytes();
-            out.put(&[2, *cause, a, b, c, d])
+            out.put(&[WIRE, *cause, a, b, c, d])
         }
         Refusal::Unsupported(path) => {
-            out.put(&[3, path.len() as u8])?;
-            write_path(path.as_slice(), out)
+            let numbers = path.as_slice();
+            out.put(&[UNSUPPORTED, numbers.len() as u8])?;
+            write_path(numbers, out)
         }
         Refusal::Link {
             number,
@@ -119,11 +126,12 @@ fn write_refusal<K: Sink>(refusal: &Refusal, out: &mut K) -> Result<(), WriteFai
             value,
         } => {
             let [a, b, c, d, e, f, g, h] = value.to_le_bytes();
-            out.put(&[4, *number, *reason, a, b, c, d, e, f, g, h])
+            out.put(&[LINK, *number, *reason, a, b, c, d, e, f, g, h])
         }
     }
 }
 
+// Writes the numbers of a path, four bytes each.
 fn write_path<K: Sink>(path: &[u32], out: &mut K) -> Result<(), WriteFailed>
     ensures bytes { PutAppends (K.written out.old) (K.written out.new) result
         (flat_map (to_le_bytes w32) path.now) }
@@ -134,6 +142,3 @@ fn write_path<K: Sink>(path: &[u32], out: &mut K) -> Result<(), WriteFailed>
     }
     Ok(())
 }
-
-#[cfg(test)]
-mod tests;

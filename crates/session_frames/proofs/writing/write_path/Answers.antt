@@ -8,4 +8,5 @@ pub returns-in_err-put-clause-bytes : goal.returns-in_err-put-clause-bytes
 returns-in_err-put-clause-bytes g c =
     let failed = err_from_is_err_and c.from_residual.result c.from_residual.ensures.1 in
     let part = rw c.to_le_bytes.ensures at c.in_err-put.ensures.bytes in
-    rw failed.1 (AppendsFront-flat_map (to_le_bytes w32) _ _ _ c.args.path.now c.loop-number.number-index (omega arith) c.loop-number.invariant.written part)
+    rw failed.1 (AppendsFront-flat_map (to_le_bytes w32) _ _ _ c.args.path.now c.loop-number.number-index
+    (omega arith) c.loop-number.invariant.written part)

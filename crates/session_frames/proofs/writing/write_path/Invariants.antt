@@ -7,6 +7,7 @@ use Rattle.session_frames.proofs.writing.write_path.Given as goal
 -- the numbers so far were written
 abbrev pub invariant-loop-number : goal.invariant-loop-number
 invariant-loop-number g l = record {
-  written : Appends (g.K.Sink.written l.fn.out) (g.K.Sink.written l.out) (flat_map (to_le_bytes w32) (take l.number-index l.path));
+  written : Appends (g.K.Sink.written l.fn.out) (g.K.Sink.written l.out)
+      (flat_map (to_le_bytes w32) (take l.number-index l.path));
   later : g.K.Sink.faults l.fn.out ≤ g.K.Sink.faults l.out;
 }

@@ -1,8 +1,9 @@
--- The atoms so far, and those of the rest behind them, are those of all the bytes.
+-- The atoms so far, and those of the rest after them, are those of all the bytes.
 use Rattle.std.proofs.Common.{◌≡◌, ◌-◌, length, All}
 use Rattle.sd_base.specs.Reads.{many, with_front}
-use Rattle.session_frames.specs.Frames.{pulled_at, IsPulledAtom}
-use Rattle.session_frames.proofs.body.atoms_at.Given as goal
+use Rattle.session_frames.specs.Faultless.{IsPulledAtom}
+use Rattle.session_frames.specs.FrameReading.{pulled_at}
+use Rattle.session_frames.proofs.body.read_atoms.Given as goal
 
 abbrev pub invariant-loop-turn : goal.invariant-loop-turn
 invariant-loop-turn l = record {

@@ -1,0 +1,5 @@
+//! Sessions and replies by their bytes. There is nothing here but tests.
+#![tactic(auto)]
+
+#[cfg(test)]
+mod tests;

@@ -1,0 +1,70 @@
+//! A session of more than two MiB, read to its end frame by frame. With ample memory nothing is refused.
+use sd_io::MemSource;
+use session_frames::{Frame, FrameReader, bytes_have_one_reading};
+use std::alloc::{AllocError, Global};
+use std::test::Fail;
+
+// The head of an install whose body has 2^20 bytes, the most that a frame may have.
+const LONGEST: &[u8; 17] = b"\0\0\x10\0\x10\x0a\0\0\0\x07\0\0\0\0\0\0\0";
+
+// What stands between two of them: a tick at 3, a remove, a report.
+const BETWEEN: &[u8; 48] = b"\x09\0\0\0\x01\x03\0\0\0\0\0\0\0\
+    \x0d\0\0\0\x11\x0a\0\0\0\x07\0\0\0\0\0\0\0\
+    \x0e\0\0\0\x12\x0a\0\0\0\x07\0\0\0\0\0\0\0\x01";
+
+// Twice: the longest install, and then a thousand times the three frames.
+fn session(alloc: Global) -> Result<Vec<u8>, AllocError> {
+    let mut bytes = Vec::new(alloc);
+    for _ in 0..2 {
+        bytes.extend_from_slice(LONGEST)?;
+        for _ in 0..1_048_563 {
+            bytes.push(7)?;
+        }
+        for _ in 0..1_000 {
+            bytes.extend_from_slice(BETWEEN)?;
+        }
+    }
+    Ok(bytes)
+}
+
+// A tick, a remove, a report, or an install of so many bytes.
+fn code(frame: &Frame) -> usize {
+    match frame {
+        Frame::Log(_) => 1,
+        Frame::Remove { .. } => 2,
+        Frame::Report { .. } => 3,
+        Frame::Install { config, .. } => config.len(),
+    }
+}
+
+// The code of the frame with this number.
+fn code_at(number: usize) -> usize {
+    match number % 3_001 {
+        0 => 1_048_563,
+        place => (place - 1) % 3 + 1,
+    }
+}
+
+// How many frames come before the end, each with the code that it should have.
+fn count_good(alloc: Global, source: &mut MemSource) -> Option<usize> {
+    let mut reader = FrameReader::new(alloc);
+    for number in 0..10_000 {
+        let (next, frame) = reader.next(source).ok()?;
+        reader = next;
+        let Some(frame) = frame else {
+            return Some(number);
+        };
+        if code(&frame) != code_at(number) {
+            return None;
+        }
+    }
+    None
+}
+
+#[test]
+fn reads_two_mebibytes_to_the_end(rt: HostRuntime) -> Result<(), Fail> {
+    bytes_have_one_reading();
+    let mut source = MemSource::new(session(rt.alloc())?, 50_000, Vec::new(rt.alloc()));
+    assert!(rt; count_good(rt.alloc(), &mut source) == Some(6_002));
+    Ok(())
+}
