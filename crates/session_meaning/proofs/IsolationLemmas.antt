@@ -76,6 +76,20 @@ other_reply client before (Report uid id include_current) is =
     other_made client uid id
     (report_answer uid (own uid before) include_current (config_at id (live (own uid before)))) is
 
+-- one frame more in front: it is answered as among the client's own frames, or not to the client
+own_step : (client : ℤ) (before frames : List Frame) (frame : Frame) (later : List Reply) (mine : Bool)
+    → is_own client frame ≡ mine
+    → later ≡ given_after replies_at (own client (before ++ frame ∷ [])) (own client frames)
+    → filter (is_to client) (replies_at before frame) ++ later
+    ≡ given_after replies_at (own client before) (cond mine (frame ∷ own client frames) (own client frames))
+own_step client before frames frame later true is rest =
+    ap (λ l. l ++ later) (own_reply client before frame is)
+    ∙ ap (λ l. replies_at (own client before) frame ++ l)
+    (rest ∙ ap (λ b. given_after replies_at b (own client frames)) (own-push_own client before frame is))
+own_step client before frames frame later false is rest =
+    ap (λ l. l ++ later) (other_reply client before frame is)
+    ∙ (rest ∙ ap (λ b. given_after replies_at b (own client frames)) (own-push_other client before frame is))
+
 -- the replies to the client among those to some frames after others
 own_replies : (client : ℤ) (before frames : List Frame)
     → filter (is_to client) (given_after replies_at before frames)
@@ -83,21 +97,9 @@ own_replies : (client : ℤ) (before frames : List Frame)
 own_replies client before [] = refl
 own_replies client before (frame ∷ frames) =
     filter-append (is_to client) (replies_at before frame) (given_after replies_at (before ++ frame ∷ []) frames)
-    ∙ by_case (is_own client frame) refl (own_replies client (before ++ frame ∷ []) frames) where
-      later : List Reply
-      later = filter (is_to client) (given_after replies_at (before ++ frame ∷ []) frames)
-
-      by_case : (mine : Bool) → is_own client frame ≡ mine
-          → later ≡ given_after replies_at (own client (before ++ frame ∷ [])) (own client frames)
-          → filter (is_to client) (replies_at before frame) ++ later
-          ≡ given_after replies_at (own client before) (cond mine (frame ∷ own client frames) (own client frames))
-      by_case true is rest =
-          ap (λ l. l ++ later) (own_reply client before frame is)
-          ∙ ap (λ l. replies_at (own client before) frame ++ l)
-          (rest ∙ ap (λ b. given_after replies_at b (own client frames)) (own-push_own client before frame is))
-      by_case false is rest =
-          ap (λ l. l ++ later) (other_reply client before frame is)
-          ∙ rest ∙ ap (λ b. given_after replies_at b (own client frames)) (own-push_other client before frame is)
+    ∙ own_step client before frames frame
+    (filter (is_to client) (given_after replies_at (before ++ frame ∷ []) frames))
+    (is_own client frame) refl (own_replies client (before ++ frame ∷ []) frames)
 
 -- the replies to a client are those of the session of its own frames
 pub own_frames_decide : OwnFramesDecide

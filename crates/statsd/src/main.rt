@@ -4,7 +4,7 @@
 ghost use Rattle.std.specs.Prelude.{◌≡◌, [], map, drop, IfOk, IfErr, IsOk, string_bytes};
 ghost use Rattle.std.specs.Process.{exit_status};
 ghost use Rattle.std.specs.Vec.Iter.{into_iter_items};
-ghost use Rattle.std_io.specs.IoError.{error_kind};
+ghost use Rattle.std.specs.IoError.{error_kind};
 ghost use Rattle.sd_io.specs.Causes.{Rose};
 ghost use Rattle.statsd_cli.specs.Run.{status_read_fault, status_write_fault};
 ghost use Rattle.statsd.specs.Program.{streams, EndsOn, IsRefused};
@@ -70,8 +70,10 @@ fn words(alloc: Global, args: io::Result<Args>) -> Result<Vec<Bytes>, AllocError
 {
     match args {
         Ok(args) => words_of(alloc, args),
-        Err(error) if error.kind() == ErrorKind::InvalidData => Ok(Vec::new(alloc)),
-        Err(_) => Err(AllocError),
+        Err(error) => match error.kind() {
+            ErrorKind::InvalidData => Ok(Vec::new(alloc)),
+            _ => Err(AllocError),
+        },
     }
 }
 
