@@ -11,8 +11,8 @@ use Rattle.config_types.specs.declared.matcher.SimpleMatcher.{SimpleMatcher}
 use Rattle.config_types.specs.declared.metric.Common.{Common}
 use Rattle.config_types.specs.declared.metric.Sliced.{Sliced}
 use Rattle.config_types.specs.declared.metric.CountDef.{CountDef}
-use Rattle.config_decode.specs.declared.fault.DecodeFault.{DecodeFault}
-use Rattle.config_decode.specs.declared.fault.DecodeFault.TheVariants as fault
+use Rattle.config_decode.specs.ConfigFault as fault
+use Rattle.config_decode.specs.ConfigFault.{ConfigFault}
 use Rattle.config_decode.specs.Config.{config_of}
 use Rattle.session_frames.specs.declared.reply.Refusal.{Refusal}
 use Rattle.session_frames.specs.declared.reply.Refusal.TheVariants.{TooLarge, Wire, Unsupported}
@@ -30,12 +30,11 @@ default_bound = 800
 abbrev pub other_form : Refusal
 other_form = Unsupported []
 
--- why bytes that aren't a configuration are refused; the definition of what they say wants no memory
-abbrev pub refusal_of : DecodeFault → Refusal
+-- why bytes that aren't a configuration are refused
+abbrev pub refusal_of : ConfigFault → Refusal
 refusal_of (fault.TooLarge size) = TooLarge (min size (2 ^ 32 - 1))
 refusal_of (fault.Wire wire) = Wire wire.cause wire.offset
 refusal_of (fault.Unsupported path) = Unsupported path
-refusal_of fault.Memory = other_form
 
 -- the one member of a list
 abbrev pub one_of : {A : Type 0} → List A → Result A Refusal
@@ -134,7 +133,7 @@ built config =
     else Err other_form
 
 -- the parts of what was read, or why it is refused
-abbrev pub built_of : Result Config DecodeFault → Result Linked Refusal
+abbrev pub built_of : Result Config ConfigFault → Result Linked Refusal
 built_of (Ok config) = built config
 built_of (Err fault) = Err (refusal_of fault)
 

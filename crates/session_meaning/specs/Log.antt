@@ -3,7 +3,7 @@ use Rattle.std.specs.Prelude.{ℕ, ℤ, Bool, true, false, List, [], ◌∷◌, 
 use Rattle.std.specs.Ordering.{int_eq}
 use Rattle.session_frames.specs.declared.frame.Frame.{Frame}
 use Rattle.session_frames.specs.declared.frame.Frame.TheVariants.{Log, Install, Remove, Report}
-use Rattle.session_frames.specs.Frames.{clock_behind}
+use Rattle.session_frames.specs.Frames.{clock_after}
 
 -- a frame belongs to a client if it is of the log, or a command of the client
 abbrev pub is_own : ℤ → Frame → Bool
@@ -26,7 +26,7 @@ own client frames = filter (is_own client) frames
 -- the clock after these frames, from a clock before them
 abbrev pub clock_from : ℕ → List Frame → ℕ
 clock_from clock [] = clock
-clock_from clock (frame ∷ frames) = clock_from (clock_behind clock frame) frames
+clock_from clock (frame ∷ frames) = clock_from (clock_after clock frame) frames
 
 -- the clock: the time of the last frame of the log, or 0
 abbrev pub clock_of : List Frame → ℕ

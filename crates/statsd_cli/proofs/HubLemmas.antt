@@ -12,7 +12,7 @@ use Rattle.session_frames.specs.declared.reply.Reply.{Reply}
 use Rattle.session_frames.specs.declared.reply.Refusal.{Refusal}
 use Rattle.session_frames.specs.declared.reply.ReplyBody.{ReplyBody}
 use Rattle.session_frames.specs.declared.reply.ReplyBody.TheVariants as answers
-use Rattle.session_frames.specs.Frames.{log_time, clock_behind, IsFaultlessLog}
+use Rattle.session_frames.specs.Frames.{log_time, clock_after, IsFaultlessLog}
 use Rattle.instance_meaning.specs.Linked.{Linked}
 use Rattle.instance_meaning.specs.History.{Step, History, with_steps}
 use Rattle.instance_meaning.specs.Report.{report_of}
@@ -201,7 +201,7 @@ mine_is : (n : ℤ) → int_eq n n ≡ true
 mine_is n = (signed_Decides n n).1 refl
 
 -- the clock stays after a command
-clock_kept : (hub new : Hub) (frames : List Frame) (frame : Frame) → clock_behind (clock_of frames) frame ≡ clock_of frames → new.clock ≡ hub.clock → hub.clock ≡ clock_of frames → new.clock ≡ clock_of (frames ++ frame ∷ [])
+clock_kept : (hub new : Hub) (frames : List Frame) (frame : Frame) → clock_after (clock_of frames) frame ≡ clock_of frames → new.clock ≡ hub.clock → hub.clock ≡ clock_of frames → new.clock ≡ clock_of (frames ++ frame ∷ [])
 clock_kept hub new frames frame command same is = same ∙ is ∙ sym (clock_of-push frames frame ∙ command)
 
 -- a new hub stands for no frame

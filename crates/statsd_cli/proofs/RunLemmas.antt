@@ -11,10 +11,10 @@ use Rattle.session_frames.specs.declared.frame.Frame.{Frame}
 use Rattle.session_frames.specs.declared.frame.FrameError.{FrameError}
 use Rattle.session_frames.specs.declared.frame.FrameError.TheVariants as errors
 use Rattle.session_frames.specs.declared.frame.SessionFault.{SessionFault}
-use Rattle.session_frames.specs.declared.frame.SessionFault.TheVariants.{Cut, TooLong, BadLength, UnknownKind, BadBody, BadAtom, TimeBackwards, TooManyFrames}
-use Rattle.session_frames.specs.Frames.{most_input, clock_behind, Place, start, End, Clean, Bad, Reads, Begins, is_too_much, frames_of}
-use Rattle.session_frames.specs.Reader.{Reading, unread, IsInStep, IsWithin, Gives, IsFaultNext, IsTooMuch, Refuses}
-use Rattle.session_frames.proofs.FrameLaws.{whole_takes, Begins-more, Begins-push, Reads-from_Begins, Begins_clock, Begins_bytes, some_reading, some_frames, one_frames, frames_of-Reads, frames_of-too_much, Begins-from_Reads, next_not_too_many}
+use Rattle.session_frames.specs.declared.frame.SessionFault.TheVariants.{TooManyFrames}
+use Rattle.session_frames.specs.Frames.{most_input, clock_after, Place, start, End, Clean, Bad, Reads, Begins, is_too_much, frames_of}
+use Rattle.session_frames.specs.Reader.{Reading, unread, IsInStep, FitsSession, GivesFrame, IsFaultNext, IsTooMuch, Refuses}
+use Rattle.session_frames.proofs.FrameLaws.{whole_takes, Begins-more, Begins-push, Reads-from_Begins, Begins_clock, Begins_bytes, some_reading, some_frames, one_frames, frames_of-Reads, frames_of-too_much, Begins-from_Reads, session_fault-other}
 use Rattle.session_frames.specs.declared.reply.Reply.{Reply}
 use Rattle.session_frames.specs.Replies.{reply_bytes}
 use Rattle.session_meaning.specs.Log.{clock_from, clock_of}
@@ -24,7 +24,7 @@ use Rattle.statsd_cli.specs.declared.hub.Hub.{Hub}
 use Rattle.statsd_cli.specs.declared.top.Ending.{Ending}
 use Rattle.statsd_cli.specs.declared.top.Ending.TheVariants.{Done, BadSession, ReadFault, WriteFault, NoMemory}
 use Rattle.statsd_cli.specs.Hub.{HubStandsFor}
-use Rattle.statsd_cli.specs.Run.{IsWhole, IsBadSession, IsRun, status_of, reply_text, IsServed, ending_by}
+use Rattle.statsd_cli.specs.Run.{IsBadSession, IsRun, status_of, reply_text, IsServed, ending_by}
 
 -- A run under way: these frames were served, of the bytes taken.
 pub record IsAlong (left_old left_new old new : Option (List ℕ)) (reader : Reading) (hub : Hub) : Type 0 where
@@ -36,9 +36,9 @@ pub record IsAlong (left_old left_new old new : Option (List ℕ)) (reader : Rea
   pub stands : HubStandsFor hub frames
   pub written : Appends old new (text frames)
 
-clock_is : (clock : ℕ) (frames : List Frame) → fold clock_behind clock frames ≡ clock_from clock frames
+clock_is : (clock : ℕ) (frames : List Frame) → fold clock_after clock frames ≡ clock_from clock frames
 clock_is clock [] = refl
-clock_is clock (frame ∷ frames) = clock_is (clock_behind clock frame) frames
+clock_is clock (frame ∷ frames) = clock_is (clock_after clock frame) frames
 
 -- at the beginning nothing was served
 pub begins_along : (left old : Option (List ℕ)) (reader : Reading) (hub : Hub) → reader ≡ unread → HubStandsFor hub [] → IsAlong left left old old reader hub
@@ -71,7 +71,7 @@ module _ (lo ln o n : Option (List ℕ)) (reader : Reading) (hub : Hub) (a : IsA
   all_with : List ℕ → List ℕ
   all_with more = a.taken ++ more
 
-  within_all : (more : List ℕ) → IsWithin reader.place (reader.pending ++ more) → length (a.taken ++ more) ≤ most_input
+  within_all : (more : List ℕ) → FitsSession reader.place (reader.pending ++ more) → length (a.taken ++ more) ≤ most_input
   within_all more within =
       omega (arith, within, Begins_bytes start a.taken a.frames reader.place reader.pending a.begins, length-append a.taken more, length-append reader.pending more)
 
@@ -96,7 +96,7 @@ module _ (lo ln o n : Option (List ℕ)) (reader : Reading) (hub : Hub) (a : IsA
         no_frames (frame ∷ frames) taken place rest h len = absurd (omega (arith, whole_takes 0 taken frame h.0 h.1))
 
   -- the source ended
-  pub ends_done : (lm : Option (List ℕ)) (after : Reading) → Gives ln lm reader after None → IsRun lo lm o n Done
+  pub ends_done : (lm : Option (List ℕ)) (after : Reading) → GivesFrame ln lm reader after None → IsRun lo lm o n Done
   ends_done lm after g = record {
     taken = a.taken ++ g.taken;
     consumes = Consumes-trans lo ln lm a.taken g.taken a.consumes g.consumes;
@@ -111,36 +111,48 @@ module _ (lo ln o n : Option (List ℕ)) (reader : Reading) (hub : Hub) (a : IsA
   }
 
   -- the session has a fault
-  bad : (lm : Option (List ℕ)) (at : ℕ) (fault : SessionFault) (taken : List ℕ) → Consumes ln lm taken → IsWhole fault lm → IsFaultNext at fault reader (reader.pending ++ taken) lm → IsRun lo lm o n (BadSession at fault)
-  bad lm at fault taken consumes whole h = record {
+  bad : (lm : Option (List ℕ)) (at : ℕ) (fault : SessionFault) (taken : List ℕ) → Consumes ln lm taken
+      → IsFaultNext at fault reader (reader.pending ++ taken) lm
+      → IsRun lo lm o n (BadSession at fault)
+  bad lm at fault taken consumes h = record {
     taken = a.taken ++ taken;
     consumes = Consumes-trans lo ln lm a.taken taken a.consumes consumes;
     outcome = record {
       frames = a.frames;
       session = frames_of-Reads (a.taken ++ taken) a.frames (Bad at fault) (within_all taken h.within)
           (subst (λ all. Reads start (a.taken ++ taken) all (Bad at fault)) (append-nil a.frames)
-          (Reads-from_Begins start (a.taken ++ taken) a.frames reader.place (reader.pending ++ taken) [] (Bad at fault) (further taken) (h.placed, h.broken)));
-      whole = whole;
+          (Reads-from_Begins start (a.taken ++ taken) a.frames reader.place (reader.pending ++ taken) [] (Bad at fault)
+          (further taken) (h.placed, h.broken)));
+      whole = inr h.at_end;
       written = a.written;
     };
   }
 
   -- the session is too long
-  too_long : (lm : Option (List ℕ)) (at : ℕ) (taken : List ℕ) → Consumes ln lm taken → IsTooMuch at reader (reader.pending ++ taken) → IsRun lo lm o n (BadSession at TooManyFrames)
-  too_long lm at taken consumes h =
+  too_long : (lm : Option (List ℕ)) (at : ℕ) (fault : SessionFault) (taken : List ℕ) → Consumes ln lm taken
+      → IsTooMuch at fault reader (reader.pending ++ taken)
+      → IsRun lo lm o n (BadSession at fault)
+  too_long lm at fault taken consumes h =
       let none = none_yet h.first in
       let pending : reader.pending ≡ [] = ap (λ (r : Reading). r.pending) h.first in
       let same : reader.pending ++ taken ≡ a.taken ++ taken = ap (λ l. l ++ taken) (pending ∙ sym none.1) in
       let much : IsTrue (is_too_much (a.taken ++ taken)) = subst (λ l. IsTrue (is_too_much l)) same h.too_much in
-      let session : frames_of (a.taken ++ taken) [] (Bad at TooManyFrames) = subst (λ place. frames_of (a.taken ++ taken) [] (Bad place TooManyFrames)) (sym h.placed) (frames_of-too_much (a.taken ++ taken) much) in
+      let at_most : frames_of (a.taken ++ taken) [] (Bad at TooManyFrames) =
+          subst (λ place. frames_of (a.taken ++ taken) [] (Bad place TooManyFrames)) (sym h.placed)
+          (frames_of-too_much (a.taken ++ taken) much) in
       record {
         taken = a.taken ++ taken;
         consumes = Consumes-trans lo ln lm a.taken taken a.consumes consumes;
-        outcome = record { frames = []; session = session; whole = tt; written = subst (λ all. Appends o n (text all)) none.0 a.written };
+        outcome = record {
+          frames = [];
+          session = subst (λ told. frames_of (a.taken ++ taken) [] (Bad at told)) (sym h.is) at_most;
+          whole = inl h.is;
+          written = subst (λ all. Appends o n (text all)) none.0 a.written;
+        };
       }
 
   -- memory was wanting, where the bytes are a session's, or before any frame
-  short_within : (lm : Option (List ℕ)) (taken : List ℕ) → Consumes ln lm taken → IsWithin reader.place (reader.pending ++ taken) → IsRun lo lm o n NoMemory
+  short_within : (lm : Option (List ℕ)) (taken : List ℕ) → Consumes ln lm taken → FitsSession reader.place (reader.pending ++ taken) → IsRun lo lm o n NoMemory
   short_within lm taken consumes within =
       let others = some_reading reader.place (reader.pending ++ taken) in
       record {
@@ -167,14 +179,8 @@ module _ (lo ln o n : Option (List ℕ)) (reader : Reading) (hub : Hub) (a : IsA
 
   -- the reader gave no frame
   pub ends_refused : (lm : Option (List ℕ)) (e : FrameError) → Refuses ln lm reader e → IsRun lo lm o n (ending_by e)
-  ends_refused lm (errors.Session at Cut) r = bad lm at Cut r.taken r.consumes r.cause.at_end r.cause
-  ends_refused lm (errors.Session at (TooLong size)) r = bad lm at (TooLong size) r.taken r.consumes r.cause.at_end r.cause
-  ends_refused lm (errors.Session at BadLength) r = bad lm at BadLength r.taken r.consumes r.cause.at_end r.cause
-  ends_refused lm (errors.Session at (UnknownKind kind)) r = bad lm at (UnknownKind kind) r.taken r.consumes r.cause.at_end r.cause
-  ends_refused lm (errors.Session at (BadBody reason)) r = bad lm at (BadBody reason) r.taken r.consumes r.cause.at_end r.cause
-  ends_refused lm (errors.Session at (BadAtom reason)) r = bad lm at (BadAtom reason) r.taken r.consumes r.cause.at_end r.cause
-  ends_refused lm (errors.Session at (TimeBackwards last now)) r = bad lm at (TimeBackwards last now) r.taken r.consumes r.cause.at_end r.cause
-  ends_refused lm (errors.Session at TooManyFrames) r = too_long lm at r.taken r.consumes r.cause
+  ends_refused lm (errors.Session at fault) r =
+      ⊎_elim (bad lm at fault r.taken r.consumes) (too_long lm at fault r.taken r.consumes) r.cause
   ends_refused lm errors.Read r = record {
     taken = a.taken ++ r.taken;
     consumes = Consumes-trans lo ln lm a.taken r.taken a.consumes r.consumes;
@@ -182,7 +188,7 @@ module _ (lo ln o n : Option (List ℕ)) (reader : Reading) (hub : Hub) (a : IsA
   }
   ends_refused lm errors.Memory r = ⊎_elim (short_within lm r.taken r.consumes) (short_before lm r.taken r.consumes) r.cause
 
-  module _ (lm : Option (List ℕ)) (after : Reading) (frame : Frame) (g : Gives ln lm reader after (Some frame)) (m : Option (List ℕ)) where
+  module _ (lm : Option (List ℕ)) (after : Reading) (frame : Frame) (g : GivesFrame ln lm reader after (Some frame)) (m : Option (List ℕ)) where
     one_more : Begins start (a.taken ++ g.taken) (a.frames ++ frame ∷ []) after.place after.pending
     one_more =
         subst (λ place. Begins start (a.taken ++ g.taken) (a.frames ++ frame ∷ []) place after.pending) (sym g.next.1)
@@ -257,24 +263,24 @@ never_too_many : (too_much : Bool) (taken : List ℕ) (frames : List Frame) (at 
 never_too_many true taken frames at e h = absurd (cc)
 never_too_many false taken frames at e h =
     let last = Begins-from_Reads start taken frames (Bad at TooManyFrames) h in
-    next_not_too_many last.0.clock last.1 last.3.1
+    session_fault-other last.3.1.0 (sym last.3.1.2)
 
 same_end : (bytes : List ℕ) (frames others : List Frame) (at : ℕ) (fault : SessionFault) → frames_of bytes frames Clean → frames_of bytes others (Bad at fault) → ⊥
 same_end bytes frames others at fault good bad = let one = one_frames bytes frames others Clean (Bad at fault) good bad in cc
 
 not_bad : (bytes rest taken : List ℕ) (o n : Option (List ℕ)) (at : ℕ) (fault : SessionFault) (frames : List Frame) → bytes ≡ taken ++ rest → IsBadSession at fault taken (Some rest) o n → frames_of bytes frames Clean → ⊥
-not_bad bytes rest taken o n at TooManyFrames frames is h good =
+not_bad bytes rest taken o n at fault frames is h good =
     ⊎_elim
-    (λ (much : is_too_much taken ≡ true). clean_within (is_too_much bytes) bytes frames (ap is_too_much is ∙ much_more taken rest much) good)
-    (λ (few : is_too_much taken ≡ false). never_too_many (is_too_much taken) taken h.frames at few h.session)
-    (cases_Bool (is_too_much taken))
-not_bad bytes rest taken o n at Cut frames is h good = same_end bytes frames h.frames at Cut good (subst (λ l. frames_of l h.frames (Bad at Cut)) (sym (is ∙ ap (λ r. taken ++ r) h.whole ∙ append-nil taken)) h.session)
-not_bad bytes rest taken o n at (TooLong size) frames is h good = same_end bytes frames h.frames at (TooLong size) good (subst (λ l. frames_of l h.frames (Bad at (TooLong size))) (sym (is ∙ ap (λ r. taken ++ r) h.whole ∙ append-nil taken)) h.session)
-not_bad bytes rest taken o n at BadLength frames is h good = same_end bytes frames h.frames at BadLength good (subst (λ l. frames_of l h.frames (Bad at BadLength)) (sym (is ∙ ap (λ r. taken ++ r) h.whole ∙ append-nil taken)) h.session)
-not_bad bytes rest taken o n at (UnknownKind kind) frames is h good = same_end bytes frames h.frames at (UnknownKind kind) good (subst (λ l. frames_of l h.frames (Bad at (UnknownKind kind))) (sym (is ∙ ap (λ r. taken ++ r) h.whole ∙ append-nil taken)) h.session)
-not_bad bytes rest taken o n at (BadBody reason) frames is h good = same_end bytes frames h.frames at (BadBody reason) good (subst (λ l. frames_of l h.frames (Bad at (BadBody reason))) (sym (is ∙ ap (λ r. taken ++ r) h.whole ∙ append-nil taken)) h.session)
-not_bad bytes rest taken o n at (BadAtom reason) frames is h good = same_end bytes frames h.frames at (BadAtom reason) good (subst (λ l. frames_of l h.frames (Bad at (BadAtom reason))) (sym (is ∙ ap (λ r. taken ++ r) h.whole ∙ append-nil taken)) h.session)
-not_bad bytes rest taken o n at (TimeBackwards last now) frames is h good = same_end bytes frames h.frames at (TimeBackwards last now) good (subst (λ l. frames_of l h.frames (Bad at (TimeBackwards last now))) (sym (is ∙ ap (λ r. taken ++ r) h.whole ∙ append-nil taken)) h.session)
+    (λ (own : fault ≡ TooManyFrames). ⊎_elim
+      (λ (much : is_too_much taken ≡ true). clean_within (is_too_much bytes) bytes frames
+        (ap is_too_much is ∙ much_more taken rest much) good)
+      (λ (few : is_too_much taken ≡ false). never_too_many (is_too_much taken) taken h.frames at few
+        (subst (λ told. frames_of taken h.frames (Bad at told)) own h.session))
+      (cases_Bool (is_too_much taken)))
+    (λ (ended : rest ≡ []). same_end bytes frames h.frames at fault good
+      (subst (λ l. frames_of l h.frames (Bad at fault)) (sym (is ∙ ap (λ r. taken ++ r) ended ∙ append-nil taken))
+      h.session))
+    h.whole
 
 pub good_isnt_bad : (bytes : List ℕ) (left o n : Option (List ℕ)) (at : ℕ) (fault : SessionFault) (frames : List Frame) → IsRun (Some bytes) left o n (BadSession at fault) → frames_of bytes frames Clean → ⊥
 good_isnt_bad bytes None o n at fault frames run good = run.consumes

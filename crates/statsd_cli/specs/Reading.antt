@@ -1,9 +1,6 @@
 -- What is made of a configuration's bytes.
-use Rattle.std.specs.Prelude.{ℕ, length, ◌≤◌, Option, Some, None, Result, Ok, Err}
+use Rattle.std.specs.Prelude.{ℕ, Option, Some, None, Result, Ok, Err}
 use Rattle.session_frames.specs.declared.reply.Refusal.{Refusal}
-use Rattle.session_frames.specs.declared.reply.Refusal.TheVariants.{TooLarge, Wire, Unsupported, Link}
-use Rattle.session_frames.specs.declared.reply.ReplyBody.{ReplyBody}
-use Rattle.session_frames.specs.declared.reply.ReplyBody.TheVariants.{Refused}
 use Rattle.instance_meaning.specs.Linked.{Linked}
 use Rattle.session_meaning.specs.Config as meaning
 use Rattle.session_meaning.specs.Config.{linked_of, other_form}
@@ -41,16 +38,3 @@ atom_matcher matcher = record { id = matcher.id; atom_id = matcher.atom_id }
 -- a metric, as its definition
 abbrev pub count_metric : CountMetric → meaning.CountMetric
 count_metric count = record { id = count.id; what = count.what }
-
--- A path in it is no longer than messages are deep: a hundred numbers lead to the innermost message, and one more to a
--- field of it.
-abbrev pub IsShallow : Refusal → Type 0
-IsShallow (Unsupported path) = length path ≤ 101
-IsShallow (TooLarge size) = Unit {0}
-IsShallow (Wire cause offset) = Unit {0}
-IsShallow (Link number reason value) = Unit {0}
-
--- a refusal that is answered is so
-abbrev pub HasShallowPath : ReplyBody → Type 0
-HasShallowPath (Refused refusal) = IsShallow refusal
-HasShallowPath _ = Unit {0}

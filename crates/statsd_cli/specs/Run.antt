@@ -65,8 +65,7 @@ IsNoted old new before now (Some note) =
 
 -- a session is known to be bad by its bytes to the end; one that is too long, before that
 abbrev pub IsWhole : SessionFault → Option (List ℕ) → Type 0
-IsWhole TooManyFrames left = Unit {0}
-IsWhole fault left = IsAtEnd left
+IsWhole fault left = (fault ≡ TooManyFrames) ⊎ IsAtEnd left
 
 -- The input ended at a frame's end, and every command was answered.
 pub record IsDone (taken : List ℕ) (left old new : Option (List ℕ)) : Type 0 where

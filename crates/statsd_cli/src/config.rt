@@ -1,13 +1,13 @@
 //! Configurations: what their bytes ask for.
-ghost use Rattle.std.specs.Prelude.{◌≡◌, IfOk, IfErr};
+ghost use Rattle.std.specs.Prelude.{◌≡◌, IfOk};
 ghost use Rattle.session_meaning.specs.Config as meaning;
 ghost use Rattle.session_meaning.specs.Config.{linked_of_bytes, atom_id_in, simple_built, body_built, matcher_built, is_unconditional, is_unsliced, count_built, has_only_counts};
-ghost use Rattle.statsd_cli.specs.Reading.{found, asked, read_of, itself, atom_matcher, count_metric, IsShallow};
+ghost use Rattle.statsd_cli.specs.Reading.{found, asked, read_of, itself, atom_matcher, count_metric};
 
 use crate::instance::CountConfig;
 use config_decode::{DecodeFault, decode};
 use config_types::{Common, Config, CountDef, MatcherBody, MatcherDef, SimpleMatcher, Sliced};
-use sd_base::Seq;
+use sd_base::Path;
 use session_frames::Refusal;
 use std::alloc::{AllocError, Global};
 
@@ -32,8 +32,7 @@ struct CountMetric {
 /// that is understood, which is one matcher of an atom's id and one metric that counts what it matches.
 #[tactic(auto, unfolding(session_meaning::specs::Config::linked_of_bytes, config_decode::specs::Config::config_of))]
 pub fn read_config(alloc: Global, bytes: &[u8]) -> Result<Result<CountConfig, Refusal>, AllocError>
-    ensures read { IfOk result (λ read. linked_of_bytes bytes.now ≡ asked read) }
-    ensures path { IfOk result (λ read. IfErr read IsShallow) }
+    ensures { IfOk result (λ read. linked_of_bytes bytes.now ≡ asked read) }
 {
     if bytes.len() > u32::MAX as usize {
         return Ok(Err(Refusal::TooLarge(u32::MAX)));
@@ -41,7 +40,7 @@ pub fn read_config(alloc: Global, bytes: &[u8]) -> Result<Result<CountConfig, Re
     match decode(alloc, bytes) {
         Ok(config) => match built(&config) {
             Some(config) => Ok(Ok(config)),
-            None => Ok(Err(Refusal::Unsupported(Seq::new(alloc)))),
+            None => Ok(Err(Refusal::Unsupported(Path::new(alloc)))),
         },
         Err(DecodeFault::TooLarge(size)) => Ok(Err(Refusal::TooLarge(size))),
         Err(DecodeFault::Wire(fault)) => Ok(Err(Refusal::Wire {

@@ -1,11 +1,10 @@
 //! The hub: all live configurations of all clients, one frame at a time.
-ghost use Rattle.std.specs.Prelude.{◌≡◌, ℕ, List, [], ◌++◌, ◌∷◌, map, filter, not, find, if◌then◌else◌, OnOk, IfOk, IfErr, IfSome};
+ghost use Rattle.std.specs.Prelude.{◌≡◌, ℕ, List, [], ◌++◌, ◌∷◌, map, filter, not, find, if◌then◌else◌, OnOk, IfOk};
 ghost use Rattle.std.specs.List.{position_from, list_any};
 ghost use Rattle.session_frames.specs.declared.frame.Frame.{Frame};
 ghost use Rattle.session_frames.specs.Frames.{log_time, IsFaultless, IsInTime};
 ghost use Rattle.session_meaning.specs.Log.{clock_of};
 ghost use Rattle.session_meaning.specs.Answers.{reply_to};
-ghost use Rattle.statsd_cli.specs.Reading.{IsShallow, HasShallowPath};
 ghost use Rattle.statsd_cli.specs.Lives.{is_at, with_live, logged_live, Installs, Removes, Reports};
 ghost use Rattle.statsd_cli.specs.Hub.{HubStandsFor};
 
@@ -52,8 +51,6 @@ impl Hub {
             → IsFaultless frame → IsInTime (clock_of frames) frame
             → IfOk result (λ r. HubStandsFor r.0 (frames ++ frame ∷ []) × (r.1 ≡ reply_to frames frame)) }
 
-        // A path in the answer has at most 101 numbers, whatever the hub.
-        ensures path { IfOk result (λ r. IfSome r.1 (λ reply. HasShallowPath reply.body)) }
     {
         match frame {
             Frame::Log(frame) => {
@@ -96,11 +93,9 @@ impl Hub {
         id: i64,
         read: Result<CountConfig, Refusal>,
     ) -> Result<ReplyBody, AllocError>
-        requires shallow { IfErr read IsShallow }
         ensures clock { OnOk result (self.new.clock ≡ self.old.clock) }
         ensures lives { IfOk result
             (Installs self.old.clock uid id read self.old.lives.items self.new.lives.items) }
-        ensures path { IfOk result HasShallowPath }
     {
         let config = match read {
             Ok(config) => config,
@@ -115,7 +110,6 @@ impl Hub {
     fn remove(&mut self, uid: i32, id: i64) -> ReplyBody
         ensures clock { self.new.clock ≡ self.old.clock }
         ensures lives { Removes uid id self.old.lives.items self.new.lives.items result }
-        ensures path { HasShallowPath result }
     {
         let there = place_of(&self.lives, uid, id).is_some();
         take_out(&mut self.lives, uid, id);
@@ -128,7 +122,6 @@ impl Hub {
         ensures lives { IfOk result
             (Reports self.old.clock uid id include_current (find (is_at uid id) self.old.lives.items)
             self.old.lives.items self.new.lives.items) }
-        ensures path { IfOk result HasShallowPath }
     {
         let Some(at) = place_of(&self.lives, uid, id) else {
             return Ok(ReplyBody::NoConfig);
@@ -201,8 +194,7 @@ fn put(lives: &mut Vec<Live>, new: Live) -> Result<bool, AllocError>
 
 /// The answer to an install that wasn't refused.
 fn install_answer(replaced: bool) -> ReplyBody
-    ensures answer { result ≡ (if replaced then ReplyBody.Replaced else ReplyBody.Installed) }
-    ensures path { HasShallowPath result }
+    ensures { result ≡ (if replaced then ReplyBody.Replaced else ReplyBody.Installed) }
 {
     if replaced {
         ReplyBody::Replaced
@@ -213,8 +205,7 @@ fn install_answer(replaced: bool) -> ReplyBody
 
 /// The answer to a remove.
 fn remove_answer(there: bool) -> ReplyBody
-    ensures answer { result ≡ (if there then ReplyBody.Removed else ReplyBody.NoConfig) }
-    ensures path { HasShallowPath result }
+    ensures { result ≡ (if there then ReplyBody.Removed else ReplyBody.NoConfig) }
 {
     if there {
         ReplyBody::Removed

@@ -3,7 +3,6 @@ ghost use Rattle.std.specs.Prelude.{◌≡◌, ◌≤◌, ◌⊎◌, ◌↔◌, 
 ghost use Rattle.sd_io.specs.Causes.{Rose};
 ghost use Rattle.session_frames.specs.declared.frame.Frame.{Frame};
 ghost use Rattle.session_frames.specs.Frames.{Clean, frames_of, IsFaultless, IsInTime};
-ghost use Rattle.session_frames.specs.Replies.{HasShortPath};
 ghost use Rattle.session_meaning.specs.Log.{clock_of};
 ghost use Rattle.statsd_cli.specs.declared.note.Note.TheVariants as notes_told;
 ghost use Rattle.statsd_cli.specs.declared.top.Ending.{Ending};
