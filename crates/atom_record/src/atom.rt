@@ -25,7 +25,7 @@ pub struct AtomField {
     pub index: u8,
     /// The field inside a message, or 0 outside of one.
     pub sub: u8,
-    /// 1 for an exclusive state, 2 for a primary field, 4 for a reset of states.
+    /// The sum of those of [`EXCLUSIVE`], [`PRIMARY`] and [`RESET`] that the entry has.
     pub flags: u8,
     /// What the entry holds.
     pub value: Value,

@@ -1,4 +1,4 @@
--- The entries so far, and those of the rest behind them, are those of all the bytes.
+-- The entries so far, and those of the rest after them, are those of all the bytes.
 use Rattle.std.proofs.Common.{◌≡◌, [], length}
 use Rattle.std.specs.List.{list_any}
 use Rattle.atom_record.specs.Flags.{is_exclusive}
