@@ -48,8 +48,9 @@ tag_with-read at value (Some wire_type) code named fits = record {
 tag_of-read : (at value : ℕ) → IfOk (tag_of at value) (TagOf value)
 unfolding tag_of
 tag_of-read at value =
-    choice-holds (λ (r : Result Tag WireFault). IfOk r (TagOf value)) (nat_lt (2 ^ 32 - 1) value) _ _ (λ _. tt) (λ small.
-    choice-holds (λ (r : Result Tag WireFault). IfOk r (TagOf value)) (value / 8 == 0) _ _ (λ _. tt) (λ named.
+    let P : Result Tag WireFault → Type 0 = λ r. IfOk r (TagOf value) in
+    choice-holds P (nat_lt (2 ^ 32 - 1) value) _ _ (λ _. tt) (λ small.
+    choice-holds P (value / 8 == 0) _ _ (λ _. tt) (λ named.
     let some : value / 8 ≡ 0 → ⊥ = eqb-false (value / 8) 0 named in
     let below : value ≤ 2 ^ 32 - 1 = ltb-false (2 ^ 32 - 1) value small in
     tag_with-read at value (wire_type_of (value % 8)) (wire_type_of-code (value % 8)) (omega (arith, some)) (omega (

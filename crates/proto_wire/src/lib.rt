@@ -17,4 +17,3 @@ pub use field::{Body, Field};
 pub use records::Records;
 pub use varint::varint_of;
 pub use writer::Writer;
-
