@@ -1,5 +1,5 @@
 -- Worked rows of `specs/Askable.antt`, for its readers.
-use Rattle.std.proofs.Common.{◌≡◌, ℤ, pos, Bool, true, false, List, [], ◌∷◌, Option, Some, None, refl}
+use Rattle.std.proofs.Common.{◌≡◌, ℤ, pos, true, false, List, [], ◌∷◌, Option, Some, None, refl}
 use Rattle.config_types.specs.declared.fields.Position.{Position}
 use Rattle.config_types.specs.declared.fields.Position.TheVariants.{First}
 use Rattle.config_types.specs.declared.matcher.SimpleMatcher.{SimpleMatcher}
