@@ -3,7 +3,7 @@
 use sd_base::Seq;
 
 /// Which of the entries of a repeated field are meant. On the wire 1 to 4.
-#[derive(Clone, Copy, Debug, PartialEq, Eq)]
+#[derive(Clone, Copy, Debug)]
 pub enum Position {
     First,
     Last,
@@ -13,7 +13,7 @@ pub enum Position {
 
 /// A tree of field numbers. At the top stands an atom's id, below it fields of the atom, below these the fields of a
 /// message. What is missing or out of range isn't refused here.
-#[derive(Debug, Drop, PartialEq, Eq)]
+#[derive(Debug, Drop)]
 pub struct FieldMatcher {
     /// Field 1: the number that is meant.
     pub field: Option<i32>,
