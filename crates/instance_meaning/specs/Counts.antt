@@ -37,7 +37,8 @@ metric_key metric atom = record { dims = key_of metric.dims atom; slices = [] }
 abbrev pub arrivals_at : Metric → Step → List (Mark (MetricKey × ℕ))
 arrivals_at metric step = of_what step.what where
   of_what : What → List (Mark (MetricKey × ℕ))
-  of_what (Logged (AtomAt at atom)) = if truth_at metric.what step.truths then Came (metric_key metric atom, 1) ∷ [] else []
+  of_what (Logged (AtomAt at atom)) =
+      if truth_at metric.what step.truths then Came (metric_key metric atom, 1) ∷ [] else []
   of_what _ = []
 
 -- the moments of these steps
@@ -61,13 +62,14 @@ asked_at (Reported include_current) at = cut_at include_current at ++ (Asked ∷
 -- what happens to a metric at a step: first the ends that it crosses, then what arrives, or the report
 abbrev pub marks_at : ℕ → Metric → List Step → Step → List (Mark (MetricKey × ℕ))
 marks_at base metric before step =
-    map (λ end. Ends end) (crossed_at base metric.size before step) ++ (arrivals_at metric step ++ asked_at step.what step.at)
+    map (λ end. Ends end) (crossed_at base metric.size before step)
+    ++ (arrivals_at metric step ++ asked_at step.what step.at)
 
 -- all that happened to a metric
 abbrev pub marks_of : ℕ → Metric → List Step → List (Mark (MetricKey × ℕ))
 marks_of base metric steps = given (marks_at base metric) steps
 
--- what a report behind these steps shows of a metric
+-- what a report after these steps shows of a metric
 abbrev pub shown_of : ℕ → Metric → List Step → Bool → ℕ → Taken (Row ℕ)
 shown_of base metric steps include_current now =
     report counting metric.bound base (marks_of base metric steps ++ cut_at include_current now)

@@ -25,7 +25,9 @@ greatest_of (x ∷ more) = max x (greatest_of more)
 
 -- the indexes from 1 on at which an atom has an entry of a field
 abbrev pub indexes_of : ℕ → List AtomField → List ℕ
-indexes_of field entries = map (λ (entry : AtomField). entry.index) (filter (λ (entry : AtomField). entry.field == field && nat_lt 0 entry.index) entries)
+indexes_of field entries =
+    map (λ (entry : AtomField). entry.index)
+    (filter (λ (entry : AtomField). entry.field == field && nat_lt 0 entry.index) entries)
 
 -- a position picks an index: none picks 0, the others among those from 1 on
 abbrev pub picks : Option Position → List ℕ → ℕ → Bool
@@ -38,7 +40,9 @@ picks (Some All) indexes index = nat_lt 0 index
 -- the entries of an atom that a leaf picks, in the atom's order
 abbrev pub picked : LeafPath → List AtomField → List AtomField
 picked leaf entries =
-    filter (λ (entry : AtomField). entry.field == leaf.field && (entry.sub == leaf.sub && picks leaf.position (indexes_of leaf.field entries) entry.index)) entries
+    filter (λ (entry : AtomField).
+    entry.field == leaf.field
+    && (entry.sub == leaf.sub && picks leaf.position (indexes_of leaf.field entries) entry.index)) entries
 
 abbrev pub values_of : List AtomField → List Value
 values_of entries = map (λ (entry : AtomField). entry.value) entries
@@ -51,7 +55,8 @@ leaf_of position (value ∷ more) = One value
 
 -- the value of a leaf; another kind of atom has none
 abbrev pub leaf_value : ℕ → Atom → LeafPath → Leaf
-leaf_value atom_id atom leaf = if atom.id == atom_id then leaf_of leaf.position (values_of (picked leaf atom.fields)) else Missing
+leaf_value atom_id atom leaf =
+    if atom.id == atom_id then leaf_of leaf.position (values_of (picked leaf atom.fields)) else Missing
 
 -- the key of an atom's dimensions
 abbrev pub key_of : FieldSet → Atom → List Leaf

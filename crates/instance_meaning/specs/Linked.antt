@@ -23,8 +23,8 @@ pub record FieldSet : Type 0 where
 pub data Matcher : Type 0 where
   Simple : (atom_id : ℕ) → Matcher
 
--- A metric that counts atoms: its id, whether reports show it, the place of the matcher of what it counts, its dimensions,
--- the size of its buckets in nanoseconds, and how many keys a part admits.
+-- A metric that counts atoms: its id, whether reports show it, the place of the matcher of what it counts, its
+-- dimensions, the size of its buckets in nanoseconds, and how many keys a part admits.
 pub record Metric : Type 0 where
   pub id : ℤ
   pub shown : Bool

@@ -101,19 +101,21 @@ metric_tree base metric shown = record {
 -- the clock at the last report, or the base
 abbrev pub last_report : ℕ → List Step → ℕ
 last_report last [] = last
-last_report last (step ∷ steps) = last_report (behind step.what) steps where
-  behind : What → ℕ
-  behind (Logged frame) = last
-  behind (Reported include_current) = step.at
+last_report last (step ∷ steps) = last_report (after step.what) steps where
+  after : What → ℕ
+  after (Logged frame) = last
+  after (Reported include_current) = step.at
 
--- the report that is made behind a history's steps at a time, with or without a cut
+-- the report that is made after a history's steps at a time, with or without a cut
 unfoldable pub report_of : History → Bool → ℕ → ReportTree
 report_of history include_current now = record {
   uid = history.uid;
   id = history.id;
   last = last_report history.base history.steps;
   now = now;
-  metrics = map (λ (metric : Metric). metric_tree history.base metric (shown_of history.base metric history.steps include_current now))
+  metrics =
+      map (λ (metric : Metric).
+      metric_tree history.base metric (shown_of history.base metric history.steps include_current now))
       (filter (λ (metric : Metric). metric.shown) history.linked.metrics);
   predicate_drops = [];
   state_drops = [];

@@ -1,4 +1,5 @@
--- The one spelling of a report as bytes: fields in rising number, repeated ones in their order, numbers in their shortest form.
+-- The one spelling of a report as bytes: fields in rising number, repeated ones in their order, numbers in their
+-- shortest form.
 use Rattle.std.specs.Prelude.{ℕ, ℤ, Bool, nat_lt, List, [], ◌++◌, Option, Some, if◌then◌else◌}
 use Rattle.std.specs.List.{flat_map}
 use Rattle.std.specs.Int.{w64, cast_unsigned}
@@ -20,7 +21,7 @@ count_field number count = if nat_lt 0 count then varint_field number count else
 abbrev pub bool_number : Bool → ℕ
 bool_number truth = if truth then 1 else 0
 
--- the value of a leaf, but for raw bytes, which stand behind the leaf's place
+-- the value of a leaf, but for raw bytes, which stand after the leaf's place
 abbrev pub value_bytes : Option Value → List ℕ
 value_bytes (Some (Str text)) = bytes_field 2 text
 value_bytes (Some (Int value)) = int_field 3 value
@@ -46,7 +47,8 @@ bucket_bytes bucket = varint_field 1 bucket.start ++ (varint_field 2 bucket.end 
 abbrev pub row_bytes : NumTree → List ℕ
 row_bytes row =
     flat_map (λ bucket. bytes_field 3 (bucket_bytes bucket)) row.buckets
-    ++ (flat_map (λ leaf. bytes_field 4 (leaf_bytes leaf)) row.leaves ++ flat_map (λ slice. bytes_field 6 (slice_bytes slice)) row.slices)
+    ++ (flat_map (λ leaf. bytes_field 4 (leaf_bytes leaf)) row.leaves
+    ++ flat_map (λ slice. bytes_field 6 (slice_bytes slice)) row.slices)
 
 -- the rows of a metric with numbers
 abbrev pub rows_bytes : List NumTree → List ℕ
@@ -74,7 +76,8 @@ config_bytes tree =
     ++ (varint_field 3 tree.last
     ++ (varint_field 4 tree.now
     ++ (flat_map (λ drop. bytes_field 1001 (drop_bytes drop)) tree.predicate_drops
-    ++ (flat_map (λ drop. bytes_field 1002 (drop_bytes drop)) tree.state_drops ++ count_field 1003 tree.state_atoms_dropped))))
+    ++ (flat_map (λ drop. bytes_field 1002 (drop_bytes drop)) tree.state_drops
+    ++ count_field 1003 tree.state_atoms_dropped))))
 
 -- whose report it is
 abbrev pub owner_bytes : ReportTree → List ℕ

@@ -1,2 +1,2 @@
-//! What one configuration of a client reports: its history, the marks of its metrics, its report and the report's bytes.
+//! What one configuration of a client reports: its history, the marks of its metrics, its report and its bytes.
 #![tactic(auto)]

@@ -14,16 +14,16 @@ use Rattle.instance_meaning.specs.Linked.{Linked}
 use Rattle.instance_meaning.specs.History.{with_steps}
 use Rattle.session_meaning.specs.Log.{clock_of}
 use Rattle.session_meaning.specs.Config.{linked_of_bytes}
-use Rattle.session_meaning.specs.Live.{Installed, with_config, without_id, installed, live_behind, live_from, live, step_at, history_of}
+use Rattle.session_meaning.specs.Live.{Installed, with_config, without_id, installed, live_after, live_from, live, step_at, history_of}
 
-live_from-push : (before : List Frame) (configs : List Installed) (frames : List Frame) (frame : Frame) → live_from before configs (frames ++ frame ∷ []) ≡ live_behind (before ++ frames) frame (live_from before configs frames)
-live_from-push before configs [] frame = ap (λ b. live_behind b frame configs) (sym (append-nil before))
+live_from-push : (before : List Frame) (configs : List Installed) (frames : List Frame) (frame : Frame) → live_from before configs (frames ++ frame ∷ []) ≡ live_after (before ++ frames) frame (live_from before configs frames)
+live_from-push before configs [] frame = ap (λ b. live_after b frame configs) (sym (append-nil before))
 live_from-push before configs (first ∷ frames) frame =
-    live_from-push (before ++ first ∷ []) (live_behind before first configs) frames frame
-    ∙ ap (λ b. live_behind b frame (live_from before configs (first ∷ frames))) (append_assoc before (first ∷ []) frames)
+    live_from-push (before ++ first ∷ []) (live_after before first configs) frames frame
+    ∙ ap (λ b. live_after b frame (live_from before configs (first ∷ frames))) (append_assoc before (first ∷ []) frames)
 
 -- what is live behind one more own frame
-pub live-push : (frames : List Frame) (frame : Frame) → live (frames ++ frame ∷ []) ≡ live_behind frames frame (live frames)
+pub live-push : (frames : List Frame) (frame : Frame) → live (frames ++ frame ∷ []) ≡ live_after frames frame (live frames)
 live-push frames frame = live_from-push [] [] frames frame
 
 -- each of these was installed before so many frames had come
@@ -58,7 +58,7 @@ ArePlaced-installed place id (Ok linked) configs placed =
     ArePlaced-with_config (place + 1) (record { id = id; linked = linked; place = place }) configs (omega arith) (ArePlaced-later place 1 configs placed)
 ArePlaced-installed place id (Err refusal) configs placed = ArePlaced-later place 1 configs placed
 
-ArePlaced-behind : (before : List Frame) (frame : Frame) (configs : List Installed) → ArePlaced (length before) configs → ArePlaced (length before + 1) (live_behind before frame configs)
+ArePlaced-behind : (before : List Frame) (frame : Frame) (configs : List Installed) → ArePlaced (length before) configs → ArePlaced (length before + 1) (live_after before frame configs)
 ArePlaced-behind before (Log frame) configs placed = ArePlaced-later (length before) 1 configs placed
 ArePlaced-behind before (Install uid id config) configs placed = ArePlaced-installed (length before) id (linked_of_bytes config) configs placed
 ArePlaced-behind before (Remove uid id) configs placed = ArePlaced-later (length before) 1 (without_id id configs) (ArePlaced-without_id (length before) id configs placed)
@@ -68,8 +68,8 @@ ArePlaced-live_from : (before : List Frame) (configs : List Installed) (frames :
 ArePlaced-live_from before configs [] placed = ArePlaced-later (length before) 0 configs placed
 ArePlaced-live_from before configs (frame ∷ frames) placed =
     let more : length (before ++ frame ∷ []) ≡ length before + 1 = length-append before (frame ∷ []) in
-    let one : ArePlaced (length (before ++ frame ∷ [])) (live_behind before frame configs) = rw more (ArePlaced-behind before frame configs placed) in
-    let all = ArePlaced-live_from (before ++ frame ∷ []) (live_behind before frame configs) frames one in
+    let one : ArePlaced (length (before ++ frame ∷ [])) (live_after before frame configs) = rw more (ArePlaced-behind before frame configs placed) in
+    let all = ArePlaced-live_from (before ++ frame ∷ []) (live_after before frame configs) frames one in
     let count : length (before ++ frame ∷ []) + length frames ≡ length before + length (frame ∷ frames) = omega (arith, more) in
     subst (λ n. ArePlaced n (live_from before configs (frame ∷ frames))) count all
 
@@ -161,7 +161,7 @@ AreDistinct-installed : (place : ℕ) (id : ℤ) (found : Result Linked Refusal)
 AreDistinct-installed place id (Ok linked) configs distinct = AreDistinct-with_config (record { id = id; linked = linked; place = place }) configs distinct
 AreDistinct-installed place id (Err refusal) configs distinct = distinct
 
-AreDistinct-behind : (before : List Frame) (frame : Frame) (configs : List Installed) → AreDistinct configs → AreDistinct (live_behind before frame configs)
+AreDistinct-behind : (before : List Frame) (frame : Frame) (configs : List Installed) → AreDistinct configs → AreDistinct (live_after before frame configs)
 AreDistinct-behind before (Log frame) configs distinct = distinct
 AreDistinct-behind before (Install uid id config) configs distinct = AreDistinct-installed (length before) id (linked_of_bytes config) configs distinct
 AreDistinct-behind before (Remove uid id) configs distinct = AreDistinct-without_id id configs distinct
@@ -170,7 +170,7 @@ AreDistinct-behind before (Report uid id include_current) configs distinct = dis
 AreDistinct-live_from : (before : List Frame) (configs : List Installed) (frames : List Frame) → AreDistinct configs → AreDistinct (live_from before configs frames)
 AreDistinct-live_from before configs [] distinct = distinct
 AreDistinct-live_from before configs (frame ∷ frames) distinct =
-    AreDistinct-live_from (before ++ frame ∷ []) (live_behind before frame configs) frames (AreDistinct-behind before frame configs distinct)
+    AreDistinct-live_from (before ++ frame ∷ []) (live_after before frame configs) frames (AreDistinct-behind before frame configs distinct)
 
 -- no two live configurations of a client have one id
 pub live_distinct : (frames : List Frame) → AreDistinct (live frames)

@@ -37,12 +37,14 @@ report_answer client frames include_current (Some config) =
 abbrev pub reply_of : ℤ → ℤ → ReplyBody → Option Reply
 reply_of uid id body = Some (record { uid = uid; id = id; body = body })
 
--- the reply to a frame that comes behind the client's own frames; a frame of the log has none
+-- the reply to a frame that comes after the client's own frames; a frame of the log has none
 abbrev pub answer : List Frame → Frame → Option Reply
 answer before (Log frame) = None
-answer before (Install uid id config) = reply_of uid id (install_answer (linked_of_bytes config) (config_at id (live before)))
+answer before (Install uid id config) =
+    reply_of uid id (install_answer (linked_of_bytes config) (config_at id (live before)))
 answer before (Remove uid id) = reply_of uid id (remove_answer (config_at id (live before)))
-answer before (Report uid id include_current) = reply_of uid id (report_answer uid before include_current (config_at id (live before)))
+answer before (Report uid id include_current) =
+    reply_of uid id (report_answer uid before include_current (config_at id (live before)))
 
 -- the client of a command; for a frame of the log any will do
 abbrev pub client_of : Frame → ℤ
@@ -51,7 +53,7 @@ client_of (Install uid id config) = uid
 client_of (Remove uid id) = uid
 client_of (Report uid id include_current) = uid
 
--- the reply to a frame behind all frames of a session: it is the answer by the client's own frames
+-- the reply to a frame after all frames of a session: it is the answer by the client's own frames
 unfoldable pub reply_to : List Frame → Frame → Option Reply
 reply_to before frame = answer (own (client_of frame) before) frame
 
@@ -63,6 +65,6 @@ replies frames = given (λ before frame. option_to_list (reply_to before frame))
 unfoldable pub text : List Frame → List ℕ
 text frames = flat_map reply_bytes (replies frames)
 
--- the replies to one client
-abbrev pub replies_to : ℤ → List Reply → List Reply
-replies_to client all = filter (λ (reply : Reply). int_eq reply.uid client) all
+-- the replies to one client, of a session
+abbrev pub replies_to : ℤ → List Frame → List Reply
+replies_to client frames = filter (λ (reply : Reply). int_eq reply.uid client) (replies frames)

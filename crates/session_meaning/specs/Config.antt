@@ -100,12 +100,21 @@ count_built count =
 abbrev pub linked_of : ℕ → ℤ → Linked
 linked_of atom_id metric_id = record {
   matchers = Simple atom_id ∷ [];
-  metrics = record { id = metric_id; shown = true; what = 0; dims = record { atom_id = 0; leaves = [] }; size = default_size; bound = default_bound } ∷ [];
+  metrics =
+      record {
+        id = metric_id;
+        shown = true;
+        what = 0;
+        dims = record { atom_id = 0; leaves = [] };
+        size = default_size;
+        bound = default_bound;
+      } ∷ [];
 }
 
 -- the metric counts what the matcher matches
-abbrev pub joined : AtomMatcher → CountMetric → Result Linked Refusal
-joined matcher count = if int_eq count.what matcher.id then Ok (linked_of matcher.atom_id count.id) else Err other_form
+abbrev pub count_of_matcher : AtomMatcher → CountMetric → Result Linked Refusal
+count_of_matcher matcher count =
+    if int_eq count.what matcher.id then Ok (linked_of matcher.atom_id count.id) else Err other_form
 
 -- there is nothing but matchers and metrics that count
 abbrev pub has_only_counts : Config → Bool
@@ -121,7 +130,7 @@ built config =
     one_of config.counts >>= λ count.
     matcher_built matcher >>= λ found.
     count_built count >>= λ counted.
-    joined found counted)
+    count_of_matcher found counted)
     else Err other_form
 
 -- the parts of what was read, or why it is refused

@@ -2,3 +2,4 @@ pub mod Log
 pub mod Config
 pub mod Live
 pub mod Answers
+pub mod Isolation

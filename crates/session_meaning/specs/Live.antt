@@ -17,7 +17,7 @@ pub record Installed : Type 0 where
   pub linked : Linked
   pub place : ℕ
 
--- a configuration goes where the one of its id stands, or behind all
+-- a configuration goes where the one of its id stands, or after all
 abbrev pub with_config : Installed → List Installed → List Installed
 with_config new [] = new ∷ []
 with_config new (old ∷ others) = if int_eq old.id new.id then new ∷ others else old ∷ with_config new others
@@ -31,22 +31,22 @@ abbrev pub config_at : ℤ → List Installed → Option Installed
 config_at id [] = None
 config_at id (config ∷ others) = if int_eq config.id id then Some config else config_at id others
 
--- what is live behind an install: a refused one changes nothing
+-- what is live after an install: a refused one changes nothing
 abbrev pub installed : ℕ → ℤ → Result Linked Refusal → List Installed → List Installed
 installed place id (Ok linked) configs = with_config (record { id = id; linked = linked; place = place }) configs
 installed place id (Err refusal) configs = configs
 
--- what is live behind a frame, where these came before it
-abbrev pub live_behind : List Frame → Frame → List Installed → List Installed
-live_behind before (Log frame) configs = configs
-live_behind before (Install uid id config) configs = installed (length before) id (linked_of_bytes config) configs
-live_behind before (Remove uid id) configs = without_id id configs
-live_behind before (Report uid id include_current) configs = configs
+-- what is live after a frame, where these came before it
+abbrev pub live_after : List Frame → Frame → List Installed → List Installed
+live_after before (Log frame) configs = configs
+live_after before (Install uid id config) configs = installed (length before) id (linked_of_bytes config) configs
+live_after before (Remove uid id) configs = without_id id configs
+live_after before (Report uid id include_current) configs = configs
 
--- what is live behind these frames, where others came before them
+-- what is live after these frames, where others came before them
 abbrev pub live_from : List Frame → List Installed → List Frame → List Installed
 live_from before configs [] = configs
-live_from before configs (frame ∷ frames) = live_from (before ++ frame ∷ []) (live_behind before frame configs) frames
+live_from before configs (frame ∷ frames) = live_from (before ++ frame ∷ []) (live_after before frame configs) frames
 
 -- the live configurations of a client with these own frames
 abbrev pub live : List Frame → List Installed
@@ -54,8 +54,10 @@ live frames = live_from [] [] frames
 
 -- the step that a frame is to a configuration: each frame of the log is one, and each report of its id, at the clock
 abbrev pub step_at : ℤ → Linked → List Frame → Frame → List Step
-step_at id linked before (Log frame) = record { at = log_time frame; what = Logged frame; truths = truths_of linked frame } ∷ []
-step_at id linked before (Report uid of include_current) = if int_eq of id then record { at = clock_of before; what = Reported include_current; truths = [] } ∷ [] else []
+step_at id linked before (Log frame) =
+    record { at = log_time frame; what = Logged frame; truths = truths_of linked frame } ∷ []
+step_at id linked before (Report uid of include_current) =
+    if int_eq of id then record { at = clock_of before; what = Reported include_current; truths = [] } ∷ [] else []
 step_at id linked before _ = []
 
 -- what a live configuration of a client has seen, by the client's own frames: its base is the clock at its install
@@ -65,5 +67,6 @@ history_of client frames config = record {
   id = config.id;
   base = clock_of (take config.place frames);
   linked = config.linked;
-  steps = given_after (step_at config.id config.linked) (take (suc config.place) frames) (drop (suc config.place) frames);
+  steps =
+      given_after (step_at config.id config.linked) (take (suc config.place) frames) (drop (suc config.place) frames);
 }

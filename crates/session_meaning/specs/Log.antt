@@ -23,7 +23,7 @@ log_of frames = filter is_logged frames where
 abbrev pub own : ℤ → List Frame → List Frame
 own client frames = filter (is_own client) frames
 
--- the clock behind these frames, from a clock before them
+-- the clock after these frames, from a clock before them
 abbrev pub clock_from : ℕ → List Frame → ℕ
 clock_from clock [] = clock
 clock_from clock (frame ∷ frames) = clock_from (clock_behind clock frame) frames

@@ -19,7 +19,7 @@ use Rattle.instance_meaning.specs.Report.{report_of}
 use Rattle.instance_meaning.specs.Spelling.{report_bytes}
 use Rattle.session_meaning.specs.Log.{is_own, own, clock_of}
 use Rattle.session_meaning.specs.Config.{linked_of_bytes, linked_of}
-use Rattle.session_meaning.specs.Live.{Installed, with_config, without_id, config_at, installed, live_behind, live, step_at, history_of}
+use Rattle.session_meaning.specs.Live.{Installed, with_config, without_id, config_at, installed, live_after, live, step_at, history_of}
 use Rattle.session_meaning.specs.Answers.{install_answer, remove_answer, report_answer, reply_of, reply_to}
 use Rattle.session_meaning.proofs.LogLaws.{own-push_own, own-push_other, clock_of-push, clock_of-own}
 use Rattle.session_meaning.proofs.LiveLaws.{live-push, ArePlaced, live_placed, AreDistinct, has_config, live_distinct, int_eq_sym, history_of-push, history_of-new}
@@ -175,20 +175,20 @@ none_there id (config ∷ configs) none = by_case (int_eq config.id id) refl (no
 abbrev Seen : ℤ → List Frame → List Live → Type 0
 Seen uid frames items = AllStand uid (own uid frames) (filter (is_of uid) items) (live (own uid frames))
 
--- behind a frame that is the client's own
+-- after a frame that is the client's own
 seen_own : (uid : ℤ) (frames : List Frame) (frame : Frame) (items : List Live) → is_own uid frame ≡ true
-    → AllStand uid (own uid frames ++ frame ∷ []) (filter (is_of uid) items) (live_behind (own uid frames) frame (live (own uid frames))) → Seen uid (frames ++ frame ∷ []) items
+    → AllStand uid (own uid frames ++ frame ∷ []) (filter (is_of uid) items) (live_after (own uid frames) frame (live (own uid frames))) → Seen uid (frames ++ frame ∷ []) items
 seen_own uid frames frame items mine h =
     subst (λ all. AllStand uid all (filter (is_of uid) items) (live all)) (sym (own-push_own uid frames frame mine))
     (subst (AllStand uid (own uid frames ++ frame ∷ []) (filter (is_of uid) items)) (sym (live-push (own uid frames) frame)) h)
 
--- behind a command of another client
+-- after a command of another client
 seen_other : (uid : ℤ) (frames : List Frame) (frame : Frame) (old items : List Live) → is_own uid frame ≡ false → filter (is_of uid) items ≡ filter (is_of uid) old → Seen uid frames old → Seen uid (frames ++ frame ∷ []) items
 seen_other uid frames frame old items other same h =
     subst (λ all. AllStand uid all (filter (is_of uid) items) (live all)) (sym (own-push_other uid frames frame other))
     (subst (λ lives. AllStand uid (own uid frames) lives (live (own uid frames))) (sym same) h)
 
--- behind a command of a client, for every client
+-- after a command of a client, for every client
 seen_all : (client : ℤ) (frames : List Frame) (frame : Frame) (old items : List Live) → ((uid : ℤ) → is_own uid frame ≡ int_eq client uid)
     → Seen client (frames ++ frame ∷ []) items → ((uid : ℤ) → int_eq client uid ≡ false → filter (is_of uid) items ≡ filter (is_of uid) old)
     → ((uid : ℤ) → Seen uid frames old) → (uid : ℤ) → Seen uid (frames ++ frame ∷ []) items
@@ -200,7 +200,7 @@ seen_all client frames frame old items is mine others h uid = by_case (int_eq cl
 mine_is : (n : ℤ) → int_eq n n ≡ true
 mine_is n = (signed_Decides n n).1 refl
 
--- the clock stays behind a command
+-- the clock stays after a command
 clock_kept : (hub new : Hub) (frames : List Frame) (frame : Frame) → clock_behind (clock_of frames) frame ≡ clock_of frames → new.clock ≡ hub.clock → hub.clock ≡ clock_of frames → new.clock ≡ clock_of (frames ++ frame ∷ [])
 clock_kept hub new frames frame command same is = same ∙ is ∙ sym (clock_of-push frames frame ∙ command)
 

@@ -46,7 +46,7 @@ none_crossed base before (Tick at) truths early = append-nil _ ∙ no_ends base 
 none_crossed base before (AtomAt at atom) truths early = append-nil _ ∙ no_ends base (moments before) (record { at = at; is_pull = false }) early
 none_crossed base before (Pull at id outcome) truths early = append-nil _ ∙ no_ends base (moments before) (record { at = at; is_pull = true }) early
 
--- the books behind one more step
+-- the books after one more step
 books_at-push : (config : CountConfig) (base : ℕ) (steps : List Step) (step : Step)
     → books_at config base (steps ++ step ∷ []) ≡ books_from dropping (books_at config base steps) (marks_at base (metric_of config) steps step)
 books_at-push config base steps step =
@@ -111,7 +111,7 @@ stands_fresh config base history is linked none = record {
 abbrev pub step_of : LogFrame → List Bool → Step
 step_of frame truths = record { at = log_time frame; what = Logged frame; truths = truths }
 
--- the books behind a frame of the log: no end is crossed
+-- the books after a frame of the log: no end is crossed
 books_logged : (config : CountConfig) (base : ℕ) (steps : List Step) (frame : LogFrame) (truths : List Bool) → log_time frame < 3600000000000
     → books_at config base (steps ++ step_of frame truths ∷ []) ≡ books_from dropping (books_at config base steps) (arrivals_at (metric_of config) (step_of frame truths) ++ [])
 books_logged config base steps frame truths early =
@@ -214,7 +214,7 @@ closed_tree it base (suc n) now count =
     ∙ sym (ap (λ none. shown_with it base now (bucket_if it now (counted (suc n)) none)) some)
     ∙ sym (ap (λ c. shown_with it base now (bucket_if it now c (c == 0))) count)
 
--- the metric's tree behind a report, with or without a cut
+-- the metric's tree after a report, with or without a cut
 cut_tree : (it : Instance) (base n : ℕ) (cut : Bool) (now : ℕ) → it.count ≡ counted n
     → tree_of it.config base (books_from dropping (opened it.start n) (cut_at cut now)) ≡ shown_with it base now (cond cut (closed_at now it) None)
 cut_tree it base n true now count = closed_tree it base n now count

@@ -53,7 +53,7 @@ begins_along left old reader hub is stands = record {
   written = Appends-nil old;
 }
 
--- the replies to more frames come behind
+-- the replies to more frames come after
 text_behind : (frames others : List Frame) → (more : List ℕ) × (text (frames ++ others) ≡ text frames ++ more)
 text_behind frames [] = ([], ap text (append-nil frames) ∙ sym (append-nil (text frames)))
 text_behind frames (frame ∷ others) =

@@ -16,7 +16,8 @@ pub record LiveStandsFor (uid : ℤ) (frames : List Frame) (held : Live) (config
 -- those that are held are those that are live, in their order
 abbrev pub AllStand : ℤ → List Frame → List Live → List Installed → Type 0
 AllStand uid frames [] [] = Unit {0}
-AllStand uid frames (held ∷ more) (config ∷ configs) = LiveStandsFor uid frames held config × AllStand uid frames more configs
+AllStand uid frames (held ∷ more) (config ∷ configs) =
+    LiveStandsFor uid frames held config × AllStand uid frames more configs
 AllStand uid frames _ _ = ⊥
 
 -- The hub is what these frames make of a new one, for every client. No field keeps the frames.

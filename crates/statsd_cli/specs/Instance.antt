@@ -50,13 +50,21 @@ shown_by include_current now it = record {
 
 -- the metric of a configuration
 abbrev pub metric_of : CountConfig → Metric
-metric_of config = record { id = config.metric_id; shown = true; what = 0; dims = record { atom_id = 0; leaves = [] }; size = default_size; bound = default_bound }
+metric_of config = record {
+  id = config.metric_id;
+  shown = true;
+  what = 0;
+  dims = record { atom_id = 0; leaves = [] };
+  size = default_size;
+  bound = default_bound;
+}
 
 -- the key without dimensions and states
 abbrev pub no_key : MetricKey
 no_key = record { dims = []; slices = [] }
 
--- The open part is these books' open part: where it begins, how many came in it, and that nothing else was closed, dropped or missed.
+-- The open part is these books' open part: where it begins, how many came in it, and that nothing else was closed,
+-- dropped or missed.
 pub record OpenStandsFor (it : Instance) (books : Books (MetricKey × ℕ)) : Type 0 where
   pub start : it.start ≡ books.start
   pub count : it.count ≡ counted (length books.came)

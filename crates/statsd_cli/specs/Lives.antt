@@ -25,7 +25,7 @@ abbrev pub at_first : (Live → Bool) → (Live → Live) → List Live → List
 at_first test change [] = []
 at_first test change (live ∷ lives) = if test live then change live ∷ lives else live ∷ at_first test change lives
 
--- it goes where the client's configuration of its id stands, or behind all
+-- it goes where the client's configuration of its id stands, or after all
 abbrev pub with_live : Live → List Live → List Live
 with_live new [] = new ∷ []
 with_live new (old ∷ others) = if is_at new.uid new.id old then new ∷ others else old ∷ with_live new others
@@ -42,7 +42,8 @@ reported_live include_current now live = record live { instance = reported inclu
 abbrev pub Installs : ℕ → ℤ → ℤ → Result CountConfig Refusal → List Live → List Live → ReplyBody → Type 0
 Installs clock uid id (Err refusal) old new body = (new ≡ old) × (body ≡ answers.Refused refusal)
 Installs clock uid id (Ok config) old new body =
-    (new ≡ with_live (record { uid = uid; id = id; instance = fresh config clock }) old) × (body ≡ (if list_any (is_at uid id) old then answers.Replaced else answers.Installed))
+    (new ≡ with_live (record { uid = uid; id = id; instance = fresh config clock }) old)
+    × (body ≡ (if list_any (is_at uid id) old then answers.Replaced else answers.Installed))
 
 -- a remove: what it leaves of the old, and its answer
 pub record Removes (uid id : ℤ) (old new : List Live) (body : ReplyBody) : Type 0 where

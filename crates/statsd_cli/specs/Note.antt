@@ -19,7 +19,8 @@ fault_text TooManyFrames = codes "8 too many frames"
 -- a note, with its newline
 abbrev pub note_line : Note → List ℕ
 note_line Usage = codes "statsd: usage: replay | check | load SEED FRAMES\n"
-note_line (BadSession at fault) = codes "statsd: bad session at " ++ decimal at ++ codes ": " ++ fault_text fault ++ codes "\n"
+note_line (BadSession at fault) =
+    codes "statsd: bad session at " ++ decimal at ++ codes ": " ++ fault_text fault ++ codes "\n"
 note_line ReadFault = codes "statsd: read fault\n"
 note_line WriteFault = codes "statsd: write fault\n"
 note_line NoMemory = codes "statsd: out of memory\n"

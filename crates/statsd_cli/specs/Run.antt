@@ -22,13 +22,32 @@ use Rattle.statsd_cli.specs.Note.{note_line}
 abbrev pub IsReplay : List (List ℕ) → Type 0
 IsReplay words = words ≡ codes "replay" ∷ []
 
+-- the program's status by why it ends
+abbrev pub status_done : ℕ
+status_done = 0
+
+abbrev pub status_usage : ℕ
+status_usage = 2
+
+abbrev pub status_bad_session : ℕ
+status_bad_session = 3
+
+abbrev pub status_read_fault : ℕ
+status_read_fault = 4
+
+abbrev pub status_write_fault : ℕ
+status_write_fault = 5
+
+abbrev pub status_no_memory : ℕ
+status_no_memory = 6
+
 -- the status of an ending
 abbrev pub status_of : Ending → ℕ
-status_of Done = 0
-status_of (BadSession at fault) = 3
-status_of ReadFault = 4
-status_of WriteFault = 5
-status_of NoMemory = 6
+status_of Done = status_done
+status_of (BadSession at fault) = status_bad_session
+status_of ReadFault = status_read_fault
+status_of WriteFault = status_write_fault
+status_of NoMemory = status_no_memory
 
 -- what is told of an ending
 abbrev pub note_of : Ending → Option Note
@@ -41,7 +60,8 @@ note_of NoMemory = Some notes.NoMemory
 -- the notes gained the line whole, or a front of it where their count of faults rose; nothing where nothing is told
 abbrev pub IsNoted : Option (List ℕ) → Option (List ℕ) → ℕ → ℕ → Option Note → Type 0
 IsNoted old new before now None = Appends old new []
-IsNoted old new before now (Some note) = Appends old new (note_line note) ⊎ (AppendsFront old new (note_line note) × Rose before now)
+IsNoted old new before now (Some note) =
+    Appends old new (note_line note) ⊎ (AppendsFront old new (note_line note) × Rose before now)
 
 -- a session is known to be bad by its bytes to the end; one that is too long, before that
 abbrev pub IsWhole : SessionFault → Option (List ℕ) → Type 0
@@ -55,7 +75,7 @@ pub record IsDone (taken : List ℕ) (left old new : Option (List ℕ)) : Type 0
   pub at_end : IsAtEnd left
   pub written : Appends old new (text frames)
 
--- The session has the fault behind its good frames, and every command in these was answered.
+-- The session has the fault after its good frames, and every command in these was answered.
 pub record IsBadSession (at : ℕ) (fault : SessionFault) (taken : List ℕ) (left old new : Option (List ℕ)) : Type 0 where
   pub frames : List Frame
   pub session : frames_of taken frames (Bad at fault)
@@ -95,9 +115,10 @@ pub record IsRun (left_old left_new old new : Option (List ℕ)) (ending : Endin
 abbrev pub reply_text : List Frame → Frame → List ℕ
 reply_text frames frame = flat_map reply_bytes (option_to_list (reply_to frames frame))
 
--- one frame was served behind these: its reply was written, or why not
+-- one frame was served after these: its reply was written, or why not
 abbrev pub IsServed : Option (List ℕ) → Option (List ℕ) → List Frame → Frame → Result Hub Ending → Type 0
-IsServed old new frames frame (Ok hub) = HubStandsFor hub (frames ++ frame ∷ []) × Appends old new (reply_text frames frame)
+IsServed old new frames frame (Ok hub) =
+    HubStandsFor hub (frames ++ frame ∷ []) × Appends old new (reply_text frames frame)
 IsServed old new frames frame (Err WriteFault) = AppendsFront old new (reply_text frames frame)
 IsServed old new frames frame (Err NoMemory) = Appends old new []
 IsServed old new frames frame (Err ending) = ⊥

@@ -65,7 +65,7 @@ fn built(config: &Config) -> Option<CountConfig>
     };
     let matcher = built_matcher(matcher)?;
     let count = built_count(count)?;
-    joined(matcher, count)
+    count_of_matcher(matcher, count)
 }
 
 /// There is nothing but matchers and metrics that count.
@@ -82,8 +82,8 @@ fn has_only_counts(config: &Config) -> bool
 }
 
 /// The configuration, if the metric counts what the matcher matches.
-fn joined(matcher: AtomMatcher, count: CountMetric) -> Option<CountConfig>
-    ensures { meaning.joined (atom_matcher matcher) (count_metric count) ≡ found result }
+fn count_of_matcher(matcher: AtomMatcher, count: CountMetric) -> Option<CountConfig>
+    ensures { meaning.count_of_matcher (atom_matcher matcher) (count_metric count) ≡ found result }
 {
     if count.what != matcher.id {
         return None;

@@ -48,7 +48,8 @@ impl Hub {
     /// Takes in a frame; a command is answered. After want of memory the hub is gone.
     pub fn step(mut self, frame: Frame) -> Result<(Hub, Option<Reply>), AllocError>
         // The answer is what the frames so far mean, whatever they are, and the hub stands for them with this one.
-        ensures serves { (frames : List Frame) → HubStandsFor self frames → IsFaultless frame → IsInTime (clock_of frames) frame
+        ensures serves { (frames : List Frame) → HubStandsFor self frames
+            → IsFaultless frame → IsInTime (clock_of frames) frame
             → IfOk result (λ r. HubStandsFor r.0 (frames ++ frame ∷ []) × (r.1 ≡ reply_to frames frame)) }
 
         // A path in the answer has at most 101 numbers, whatever the hub.
@@ -88,7 +89,7 @@ impl Hub {
         log_all(&mut self.lives, frame);
     }
 
-    /// What was read of a configuration goes where the client's configuration of that id stands, or behind all.
+    /// What was read of a configuration goes where the client's configuration of that id stands, or after all.
     fn install(
         &mut self,
         uid: i32,
@@ -97,7 +98,8 @@ impl Hub {
     ) -> Result<ReplyBody, AllocError>
         requires shallow { IfErr read IsShallow }
         ensures clock { OnOk result (self.new.clock ≡ self.old.clock) }
-        ensures lives { IfOk result (Installs self.old.clock uid id read self.old.lives.items self.new.lives.items) }
+        ensures lives { IfOk result
+            (Installs self.old.clock uid id read self.old.lives.items self.new.lives.items) }
         ensures path { IfOk result HasShallowPath }
     {
         let config = match read {
@@ -123,7 +125,9 @@ impl Hub {
     /// Reports a client's configuration.
     fn report(&mut self, uid: i32, id: i64, include_current: bool) -> Result<ReplyBody, AllocError>
         ensures clock { OnOk result (self.new.clock ≡ self.old.clock) }
-        ensures lives { IfOk result (Reports self.old.clock uid id include_current (find (is_at uid id) self.old.lives.items) self.old.lives.items self.new.lives.items) }
+        ensures lives { IfOk result
+            (Reports self.old.clock uid id include_current (find (is_at uid id) self.old.lives.items)
+            self.old.lives.items self.new.lives.items) }
         ensures path { IfOk result HasShallowPath }
     {
         let Some(at) = place_of(&self.lives, uid, id) else {
@@ -177,10 +181,11 @@ fn take_out(lives: &mut Vec<Live>, uid: i32, id: i64)
     lives.retain(|live| !live.is_at(uid, id));
 }
 
-/// Puts a configuration where its client's one of that id stands, or behind all, and says whether there was one.
+/// Puts a configuration where its client's one of that id stands, or after all, and says whether there was one.
 fn put(lives: &mut Vec<Live>, new: Live) -> Result<bool, AllocError>
     ensures lives { OnOk result (lives.new.items ≡ with_live new lives.old.items) }
-    ensures replaced { IfOk result (λ replaced. replaced ≡ list_any (is_at new.uid new.id) lives.old.items) }
+    ensures replaced { IfOk result (λ replaced.
+        replaced ≡ list_any (is_at new.uid new.id) lives.old.items) }
 {
     match place_of(lives, new.uid, new.id) {
         Some(at) => {

@@ -4,8 +4,14 @@
 mod config;
 pub mod hub;
 mod instance;
+mod isolation;
 mod note;
 mod report;
 mod top;
 
-pub use top::statsd_top;
+pub use isolation::clients_are_isolated;
+pub use note::{Note, write_note};
+pub use top::{
+    STATUS_BAD_SESSION, STATUS_DONE, STATUS_NO_MEMORY, STATUS_READ_FAULT, STATUS_USAGE,
+    STATUS_WRITE_FAULT, statsd_top,
+};

@@ -27,7 +27,8 @@ type Line = ArrayString<128>;
 
 /// Writes the line of a note, by one put. It takes no memory.
 pub fn write_note<E: Sink>(note: &Note, notes: &mut E) -> Result<(), WriteFailed>
-    ensures bytes { PutAppends (E.written notes.old) (E.written notes.new) result (note_line note.now) }
+    ensures bytes { PutAppends (E.written notes.old) (E.written notes.new)
+        result (note_line note.now) }
     ensures cause { HasCause (E.faults notes.old) (E.faults notes.new) result }
 {
     notes.put(line_of(note).as_bytes())
@@ -97,6 +98,3 @@ fn push_counted(line: &mut Line, text: &str, number: u64)
     let mut digits = itoa::Buffer::new();
     line.push_str(digits.format(number));
 }
-
-#[cfg(test)]
-mod tests;

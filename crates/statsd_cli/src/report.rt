@@ -26,7 +26,8 @@ fn bucket_bytes(alloc: Global, bucket: &Bucket) -> Result<Vec<u8>, AllocError>
 
 /// The rows of a metric that counts: one, if a bucket was closed.
 fn rows_bytes(alloc: Global, bucket: Option<&Bucket>) -> Result<Vec<u8>, AllocError>
-    ensures { IfOk result (λ bytes. bytes.items ≡ spelled.rows_bytes (row_trees (option_copied bucket.entry))) }
+    ensures { IfOk result (λ bytes.
+        bytes.items ≡ spelled.rows_bytes (row_trees (option_copied bucket.entry))) }
 {
     let mut rows = Writer::new(alloc);
     if let Some(bucket) = bucket {
@@ -52,7 +53,8 @@ fn metric_bytes(alloc: Global, shown: &Shown) -> Result<Vec<u8>, AllocError>
 
 /// The part of a report that speaks of a configuration.
 fn config_bytes(alloc: Global, shown: &Shown) -> Result<Vec<u8>, AllocError>
-    ensures { IfOk result (λ bytes. (uid id : ℤ) → bytes.items ≡ spelled.config_bytes (shown_tree uid id shown.now)) }
+    ensures { IfOk result (λ bytes. (uid id : ℤ)
+        → bytes.items ≡ spelled.config_bytes (shown_tree uid id shown.now)) }
 {
     let metric = metric_bytes(alloc, shown)?;
     let mut message = Writer::new(alloc);
@@ -64,7 +66,8 @@ fn config_bytes(alloc: Global, shown: &Shown) -> Result<Vec<u8>, AllocError>
 
 /// The part of a report that says whose it is.
 fn owner_bytes(alloc: Global, uid: i32, id: i64) -> Result<Vec<u8>, AllocError>
-    ensures { IfOk result (λ bytes. (shown : Shown) → bytes.items ≡ spelled.owner_bytes (shown_tree uid id shown)) }
+    ensures { IfOk result (λ bytes. (shown : Shown)
+        → bytes.items ≡ spelled.owner_bytes (shown_tree uid id shown)) }
 {
     let mut message = Writer::new(alloc);
     message.varint_field(1, i64::from(uid).cast_unsigned())?;

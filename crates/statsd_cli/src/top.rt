@@ -8,7 +8,7 @@ ghost use Rattle.session_meaning.specs.Log.{clock_of};
 ghost use Rattle.statsd_cli.specs.declared.note.Note.TheVariants as notes_told;
 ghost use Rattle.statsd_cli.specs.declared.top.Ending.{Ending};
 ghost use Rattle.statsd_cli.specs.Hub.{HubStandsFor};
-ghost use Rattle.statsd_cli.specs.Run.{IsReplay, status_of, note_of, IsNoted, IsRun, IsServed, ending_by};
+ghost use Rattle.statsd_cli.specs.Run.{IsReplay, status_of, status_done, status_usage, status_read_fault, status_write_fault, status_no_memory, note_of, IsNoted, IsRun, IsServed, ending_by};
 
 use crate::hub::Hub;
 use crate::note::{Note, write_note};
@@ -32,8 +32,23 @@ pub enum Ending {
     NoMemory,
 }
 
-/// The program's status for bad usage.
-const USAGE: u8 = 2;
+/// The session was answered to its end.
+pub const STATUS_DONE: u8 = 0;
+
+/// The words are none that the program takes.
+pub const STATUS_USAGE: u8 = 2;
+
+/// The session has a fault.
+pub const STATUS_BAD_SESSION: u8 = 3;
+
+/// The input failed.
+pub const STATUS_READ_FAULT: u8 = 4;
+
+/// The output failed.
+pub const STATUS_WRITE_FAULT: u8 = 5;
+
+/// Memory was wanting.
+pub const STATUS_NO_MEMORY: u8 = 6;
 
 /// Runs what the words ask for, and gives the program's status. The words are those of the command line without the
 /// program's name; the one command is `replay`, which answers the session on `input` on `out`. Why it ended with
@@ -48,25 +63,31 @@ pub fn statsd_top<S: Source, K: Sink, E: Sink>(
     // A session is replayed, and the status says how that ended.
     ensures replay { IsReplay words.now → (ending : Ending) × (result ≡ status_of ending)
         × IsRun (S.left input.old) (S.left input.new) (K.written out.old) (K.written out.new) ending
-        × IsNoted (E.written notes.old) (E.written notes.new) (E.faults notes.old) (E.faults notes.new) (note_of ending) }
+        × IsNoted (E.written notes.old) (E.written notes.new) (E.faults notes.old) (E.faults notes.new)
+        (note_of ending) }
 
     // Other words are refused, and nothing is read or written but the note.
-    ensures usage { (result ≡ 2) ↔ (IsReplay words.now → ⊥) }
+    ensures usage { (result ≡ status_usage) ↔ (IsReplay words.now → ⊥) }
     ensures untouched { (IsReplay words.now → ⊥) → (input.new ≡ input.old) × (out.new ≡ out.old)
-        × IsNoted (E.written notes.old) (E.written notes.new) (E.faults notes.old) (E.faults notes.new) (Some notes_told.Usage) }
+        × IsNoted (E.written notes.old) (E.written notes.new) (E.faults notes.old) (E.faults notes.new)
+        (Some notes_told.Usage) }
 
     // The faults of the outside have their cause there.
-    ensures read_fault { result ≡ 4 → Rose (S.faults input.old) (S.faults input.new) }
-    ensures write_fault { result ≡ 5 → Rose (K.faults out.old) (K.faults out.new) }
+    ensures read_fault { result ≡ status_read_fault
+        → Rose (S.faults input.old) (S.faults input.new) }
+    ensures write_fault { result ≡ status_write_fault
+        → Rose (K.faults out.old) (K.faults out.new) }
 
     // A good session is answered to its end, unless the outside fails or memory is wanting.
-    ensures complete { IsReplay words.now → IfSome (S.left input.old) (λ bytes. (frames : List Frame) → frames_of bytes frames Clean
-        → (Rose (S.faults input.old) (S.faults input.new) → ⊥) → (Rose (K.faults out.old) (K.faults out.new) → ⊥)
-        → (result ≡ 0) ⊎ (result ≡ 6)) }
+    ensures complete { IsReplay words.now → IfSome (S.left input.old) (λ bytes.
+        (frames : List Frame) → frames_of bytes frames Clean
+        → (Rose (S.faults input.old) (S.faults input.new) → ⊥)
+        → (Rose (K.faults out.old) (K.faults out.new) → ⊥)
+        → (result ≡ status_done) ⊎ (result ≡ status_no_memory)) }
 {
     if !is_replay(words) {
         let _ = write_note(&Note::Usage, notes);
-        return USAGE;
+        return STATUS_USAGE;
     }
     let ending = replay(alloc, input, out);
     tell(&ending, notes);
@@ -88,11 +109,11 @@ fn status(ending: &Ending) -> u8
     ensures { result ≡ status_of ending.now }
 {
     match ending {
-        Ending::Done => 0,
-        Ending::BadSession { .. } => 3,
-        Ending::ReadFault => 4,
-        Ending::WriteFault => 5,
-        Ending::NoMemory => 6,
+        Ending::Done => STATUS_DONE,
+        Ending::BadSession { .. } => STATUS_BAD_SESSION,
+        Ending::ReadFault => STATUS_READ_FAULT,
+        Ending::WriteFault => STATUS_WRITE_FAULT,
+        Ending::NoMemory => STATUS_NO_MEMORY,
     }
 }
 
@@ -114,7 +135,8 @@ fn note_on(ending: &Ending) -> Option<Note>
 
 /// Tells how a run ended. A note that fails changes nothing.
 fn tell<E: Sink>(ending: &Ending, notes: &mut E)
-    ensures { IsNoted (E.written notes.old) (E.written notes.new) (E.faults notes.old) (E.faults notes.new) (note_of ending.now) }
+    ensures { IsNoted (E.written notes.old) (E.written notes.new)
+        (E.faults notes.old) (E.faults notes.new) (note_of ending.now) }
 {
     if let Some(note) = note_on(ending) {
         let _ = write_note(&note, notes);
@@ -123,8 +145,10 @@ fn tell<E: Sink>(ending: &Ending, notes: &mut E)
 
 /// Reads the session frame by frame, and answers its commands.
 fn replay<S: Source, K: Sink>(alloc: Global, input: &mut S, out: &mut K) -> Ending
-    ensures run { IsRun (S.left input.old) (S.left input.new) (K.written out.old) (K.written out.new) result }
-    ensures read_fault { result ≡ Ending.ReadFault → Rose (S.faults input.old) (S.faults input.new) }
+    ensures run { IsRun (S.left input.old) (S.left input.new)
+        (K.written out.old) (K.written out.new) result }
+    ensures read_fault { result ≡ Ending.ReadFault
+        → Rose (S.faults input.old) (S.faults input.new) }
     ensures write_fault { result ≡ Ending.WriteFault → Rose (K.faults out.old) (K.faults out.new) }
 {
     let mut reader = FrameReader::new(alloc);
@@ -160,9 +184,11 @@ fn ending_of(e: FrameError) -> Ending
 
 /// One frame comes to the hub, and its reply goes out.
 fn serve<K: Sink>(hub: Hub, frame: Frame, out: &mut K) -> Result<Hub, Ending>
-    ensures serves { (frames : List Frame) → HubStandsFor hub frames → IsFaultless frame → IsInTime (clock_of frames) frame
+    ensures serves { (frames : List Frame) → HubStandsFor hub frames
+        → IsFaultless frame → IsInTime (clock_of frames) frame
         → IsServed (K.written out.old) (K.written out.new) frames frame result }
-    ensures write_fault { result ≡ Err Ending.WriteFault → Rose (K.faults out.old) (K.faults out.new) }
+    ensures write_fault { result ≡ Err Ending.WriteFault
+        → Rose (K.faults out.old) (K.faults out.new) }
     ensures read_fault { result ≡ Err Ending.ReadFault → ⊥ }
     ensures later { K.faults out.old ≤ K.faults out.new }
 {

@@ -1,4 +1,4 @@
--- The fields stand one behind the other; the three counts are 0 and left out.
+-- The fields stand one after the other; the three counts are 0 and left out.
 use Rattle.std.proofs.Common.{◌≡◌, ◌++◌, [], ap, ◌∙◌, rules, SFits, w64}
 use Rattle.std.specs.Int.{cast_unsigned}
 use Rattle.std.proofs.lemmas.Int.{to_z-of_z}
