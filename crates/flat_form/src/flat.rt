@@ -60,7 +60,7 @@ pub trait Flat: Sized {
 // The item at a place, and the place after it.
 fn read(items: &Items, place: usize) -> Option<(&Item, usize)>
     ensures { MatchOption result (slice_get items.now place ≡ None)
-        (λ read. (slice_get items.now place ≡ Some read.0.now) × (read.1 ≡ place + 1)) }
+        (λ found. (slice_get items.now place ≡ Some found.0.now) × (found.1 ≡ place + 1)) }
 {
     let end = items.len();
     let item = items.at(place)?;

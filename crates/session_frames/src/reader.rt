@@ -158,7 +158,7 @@ fn next_in(alloc: Global, clock: u64, left: &[u8]) -> Result<Option<(Frame, &[u8
 
 // Room for what one call of a source gives.
 fn piece(alloc: Global) -> Result<Vec<u8>, AllocError>
-    ensures { IfOk result (λ piece. 0 < vec_len piece) }
+    ensures { IfOk result (λ room. 0 < vec_len room) }
 {
     vec![in alloc; 0; PIECE]
 }

@@ -38,7 +38,7 @@ pub fn read_config(alloc: Global, bytes: &[u8]) -> Result<Result<CountConfig, Re
         return Ok(Err(Refusal::TooLarge(u32::MAX)));
     }
     match decode(alloc, bytes) {
-        Ok(config) => match built(&config) {
+        Ok(config) => match counting_form(&config) {
             Some(config) => Ok(Ok(config)),
             None => Ok(Err(Refusal::Unsupported(Path::new(alloc)))),
         },
@@ -53,10 +53,10 @@ pub fn read_config(alloc: Global, bytes: &[u8]) -> Result<Result<CountConfig, Re
 }
 
 /// The parts of a configuration, if it has the form that is understood.
-fn built(config: &Config) -> Option<CountConfig>
+fn counting_form(config: &Config) -> Option<CountConfig>
     ensures { meaning.built config.now ≡ found result }
 {
-    if !has_only_counts(config) {
+    if !lists_counts_alone(config) {
         return None;
     }
     let ([matcher], [count]) = (config.matchers.as_slice(), config.counts.as_slice()) else {
@@ -64,11 +64,11 @@ fn built(config: &Config) -> Option<CountConfig>
     };
     let matcher = built_matcher(matcher)?;
     let count = built_count(count)?;
-    count_of_matcher(matcher, count)
+    count_by_matcher(matcher, count)
 }
 
 /// There is nothing but matchers and metrics that count.
-fn has_only_counts(config: &Config) -> bool
+fn lists_counts_alone(config: &Config) -> bool
     ensures { result ≡ has_only_counts config.now }
 {
     config.predicates.is_empty()
@@ -81,7 +81,7 @@ fn has_only_counts(config: &Config) -> bool
 }
 
 /// The configuration, if the metric counts what the matcher matches.
-fn count_of_matcher(matcher: AtomMatcher, count: CountMetric) -> Option<CountConfig>
+fn count_by_matcher(matcher: AtomMatcher, count: CountMetric) -> Option<CountConfig>
     ensures { meaning.count_of_matcher (atom_matcher matcher) (count_metric count) ≡ found result }
 {
     if count.what != matcher.id {
@@ -119,7 +119,7 @@ fn built_simple(simple: &SimpleMatcher) -> Option<u32>
 fn built_count(count: &CountDef) -> Option<CountMetric>
     ensures { count_built count.now ≡ read_of count_metric result }
 {
-    if !is_unconditional(&count.common) || !is_unsliced(&count.sliced) {
+    if !has_no_condition(&count.common) || !has_no_slices(&count.sliced) {
         return None;
     }
     let id = count.common.id?;
@@ -128,14 +128,14 @@ fn built_count(count: &CountDef) -> Option<CountMetric>
 }
 
 /// It has no condition.
-fn is_unconditional(common: &Common) -> bool
+fn has_no_condition(common: &Common) -> bool
     ensures { result ≡ is_unconditional common.now }
 {
     common.condition.is_none() && common.links.is_empty()
 }
 
 /// It has no key, and says nothing of its buckets.
-fn is_unsliced(sliced: &Sliced) -> bool
+fn has_no_slices(sliced: &Sliced) -> bool
     ensures { result ≡ is_unsliced sliced.now }
 {
     sliced.dims.is_none()

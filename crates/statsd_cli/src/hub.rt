@@ -10,7 +10,7 @@ ghost use Rattle.statsd_cli.specs.Hub.{HubStandsFor};
 
 use crate::config::read_config;
 use crate::instance::{CountConfig, Instance};
-use crate::report::report_bytes;
+use crate::report::encode_report;
 use atom_record::LogFrame;
 use session_frames::{Frame, Refusal, Reply, ReplyBody};
 use std::alloc::{AllocError, Global};
@@ -128,14 +128,14 @@ impl Hub {
         };
         let live = &mut self.lives[at];
         let shown = live.instance.report(include_current, self.clock);
-        let report = report_bytes(self.alloc, uid, id, &shown)?;
+        let report = encode_report(self.alloc, uid, id, &shown)?;
         Ok(ReplyBody::ReportBytes(report))
     }
 }
 
 impl Live {
     /// It is the client's configuration of this id.
-    fn is_at(&self, uid: i32, id: i64) -> bool
+    fn is_named(&self, uid: i32, id: i64) -> bool
         ensures { result ≡ is_at uid id self.now }
     {
         self.uid == uid && self.id == id
@@ -164,14 +164,14 @@ fn log_all(lives: &mut Vec<Live>, frame: &LogFrame)
 fn place_of(lives: &[Live], uid: i32, id: i64) -> Option<usize>
     ensures { result ≡ position_from (is_at uid id) 0 lives.now }
 {
-    lives.iter().position(|live| live.is_at(uid, id))
+    lives.iter().position(|live| live.is_named(uid, id))
 }
 
 /// Takes a client's configuration of an id out.
 fn take_out(lives: &mut Vec<Live>, uid: i32, id: i64)
     ensures { lives.new.items ≡ filter (λ live. not (is_at uid id live)) lives.old.items }
 {
-    lives.retain(|live| !live.is_at(uid, id));
+    lives.retain(|live| !live.is_named(uid, id));
 }
 
 /// Puts a configuration where its client's one of that id stands, or after all, and says whether there was one.

@@ -83,7 +83,7 @@ impl Instance {
             last: self.last,
             at: now,
             bucket: if include_current {
-                self.closed_at(now)
+                self.closed_bucket(now)
             } else {
                 None
             },
@@ -97,7 +97,7 @@ impl Instance {
     }
 
     /// The open part as it would be closed, if something came in it.
-    fn closed_at(&self, end: u64) -> Option<Bucket>
+    fn closed_bucket(&self, end: u64) -> Option<Bucket>
         ensures { result ≡ closed_at end self.now }
     {
         if self.count == 0 {

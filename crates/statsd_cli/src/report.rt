@@ -14,7 +14,7 @@ use std::alloc::{AllocError, Global};
 const BUCKET_SIZE: u64 = 3_600_000_000_000;
 
 /// A bucket's message: where it begins and ends, and its count, which ends where a signed number of 64 bits does.
-fn bucket_bytes(alloc: Global, bucket: &Bucket) -> Result<Vec<u8>, AllocError>
+fn encode_bucket(alloc: Global, bucket: &Bucket) -> Result<Vec<u8>, AllocError>
     ensures { IfOk result (λ bytes. bytes.items ≡ spelled.bucket_bytes (bucket_tree bucket.now)) }
 {
     let mut message = Writer::new(alloc);
@@ -25,24 +25,24 @@ fn bucket_bytes(alloc: Global, bucket: &Bucket) -> Result<Vec<u8>, AllocError>
 }
 
 /// The rows of a metric that counts: one, if a bucket was closed.
-fn rows_bytes(alloc: Global, bucket: Option<&Bucket>) -> Result<Vec<u8>, AllocError>
+fn encode_rows(alloc: Global, bucket: Option<&Bucket>) -> Result<Vec<u8>, AllocError>
     ensures { IfOk result (λ bytes.
         bytes.items ≡ spelled.rows_bytes (row_trees (option_copied bucket.entry))) }
 {
     let mut rows = Writer::new(alloc);
     if let Some(bucket) = bucket {
         let mut row = Writer::new(alloc);
-        row.bytes_field(3, &bucket_bytes(alloc, bucket)?)?;
+        row.bytes_field(3, &encode_bucket(alloc, bucket)?)?;
         rows.bytes_field(1, &row.into_bytes())?;
     }
     Ok(rows.into_bytes())
 }
 
 /// The one metric's message.
-fn metric_bytes(alloc: Global, shown: &Shown) -> Result<Vec<u8>, AllocError>
+fn encode_metric(alloc: Global, shown: &Shown) -> Result<Vec<u8>, AllocError>
     ensures { IfOk result (λ bytes. bytes.items ≡ spelled.metric_bytes (shown_metric shown.now)) }
 {
-    let rows = rows_bytes(alloc, shown.bucket.as_ref())?;
+    let rows = encode_rows(alloc, shown.bucket.as_ref())?;
     let mut message = Writer::new(alloc);
     message.varint_field(1, shown.metric_id.cast_unsigned())?;
     message.bytes_field(5, &rows)?;
@@ -52,11 +52,11 @@ fn metric_bytes(alloc: Global, shown: &Shown) -> Result<Vec<u8>, AllocError>
 }
 
 /// The part of a report that speaks of a configuration.
-fn config_bytes(alloc: Global, shown: &Shown) -> Result<Vec<u8>, AllocError>
+fn encode_config(alloc: Global, shown: &Shown) -> Result<Vec<u8>, AllocError>
     ensures { IfOk result (λ bytes. (uid id : ℤ)
         → bytes.items ≡ spelled.config_bytes (shown_tree uid id shown.now)) }
 {
-    let metric = metric_bytes(alloc, shown)?;
+    let metric = encode_metric(alloc, shown)?;
     let mut message = Writer::new(alloc);
     message.bytes_field(1, &metric)?;
     message.varint_field(3, shown.last)?;
@@ -65,7 +65,7 @@ fn config_bytes(alloc: Global, shown: &Shown) -> Result<Vec<u8>, AllocError>
 }
 
 /// The part of a report that says whose it is.
-fn owner_bytes(alloc: Global, uid: i32, id: i64) -> Result<Vec<u8>, AllocError>
+fn encode_owner(alloc: Global, uid: i32, id: i64) -> Result<Vec<u8>, AllocError>
     ensures { IfOk result (λ bytes. (shown : Shown)
         → bytes.items ≡ spelled.owner_bytes (shown_tree uid id shown)) }
 {
@@ -76,11 +76,11 @@ fn owner_bytes(alloc: Global, uid: i32, id: i64) -> Result<Vec<u8>, AllocError>
 }
 
 /// The report of a client's configuration.
-pub fn report_bytes(alloc: Global, uid: i32, id: i64, shown: &Shown) -> Result<Bytes, AllocError>
+pub fn encode_report(alloc: Global, uid: i32, id: i64, shown: &Shown) -> Result<Bytes, AllocError>
     ensures { IfOk result (λ bytes. bytes ≡ spelled.report_bytes (shown_tree uid id shown.now)) }
 {
-    let owner = owner_bytes(alloc, uid, id)?;
-    let config = config_bytes(alloc, shown)?;
+    let owner = encode_owner(alloc, uid, id)?;
+    let config = encode_config(alloc, shown)?;
     let mut message = Writer::new(alloc);
     message.bytes_field(1, &owner)?;
     message.bytes_field(2, &config)?;

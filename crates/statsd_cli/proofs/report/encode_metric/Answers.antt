@@ -6,7 +6,7 @@ use Rattle.proto_wire.specs.Spelling.{varint_field, bytes_field}
 use Rattle.instance_meaning.specs.Spelling.{int_field, rows_bytes}
 use Rattle.statsd_cli.specs.Report.{row_trees}
 use Rattle.statsd_cli.proofs.Fields.{four_fields}
-use Rattle.statsd_cli.proofs.report.metric_bytes.Goals as goal
+use Rattle.statsd_cli.proofs.report.encode_metric.Goals as goal
 
 pub returns : goal.returns
 returns c =

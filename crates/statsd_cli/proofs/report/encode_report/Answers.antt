@@ -5,7 +5,7 @@ use Rattle.proto_wire.specs.Spelling.{bytes_field}
 use Rattle.instance_meaning.specs.Spelling.{owner_bytes, config_bytes, report_bytes}
 use Rattle.statsd_cli.specs.Report.{shown_tree}
 use Rattle.statsd_cli.proofs.Fields.{two_fields}
-use Rattle.statsd_cli.proofs.report.report_bytes.Goals as goal
+use Rattle.statsd_cli.proofs.report.encode_report.Goals as goal
 
 pub returns : goal.returns
 unfolding report_bytes
