@@ -1,4 +1,5 @@
--- For callers that read or spell values outside of atoms: what is read is spelled so, and what is spelled is read again.
+-- For callers that read or spell values outside of atoms: what is read is spelled so, and what is spelled is read
+-- again.
 use Rattle.std.proofs.Common.{◌≡◌, ℕ, List, [], ◌∷◌, ◌++◌, Ok, sym, ap, ◌∙◌}
 use Rattle.atom_record.specs.declared.value.Value.{Value}
 use Rattle.atom_record.specs.declared.value.Value.TheVariants as values
@@ -17,11 +18,14 @@ typed_takes [] x fits read = absurd cc
 typed_takes (number ∷ bytes) x fits read =
     let kind = bind_ok (kind_at number) (λ kind. value_at kind bytes) x read in
     let took = value_takes kind.0 bytes x (IsBytes-rest number bytes fits) kind.2 in
-    let named : number ≡ type_of x.0 = kind_takes number kind.0 kind.1 ∙ ap number_of (sym took.same) ∙ sym (type_is x.0) in
-    (record { parts = ap (λ (b : ℕ). b ∷ bytes) named ∙ ap (λ (l : List ℕ). type_of x.0 ∷ l) took.took.parts; fits = took.took.fits }, took.fits)
+    let named : number ≡ type_of x.0 = kind_takes number kind.0 kind.1 ∙ ap number_of (sym took.same)
+        ∙ sym (type_is x.0) in
+    (record { parts = ap (λ (b : ℕ). b ∷ bytes) named ∙ ap (λ (l : List ℕ). type_of x.0 ∷ l) took.took.parts; fits =
+        took.took.fits }, took.fits)
 
 -- what is spelled is read again
-pub typed_again : (value : Value) (rest : List ℕ) → IsInRange value → typed_at (typed_bytes value ++ rest) ≡ Ok (value, rest)
+pub typed_again : (value : Value) (rest : List ℕ) → IsInRange value
+    → typed_at (typed_bytes value ++ rest) ≡ Ok (value, rest)
 unfolding typed_at
 typed_again value rest fits = rw (kind_again value) (value_again value rest fits)
 

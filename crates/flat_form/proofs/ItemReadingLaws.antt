@@ -398,13 +398,16 @@ item_takes (tag ∷ bytes) x fits read =
                         subst (λ (t : List ℕ). Takes bytes (sized_bytes t) payload.0.1) sound.1 took.0 in
                         subst is_read (ok_is (AtomItem atom.0, payload.0.1) x atom.2)
                         (tagged tag 4 bytes (sized_bytes (payload_of atom.0)) payload.0.1 this.0 spelled, (sound.0, tt))
-                    | inr fifth ↦ elim (chosen (tag == 5) (counted_at w32 bytes >>= λ chunk. Ok (Chunk chunk.0, chunk.1))
+                    | inr fifth ↦ elim (chosen (tag == 5)
+                        (counted_at w32 bytes >>= λ chunk. Ok (Chunk chunk.0, chunk.1))
                         (Err Unspelled) (Ok x) fifth.1) [
                           | inl this ↦
-                              let chunk = bind_ok (counted_at w32 bytes) (λ chunk. Ok (Chunk chunk.0, chunk.1)) x this.1 in
+                              let chunk = bind_ok (counted_at w32 bytes) (λ chunk. Ok (Chunk chunk.0, chunk.1)) x this.1
+                                  in
                               let took = counted_takes w32 (2 ^ 32) wide32 bytes chunk.0 rest chunk.1 in
                               subst is_read (ok_is (Chunk chunk.0.0, chunk.0.1) x chunk.2) (
-                                tagged tag 5 bytes (to_le_bytes w32 (length chunk.0.0) ++ chunk.0.0) chunk.0.1 this.0 took.0,
+                                tagged tag 5 bytes (to_le_bytes w32 (length chunk.0.0) ++ chunk.0.0) chunk.0.1 this.0
+                                    took.0,
                                 (took.1, tt),
                               )
                           | inr never ↦ let bad = never.1 in absurd cc

@@ -15,11 +15,13 @@ use Rattle.proto_wire.specs.Spelling.{varint}
 abbrev counts_of : ℕ → Linked
 counts_of size = record {
   matchers = Simple 5 ∷ [];
-  metrics = record { id = pos 100; shown = true; what = 0; dims = record { atom_id = 0; leaves = [] }; size = size; bound = 800 } ∷ [];
+  metrics = record { id = pos 100; shown = true; what = 0; dims = record { atom_id = 0; leaves = [] }; size = size;
+      bound = 800 } ∷ [];
 }
 
 abbrev atom_of : ℕ → ℕ → Step
-atom_of at id = let frame = AtomAt at (record { id = id; fields = [] }) in record { at = at; what = Logged frame; truths = truths_of (counts_of 0) frame }
+atom_of at id = let frame = AtomAt at (record { id = id; fields = [] }) in
+    record { at = at; what = Logged frame; truths = truths_of (counts_of 0) frame }
 
 abbrev asked : ℕ → Bool → Step
 asked at cut = record { at = at; what = Reported cut; truths = [] }
@@ -29,7 +31,8 @@ history size steps = record { uid = pos 10; id = pos 7; base = 0; linked = count
 
 -- two atoms, and a report with a cut at 3
 least : report_bytes (report_of (history 3600000000000 (atom_of 2 5 ∷ atom_of 3 5 ∷ [])) true 3) ≡
-    10 ∷ 4 ∷ 8 ∷ 10 ∷ 16 ∷ 7 ∷ 18 ∷ 29 ∷ 10 ∷ 23 ∷ 8 ∷ 100 ∷ 42 ∷ 10 ∷ 10 ∷ 8 ∷ 26 ∷ 6 ∷ 8 ∷ 0 ∷ 16 ∷ 3 ∷ 24 ∷ 2 ∷ 72 ∷ 0 ∷ 80 ∷ 128 ∷ 192 ∷ 226 ∷ 133 ∷ 227 ∷ 104 ∷ 24 ∷ 0 ∷ 32 ∷ 3 ∷ []
+    10 ∷ 4 ∷ 8 ∷ 10 ∷ 16 ∷ 7 ∷ 18 ∷ 29 ∷ 10 ∷ 23 ∷ 8 ∷ 100 ∷ 42 ∷ 10 ∷ 10 ∷ 8 ∷ 26 ∷ 6 ∷ 8 ∷ 0 ∷ 16 ∷ 3 ∷ 24 ∷ 2 ∷ 72
+        ∷ 0 ∷ 80 ∷ 128 ∷ 192 ∷ 226 ∷ 133 ∷ 227 ∷ 104 ∷ 24 ∷ 0 ∷ 32 ∷ 3 ∷ []
 unfolding report_bytes report_of varint
 least = refl
 
@@ -46,14 +49,16 @@ tree size last now buckets = record {
   id = pos 7;
   last = last;
   now = now;
-  metrics = record { id = pos 100; base = 0; size = size; dropped = 0; not_kept = 0; missing = 0; body = Counts (rows buckets) } ∷ [];
+  metrics = record { id = pos 100; base = 0; size = size; dropped = 0; not_kept = 0; missing = 0; body =
+      Counts (rows buckets) } ∷ [];
   predicate_drops = [];
   state_drops = [];
   state_atoms_dropped = 0;
 }
 
 -- two crossed ends: the open bucket, which an atom has opened, is not shown
-two_ends : report_of (history 1000 (atom_of 1 5 ∷ atom_of 1500 5 ∷ atom_of 1600 5 ∷ atom_of 2000 5 ∷ [])) false 2000 ≡ tree 1000 0 2000 (bucket 0 1000 (pos 1) ∷ bucket 1000 2000 (pos 2) ∷ [])
+two_ends : report_of (history 1000 (atom_of 1 5 ∷ atom_of 1500 5 ∷ atom_of 1600 5 ∷ atom_of 2000 5 ∷ [])) false 2000
+    ≡ tree 1000 0 2000 (bucket 0 1000 (pos 1) ∷ bucket 1000 2000 (pos 2) ∷ [])
 unfolding report_of
 two_ends = refl
 
@@ -62,7 +67,8 @@ without_a_cut : report_of (history 1000 (atom_of 1 5 ∷ [])) false 1 ≡ tree 1
 unfolding report_of
 without_a_cut = refl
 
-then_a_cut : report_of (history 1000 (atom_of 1 5 ∷ asked 1 false ∷ atom_of 2 5 ∷ [])) true 2 ≡ tree 1000 1 2 (bucket 0 2 (pos 2) ∷ [])
+then_a_cut : report_of (history 1000 (atom_of 1 5 ∷ asked 1 false ∷ atom_of 2 5 ∷ [])) true 2 ≡ tree 1000 1 2
+    (bucket 0 2 (pos 2) ∷ [])
 unfolding report_of
 then_a_cut = refl
 
@@ -72,7 +78,8 @@ unfolding report_of
 two_cuts = refl
 
 -- a cut keeps the full end
-cut_then_end : report_of (history 1000 (atom_of 4 5 ∷ asked 4 true ∷ atom_of 5 5 ∷ atom_of 1001 5 ∷ [])) false 1001 ≡ tree 1000 4 1001 (bucket 4 1000 (pos 1) ∷ [])
+cut_then_end : report_of (history 1000 (atom_of 4 5 ∷ asked 4 true ∷ atom_of 5 5 ∷ atom_of 1001 5 ∷ [])) false 1001
+    ≡ tree 1000 4 1001 (bucket 4 1000 (pos 1) ∷ [])
 unfolding report_of
 cut_then_end = refl
 
@@ -100,9 +107,11 @@ keys : key_of (record {
       ∷ record { field = 1; position = Some All; sub = 1 } ∷ record { field = 3; position = None; sub = 0 }
       ∷ record { field = 4; position = None; sub = 0 } ∷ record { field = 1; position = Some Last; sub = 2 } ∷ [];
 }) chain
-    ≡ One (Int (pos 1000)) ∷ One (Int (pos 1001)) ∷ Many (Int (pos 1000) ∷ Int (pos 1001) ∷ []) ∷ One (Int (negsuc 0)) ∷ Missing ∷ Missing ∷ []
+    ≡ One (Int (pos 1000)) ∷ One (Int (pos 1001)) ∷ Many (Int (pos 1000) ∷ Int (pos 1001) ∷ []) ∷ One (Int (negsuc 0))
+        ∷ Missing ∷ Missing ∷ []
 keys = refl
 
 -- an atom of another kind has nothing there
-other_kind : key_of (record { atom_id = 11; leaves = record { field = 3; position = None; sub = 0 } ∷ [] }) chain ≡ Missing ∷ []
+other_kind : key_of (record { atom_id = 11; leaves = record { field = 3; position = None; sub = 0 } ∷ [] }) chain
+    ≡ Missing ∷ []
 other_kind = refl

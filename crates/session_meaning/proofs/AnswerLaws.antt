@@ -9,7 +9,8 @@ use Rattle.session_frames.specs.Replies.{reply_bytes}
 use Rattle.session_meaning.specs.Answers.{reply_to, replies, text}
 
 -- the reply to the frame comes behind all others
-pub text-push : (frames : List Frame) (frame : Frame) → text (frames ++ frame ∷ []) ≡ text frames ++ flat_map reply_bytes (option_to_list (reply_to frames frame))
+pub text-push : (frames : List Frame) (frame : Frame)
+    → text (frames ++ frame ∷ []) ≡ text frames ++ flat_map reply_bytes (option_to_list (reply_to frames frame))
 unfolding text
 text-push frames frame =
     ap (flat_map reply_bytes) (given-push (λ before frame. option_to_list (reply_to before frame)) frames frame)

@@ -16,14 +16,17 @@ use Rattle.session_meaning.specs.Log.{clock_of}
 use Rattle.session_meaning.specs.Config.{linked_of_bytes}
 use Rattle.session_meaning.specs.Live.{Installed, with_config, without_id, installed, live_after, live_from, live, step_at, history_of}
 
-live_from-push : (before : List Frame) (configs : List Installed) (frames : List Frame) (frame : Frame) → live_from before configs (frames ++ frame ∷ []) ≡ live_after (before ++ frames) frame (live_from before configs frames)
+live_from-push : (before : List Frame) (configs : List Installed) (frames : List Frame) (frame : Frame)
+    → live_from before configs (frames ++ frame ∷ []) ≡ live_after (before ++ frames) frame
+        (live_from before configs frames)
 live_from-push before configs [] frame = ap (λ b. live_after b frame configs) (sym (append-nil before))
 live_from-push before configs (first ∷ frames) frame =
     live_from-push (before ++ first ∷ []) (live_after before first configs) frames frame
     ∙ ap (λ b. live_after b frame (live_from before configs (first ∷ frames))) (append_assoc before (first ∷ []) frames)
 
 -- what is live behind one more own frame
-pub live-push : (frames : List Frame) (frame : Frame) → live (frames ++ frame ∷ []) ≡ live_after frames frame (live frames)
+pub live-push : (frames : List Frame) (frame : Frame)
+    → live (frames ++ frame ∷ []) ≡ live_after frames frame (live frames)
 live-push frames frame = live_from-push [] [] frames frame
 
 -- each of these was installed before so many frames had come
@@ -31,46 +34,64 @@ abbrev pub ArePlaced : ℕ → List Installed → Type 0
 ArePlaced count [] = Unit {0}
 ArePlaced count (config ∷ configs) = (config.place < count) × ArePlaced count configs
 
-ArePlaced-later : (count more : ℕ) (configs : List Installed) → ArePlaced count configs → ArePlaced (count + more) configs
+ArePlaced-later : (count more : ℕ) (configs : List Installed) → ArePlaced count configs
+    → ArePlaced (count + more) configs
 ArePlaced-later count more [] placed = tt
-ArePlaced-later count more (config ∷ configs) placed = (omega (arith, placed.0), ArePlaced-later count more configs placed.1)
+ArePlaced-later count more (config ∷ configs) placed =
+    (omega (arith, placed.0), ArePlaced-later count more configs placed.1)
 
-chosen : (same : Bool) (count : ℕ) (new old : Installed) (others behind : List Installed) → new.place < count → ArePlaced count (old ∷ others) → ArePlaced count behind → ArePlaced count (cond same (new ∷ others) (old ∷ behind))
+chosen : (same : Bool) (count : ℕ) (new old : Installed) (others behind : List Installed) → new.place < count
+    → ArePlaced count (old ∷ others) → ArePlaced count behind
+    → ArePlaced count (cond same (new ∷ others) (old ∷ behind))
 chosen true count new old others behind is placed placed_behind = (is, placed.1)
 chosen false count new old others behind is placed placed_behind = (placed.0, placed_behind)
 
-ArePlaced-with_config : (count : ℕ) (new : Installed) (configs : List Installed) → new.place < count → ArePlaced count configs → ArePlaced count (with_config new configs)
+ArePlaced-with_config : (count : ℕ) (new : Installed) (configs : List Installed) → new.place < count
+    → ArePlaced count configs → ArePlaced count (with_config new configs)
 ArePlaced-with_config count new [] is placed = (is, tt)
 ArePlaced-with_config count new (old ∷ others) is placed =
-    chosen (int_eq old.id new.id) count new old others (with_config new others) is placed (ArePlaced-with_config count new others is placed.1)
+    chosen (int_eq old.id new.id) count new old others (with_config new others) is placed
+        (ArePlaced-with_config count new others is placed.1)
 
-left : (stays : Bool) (count : ℕ) (config : Installed) (others : List Installed) → config.place < count → ArePlaced count others → ArePlaced count (cond stays (config ∷ others) others)
+left : (stays : Bool) (count : ℕ) (config : Installed) (others : List Installed) → config.place < count
+    → ArePlaced count others → ArePlaced count (cond stays (config ∷ others) others)
 left true count config others is placed = (is, placed)
 left false count config others is placed = placed
 
-ArePlaced-without_id : (count : ℕ) (id : ℤ) (configs : List Installed) → ArePlaced count configs → ArePlaced count (without_id id configs)
+ArePlaced-without_id : (count : ℕ) (id : ℤ) (configs : List Installed) → ArePlaced count configs
+    → ArePlaced count (without_id id configs)
 ArePlaced-without_id count id [] placed = tt
 ArePlaced-without_id count id (config ∷ others) placed =
-    left (not (int_eq config.id id)) count config (without_id id others) placed.0 (ArePlaced-without_id count id others placed.1)
+    left (not (int_eq config.id id)) count config (without_id id others) placed.0
+        (ArePlaced-without_id count id others placed.1)
 
-ArePlaced-installed : (place : ℕ) (id : ℤ) (found : Result Linked Refusal) (configs : List Installed) → ArePlaced place configs → ArePlaced (place + 1) (installed place id found configs)
+ArePlaced-installed : (place : ℕ) (id : ℤ) (found : Result Linked Refusal) (configs : List Installed)
+    → ArePlaced place configs → ArePlaced (place + 1) (installed place id found configs)
 ArePlaced-installed place id (Ok linked) configs placed =
-    ArePlaced-with_config (place + 1) (record { id = id; linked = linked; place = place }) configs (omega arith) (ArePlaced-later place 1 configs placed)
+    ArePlaced-with_config (place + 1) (record { id = id; linked = linked; place = place }) configs (omega arith)
+        (ArePlaced-later place 1 configs placed)
 ArePlaced-installed place id (Err refusal) configs placed = ArePlaced-later place 1 configs placed
 
-ArePlaced-behind : (before : List Frame) (frame : Frame) (configs : List Installed) → ArePlaced (length before) configs → ArePlaced (length before + 1) (live_after before frame configs)
+ArePlaced-behind : (before : List Frame) (frame : Frame) (configs : List Installed) → ArePlaced (length before) configs
+    → ArePlaced (length before + 1) (live_after before frame configs)
 ArePlaced-behind before (Log frame) configs placed = ArePlaced-later (length before) 1 configs placed
-ArePlaced-behind before (Install uid id config) configs placed = ArePlaced-installed (length before) id (linked_of_bytes config) configs placed
-ArePlaced-behind before (Remove uid id) configs placed = ArePlaced-later (length before) 1 (without_id id configs) (ArePlaced-without_id (length before) id configs placed)
-ArePlaced-behind before (Report uid id include_current) configs placed = ArePlaced-later (length before) 1 configs placed
+ArePlaced-behind before (Install uid id config) configs placed =
+    ArePlaced-installed (length before) id (linked_of_bytes config) configs placed
+ArePlaced-behind before (Remove uid id) configs placed =
+    ArePlaced-later (length before) 1 (without_id id configs) (ArePlaced-without_id (length before) id configs placed)
+ArePlaced-behind before (Report uid id include_current) configs placed =
+    ArePlaced-later (length before) 1 configs placed
 
-ArePlaced-live_from : (before : List Frame) (configs : List Installed) (frames : List Frame) → ArePlaced (length before) configs → ArePlaced (length before + length frames) (live_from before configs frames)
+ArePlaced-live_from : (before : List Frame) (configs : List Installed) (frames : List Frame)
+    → ArePlaced (length before) configs → ArePlaced (length before + length frames) (live_from before configs frames)
 ArePlaced-live_from before configs [] placed = ArePlaced-later (length before) 0 configs placed
 ArePlaced-live_from before configs (frame ∷ frames) placed =
     let more : length (before ++ frame ∷ []) ≡ length before + 1 = length-append before (frame ∷ []) in
-    let one : ArePlaced (length (before ++ frame ∷ [])) (live_after before frame configs) = rw more (ArePlaced-behind before frame configs placed) in
+    let one : ArePlaced (length (before ++ frame ∷ [])) (live_after before frame configs) =
+        rw more (ArePlaced-behind before frame configs placed) in
     let all = ArePlaced-live_from (before ++ frame ∷ []) (live_after before frame configs) frames one in
-    let count : length (before ++ frame ∷ []) + length frames ≡ length before + length (frame ∷ frames) = omega (arith, more) in
+    let count : length (before ++ frame ∷ []) + length frames ≡ length before + length (frame ∷ frames) =
+        omega (arith, more) in
     subst (λ n. ArePlaced n (live_from before configs (frame ∷ frames))) count all
 
 -- each live configuration was installed by one of the frames
@@ -78,28 +99,41 @@ pub live_placed : (frames : List Frame) → ArePlaced (length frames) (live fram
 live_placed frames = subst (λ n. ArePlaced n (live frames)) (omega arith) (ArePlaced-live_from [] [] frames tt)
 
 -- a live configuration has seen one more step, if the frame is one to it
-pub history_of-push : (client : ℤ) (frames : List Frame) (frame : Frame) (config : Installed) → config.place < length frames
-    → history_of client (frames ++ frame ∷ []) config ≡ with_steps (history_of client frames config) (step_at config.id config.linked frames frame)
+pub history_of-push : (client : ℤ) (frames : List Frame) (frame : Frame) (config : Installed)
+    → config.place < length frames
+    → history_of client (frames ++ frame ∷ []) config ≡ with_steps (history_of client frames config)
+        (step_at config.id config.linked frames frame)
 history_of-push client frames frame config placed =
     let step = step_at config.id config.linked in
-    let before : take config.place (frames ++ frame ∷ []) ≡ take config.place frames = take-append-le config.place frames (frame ∷ []) (omega (arith, placed)) in
-    let front : take (suc config.place) (frames ++ frame ∷ []) ≡ take (suc config.place) frames = take-append-le (suc config.place) frames (frame ∷ []) (omega (arith, placed)) in
-    let behind : drop (suc config.place) (frames ++ frame ∷ []) ≡ drop (suc config.place) frames ++ frame ∷ [] = drop-append-le (suc config.place) frames (frame ∷ []) (omega (arith, placed)) in
-    let steps : given_after step (take (suc config.place) (frames ++ frame ∷ [])) (drop (suc config.place) (frames ++ frame ∷ []))
+    let before : take config.place (frames ++ frame ∷ []) ≡ take config.place frames =
+        take-append-le config.place frames (frame ∷ []) (omega (arith, placed)) in
+    let front : take (suc config.place) (frames ++ frame ∷ []) ≡ take (suc config.place) frames =
+        take-append-le (suc config.place) frames (frame ∷ []) (omega (arith, placed)) in
+    let behind : drop (suc config.place) (frames ++ frame ∷ []) ≡ drop (suc config.place) frames ++ frame ∷ [] =
+        drop-append-le (suc config.place) frames (frame ∷ []) (omega (arith, placed)) in
+    let steps : given_after step (take (suc config.place) (frames ++ frame ∷ []))
+        (drop (suc config.place) (frames ++ frame ∷ []))
     ≡ given_after step (take (suc config.place) frames) (drop (suc config.place) frames) ++ step frames frame =
     rw (front, behind) (given_after-push step (take (suc config.place) frames) (drop (suc config.place) frames) frame
-    ∙ ap (λ all. given_after step (take (suc config.place) frames) (drop (suc config.place) frames) ++ step all frame) (take-append-drop (suc config.place) frames)) in
-    let base : clock_of (take config.place (frames ++ frame ∷ [])) ≡ clock_of (take config.place frames) = ap clock_of before in
+    ∙ ap (λ all. given_after step (take (suc config.place) frames) (drop (suc config.place) frames) ++ step all frame)
+        (take-append-drop (suc config.place) frames)) in
+    let base : clock_of (take config.place (frames ++ frame ∷ [])) ≡ clock_of (take config.place frames) =
+        ap clock_of before in
     cc
 
 -- a configuration that was just installed has seen nothing, and its base is the clock
-pub history_of-new : (client : ℤ) (frames : List Frame) (frame : Frame) (config : Installed) → config.place ≡ length frames
-    → history_of client (frames ++ frame ∷ []) config ≡ record { uid = client; id = config.id; base = clock_of frames; linked = config.linked; steps = [] }
+pub history_of-new : (client : ℤ) (frames : List Frame) (frame : Frame) (config : Installed)
+    → config.place ≡ length frames
+    → history_of client (frames ++ frame ∷ []) config
+        ≡ record { uid = client; id = config.id; base = clock_of frames; linked = config.linked; steps = [] }
 history_of-new client frames frame config here =
     let step = step_at config.id config.linked in
-    let before : take config.place (frames ++ frame ∷ []) ≡ frames = take_at frames (frame ∷ []) config.place (sym here) in
-    let none : drop (suc config.place) (frames ++ frame ∷ []) ≡ [] = drop_all (suc config.place) (frames ++ frame ∷ []) (omega (arith, here, length-append frames (frame ∷ []))) in
-    let steps : given_after step (take (suc config.place) (frames ++ frame ∷ [])) (drop (suc config.place) (frames ++ frame ∷ [])) ≡ [] = rw none refl in
+    let before : take config.place (frames ++ frame ∷ []) ≡ frames =
+        take_at frames (frame ∷ []) config.place (sym here) in
+    let none : drop (suc config.place) (frames ++ frame ∷ []) ≡ [] =
+        drop_all (suc config.place) (frames ++ frame ∷ []) (omega (arith, here, length-append frames (frame ∷ []))) in
+    let steps : given_after step (take (suc config.place) (frames ++ frame ∷ []))
+        (drop (suc config.place) (frames ++ frame ∷ [])) ≡ [] = rw none refl in
     let base : clock_of (take config.place (frames ++ frame ∷ [])) ≡ clock_of frames = ap clock_of before in
     cc
 
@@ -122,55 +156,78 @@ abbrev pub AreDistinct : List Installed → Type 0
 AreDistinct [] = Unit {0}
 AreDistinct (config ∷ configs) = (has_config config.id configs ≡ false) × AreDistinct configs
 
-has_config-with_config : (id : ℤ) (new : Installed) (configs : List Installed) → has_config id (with_config new configs) ≡ (has_config id configs || int_eq new.id id)
+has_config-with_config : (id : ℤ) (new : Installed) (configs : List Installed)
+    → has_config id (with_config new configs) ≡ (has_config id configs || int_eq new.id id)
 has_config-with_config id new [] = grind arith
-has_config-with_config id new (old ∷ others) = by_case (int_eq old.id new.id) refl (has_config-with_config id new others) where
-  by_case : (same : Bool) → int_eq old.id new.id ≡ same → has_config id (with_config new others) ≡ (has_config id others || int_eq new.id id)
-      → has_config id (cond same (new ∷ others) (old ∷ with_config new others)) ≡ (has_config id (old ∷ others) || int_eq new.id id)
-  by_case true e rest = let one : int_eq old.id id ≡ int_eq new.id id = ap (λ n. int_eq n id) ((signed_Decides old.id new.id).0 e) in grind arith
+has_config-with_config id new (old ∷ others) =
+    by_case (int_eq old.id new.id) refl (has_config-with_config id new others) where
+  by_case : (same : Bool) → int_eq old.id new.id ≡ same
+      → has_config id (with_config new others) ≡ (has_config id others || int_eq new.id id)
+      → has_config id (cond same (new ∷ others) (old ∷ with_config new others))
+          ≡ (has_config id (old ∷ others) || int_eq new.id id)
+  by_case true e rest = let one : int_eq old.id id ≡ int_eq new.id id =
+      ap (λ n. int_eq n id) ((signed_Decides old.id new.id).0 e) in grind arith
   by_case false e rest = grind arith
 
-AreDistinct-with_config : (new : Installed) (configs : List Installed) → AreDistinct configs → AreDistinct (with_config new configs)
+AreDistinct-with_config : (new : Installed) (configs : List Installed) → AreDistinct configs
+    → AreDistinct (with_config new configs)
 AreDistinct-with_config new [] distinct = (refl, tt)
-AreDistinct-with_config new (old ∷ others) distinct = by_case (int_eq old.id new.id) refl (AreDistinct-with_config new others distinct.1) where
-  by_case : (same : Bool) → int_eq old.id new.id ≡ same → AreDistinct (with_config new others) → AreDistinct (cond same (new ∷ others) (old ∷ with_config new others))
-  by_case true e rest = (ap (λ id. has_config id others) (sym ((signed_Decides old.id new.id).0 e)) ∙ distinct.0, distinct.1)
+AreDistinct-with_config new (old ∷ others) distinct =
+    by_case (int_eq old.id new.id) refl (AreDistinct-with_config new others distinct.1) where
+  by_case : (same : Bool) → int_eq old.id new.id ≡ same → AreDistinct (with_config new others)
+      → AreDistinct (cond same (new ∷ others) (old ∷ with_config new others))
+  by_case true e rest = (ap (λ id. has_config id others) (sym ((signed_Decides old.id new.id).0 e)) ∙ distinct.0,
+      distinct.1)
   by_case false e rest =
       let apart : int_eq new.id old.id ≡ false = int_eq_sym new.id old.id ∙ e in
-      let head : has_config old.id (with_config new others) ≡ false = has_config-with_config old.id new others ∙ ap (λ b. b || int_eq new.id old.id) distinct.0 ∙ apart in
+      let head : has_config old.id (with_config new others) ≡ false =
+          has_config-with_config old.id new others ∙ ap (λ b. b || int_eq new.id old.id) distinct.0 ∙ apart in
       (head, rest)
 
-kept_if : (stays : Bool) (id : ℤ) (config : Installed) (others rest : List Installed) → has_config id (config ∷ others) ≡ false → has_config id rest ≡ false → has_config id (cond stays (config ∷ rest) rest) ≡ false
+kept_if : (stays : Bool) (id : ℤ) (config : Installed) (others rest : List Installed)
+    → has_config id (config ∷ others) ≡ false → has_config id rest ≡ false
+    → has_config id (cond stays (config ∷ rest) rest) ≡ false
 kept_if true id config others rest none tail = grind arith
 kept_if false id config others rest none tail = tail
 
-has_config-without : (id gone : ℤ) (configs : List Installed) → has_config id configs ≡ false → has_config id (without_id gone configs) ≡ false
+has_config-without : (id gone : ℤ) (configs : List Installed) → has_config id configs ≡ false
+    → has_config id (without_id gone configs) ≡ false
 has_config-without id gone [] none = none
 has_config-without id gone (config ∷ others) none =
     let tail : has_config id others ≡ false = grind arith in
-    kept_if (not (int_eq config.id gone)) id config others (without_id gone others) none (has_config-without id gone others tail)
+    kept_if (not (int_eq config.id gone)) id config others (without_id gone others) none
+        (has_config-without id gone others tail)
 
-AreDistinct-without_id : (gone : ℤ) (configs : List Installed) → AreDistinct configs → AreDistinct (without_id gone configs)
+AreDistinct-without_id : (gone : ℤ) (configs : List Installed) → AreDistinct configs
+    → AreDistinct (without_id gone configs)
 AreDistinct-without_id gone [] distinct = tt
-AreDistinct-without_id gone (config ∷ others) distinct = by_case (not (int_eq config.id gone)) (AreDistinct-without_id gone others distinct.1) where
-  by_case : (stays : Bool) → AreDistinct (without_id gone others) → AreDistinct (cond stays (config ∷ without_id gone others) (without_id gone others))
+AreDistinct-without_id gone (config ∷ others) distinct =
+    by_case (not (int_eq config.id gone)) (AreDistinct-without_id gone others distinct.1) where
+  by_case : (stays : Bool) → AreDistinct (without_id gone others)
+      → AreDistinct (cond stays (config ∷ without_id gone others) (without_id gone others))
   by_case true rest = (has_config-without config.id gone others distinct.0, rest)
   by_case false rest = rest
 
-AreDistinct-installed : (place : ℕ) (id : ℤ) (found : Result Linked Refusal) (configs : List Installed) → AreDistinct configs → AreDistinct (installed place id found configs)
-AreDistinct-installed place id (Ok linked) configs distinct = AreDistinct-with_config (record { id = id; linked = linked; place = place }) configs distinct
+AreDistinct-installed : (place : ℕ) (id : ℤ) (found : Result Linked Refusal) (configs : List Installed)
+    → AreDistinct configs → AreDistinct (installed place id found configs)
+AreDistinct-installed place id (Ok linked) configs distinct =
+    AreDistinct-with_config (record { id = id; linked = linked; place = place }) configs distinct
 AreDistinct-installed place id (Err refusal) configs distinct = distinct
 
-AreDistinct-behind : (before : List Frame) (frame : Frame) (configs : List Installed) → AreDistinct configs → AreDistinct (live_after before frame configs)
+AreDistinct-behind : (before : List Frame) (frame : Frame) (configs : List Installed) → AreDistinct configs
+    → AreDistinct (live_after before frame configs)
 AreDistinct-behind before (Log frame) configs distinct = distinct
-AreDistinct-behind before (Install uid id config) configs distinct = AreDistinct-installed (length before) id (linked_of_bytes config) configs distinct
+AreDistinct-behind before (Install uid id config) configs distinct =
+    AreDistinct-installed (length before) id (linked_of_bytes config) configs distinct
 AreDistinct-behind before (Remove uid id) configs distinct = AreDistinct-without_id id configs distinct
 AreDistinct-behind before (Report uid id include_current) configs distinct = distinct
 
-AreDistinct-live_from : (before : List Frame) (configs : List Installed) (frames : List Frame) → AreDistinct configs → AreDistinct (live_from before configs frames)
+AreDistinct-live_from : (before : List Frame) (configs : List Installed) (frames : List Frame) → AreDistinct configs
+    → AreDistinct (live_from before configs frames)
 AreDistinct-live_from before configs [] distinct = distinct
 AreDistinct-live_from before configs (frame ∷ frames) distinct =
-    AreDistinct-live_from (before ++ frame ∷ []) (live_after before frame configs) frames (AreDistinct-behind before frame configs distinct)
+    AreDistinct-live_from (before ++ frame ∷ []) (live_after before frame configs) frames
+        (AreDistinct-behind before frame configs distinct)
 
 -- no two live configurations of a client have one id
 pub live_distinct : (frames : List Frame) → AreDistinct (live frames)

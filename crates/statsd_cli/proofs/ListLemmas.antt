@@ -29,16 +29,22 @@ module _ {X : Type 0} (test : X → Bool) where
   }
 
   -- where a search from a number on found something, it is the first, counted from that number
-  pub first_found : (from at : ℕ) (all : List X) → position_from test from all ≡ Some at → (from ≤ at) × IsFirst test all (at - from)
+  pub first_found : (from at : ℕ) (all : List X) → position_from test from all ≡ Some at
+      → (from ≤ at) × IsFirst test all (at - from)
   first_found from at [] e = absurd (cc)
   first_found from at (x ∷ all) e = by_case (test x) refl (first_found (from + 1) at all) where
-    by_case : (passes : Bool) → test x ≡ passes → (position_from test (from + 1) all ≡ Some at → (from + 1 ≤ at) × IsFirst test all (at - (from + 1))) → (from ≤ at) × IsFirst test (x ∷ all) (at - from)
+    by_case : (passes : Bool) → test x ≡ passes
+        → (position_from test (from + 1) all ≡ Some at → (from + 1 ≤ at) × IsFirst test all (at - (from + 1)))
+        → (from ≤ at) × IsFirst test (x ∷ all) (at - from)
     by_case true is rest =
-        let here : Some from ≡ Some at = ap (λ b. cond b (Some from) (position_from test (from + 1) all)) (sym is) ∙ e in
+        let here : Some from ≡ Some at = ap (λ b. cond b (Some from) (position_from test (from + 1) all)) (sym is)
+            ∙ e in
         let same : from ≡ at = cc in
-        (omega arith, record { front = []; here = x; behind = all; parts = refl; place = omega arith; passes = is; before = refl })
+        (omega arith, record { front = []; here = x; behind = all; parts = refl; place = omega arith; passes = is;
+            before = refl })
     by_case false is rest =
-        let later : position_from test (from + 1) all ≡ Some at = ap (λ b. cond b (Some from) (position_from test (from + 1) all)) (sym is) ∙ e in
+        let later : position_from test (from + 1) all ≡ Some at =
+            ap (λ b. cond b (Some from) (position_from test (from + 1) all)) (sym is) ∙ e in
         let found = rest later in
         let le : from + 1 ≤ at = found.0 in
         let place : suc (at - (from + 1)) ≡ at - from = omega arith in
@@ -52,27 +58,33 @@ module _ {X : Type 0} (test : X → Bool) where
   pub none_found : (from : ℕ) (all : List X) → position_from test from all ≡ None → list_any test all ≡ false
   none_found from [] e = refl
   none_found from (x ∷ all) e = by_case (test x) refl (none_found (from + 1) all) where
-    by_case : (passes : Bool) → test x ≡ passes → (position_from test (from + 1) all ≡ None → list_any test all ≡ false) → list_any test (x ∷ all) ≡ false
+    by_case : (passes : Bool) → test x ≡ passes → (position_from test (from + 1) all ≡ None → list_any test all ≡ false)
+        → list_any test (x ∷ all) ≡ false
     by_case true is rest =
         let here : Some from ≡ None = ap (λ b. cond b (Some from) (position_from test (from + 1) all)) (sym is) ∙ e in
         absurd (cc)
     by_case false is rest =
-        let later : position_from test (from + 1) all ≡ None = ap (λ b. cond b (Some from) (position_from test (from + 1) all)) (sym is) ∙ e in
+        let later : position_from test (from + 1) all ≡ None =
+            ap (λ b. cond b (Some from) (position_from test (from + 1) all)) (sym is) ∙ e in
         ap (λ b. b || list_any test all) is ∙ rest later
 
   -- a search from a number on finds something where something passes
   pub some_found : (from : ℕ) (all : List X) → is_some (position_from test from all) ≡ list_any test all
   some_found from [] = refl
-  some_found from (x ∷ all) = by_case (test x) (position_from test (from + 1) all) (list_any test all) (some_found (from + 1) all) where
-    by_case : (passes : Bool) (later : Option ℕ) (any : Bool) → is_some later ≡ any → is_some (cond passes (Some from) later) ≡ (passes || any)
+  some_found from (x ∷ all) = by_case (test x) (position_from test (from + 1) all) (list_any test all)
+      (some_found (from + 1) all) where
+    by_case : (passes : Bool) (later : Option ℕ) (any : Bool) → is_some later ≡ any
+        → is_some (cond passes (Some from) later) ≡ (passes || any)
     by_case true later any e = refl
     by_case false later any e = e
 
   -- nothing passes in a front
-  pub head_fails : (x : X) (all : List X) → list_any test (x ∷ all) ≡ false → (test x ≡ false) × (list_any test all ≡ false)
+  pub head_fails : (x : X) (all : List X) → list_any test (x ∷ all) ≡ false
+      → (test x ≡ false) × (list_any test all ≡ false)
   head_fails x all e = (grind arith, grind arith)
 
-  find_behind : (front : List X) (x : X) (behind : List X) → list_any test front ≡ false → test x ≡ true → find test (front ++ x ∷ behind) ≡ Some x
+  find_behind : (front : List X) (x : X) (behind : List X) → list_any test front ≡ false → test x ≡ true
+      → find test (front ++ x ∷ behind) ≡ Some x
   find_behind [] x behind none is = ap (λ b. cond b (Some x) (find test behind)) is
   find_behind (y ∷ front) x behind none is =
       let h = head_fails y front none in
@@ -80,7 +92,8 @@ module _ {X : Type 0} (test : X → Bool) where
 
   pub find_none : (all : List X) → list_any test all ≡ false → find test all ≡ None
   find_none [] none = refl
-  find_none (x ∷ all) none = let h = head_fails x all none in ap (λ b. cond b (Some x) (find test all)) h.0 ∙ find_none all h.1
+  find_none (x ∷ all) none = let h = head_fails x all none in
+      ap (λ b. cond b (Some x) (find test all)) h.0 ∙ find_none all h.1
 
   any_behind : (front : List X) (x : X) (behind : List X) → test x ≡ true → list_any test (front ++ x ∷ behind) ≡ true
   any_behind [] x behind is = ap (λ b. b || list_any test behind) is
@@ -94,13 +107,18 @@ module _ {X : Type 0} (test : X → Bool) where
     any_first = ap (list_any test) first.parts ∙ any_behind first.front first.here first.behind first.passes
 
     pub within : at < length all
-    within = let len = ap length first.parts in omega (arith, first.place, length-append first.front (first.here ∷ first.behind))
+    within = let len = ap length first.parts in
+        omega (arith, first.place, length-append first.front (first.here ∷ first.behind))
 
     pub set_first : (x : X) → set all at x ≡ first.front ++ x ∷ first.behind
-    set_first x = ap (λ l. set l at x) first.parts ∙ ap (λ n. set (first.front ++ first.here ∷ first.behind) n x) first.place ∙ set-append_seam first.front first.here first.behind x
+    set_first x = ap (λ l. set l at x) first.parts
+        ∙ ap (λ n. set (first.front ++ first.here ∷ first.behind) n x) first.place
+        ∙ set-append_seam first.front first.here first.behind x
 
     pub get_first : (d : X) → get_or all at d ≡ first.here
-    get_first d = ap (λ l. get_or l at d) first.parts ∙ ap (λ n. get_or (first.front ++ first.here ∷ first.behind) n d) first.place ∙ get_or-append_seam first.front first.here first.behind d
+    get_first d = ap (λ l. get_or l at d) first.parts
+        ∙ ap (λ n. get_or (first.front ++ first.here ∷ first.behind) n d) first.place
+        ∙ get_or-append_seam first.front first.here first.behind d
 
 -- A write at the next place of a list that is rewritten in its place.
 pub record IsRewritten {A : Type 0} (f : A → A) (now old : List A) (i : ℕ) : Type 0 where
@@ -108,16 +126,24 @@ pub record IsRewritten {A : Type 0} (f : A → A) (now old : List A) (i : ℕ) :
   pub done : take i now ≡ map f (take i old)
   pub rest : drop i now ≡ drop i old
 
-pub rewritten_next : {A : Type 0} (f : A → A) (now old : List A) (i : ℕ) (d v : A) → i < length now → IsRewritten f now old i → v ≡ f (get_or now i d) → IsRewritten f (set now i v) old (i + 1)
+pub rewritten_next : {A : Type 0} (f : A → A) (now old : List A) (i : ℕ) (d v : A) → i < length now
+    → IsRewritten f now old i → v ≡ f (get_or now i d) → IsRewritten f (set now i v) old (i + 1)
 rewritten_next f now old i d v lt h is =
-    let here : get_or now i d ≡ get_or old i d = ap (λ n. get_or now n d) (sym (add-zero i)) ∙ sym (get_or-drop i now 0 d) ∙ ap (λ l. get_or l 0 d) h.rest ∙ get_or-drop i old 0 d ∙ ap (λ n. get_or old n d) (add-zero i) in
+    let here : get_or now i d ≡ get_or old i d =
+        ap (λ n. get_or now n d) (sym (add-zero i)) ∙ sym (get_or-drop i now 0 d) ∙ ap (λ l. get_or l 0 d) h.rest
+        ∙ get_or-drop i old 0 d ∙ ap (λ n. get_or old n d) (add-zero i) in
     record {
       len = length-set now i v ∙ h.len;
-      done = take_more_set now i v lt ∙ ap (λ l. l ++ v ∷ []) h.done ∙ ap (λ x. map f (take i old) ++ x ∷ []) (is ∙ ap f here) ∙ sym (map-append f (take i old) (get_or old i d ∷ [])) ∙ ap (map f) (sym (take_more old i d (subst (λ n. i < n) h.len lt)));
-      rest = drop-set-lt (i + 1) now i v (omega arith) ∙ sym (drop-drop 1 i now) ∙ ap (drop 1) h.rest ∙ drop-drop 1 i old;
+      done = take_more_set now i v lt ∙ ap (λ l. l ++ v ∷ []) h.done
+          ∙ ap (λ x. map f (take i old) ++ x ∷ []) (is ∙ ap f here)
+          ∙ sym (map-append f (take i old) (get_or old i d ∷ []))
+          ∙ ap (map f) (sym (take_more old i d (subst (λ n. i < n) h.len lt)));
+      rest = drop-set-lt (i + 1) now i v (omega arith) ∙ sym (drop-drop 1 i now) ∙ ap (drop 1) h.rest
+          ∙ drop-drop 1 i old;
     }
 
-pub rewritten_all : {A : Type 0} (f : A → A) (now old : List A) (i : ℕ) → length now ≤ i → IsRewritten f now old i → now ≡ map f old
+pub rewritten_all : {A : Type 0} (f : A → A) (now old : List A) (i : ℕ) → length now ≤ i → IsRewritten f now old i
+    → now ≡ map f old
 rewritten_all f now old i le h =
     let le_old : length old ≤ i = omega (arith, h.len) in
     sym (take_all i now le) ∙ h.done ∙ ap (map f) (take_all i old le_old)

@@ -32,7 +32,8 @@ none_other (suc n) = none_other n
 
 none_dropped : (n : ℕ) → dropped same_key 800 (keys n) ≡ 0
 none_dropped zero = refl
-none_dropped (suc n) = ap (λ first. count_by (λ key. not (is_among same_key key first)) (keys (suc n))) (admitted_one n) ∙ none_other (suc n)
+none_dropped (suc n) = ap (λ first. count_by (λ key. not (is_among same_key key first)) (keys (suc n))) (admitted_one n)
+    ∙ none_other (suc n)
 
 keys_are : (n : ℕ) → keys_of counting 800 (arrivals n) ≡ keys n
 keys_are zero = refl
@@ -45,7 +46,8 @@ one_more (suc n) = ap (λ more. (no_key, 1) ∷ more) (one_more n)
 -- nothing is dropped when one more comes
 pub drops_none : (n : ℕ) → drops counting 800 (arrivals n) (no_key, 1) ≡ 0
 drops_none n =
-    ap (λ came. dropped same_key 800 (keys_of counting 800 came) - dropped same_key 800 (keys_of counting 800 (arrivals n))) (one_more n)
+    ap (λ came. dropped same_key 800 (keys_of counting 800 came) - dropped same_key 800
+        (keys_of counting 800 (arrivals n))) (one_more n)
     ∙ ap (λ all. dropped same_key 800 all - dropped same_key 800 (keys_of counting 800 (arrivals n))) (keys_are (suc n))
     ∙ ap (λ count. count - dropped same_key 800 (keys_of counting 800 (arrivals n))) (none_dropped (suc n))
     ∙ omega arith
@@ -59,7 +61,8 @@ pub no_row : (start end : ℕ) → rows_of counting 800 (record { start = start;
 no_row start end = refl
 
 -- a part in which something came has one row, with the number of what came
-pub one_row : (start end n : ℕ) → rows_of counting 800 (record { start = start; end = end; came = arrivals (suc n) }) ≡ record { key = no_key; start = start; end = end; value = counted (suc n) } ∷ []
+pub one_row : (start end n : ℕ) → rows_of counting 800 (record { start = start; end = end; came = arrivals (suc n) })
+    ≡ record { key = no_key; start = start; end = end; value = counted (suc n) } ∷ []
 one_row start end n =
     let part : Part (MetricKey × ℕ) = record { start = start; end = end; came = arrivals (suc n) } in
     ap (λ all. flat_map (row_of counting 800 part) (admitted same_key 800 all)) (keys_are (suc n))

@@ -41,14 +41,16 @@ clock_is clock [] = refl
 clock_is clock (frame ∷ frames) = clock_is (clock_after clock frame) frames
 
 -- at the beginning nothing was served
-pub begins_along : (left old : Option (List ℕ)) (reader : Reading) (hub : Hub) → reader ≡ unread → HubStandsFor hub [] → IsAlong left left old old reader hub
+pub begins_along : (left old : Option (List ℕ)) (reader : Reading) (hub : Hub) → reader ≡ unread → HubStandsFor hub []
+    → IsAlong left left old old reader hub
 unfolding text
 begins_along left old reader hub is stands = record {
   frames = [];
   taken = [];
   consumes = Consumes-nil left;
   begins = (ap (λ (r : Reading). r.pending) (sym is), ap (λ (r : Reading). r.place) (sym is));
-  in_step = λ ended. let unended : reader.ended ≡ false = ap (λ (r : Reading). r.ended) is in absurd (false≢true (sym unended ∙ ended));
+  in_step = λ ended. let unended : reader.ended ≡ false = ap (λ (r : Reading). r.ended) is in
+      absurd (false≢true (sym unended ∙ ended));
   stands = stands;
   written = Appends-nil old;
 }
@@ -59,7 +61,8 @@ text_behind frames [] = ([], ap text (append-nil frames) ∙ sym (append-nil (te
 text_behind frames (frame ∷ others) =
     let rest = text_behind (frames ++ frame ∷ []) others in (
       reply_text frames frame ++ rest.0,
-      ap text (sym (append_assoc frames (frame ∷ []) others)) ∙ rest.1 ∙ ap (λ l. l ++ rest.0) (text-push frames frame) ∙ append_assoc (text frames) (reply_text frames frame) rest.0,
+      ap text (sym (append_assoc frames (frame ∷ []) others)) ∙ rest.1 ∙ ap (λ l. l ++ rest.0) (text-push frames frame)
+          ∙ append_assoc (text frames) (reply_text frames frame) rest.0,
     )
 
 no_text : text [] ≡ []
@@ -71,9 +74,11 @@ module _ (lo ln o n : Option (List ℕ)) (reader : Reading) (hub : Hub) (a : IsA
   all_with : List ℕ → List ℕ
   all_with more = a.taken ++ more
 
-  within_all : (more : List ℕ) → FitsSession reader.place (reader.pending ++ more) → length (a.taken ++ more) ≤ most_input
+  within_all : (more : List ℕ) → FitsSession reader.place (reader.pending ++ more)
+      → length (a.taken ++ more) ≤ most_input
   within_all more within =
-      omega (arith, within, Begins_bytes start a.taken a.frames reader.place reader.pending a.begins, length-append a.taken more, length-append reader.pending more)
+      omega (arith, within, Begins_bytes start a.taken a.frames reader.place reader.pending a.begins,
+          length-append a.taken more, length-append reader.pending more)
 
   further : (more : List ℕ) → Begins start (a.taken ++ more) a.frames reader.place (reader.pending ++ more)
   further more = Begins-more start a.taken a.frames reader.place reader.pending more a.begins
@@ -91,7 +96,8 @@ module _ (lo ln o n : Option (List ℕ)) (reader : Reading) (hub : Hub) (a : IsA
       let len : length a.taken ≡ 0 = omega (arith, bytes, at, pending) in
       let none : a.taken ≡ [] = nil_from_length a.taken len in
       (no_frames a.frames a.taken reader.place reader.pending a.begins len, none) where
-        no_frames : (frames : List Frame) (taken : List ℕ) (place : Place) (rest : List ℕ) → Begins start taken frames place rest → length taken ≡ 0 → frames ≡ []
+        no_frames : (frames : List Frame) (taken : List ℕ) (place : Place) (rest : List ℕ)
+            → Begins start taken frames place rest → length taken ≡ 0 → frames ≡ []
         no_frames [] taken place rest h len = refl
         no_frames (frame ∷ frames) taken place rest h len = absurd (omega (arith, whole_takes 0 taken frame h.0 h.1))
 
@@ -104,7 +110,8 @@ module _ (lo ln o n : Option (List ℕ)) (reader : Reading) (hub : Hub) (a : IsA
       frames = a.frames;
       session = frames_of-Reads (a.taken ++ g.taken) a.frames Clean (within_all g.taken g.within)
           (subst (λ all. Reads start (a.taken ++ g.taken) all Clean) (append-nil a.frames)
-          (Reads-from_Begins start (a.taken ++ g.taken) a.frames reader.place (reader.pending ++ g.taken) [] Clean (further g.taken) g.next.0));
+          (Reads-from_Begins start (a.taken ++ g.taken) a.frames reader.place (reader.pending ++ g.taken) [] Clean
+              (further g.taken) g.next.0));
       at_end = g.next.1;
       written = a.written;
     };
@@ -152,7 +159,8 @@ module _ (lo ln o n : Option (List ℕ)) (reader : Reading) (hub : Hub) (a : IsA
       }
 
   -- memory was wanting, where the bytes are a session's, or before any frame
-  short_within : (lm : Option (List ℕ)) (taken : List ℕ) → Consumes ln lm taken → FitsSession reader.place (reader.pending ++ taken) → IsRun lo lm o n NoMemory
+  short_within : (lm : Option (List ℕ)) (taken : List ℕ) → Consumes ln lm taken
+      → FitsSession reader.place (reader.pending ++ taken) → IsRun lo lm o n NoMemory
   short_within lm taken consumes within =
       let others = some_reading reader.place (reader.pending ++ taken) in
       record {
@@ -163,18 +171,21 @@ module _ (lo ln o n : Option (List ℕ)) (reader : Reading) (hub : Hub) (a : IsA
           others = others.0;
           end = others.1;
           session = frames_of-Reads (a.taken ++ taken) (a.frames ++ others.0) others.1 (within_all taken within)
-              (Reads-from_Begins start (a.taken ++ taken) a.frames reader.place (reader.pending ++ taken) others.0 others.1 (further taken) others.2);
+              (Reads-from_Begins start (a.taken ++ taken) a.frames reader.place (reader.pending ++ taken) others.0
+                  others.1 (further taken) others.2);
           written = a.written;
         };
       }
 
-  short_before : (lm : Option (List ℕ)) (taken : List ℕ) → Consumes ln lm taken → reader ≡ unread → IsRun lo lm o n NoMemory
+  short_before : (lm : Option (List ℕ)) (taken : List ℕ) → Consumes ln lm taken → reader ≡ unread
+      → IsRun lo lm o n NoMemory
   short_before lm taken consumes is =
       let all = some_frames (a.taken ++ taken) in
       record {
         taken = a.taken ++ taken;
         consumes = Consumes-trans lo ln lm a.taken taken a.consumes consumes;
-        outcome = record { answered = []; others = all.0; end = all.1; session = all.2; written = subst (λ frames. Appends o n (text frames)) (none_yet is).0 a.written };
+        outcome = record { answered = []; others = all.0; end = all.1; session = all.2; written =
+            subst (λ frames. Appends o n (text frames)) (none_yet is).0 a.written };
       }
 
   -- the reader gave no frame
@@ -186,19 +197,24 @@ module _ (lo ln o n : Option (List ℕ)) (reader : Reading) (hub : Hub) (a : IsA
     consumes = Consumes-trans lo ln lm a.taken r.taken a.consumes r.consumes;
     outcome = subst (Appends o n) no_text (subst (λ frames. Appends o n (text frames)) (none_yet r.cause).0 a.written);
   }
-  ends_refused lm errors.Memory r = ⊎_elim (short_within lm r.taken r.consumes) (short_before lm r.taken r.consumes) r.cause
+  ends_refused lm errors.Memory r = ⊎_elim (short_within lm r.taken r.consumes) (short_before lm r.taken r.consumes)
+      r.cause
 
-  module _ (lm : Option (List ℕ)) (after : Reading) (frame : Frame) (g : GivesFrame ln lm reader after (Some frame)) (m : Option (List ℕ)) where
+  module _ (lm : Option (List ℕ)) (after : Reading) (frame : Frame) (g : GivesFrame ln lm reader after (Some frame))
+      (m : Option (List ℕ)) where
     one_more : Begins start (a.taken ++ g.taken) (a.frames ++ frame ∷ []) after.place after.pending
     one_more =
         subst (λ place. Begins start (a.taken ++ g.taken) (a.frames ++ frame ∷ []) place after.pending) (sym g.next.1)
-        (Begins-push start (a.taken ++ g.taken) a.frames reader.place (reader.pending ++ g.taken) frame after.pending (further g.taken) g.next.0)
+        (Begins-push start (a.taken ++ g.taken) a.frames reader.place (reader.pending ++ g.taken) frame after.pending
+            (further g.taken) g.next.0)
 
     -- the place is further on, and within what a session may have
     pub comes_nearer : (most_input + 1) - after.place.bytes < (most_input + 1) - reader.place.bytes
     comes_nearer =
-        let place : after.place.bytes ≡ reader.place.bytes + (length (reader.pending ++ g.taken) - length after.pending) = ap (λ (p : Place). p.bytes) g.next.1 in
-        omega (arith, place, g.within, whole_takes reader.place.clock (reader.pending ++ g.taken) frame after.pending g.next.0)
+        let place : after.place.bytes ≡ reader.place.bytes
+            + (length (reader.pending ++ g.taken) - length after.pending) = ap (λ (p : Place). p.bytes) g.next.1 in
+        omega (arith, place, g.within, whole_takes reader.place.clock (reader.pending ++ g.taken) frame after.pending
+            g.next.0)
 
     -- the frame was served
     pub goes_on : (new : Hub) → IsServed n m a.frames frame (Ok new) → IsAlong lo lm o m after new
@@ -209,13 +225,16 @@ module _ (lo ln o n : Option (List ℕ)) (reader : Reading) (hub : Hub) (a : IsA
       begins = one_more;
       in_step = g.in_step;
       stands = served.0;
-      written = subst (Appends o m) (sym (text-push a.frames frame)) (Appends-trans o n m (text a.frames) (reply_text a.frames frame) a.written served.1);
+      written = subst (Appends o m) (sym (text-push a.frames frame))
+          (Appends-trans o n m (text a.frames) (reply_text a.frames frame) a.written served.1);
     }
 
-    whole_session : (others : List Frame) (end : End) → Reads after.place after.pending others end → frames_of (a.taken ++ g.taken) ((a.frames ++ frame ∷ []) ++ others) end
+    whole_session : (others : List Frame) (end : End) → Reads after.place after.pending others end
+        → frames_of (a.taken ++ g.taken) ((a.frames ++ frame ∷ []) ++ others) end
     whole_session others end reads =
         frames_of-Reads (a.taken ++ g.taken) ((a.frames ++ frame ∷ []) ++ others) end (within_all g.taken g.within)
-        (Reads-from_Begins start (a.taken ++ g.taken) (a.frames ++ frame ∷ []) after.place after.pending others end one_more reads)
+        (Reads-from_Begins start (a.taken ++ g.taken) (a.frames ++ frame ∷ []) after.place after.pending others end
+            one_more reads)
 
     -- the frame wasn't served
     pub ends_in_serve : (ending : Ending) → IsServed n m a.frames frame (Err ending) → IsRun lo lm o m ending
@@ -224,7 +243,9 @@ module _ (lo ln o n : Option (List ℕ)) (reader : Reading) (hub : Hub) (a : IsA
     ends_in_serve ReadFault served = absurd served
     ends_in_serve WriteFault served =
         let others = some_reading after.place after.pending in
-        let front : AppendsFront o m (text (a.frames ++ frame ∷ [])) = subst (AppendsFront o m) (sym (text-push a.frames frame)) (front_after o n m (text a.frames) (reply_text a.frames frame) a.written served) in
+        let front : AppendsFront o m (text (a.frames ++ frame ∷ [])) =
+            subst (AppendsFront o m) (sym (text-push a.frames frame))
+            (front_after o n m (text a.frames) (reply_text a.frames frame) a.written served) in
         let behind = text_behind (a.frames ++ frame ∷ []) others.0 in
         record {
           taken = a.taken ++ g.taken;
@@ -233,7 +254,8 @@ module _ (lo ln o n : Option (List ℕ)) (reader : Reading) (hub : Hub) (a : IsA
             frames = (a.frames ++ frame ∷ []) ++ others.0;
             end = others.1;
             session = whole_session others.0 others.1 others.2;
-            written = subst (AppendsFront o m) (sym behind.1) (front_before o m (text (a.frames ++ frame ∷ [])) behind.0 front);
+            written = subst (AppendsFront o m) (sym behind.1)
+                (front_before o m (text (a.frames ++ frame ∷ [])) behind.0 front);
           };
         }
     ends_in_serve NoMemory served =
@@ -245,8 +267,10 @@ module _ (lo ln o n : Option (List ℕ)) (reader : Reading) (hub : Hub) (a : IsA
             answered = a.frames;
             others = frame ∷ others.0;
             end = others.1;
-            session = subst (λ all. frames_of (a.taken ++ g.taken) all others.1) (append_assoc a.frames (frame ∷ []) others.0) (whole_session others.0 others.1 others.2);
-            written = subst (Appends o m) (append-nil (text a.frames)) (Appends-trans o n m (text a.frames) [] a.written served);
+            session = subst (λ all. frames_of (a.taken ++ g.taken) all others.1)
+                (append_assoc a.frames (frame ∷ []) others.0) (whole_session others.0 others.1 others.2);
+            written = subst (Appends o m) (append-nil (text a.frames))
+                (Appends-trans o n m (text a.frames) [] a.written served);
           };
         }
 
@@ -254,21 +278,26 @@ module _ (lo ln o n : Option (List ℕ)) (reader : Reading) (hub : Hub) (a : IsA
 much_more : (taken rest : List ℕ) → is_too_much taken ≡ true → is_too_much (taken ++ rest) ≡ true
 much_more taken rest h = let len = length-append taken rest in grind (arith, nat_tests, len)
 
-clean_within : (too_much : Bool) (bytes : List ℕ) (frames : List Frame) → too_much ≡ true → MatchBool too_much ((frames ≡ []) × (Clean ≡ Bad most_input TooManyFrames)) (Reads start bytes frames Clean) → ⊥
+clean_within : (too_much : Bool) (bytes : List ℕ) (frames : List Frame) → too_much ≡ true
+    → MatchBool too_much ((frames ≡ []) × (Clean ≡ Bad most_input TooManyFrames)) (Reads start bytes frames Clean) → ⊥
 clean_within true bytes frames e h = cc
 clean_within false bytes frames e h = absurd (cc)
 
 never_too_many : (too_much : Bool) (taken : List ℕ) (frames : List Frame) (at : ℕ) → too_much ≡ false
-    → MatchBool too_much ((frames ≡ []) × (Bad at TooManyFrames ≡ Bad most_input TooManyFrames)) (Reads start taken frames (Bad at TooManyFrames)) → ⊥
+    → MatchBool too_much ((frames ≡ []) × (Bad at TooManyFrames ≡ Bad most_input TooManyFrames))
+        (Reads start taken frames (Bad at TooManyFrames)) → ⊥
 never_too_many true taken frames at e h = absurd (cc)
 never_too_many false taken frames at e h =
     let last = Begins-from_Reads start taken frames (Bad at TooManyFrames) h in
     session_fault-other last.3.1.0 (sym last.3.1.2)
 
-same_end : (bytes : List ℕ) (frames others : List Frame) (at : ℕ) (fault : SessionFault) → frames_of bytes frames Clean → frames_of bytes others (Bad at fault) → ⊥
-same_end bytes frames others at fault good bad = let one = one_frames bytes frames others Clean (Bad at fault) good bad in cc
+same_end : (bytes : List ℕ) (frames others : List Frame) (at : ℕ) (fault : SessionFault) → frames_of bytes frames Clean
+    → frames_of bytes others (Bad at fault) → ⊥
+same_end bytes frames others at fault good bad = let one =
+    one_frames bytes frames others Clean (Bad at fault) good bad in cc
 
-not_bad : (bytes rest taken : List ℕ) (o n : Option (List ℕ)) (at : ℕ) (fault : SessionFault) (frames : List Frame) → bytes ≡ taken ++ rest → IsBadSession at fault taken (Some rest) o n → frames_of bytes frames Clean → ⊥
+not_bad : (bytes rest taken : List ℕ) (o n : Option (List ℕ)) (at : ℕ) (fault : SessionFault) (frames : List Frame)
+    → bytes ≡ taken ++ rest → IsBadSession at fault taken (Some rest) o n → frames_of bytes frames Clean → ⊥
 not_bad bytes rest taken o n at fault frames is h good =
     ⊎_elim
     (λ (own : fault ≡ TooManyFrames). ⊎_elim
@@ -282,31 +311,41 @@ not_bad bytes rest taken o n at fault frames is h good =
       h.session))
     h.whole
 
-pub good_isnt_bad : (bytes : List ℕ) (left o n : Option (List ℕ)) (at : ℕ) (fault : SessionFault) (frames : List Frame) → IsRun (Some bytes) left o n (BadSession at fault) → frames_of bytes frames Clean → ⊥
+pub good_isnt_bad : (bytes : List ℕ) (left o n : Option (List ℕ)) (at : ℕ) (fault : SessionFault) (frames : List Frame)
+    → IsRun (Some bytes) left o n (BadSession at fault) → frames_of bytes frames Clean → ⊥
 good_isnt_bad bytes None o n at fault frames run good = run.consumes
-good_isnt_bad bytes (Some rest) o n at fault frames run good = not_bad bytes rest run.taken o n at fault frames run.consumes run.outcome good
+good_isnt_bad bytes (Some rest) o n at fault frames run good =
+    not_bad bytes rest run.taken o n at fault frames run.consumes run.outcome good
 
 -- the words are one word
-pub one_word : (words : List (List ℕ)) (word : List ℕ) → 1 ≤ length words → length words < 2 → word ≡ get_or words 0 word → words ≡ word ∷ []
+pub one_word : (words : List (List ℕ)) (word : List ℕ) → 1 ≤ length words → length words < 2
+    → word ≡ get_or words 0 word → words ≡ word ∷ []
 one_word [] word some few is = absurd (omega arith)
 one_word (first ∷ []) word some few is = ap (λ w. w ∷ []) (sym is)
 one_word (first ∷ second ∷ others) word some few is = absurd (omega arith)
 
 -- the bytes of a reply that there is
-pub reply_text_is : (frames : List Frame) (frame : Frame) (reply : Reply) → reply_to frames frame ≡ Some reply → reply_text frames frame ≡ reply_bytes reply
-reply_text_is frames frame reply is = ap (λ r. flat_map reply_bytes (option_to_list r)) is ∙ append-nil (reply_bytes reply)
+pub reply_text_is : (frames : List Frame) (frame : Frame) (reply : Reply) → reply_to frames frame ≡ Some reply
+    → reply_text frames frame ≡ reply_bytes reply
+reply_text_is frames frame reply is = ap (λ r. flat_map reply_bytes (option_to_list r)) is
+    ∙ append-nil (reply_bytes reply)
 
 -- A good session is answered to its end, unless the outside fails or memory is wanting.
 module _ (left_new o n : Option (List ℕ)) (status read_before read_now write_before write_now : ℕ) where
-  complete_at : (bytes : List ℕ) (ending : Ending) → status ≡ status_of ending → IsRun (Some bytes) left_new o n ending → (ending ≡ ReadFault → Rose read_before read_now) → (ending ≡ WriteFault → Rose write_before write_now)
-      → (frames : List Frame) → frames_of bytes frames Clean → (Rose read_before read_now → ⊥) → (Rose write_before write_now → ⊥) → (status ≡ 0) ⊎ (status ≡ 6)
+  complete_at : (bytes : List ℕ) (ending : Ending) → status ≡ status_of ending → IsRun (Some bytes) left_new o n ending
+      → (ending ≡ ReadFault → Rose read_before read_now) → (ending ≡ WriteFault → Rose write_before write_now)
+      → (frames : List Frame) → frames_of bytes frames Clean → (Rose read_before read_now → ⊥)
+          → (Rose write_before write_now → ⊥) → (status ≡ 0) ⊎ (status ≡ 6)
   complete_at bytes Done is run reads writes frames good no_read no_write = inl is
-  complete_at bytes (BadSession at fault) is run reads writes frames good no_read no_write = absurd (good_isnt_bad bytes left_new o n at fault frames run good)
+  complete_at bytes (BadSession at fault) is run reads writes frames good no_read no_write =
+      absurd (good_isnt_bad bytes left_new o n at fault frames run good)
   complete_at bytes ReadFault is run reads writes frames good no_read no_write = absurd (no_read (reads refl))
   complete_at bytes WriteFault is run reads writes frames good no_read no_write = absurd (no_write (writes refl))
   complete_at bytes NoMemory is run reads writes frames good no_read no_write = inr is
 
-  pub complete : (left : Option (List ℕ)) (ending : Ending) → status ≡ status_of ending → IsRun left left_new o n ending → (ending ≡ ReadFault → Rose read_before read_now) → (ending ≡ WriteFault → Rose write_before write_now)
-      → IfSome left (λ bytes. (frames : List Frame) → frames_of bytes frames Clean → (Rose read_before read_now → ⊥) → (Rose write_before write_now → ⊥) → (status ≡ 0) ⊎ (status ≡ 6))
+  pub complete : (left : Option (List ℕ)) (ending : Ending) → status ≡ status_of ending → IsRun left left_new o n ending
+      → (ending ≡ ReadFault → Rose read_before read_now) → (ending ≡ WriteFault → Rose write_before write_now)
+      → IfSome left (λ bytes. (frames : List Frame) → frames_of bytes frames Clean → (Rose read_before read_now → ⊥)
+          → (Rose write_before write_now → ⊥) → (status ≡ 0) ⊎ (status ≡ 6))
   complete None ending is run reads writes = tt
   complete (Some bytes) ending is run reads writes = complete_at bytes ending is run reads writes

@@ -6,7 +6,8 @@ use Rattle.statsd_cli.proofs.top.replay.Given as goal
 
 abbrev pub invariant-frames : goal.invariant-frames
 invariant-frames g l = record {
-  along : IsAlong (g.S.Source.left l.fn.input) (g.S.Source.left l.input) (g.K.Sink.written l.fn.out) (g.K.Sink.written l.out) l.reader l.hub;
+  along : IsAlong (g.S.Source.left l.fn.input) (g.S.Source.left l.input) (g.K.Sink.written l.fn.out)
+      (g.K.Sink.written l.out) l.reader l.hub;
   reads : g.S.Source.faults l.fn.input ≤ g.S.Source.faults l.input;
   writes : g.K.Sink.faults l.fn.out ≤ g.K.Sink.faults l.out;
 }

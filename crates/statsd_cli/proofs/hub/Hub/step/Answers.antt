@@ -11,7 +11,8 @@ use Rattle.statsd_cli.proofs.hub.Hub.step.Goals as goal
 pub returns-in-Log-clause-serves : goal.returns-in-Log-clause-serves
 returns-in-Log-clause-serves c = λ frames h fine in_time.
     serves_as c.log.new.self frames c.args.frame (Log c.in-Log.frame) None c.in-Log.is (record {
-      stands = stands_log c.args.self c.log.new.self frames c.in-Log.frame c.log.ensures.clock c.log.ensures.lives (subst IsFaultless c.in-Log.is fine) h;
+      stands = stands_log c.args.self c.log.new.self frames c.in-Log.frame c.log.ensures.clock c.log.ensures.lives
+          (subst IsFaultless c.in-Log.is fine) h;
       answer = no_reply frames c.in-Log.frame;
     })
 
@@ -20,10 +21,13 @@ returns-in_ok-body-in-Install-clause-serves c =
     let uid_fits : SFits w32 c.in-Install.uid = search rules in
     let id_fits : SFits w64 c.in-Install.id = search rules in
     let installs = simp to_z-of_z at c.in_ok-body-in-Install.ensures.lives in
-    let read : linked_of_bytes c.in-Install.config ≡ asked c.in_ok-read-in-Install.read = ap linked_of_bytes (sym c.as_slice.ensures) ∙ c.in_ok-read-in-Install.ensures.read in
+    let read : linked_of_bytes c.in-Install.config ≡ asked c.in_ok-read-in-Install.read =
+        ap linked_of_bytes (sym c.as_slice.ensures) ∙ c.in_ok-read-in-Install.ensures.read in
     simp to_z-of_z (λ frames h fine in_time.
     serves_as c.install.new.self frames c.args.frame _ _ c.in-Install.is
-    (serves_install c.args.self c.install.new.self frames c.in-Install.uid c.in-Install.id c.in_ok-body-in-Install.ensures.clock h c.in-Install.config c.in_ok-body-in-Install.body c.in_ok-read-in-Install.read read installs))
+    (serves_install c.args.self c.install.new.self frames c.in-Install.uid c.in-Install.id
+        c.in_ok-body-in-Install.ensures.clock h c.in-Install.config c.in_ok-body-in-Install.body
+        c.in_ok-read-in-Install.read read installs))
 
 pub returns-in-Remove-clause-serves : goal.returns-in-Remove-clause-serves
 returns-in-Remove-clause-serves c =
@@ -32,7 +36,8 @@ returns-in-Remove-clause-serves c =
     let removes = simp to_z-of_z at c.remove-body.ensures.lives in
     simp to_z-of_z (λ frames h fine in_time.
     serves_as c.remove-body.new.self frames c.args.frame _ _ c.in-Remove.is
-    (serves_remove c.args.self c.remove-body.new.self frames c.in-Remove.uid c.in-Remove.id c.remove-body.ensures.clock h c.remove-body.result removes))
+    (serves_remove c.args.self c.remove-body.new.self frames c.in-Remove.uid c.in-Remove.id c.remove-body.ensures.clock
+        h c.remove-body.result removes))
 
 pub returns-in_ok-body-in-Report-clause-serves : goal.returns-in_ok-body-in-Report-clause-serves
 returns-in_ok-body-in-Report-clause-serves c =
@@ -41,4 +46,5 @@ returns-in_ok-body-in-Report-clause-serves c =
     let reports = simp to_z-of_z at c.in_ok-body-in-Report.ensures.lives in
     simp to_z-of_z (λ frames h fine in_time.
     serves_as c.report.new.self frames c.args.frame _ _ c.in-Report.is
-    (serves_report c.args.self c.report.new.self frames c.in-Report.uid c.in-Report.id c.in_ok-body-in-Report.ensures.clock h c.in-Report.include_current c.in_ok-body-in-Report.body reports))
+    (serves_report c.args.self c.report.new.self frames c.in-Report.uid c.in-Report.id
+        c.in_ok-body-in-Report.ensures.clock h c.in-Report.include_current c.in_ok-body-in-Report.body reports))
