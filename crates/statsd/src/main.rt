@@ -1,49 +1,86 @@
 //! The engine as a program: the words of its command line, and the standard streams.
 #![tactic(auto)]
 
-ghost use Rattle.std.specs.Prelude.{◌≡◌, map, drop, IfOk, string_bytes};
+ghost use Rattle.std.specs.Prelude.{◌≡◌, [], map, drop, IfOk, IfErr, IsOk, string_bytes};
+ghost use Rattle.std.specs.Process.{exit_status};
 ghost use Rattle.std.specs.Vec.Iter.{into_iter_items};
+ghost use Rattle.std.specs.IoError.{error_kind};
+ghost use Rattle.sd_io.specs.Causes.{Rose};
+ghost use Rattle.statsd_cli.specs.Run.{status_read_fault, status_write_fault};
+ghost use Rattle.statsd.specs.Program.{streams, EndsOn, IsRefused};
 
 use atom_record::Bytes;
-use sd_io::{StdSink, StdSource};
-use statsd_cli::statsd_top;
+use sd_io::{Sink, Source, StdSink, StdSource};
+use statsd_cli::{STATUS_NO_MEMORY, statsd_top};
 use std::alloc::{AllocError, Global};
 use std::env::{self, Args};
 use std::io::{self, ErrorKind};
 use std::process::ExitCode;
-use std::rt::Env;
-
-/// The status of a run that finds no memory for its words.
-const NO_MEMORY: u8 = 6;
 
 fn main(rt: HostRuntime) -> ExitCode {
-    let Ok(words) = words(&rt) else {
-        return ExitCode::from(NO_MEMORY);
-    };
-    let mut input = StdSource::new(rt.stdin());
-    let mut out = StdSink::new(rt.stdout());
-    let mut notes = StdSink::new(rt.stderr());
-    ExitCode::from(statsd_top(
+    run(
         rt.alloc(),
-        words.as_slice(),
-        &mut input,
-        &mut out,
-        &mut notes,
-    ))
+        env::args(&rt),
+        &mut StdSource::new(rt.stdin()),
+        &mut StdSink::new(rt.stdout()),
+        &mut StdSink::new(rt.stderr()),
+    )
+}
+
+/// Runs the engine on the arguments, and ends with its status, or with that of want of memory where the list of words
+/// finds none.
+fn run<S: Source, K: Sink, E: Sink>(
+    alloc: Global,
+    args: io::Result<Args>,
+    input: &mut S,
+    out: &mut K,
+    notes: &mut E,
+) -> ExitCode
+    // All words go in but the program's name.
+    ensures words { IfOk args (λ args.
+        EndsOn (map string_bytes (drop 1 (into_iter_items args))) (exit_status result)
+        (streams (S.left input.old) (K.written out.old) (E.written notes.old) (E.faults notes.old))
+        (streams (S.left input.new) (K.written out.new) (E.written notes.new) (E.faults notes.new))) }
+
+    // An argument that isn't text is no word of the engine's.
+    ensures no_text { IfErr args (λ error. error_kind error ≡ ErrorKind.InvalidData
+        → IsRefused (exit_status result)
+        (streams (S.left input.old) (K.written out.old) (E.written notes.old) (E.faults notes.old))
+        (streams (S.left input.new) (K.written out.new) (E.written notes.new) (E.faults notes.new))) }
+
+    // The faults of the outside have their cause there.
+    ensures read_fault { exit_status result ≡ status_read_fault
+        → Rose (S.faults input.old) (S.faults input.new) }
+    ensures write_fault { exit_status result ≡ status_write_fault
+        → Rose (K.faults out.old) (K.faults out.new) }
+{
+    let Ok(words) = words(alloc, args) else {
+        return ExitCode::from(STATUS_NO_MEMORY);
+    };
+    ExitCode::from(statsd_top(alloc, words.as_slice(), input, out, notes))
 }
 
 /// The words of the command line. There are none where an argument isn't text, since the engine takes no such word.
-fn words(rt: &(impl Env + AllocGlobal)) -> io::Result<Vec<Bytes>> {
-    match env::args(rt) {
-        Ok(args) => Ok(words_of(rt.alloc(), args)?),
-        Err(error) if error.kind() == ErrorKind::InvalidData => Ok(Vec::new(rt.alloc())),
-        Err(error) => Err(error),
+fn words(alloc: Global, args: io::Result<Args>) -> Result<Vec<Bytes>, AllocError>
+    ensures given { IfOk args (λ args. IfOk result (λ list.
+        list.items ≡ map string_bytes (drop 1 (into_iter_items args)))) }
+    ensures no_text { IfErr args (λ error. IfOk result (λ list. list.items ≡ [])) }
+    ensures without_memory { IfErr args (λ error.
+        error_kind error ≡ ErrorKind.InvalidData → IsOk result) }
+{
+    match args {
+        Ok(args) => words_of(alloc, args),
+        Err(error) => match error.kind() {
+            ErrorKind::InvalidData => Ok(Vec::new(alloc)),
+            _ => Err(AllocError),
+        },
     }
 }
 
-/// The bytes of the arguments behind the first, which is the program's name.
+/// The bytes of the arguments after the first, which is the program's name.
 fn words_of(alloc: Global, args: Args) -> Result<Vec<Bytes>, AllocError>
-    ensures { IfOk result (λ words. words.items ≡ map string_bytes (drop 1 (into_iter_items args))) }
+    ensures { IfOk result (λ list.
+        list.items ≡ map string_bytes (drop 1 (into_iter_items args))) }
 {
     args.skip(1)
         .map(|word| Bytes::from_vec(word.into_bytes()))
