@@ -1,158 +1,155 @@
-//! Which configurations are accepted, and what they then count.
-use super::parts::{ATOM_AT_2, CUT, INSTALL, INSTALLED, NO_CONFIG, ONE_BY_2, UNSUPPORTED};
+//! Which configurations are accepted, and what they then count; why others are refused.
 use super::run::assert_replay;
 use std::test::Fail;
 
-#[test]
-fn accepts_every_spelling_of_one_count(rt: HostRuntime) -> Result<(), Fail> {
-    for (name, install, report) in [
-        (
-            "the atom's id 5 as a varint of three bytes",
-            b"\x1d\0\0\0\x10\x0a\0\0\0\x07\0\0\0\0\0\0\0\x3a\x08\x08\x01\x12\x04\x08\x85\x80\0\x1a\x04\
-                \x08\x64\x10\x01"
-                .as_slice(),
-            ONE_BY_2,
-        ),
-        (
-            "the metric's id -1",
-            b"\x24\0\0\0\x10\x0a\0\0\0\x07\0\0\0\0\0\0\0\x3a\x06\x08\x01\x12\x02\x08\x05\x1a\x0d\x08\
-                \xff\xff\xff\xff\xff\xff\xff\xff\xff\x01\x10\x01",
-            // As ONE_BY_2, of the metric -1.
-            b"\x3b\0\0\0\0\0\0\0\x06\x0a\0\0\0\x07\0\0\0\0\0\0\0\x0a\x04\x08\x0a\x10\x07\x12\x26\x0a\
-                \x20\x08\xff\xff\xff\xff\xff\xff\xff\xff\xff\x01\x2a\x0a\x0a\x08\x1a\x06\x08\0\x10\x02\
-                \x18\x01\x48\0\x50\x80\xc0\xe2\x85\xe3\x68\x18\0\x20\x02",
-        ),
-        (
-            "the matcher's id -1",
-            b"\x2d\0\0\0\x10\x0a\0\0\0\x07\0\0\0\0\0\0\0\x3a\x0f\x08\xff\xff\xff\xff\xff\xff\xff\xff\
-                \xff\x01\x12\x02\x08\x05\x1a\x0d\x08\x64\x10\xff\xff\xff\xff\xff\xff\xff\xff\xff\x01",
-            ONE_BY_2,
-        ),
-        (
-            "the metric before the matcher",
-            b"\x1b\0\0\0\x10\x0a\0\0\0\x07\0\0\0\0\0\0\0\x1a\x04\x08\x64\x10\x01\x3a\x06\x08\x01\x12\x02\
-                \x08\x05",
-            ONE_BY_2,
-        ),
-        (
-            "a record of a number that no field has",
-            b"\x1e\0\0\0\x10\x0a\0\0\0\x07\0\0\0\0\0\0\0\x3a\x06\x08\x01\x12\x02\x08\x05\x1a\x04\x08\x64\
-                \x10\x01\x98\x06\x01",
-            ONE_BY_2,
-        ),
-    ] {
-        assert_replay(
-            &rt,
-            name,
-            &[install, ATOM_AT_2, CUT],
-            0,
-            &[INSTALLED, report],
-            "",
-        )?;
-    }
-    Ok(())
-}
+/// A name, a session and the replies to it. All end with the status 0.
+const ROWS: [(&str, &str, &str); 28] = [
+    (
+        "the atom's id 5 as a varint of three bytes",
+        "1d000000_10 own 3a0808011204088580001a0408641001 atom2 cut",
+        "installed one-by-2",
+    ),
+    (
+        "the metric's id -1",
+        "24000000_10 own 3a060801120208051a0d08ffffffffffffffffff011001 atom2 cut",
+        "installed 3b00000000000000_06 own owner 1226_0a20_08ffffffffffffffffff01_2a0a_0a08_1a06 \
+            0800_1002_1801 from-0 1800_2002",
+    ),
+    (
+        "the matcher's id -1",
+        "2d000000_10 own 3a0f08ffffffffffffffffff01120208051a0d086410ffffffffffffffffff01 atom2 cut",
+        "installed one-by-2",
+    ),
+    (
+        "the metric before the matcher",
+        "1b000000_10 own 1a04086410013a06080112020805 atom2 cut",
+        "installed one-by-2",
+    ),
+    (
+        "a record of a number that no field has",
+        "1e000000_10 own config 980601 atom2 cut",
+        "installed one-by-2",
+    ),
+    ("no record", "install-nothing cut", "unsupported no-config"),
+    // What the client has already stays, and counts on, here and below.
+    (
+        "no record, after a good install",
+        "install install-nothing atom2 cut",
+        "installed unsupported one-by-2",
+    ),
+    (
+        "a metric of another matcher",
+        "1b000000_10 own 3a060801120208051a0408641002 cut",
+        "unsupported no-config",
+    ),
+    (
+        "a metric of another matcher, after a good install",
+        "install 1b000000_10 own 3a060801120208051a0408641002 atom2 cut",
+        "installed unsupported one-by-2",
+    ),
+    (
+        "a metric with a condition",
+        "1d000000_10 own 3a060801120208051a06086410011801 cut",
+        "unsupported no-config",
+    ),
+    (
+        "a metric with a condition, after a good install",
+        "install 1d000000_10 own 3a060801120208051a06086410011801 atom2 cut",
+        "installed unsupported one-by-2",
+    ),
+    (
+        "an atom's id of 2^31",
+        "1f000000_10 own 3a0a080112060880808080081a0408641001 cut",
+        "unsupported no-config",
+    ),
+    (
+        "an atom's id of 2^31, after a good install",
+        "install 1f000000_10 own 3a0a080112060880808080081a0408641001 atom2 cut",
+        "installed unsupported one-by-2",
+    ),
+    // The cause of a fault of the wire format, and the offset of the record at fault in the configuration.
+    (
+        "1: a varint whose tenth byte goes on",
+        "27000000_10 own config 08 80*10 01 cut",
+        "malformed 01_0e000000 no-config",
+    ),
+    (
+        "2: a matcher that is cut",
+        "0f000000_10 own 3a05 cut",
+        "malformed 02_00000000 no-config",
+    ),
+    (
+        "2: a metric that is cut, after a matcher",
+        "1a000000_10 own 3a060801120208051a04086410 cut",
+        "malformed 02_08000000 no-config",
+    ),
+    (
+        "2: a number that is cut, after a configuration",
+        "1c000000_10 own config 08 cut",
+        "malformed 02_0e000000 no-config",
+    ),
+    (
+        "3: the wire type 6",
+        "1c000000_10 own config 0e cut",
+        "malformed 03_0e000000 no-config",
+    ),
+    (
+        "3: the wire type 7",
+        "1c000000_10 own config 0f cut",
+        "malformed 03_0e000000 no-config",
+    ),
+    (
+        "4: the number 0",
+        "1d000000_10 own config 0000 cut",
+        "malformed 04_0e000000 no-config",
+    ),
+    (
+        "5: a group's end without its start",
+        "1c000000_10 own config 0c cut",
+        "malformed 05_0e000000 no-config",
+    ),
+    (
+        "7: a tag of 2^32",
+        "20000000_10 own config 8080808010 cut",
+        "malformed 07_0e000000 no-config",
+    ),
+    // The numbers that lead to the record that isn't supported.
+    (
+        "a test of a float",
+        "1e000000_10 own 3a0f0801120b0805120708014500000000 cut",
+        "1f00000000000000_03 own 0304_07000000_02000000_02000000_08000000 no-config",
+    ),
+    (
+        "a bucket of the unit 0",
+        "1d000000_10 own 3a060801120208051a06086410012800 cut",
+        "1700000000000000_03 own 0302_03000000_05000000 no-config",
+    ),
+    (
+        "an activation of metrics",
+        "10000000_10 own 8a0100 cut",
+        "1300000000000000_03 own 0301_11000000 no-config",
+    ),
+    (
+        "an activation of a count",
+        "2a000000_10 own 3a060801120208053a060802120208061a0b08641001923f0408021001 cut",
+        "1700000000000000_03 own 0302_03000000_f2030000 no-config",
+    ),
+    (
+        "an overflow key of a count",
+        "2c000000_10 own 3a060801120208051a1508641001220608051a02080128e807c83e02d03e01 cut",
+        "1700000000000000_03 own 0302_03000000_ea030000 no-config",
+    ),
+    (
+        "an overflow key of a value",
+        "1e000000_10 own 3a06080112020805220708641001d03e01 cut",
+        "1700000000000000_03 own 0302_04000000_ea030000 no-config",
+    ),
+];
 
 #[test]
-fn refuses_every_other_form(rt: HostRuntime) -> Result<(), Fail> {
-    for (name, install) in [
-        (
-            "no record",
-            b"\x0d\0\0\0\x10\x0a\0\0\0\x07\0\0\0\0\0\0\0".as_slice(),
-        ),
-        (
-            "a metric of another matcher",
-            b"\x1b\0\0\0\x10\x0a\0\0\0\x07\0\0\0\0\0\0\0\x3a\x06\x08\x01\x12\x02\x08\x05\x1a\x04\x08\x64\
-                \x10\x02",
-        ),
-        (
-            "a metric with a condition",
-            b"\x1d\0\0\0\x10\x0a\0\0\0\x07\0\0\0\0\0\0\0\x3a\x06\x08\x01\x12\x02\x08\x05\x1a\x06\x08\x64\
-                \x10\x01\x18\x01",
-        ),
-        (
-            "an atom's id of 2^31",
-            b"\x1f\0\0\0\x10\x0a\0\0\0\x07\0\0\0\0\0\0\0\x3a\x0a\x08\x01\x12\x06\x08\x80\x80\x80\x80\x08\
-                \x1a\x04\x08\x64\x10\x01",
-        ),
-    ] {
-        assert_replay(&rt, name, &[install, CUT], 0, &[UNSUPPORTED, NO_CONFIG], "")?;
-        // What the client has already stays, and counts on.
-        assert_replay(
-            &rt,
-            name,
-            &[INSTALL, install, ATOM_AT_2, CUT],
-            0,
-            &[INSTALLED, UNSUPPORTED, ONE_BY_2],
-            "",
-        )?;
-    }
-    Ok(())
-}
-
-#[test]
-fn tells_where_a_record_is_cut(rt: HostRuntime) -> Result<(), Fail> {
-    for (name, install, refused) in [
-        (
-            "a matcher",
-            b"\x0f\0\0\0\x10\x0a\0\0\0\x07\0\0\0\0\0\0\0\x3a\x05".as_slice(),
-            b"\x13\0\0\0\0\0\0\0\x03\x0a\0\0\0\x07\0\0\0\0\0\0\0\x02\x02\0\0\0\0".as_slice(),
-        ),
-        (
-            "a metric behind a matcher",
-            b"\x1a\0\0\0\x10\x0a\0\0\0\x07\0\0\0\0\0\0\0\x3a\x06\x08\x01\x12\x02\x08\x05\x1a\x04\x08\x64\
-                \x10",
-            b"\x13\0\0\0\0\0\0\0\x03\x0a\0\0\0\x07\0\0\0\0\0\0\0\x02\x02\x08\0\0\0",
-        ),
-    ] {
-        assert_replay(&rt, name, &[install, CUT], 0, &[refused, NO_CONFIG], "")?;
-    }
-    Ok(())
-}
-
-#[test]
-fn tells_the_field_that_is_not_supported(rt: HostRuntime) -> Result<(), Fail> {
-    for (name, install, refused) in [
-        (
-            "a test of a float",
-            b"\x1e\0\0\0\x10\x0a\0\0\0\x07\0\0\0\0\0\0\0\x3a\x0f\x08\x01\x12\x0b\x08\x05\x12\x07\x08\x01\
-                \x45\0\0\0\0"
-                .as_slice(),
-            b"\x1f\0\0\0\0\0\0\0\x03\x0a\0\0\0\x07\0\0\0\0\0\0\0\x03\x04\x07\0\0\0\x02\0\0\0\x02\0\0\0\
-                \x08\0\0\0"
-                .as_slice(),
-        ),
-        (
-            "a bucket of the unit 0",
-            b"\x1d\0\0\0\x10\x0a\0\0\0\x07\0\0\0\0\0\0\0\x3a\x06\x08\x01\x12\x02\x08\x05\x1a\x06\x08\x64\
-                \x10\x01\x28\0",
-            b"\x17\0\0\0\0\0\0\0\x03\x0a\0\0\0\x07\0\0\0\0\0\0\0\x03\x02\x03\0\0\0\x05\0\0\0",
-        ),
-        (
-            "an activation of metrics",
-            b"\x10\0\0\0\x10\x0a\0\0\0\x07\0\0\0\0\0\0\0\x8a\x01\0",
-            b"\x13\0\0\0\0\0\0\0\x03\x0a\0\0\0\x07\0\0\0\0\0\0\0\x03\x01\x11\0\0\0",
-        ),
-        (
-            "an activation of a count",
-            b"\x2a\0\0\0\x10\x0a\0\0\0\x07\0\0\0\0\0\0\0\x3a\x06\x08\x01\x12\x02\x08\x05\x3a\x06\x08\x02\
-                \x12\x02\x08\x06\x1a\x0b\x08\x64\x10\x01\x92\x3f\x04\x08\x02\x10\x01",
-            b"\x17\0\0\0\0\0\0\0\x03\x0a\0\0\0\x07\0\0\0\0\0\0\0\x03\x02\x03\0\0\0\xf2\x03\0\0",
-        ),
-        (
-            "an overflow key of a count",
-            b"\x2c\0\0\0\x10\x0a\0\0\0\x07\0\0\0\0\0\0\0\x3a\x06\x08\x01\x12\x02\x08\x05\x1a\x15\x08\x64\
-                \x10\x01\x22\x06\x08\x05\x1a\x02\x08\x01\x28\xe8\x07\xc8\x3e\x02\xd0\x3e\x01",
-            b"\x17\0\0\0\0\0\0\0\x03\x0a\0\0\0\x07\0\0\0\0\0\0\0\x03\x02\x03\0\0\0\xea\x03\0\0",
-        ),
-        (
-            "an overflow key of a value",
-            b"\x1e\0\0\0\x10\x0a\0\0\0\x07\0\0\0\0\0\0\0\x3a\x06\x08\x01\x12\x02\x08\x05\x22\x07\x08\x64\
-                \x10\x01\xd0\x3e\x01",
-            b"\x17\0\0\0\0\0\0\0\x03\x0a\0\0\0\x07\0\0\0\0\0\0\0\x03\x02\x04\0\0\0\xea\x03\0\0",
-        ),
-    ] {
-        assert_replay(&rt, name, &[install, CUT], 0, &[refused, NO_CONFIG], "")?;
+fn accepts_or_refuses_configurations(rt: HostRuntime) -> Result<(), Fail> {
+    for (name, session, replies) in ROWS {
+        assert_replay(&rt, name, session, 0, replies, "")?;
     }
     Ok(())
 }

@@ -1,105 +1,118 @@
 //! Sessions with a fault: the replies before it, and the note.
-use super::parts::{ATOM_AT_2, ATOM_AT_3, CUT, INSTALL, INSTALLED, NO_CONFIG, REPORT, TWO_BY_3};
-use super::run::{assert_replay, joined};
+use super::parts::bytes_of;
+use super::run::{SOUND, assert_left, assert_replay, run};
+use std::process::Abort;
 use std::test::Fail;
+
+/// A name, a session, the replies to it, and the note. All end with the status 3.
+const ROWS: [(&str, &str, &str, &str); 11] = [
+    (
+        "three bytes of a length",
+        "report 0e0000",
+        "no-config",
+        "statsd: bad session at 18: 1 cut\n",
+    ),
+    (
+        "a frame without its last byte",
+        "install atom2 0d000000_02_0300000000000000_050000",
+        "installed",
+        "statsd: bad session at 48: 1 cut\n",
+    ),
+    (
+        "a kind that there is not",
+        "01000000_09",
+        "",
+        "statsd: bad session at 0: 4 unknown kind 9\n",
+    ),
+    (
+        "a length of 0 at the start",
+        "00000000",
+        "",
+        "statsd: bad session at 0: 3 bad length\n",
+    ),
+    (
+        "a length of 0",
+        "install atom2 atom3 cut 00000000",
+        "installed two-by-3",
+        "statsd: bad session at 83: 3 bad length\n",
+    ),
+    (
+        "a length of 1048577",
+        "01001000",
+        "",
+        "statsd: bad session at 0: 2 too long 1048577\n",
+    ),
+    (
+        "a body that is too short",
+        "02000000_01_ff",
+        "",
+        "statsd: bad session at 0: 5 bad body 1\n",
+    ),
+    (
+        "an entry of an atom that doesn't rise",
+        "report 1f000000_02_0100000000000000_05000000_020000000107000000010000000107000000",
+        "no-config",
+        "statsd: bad session at 18: 6 bad atom 5\n",
+    ),
+    (
+        "a time that falls",
+        "atom3 report atom2",
+        "no-config",
+        "statsd: bad session at 35: 7 time backwards 3 2\n",
+    ),
+    (
+        "a tick that falls",
+        "09000000_01_0500000000000000 atom2",
+        "",
+        "statsd: bad session at 13: 7 time backwards 5 2\n",
+    ),
+    (
+        "an atom at an hour",
+        "0d000000_02_00a0b83046030000_05000000",
+        "",
+        "statsd: bad session at 0: 4 unknown kind 2\n",
+    ),
+];
 
 #[test]
 fn ends_at_the_first_fault(rt: HostRuntime) -> Result<(), Fail> {
-    for (name, session, replies, note) in [
-        (
-            "three bytes of a length",
-            [REPORT, b"\x0e\0\0"].as_slice(),
-            [NO_CONFIG].as_slice(),
-            "statsd: bad session at 18: 1 cut\n",
-        ),
-        (
-            "a frame without its last byte",
-            &[
-                INSTALL,
-                ATOM_AT_2,
-                b"\x0d\0\0\0\x02\x03\0\0\0\0\0\0\0\x05\0\0",
-            ],
-            &[INSTALLED],
-            "statsd: bad session at 48: 1 cut\n",
-        ),
-        (
-            "a kind that there is not",
-            &[b"\x01\0\0\0\x09"],
-            &[],
-            "statsd: bad session at 0: 4 unknown kind 9\n",
-        ),
-        (
-            "a length of 0 at the start",
-            &[b"\0\0\0\0"],
-            &[],
-            "statsd: bad session at 0: 3 bad length\n",
-        ),
-        (
-            "a length of 0",
-            &[INSTALL, ATOM_AT_2, ATOM_AT_3, CUT, b"\0\0\0\0"],
-            &[INSTALLED, TWO_BY_3],
-            "statsd: bad session at 83: 3 bad length\n",
-        ),
-        (
-            "a length of 1048577",
-            &[b"\x01\0\x10\0"],
-            &[],
-            "statsd: bad session at 0: 2 too long 1048577\n",
-        ),
-        (
-            "a body that is too short",
-            &[b"\x02\0\0\0\x01\xff"],
-            &[],
-            "statsd: bad session at 0: 5 bad body 1\n",
-        ),
-        (
-            "an entry of an atom that doesn't rise",
-            &[
-                REPORT,
-                b"\x1f\0\0\0\x02\x01\0\0\0\0\0\0\0\x05\0\0\0\x02\0\0\0\x01\x07\0\0\0\x01\0\0\0\x01\x07\0\0\0",
-            ],
-            &[NO_CONFIG],
-            "statsd: bad session at 18: 6 bad atom 5\n",
-        ),
-        (
-            "a time that falls",
-            &[ATOM_AT_3, REPORT, ATOM_AT_2],
-            &[NO_CONFIG],
-            "statsd: bad session at 35: 7 time backwards 3 2\n",
-        ),
-        (
-            "a tick that falls",
-            &[b"\x09\0\0\0\x01\x05\0\0\0\0\0\0\0", ATOM_AT_2],
-            &[],
-            "statsd: bad session at 13: 7 time backwards 5 2\n",
-        ),
-        (
-            "an atom at an hour",
-            &[b"\x0d\0\0\0\x02\0\xa0\xb8\x30\x46\x03\0\0\x05\0\0\0"],
-            &[],
-            "statsd: bad session at 0: 4 unknown kind 2\n",
-        ),
-    ] {
+    for (name, session, replies, note) in ROWS {
         assert_replay(&rt, name, session, 3, replies, note)?;
     }
     Ok(())
 }
 
+/// Where a frame begins and where the next one does, the replies to the frames before, and the note of a cut between.
+const CUTS: [(usize, usize, &str, &str); 4] = [
+    (0, 31, "", "statsd: bad session at 0: 1 cut\n"),
+    (31, 48, "installed", "statsd: bad session at 31: 1 cut\n"),
+    (48, 65, "installed", "statsd: bad session at 48: 1 cut\n"),
+    (65, 83, "installed", "statsd: bad session at 65: 1 cut\n"),
+];
+
 #[test]
 fn answers_the_frames_before_a_cut(rt: HostRuntime) -> Result<(), Fail> {
-    let alloc = rt.alloc();
-    for (start, end, replies, note) in [
-        (0, 31, [].as_slice(), "statsd: bad session at 0: 1 cut\n"),
-        (31, 48, &[INSTALLED], "statsd: bad session at 31: 1 cut\n"),
-        (48, 65, &[INSTALLED], "statsd: bad session at 48: 1 cut\n"),
-        (65, 83, &[INSTALLED], "statsd: bad session at 65: 1 cut\n"),
-    ] {
-        for left in start..end {
-            let mut session = joined(alloc, &[INSTALL, ATOM_AT_2, ATOM_AT_3, CUT])?;
-            session.truncate(left);
-            let (status, told) = if left == start { (0, "") } else { (3, note) };
-            assert_replay(&rt, note, &[session.as_slice()], status, replies, told)?;
+    for (start, end, replies, note) in CUTS {
+        assert_front(&rt, start, 0, replies, "")?;
+        for len in start + 1..end {
+            assert_front(&rt, len, 3, replies, note)?;
         }
     }
+    Ok(())
+}
+
+/// Runs the first bytes of a session of four frames, and asserts what that left.
+fn assert_front<R: Abort + AllocGlobal>(
+    rt: &R,
+    len: usize,
+    status: u8,
+    replies: &str,
+    note: &str,
+) -> Result<(), Fail> {
+    let mut session = bytes_of(rt.alloc(), "install atom2 atom3 cut")?;
+    session.truncate(len);
+    let replies = bytes_of(rt.alloc(), replies)?;
+    let outcome = run(rt.alloc(), "replay", session, SOUND)?;
+    assert_left(rt, note, &outcome, status, replies.as_slice(), note);
     Ok(())
 }

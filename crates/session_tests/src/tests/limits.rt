@@ -1,133 +1,74 @@
-//! The longest payload of an atom, the most atoms of a recorded pull, and the deepest group of a configuration.
-use super::parts::{INSTALLED, NO_CONFIG, REPORT};
+//! The longest payload of an atom, the most atoms of a recorded pull, the deepest group of a configuration, and the
+//! longest configuration.
 use super::run::assert_replay;
-use std::alloc::{AllocError, Global};
 use std::test::Fail;
 
-/// These bytes, and so many zeros.
-fn with_zeros(alloc: Global, front: &[u8], zeros: usize) -> Result<Vec<u8>, AllocError> {
-    let mut bytes = front.to_vec(alloc)?;
-    for _ in 0..zeros {
-        bytes.push(0)?;
-    }
-    Ok(bytes)
-}
+/// A name, a session, its status, the replies to it, and the note.
+const ROWS: [(&str, &str, u8, &str, &str); 8] = [
+    (
+        "an atom of 4096 bytes, of which 4085 are raw ones of one entry",
+        "09100000_02_0000000000000000_05000000_0100000005f50f 00*4085 report",
+        0,
+        "no-config",
+        "",
+    ),
+    (
+        "an atom of 4097 bytes",
+        "0a100000_02_0000000000000000_05000000_0100000005f60f 00*4086 report",
+        3,
+        "",
+        "statsd: bad session at 0: 6 bad atom 1\n",
+    ),
+    (
+        "a pull of 200 atoms of nothing but the id 10001",
+        "c0040000_03_0000000000000000_11270000_00c800 040011270000*200 report",
+        0,
+        "no-config",
+        "",
+    ),
+    (
+        "a pull of 201 atoms",
+        "c6040000_03_0000000000000000_11270000_00c900 040011270000*201 report",
+        3,
+        "",
+        "statsd: bad session at 0: 5 bad body 5\n",
+    ),
+    // The groups have the number 1000, which no field has.
+    (
+        "100 groups, one in the other, after a configuration",
+        "ab010000_10 own config c33e*100 c43e*100",
+        0,
+        "installed",
+        "",
+    ),
+    (
+        "101 groups, of which the last begins at 200: cause 6",
+        "a1010000_10 own c33e*101 c43e*101",
+        0,
+        "malformed 06_c8000000",
+        "",
+    ),
+    // A zero is a record of the number 0, wherever it begins; too many bytes aren't read.
+    (
+        "a configuration of 262144 zeros: cause 4",
+        "0d000400_10 own 00*262144",
+        0,
+        "malformed 04_00000000",
+        "",
+    ),
+    (
+        "a configuration of 262145 zeros",
+        "0e000400_10 own 00*262145",
+        0,
+        "1200000000000000_03 own 01_01000400",
+        "",
+    ),
+];
 
 #[test]
-fn takes_a_payload_of_4096_bytes(rt: HostRuntime) -> Result<(), Fail> {
-    let alloc = rt.alloc();
-    // An atom with one entry of raw bytes: 4085 of them, and 4086.
-    for (front, zeros, status, replies, note) in [
-        (
-            b"\x09\x10\0\0\x02\0\0\0\0\0\0\0\0\x05\0\0\0\x01\0\0\0\x05\xf5\x0f".as_slice(),
-            4085,
-            0,
-            [NO_CONFIG].as_slice(),
-            "",
-        ),
-        (
-            b"\x0a\x10\0\0\x02\0\0\0\0\0\0\0\0\x05\0\0\0\x01\0\0\0\x05\xf6\x0f",
-            4086,
-            3,
-            &[],
-            "statsd: bad session at 0: 6 bad atom 1\n",
-        ),
-    ] {
-        let atom = with_zeros(alloc, front, zeros)?;
-        let session = [atom.as_slice(), REPORT];
-        assert_replay(&rt, note, &session, status, replies, note)?;
-    }
-    Ok(())
-}
-
-#[test]
-fn takes_a_pull_of_200_atoms(rt: HostRuntime) -> Result<(), Fail> {
-    let alloc = rt.alloc();
-    // Atoms of nothing but the id 10001.
-    let atom = b"\x04\0\x11\x27\0\0".as_slice();
-    for (front, atoms, status, replies, note) in [
-        (
-            b"\xc0\x04\0\0\x03\0\0\0\0\0\0\0\0\x11\x27\0\0\0\xc8\0".as_slice(),
-            200,
-            0,
-            [NO_CONFIG].as_slice(),
-            "",
-        ),
-        (
-            b"\xc6\x04\0\0\x03\0\0\0\0\0\0\0\0\x11\x27\0\0\0\xc9\0",
-            201,
-            3,
-            &[],
-            "statsd: bad session at 0: 5 bad body 5\n",
-        ),
-    ] {
-        let mut pull = front.to_vec(alloc)?;
-        for _ in 0..atoms {
-            pull.extend_from_slice(atom)?;
-        }
-        let session = [pull.as_slice(), REPORT];
-        assert_replay(&rt, note, &session, status, replies, note)?;
-    }
-    Ok(())
-}
-
-/// A frame that ends with so many groups inside one another. Their number is 1000, which no field has.
-fn with_groups(alloc: Global, front: &[u8], groups: usize) -> Result<Vec<u8>, AllocError> {
-    let mut frame = front.to_vec(alloc)?;
-    for _ in 0..groups {
-        frame.extend_from_slice(b"\xc3\x3e".as_slice())?;
-    }
-    for _ in 0..groups {
-        frame.extend_from_slice(b"\xc4\x3e".as_slice())?;
-    }
-    Ok(frame)
-}
-
-#[test]
-fn takes_a_group_of_depth_100(rt: HostRuntime) -> Result<(), Fail> {
-    let alloc = rt.alloc();
-    for (name, front, groups, reply) in [
-        (
-            "100 groups behind a configuration",
-            b"\xab\x01\0\0\x10\x0a\0\0\0\x07\0\0\0\0\0\0\0\x3a\x06\x08\x01\x12\x02\x08\x05\x1a\x04\x08\
-                \x64\x10\x01"
-                .as_slice(),
-            100,
-            INSTALLED,
-        ),
-        (
-            "101 groups, of which the last begins at 200",
-            b"\xa1\x01\0\0\x10\x0a\0\0\0\x07\0\0\0\0\0\0\0",
-            101,
-            b"\x13\0\0\0\0\0\0\0\x03\x0a\0\0\0\x07\0\0\0\0\0\0\0\x02\x06\xc8\0\0\0",
-        ),
-    ] {
-        let install = with_groups(alloc, front, groups)?;
-        assert_replay(&rt, name, &[install.as_slice()], 0, &[reply], "")?;
-    }
-    Ok(())
-}
-
-#[test]
-fn takes_a_configuration_of_262144_bytes(rt: HostRuntime) -> Result<(), Fail> {
-    let alloc = rt.alloc();
-    // Zeros are a record of the number 0, wherever they begin; too many of them aren't read.
-    for (name, front, zeros, reply) in [
-        (
-            "262144 zeros",
-            b"\x0d\0\x04\0\x10\x0a\0\0\0\x07\0\0\0\0\0\0\0".as_slice(),
-            262_144,
-            b"\x13\0\0\0\0\0\0\0\x03\x0a\0\0\0\x07\0\0\0\0\0\0\0\x02\x04\0\0\0\0".as_slice(),
-        ),
-        (
-            "a zero more",
-            b"\x0e\0\x04\0\x10\x0a\0\0\0\x07\0\0\0\0\0\0\0",
-            262_145,
-            b"\x12\0\0\0\0\0\0\0\x03\x0a\0\0\0\x07\0\0\0\0\0\0\0\x01\x01\0\x04\0",
-        ),
-    ] {
-        let install = with_zeros(alloc, front, zeros)?;
-        assert_replay(&rt, name, &[install.as_slice()], 0, &[reply], "")?;
+fn keeps_each_limit(rt: HostRuntime) -> Result<(), Fail> {
+    for (name, session, status, replies, note) in ROWS {
+        assert_replay(&rt, name, session, status, replies, note)?;
     }
     Ok(())
 }

@@ -1,53 +1,144 @@
-//! Frames and replies. The client is 10, and its configuration has the id 7: it counts the atoms of id 5 in the metric
-//! 100, by a matcher of id 1. All times are in nanoseconds.
+//! Sessions and replies as text. A text is words with blanks between them, and stands for the bytes of its words, one
+//! after the other. A word is the name of a part, or hex, or hex, `*` and how often it comes; `own` is the client and
+//! the id of a configuration, as frames and replies begin with them, and `owner` the same as a report has them. All
+//! times are in nanoseconds.
+use std::alloc::{AllocError, Global};
 
-pub const INSTALL: &[u8] = b"\x1b\0\0\0\x10\x0a\0\0\0\x07\0\0\0\0\0\0\0\
-    \x3a\x06\x08\x01\x12\x02\x08\x05\x1a\x04\x08\x64\x10\x01";
+/// Whose configuration a text speaks of. Both are below 128, so that each is one byte.
+#[derive(Clone, Copy)]
+pub struct Owner {
+    pub uid: u8,
+    pub id: u8,
+}
 
-pub const ATOM_AT_2: &[u8] = b"\x0d\0\0\0\x02\x02\0\0\0\0\0\0\0\x05\0\0\0";
+/// The client 10 with its configuration 7, of which most tables speak.
+pub const TEN: Owner = Owner { uid: 10, id: 7 };
 
-pub const ATOM_AT_3: &[u8] = b"\x0d\0\0\0\x02\x03\0\0\0\0\0\0\0\x05\0\0\0";
+/// Frames and replies by name. The configuration counts the atoms of id 5 in the metric 100, by a matcher of id 1.
+const PARTS: [(&str, &str); 26] = [
+    ("config", "3a060801120208051a0408641001"),
+    ("install", "1b000000_10 own 3a060801120208051a0408641001"),
+    // Of no record, which is another form than the one that is understood.
+    ("install-nothing", "0d000000_10 own"),
+    ("atom2", "0d000000_02_0200000000000000_05000000"),
+    ("atom3", "0d000000_02_0300000000000000_05000000"),
+    // Another id, at 2 and at 3.
+    ("other2", "0d000000_02_0200000000000000_06000000"),
+    ("other3", "0d000000_02_0300000000000000_06000000"),
+    ("tick3", "09000000_01_0300000000000000"),
+    // A recorded pull, at 3, which failed.
+    ("pull3", "0e000000_03_0300000000000000_11270000_01"),
+    ("remove", "0d000000_11 own"),
+    // A report that leaves the open bucket as it is, and one that cuts it.
+    ("report", "0e000000_12 own 00"),
+    ("cut", "0e000000_12 own 01"),
+    ("installed", "0d00000000000000_01 own"),
+    ("replaced", "0d00000000000000_02 own"),
+    // Refused: another form, or a fault of the wire format, whose cause and offset follow.
+    ("unsupported", "0f00000000000000_03 own 0300"),
+    ("malformed", "1300000000000000_03 own 02"),
+    ("removed", "0d00000000000000_04 own"),
+    ("no-config", "0d00000000000000_05 own"),
+    // A report without a bucket, or with one: its begin, its end and its count follow.
+    (
+        "no-bucket",
+        "2800000000000000_06 own owner 1213_0a0d_0864_2a00",
+    ),
+    (
+        "bucket",
+        "3200000000000000_06 own owner 121d_0a17_0864_2a0a_0a08_1a06",
+    ),
+    // The metric's base, and its bucket size of an hour; the report before and this one follow.
+    ("from-0", "4800_5080c0e285e368"),
+    ("from-2", "4802_5080c0e285e368"),
+    // Whole reports of a base at 0, with nothing reported before.
+    (
+        "none-by-2",
+        "2800000000000000_06 own owner 1213_0a0d_0864_2a00_4800_5080c0e285e368_1800_2002",
+    ),
+    (
+        "one-by-2",
+        "3200000000000000_06 own owner 121d_0a17_0864_2a0a_0a08_1a06_0800_1002_1801_4800_5080c0e285e368_1800_2002",
+    ),
+    (
+        "one-by-3",
+        "3200000000000000_06 own owner 121d_0a17_0864_2a0a_0a08_1a06_0800_1003_1801_4800_5080c0e285e368_1800_2003",
+    ),
+    (
+        "two-by-3",
+        "3200000000000000_06 own owner 121d_0a17_0864_2a0a_0a08_1a06_0800_1003_1802_4800_5080c0e285e368_1800_2003",
+    ),
+];
 
-pub const TICK_AT_3: &[u8] = b"\x09\0\0\0\x01\x03\0\0\0\0\0\0\0";
+/// The bytes of a text that speaks of the client 10.
+pub fn bytes_of(alloc: Global, text: &str) -> Result<Vec<u8>, AllocError> {
+    let mut bytes = Vec::new(alloc);
+    push_text(&mut bytes, text, TEN)?;
+    Ok(bytes)
+}
 
-/// A recorded pull, at 3, which failed.
-pub const PULL_AT_3: &[u8] = b"\x0e\0\0\0\x03\x03\0\0\0\0\0\0\0\x11\x27\0\0\x01";
+/// Puts the bytes of a text after others.
+pub fn push_text(bytes: &mut Vec<u8>, text: &str, owner: Owner) -> Result<(), AllocError> {
+    for word in text.split(' ') {
+        for inner in part(word).split(' ') {
+            push_word(bytes, inner, owner)?;
+        }
+    }
+    Ok(())
+}
 
-pub const REMOVE: &[u8] = b"\x0d\0\0\0\x11\x0a\0\0\0\x07\0\0\0\0\0\0\0";
+/// The text of a part, or the word itself where it names none.
+fn part(word: &str) -> &str {
+    for (name, text) in &PARTS {
+        if *name == word {
+            return text;
+        }
+    }
+    word
+}
 
-/// A report that leaves the open bucket as it is.
-pub const REPORT: &[u8] = b"\x0e\0\0\0\x12\x0a\0\0\0\x07\0\0\0\0\0\0\0\0";
+fn push_word(bytes: &mut Vec<u8>, word: &str, owner: Owner) -> Result<(), AllocError> {
+    match word {
+        "own" => {
+            bytes.extend_from_slice(&[owner.uid, 0, 0, 0, owner.id, 0, 0, 0, 0, 0, 0, 0])?;
+        }
+        "owner" => bytes.extend_from_slice(&[10, 4, 8, owner.uid, 16, owner.id])?,
+        _ => return push_repeated(bytes, word),
+    }
+    Ok(())
+}
 
-/// A report that cuts the open bucket.
-pub const CUT: &[u8] = b"\x0e\0\0\0\x12\x0a\0\0\0\x07\0\0\0\0\0\0\0\x01";
+fn push_repeated(bytes: &mut Vec<u8>, word: &str) -> Result<(), AllocError> {
+    let Some((hex, times)) = word.split_once('*') else {
+        return push_hex(bytes, word);
+    };
+    for _ in 0..times.parse::<usize>().unwrap_or(0) {
+        push_hex(bytes, hex)?;
+    }
+    Ok(())
+}
 
-pub const INSTALLED: &[u8] = b"\x0d\0\0\0\0\0\0\0\x01\x0a\0\0\0\x07\0\0\0\0\0\0\0";
+/// Puts the bytes that hex digits spell after others. What is no digit is passed over.
+fn push_hex(bytes: &mut Vec<u8>, hex: &str) -> Result<(), AllocError> {
+    let mut high = None;
+    for code in hex.bytes() {
+        match (digit(code), high) {
+            (Some(low), Some(first)) => {
+                bytes.push((first & 15) << 4 | low)?;
+                high = None;
+            }
+            (Some(first), None) => high = Some(first),
+            (None, _) => {}
+        }
+    }
+    Ok(())
+}
 
-pub const REPLACED: &[u8] = b"\x0d\0\0\0\0\0\0\0\x02\x0a\0\0\0\x07\0\0\0\0\0\0\0";
-
-/// The configuration has another form than the one that is understood.
-pub const UNSUPPORTED: &[u8] = b"\x0f\0\0\0\0\0\0\0\x03\x0a\0\0\0\x07\0\0\0\0\0\0\0\x03\0";
-
-pub const REMOVED: &[u8] = b"\x0d\0\0\0\0\0\0\0\x04\x0a\0\0\0\x07\0\0\0\0\0\0\0";
-
-pub const NO_CONFIG: &[u8] = b"\x0d\0\0\0\0\0\0\0\x05\x0a\0\0\0\x07\0\0\0\0\0\0\0";
-
-/// A report as of 2 with no bucket. The base and the report before are at 0, here and below.
-pub const NONE_BY_2: &[u8] =
-    b"\x28\0\0\0\0\0\0\0\x06\x0a\0\0\0\x07\0\0\0\0\0\0\0\x0a\x04\x08\x0a\x10\x07\x12\x13\x0a\x0d\x08\x64\
-    \x2a\0\x48\0\x50\x80\xc0\xe2\x85\xe3\x68\x18\0\x20\x02";
-
-/// A report as of 2 with one bucket, from 0 to 2, that counts 1.
-pub const ONE_BY_2: &[u8] =
-    b"\x32\0\0\0\0\0\0\0\x06\x0a\0\0\0\x07\0\0\0\0\0\0\0\x0a\x04\x08\x0a\x10\x07\x12\x1d\x0a\x17\x08\x64\
-    \x2a\x0a\x0a\x08\x1a\x06\x08\0\x10\x02\x18\x01\x48\0\x50\x80\xc0\xe2\x85\xe3\x68\x18\0\x20\x02";
-
-/// A report as of 3 with one bucket, from 0 to 3, that counts 1.
-pub const ONE_BY_3: &[u8] =
-    b"\x32\0\0\0\0\0\0\0\x06\x0a\0\0\0\x07\0\0\0\0\0\0\0\x0a\x04\x08\x0a\x10\x07\x12\x1d\x0a\x17\x08\x64\
-    \x2a\x0a\x0a\x08\x1a\x06\x08\0\x10\x03\x18\x01\x48\0\x50\x80\xc0\xe2\x85\xe3\x68\x18\0\x20\x03";
-
-/// A report as of 3 with one bucket, from 0 to 3, that counts 2.
-pub const TWO_BY_3: &[u8] =
-    b"\x32\0\0\0\0\0\0\0\x06\x0a\0\0\0\x07\0\0\0\0\0\0\0\x0a\x04\x08\x0a\x10\x07\x12\x1d\x0a\x17\x08\x64\
-    \x2a\x0a\x0a\x08\x1a\x06\x08\0\x10\x03\x18\x02\x48\0\x50\x80\xc0\xe2\x85\xe3\x68\x18\0\x20\x03";
+/// The value of a hex digit.
+fn digit(code: u8) -> Option<u8> {
+    match code {
+        b'0'..=b'9' => Some(code - b'0'),
+        b'a'..=b'f' => Some(code - b'a' + 10),
+        _ => None,
+    }
+}

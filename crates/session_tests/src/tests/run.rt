@@ -1,6 +1,5 @@
 //! Runs of the top call over memory.
-ghost use Rattle.std.specs.Prelude.{◌≤◌};
-
+use super::parts::bytes_of;
 use atom_record::Bytes;
 use sd_io::{MemSink, MemSource};
 use statsd_cli::statsd_top;
@@ -8,8 +7,32 @@ use std::alloc::{AllocError, Global};
 use std::process::Abort;
 use std::test::Fail;
 
-/// More bytes than any session has, or what a run writes.
-pub const AMPLE: usize = 4096;
+/// More bytes than any row writes.
+pub const AMPLE: usize = 65536;
+
+/// How the streams of a run give, take and fail.
+#[derive(Clone, Copy)]
+pub struct Streams {
+    /// The most bytes that a read gives.
+    pub piece: usize,
+    /// The number of the read that fails, from 0.
+    pub failed_read: Option<u64>,
+    /// The bytes that the output takes.
+    pub room: usize,
+    /// The number of the put that fails, from 0.
+    pub failed_put: Option<u64>,
+    /// The bytes that the notes take.
+    pub note_room: usize,
+}
+
+/// Streams that never fail.
+pub const SOUND: Streams = Streams {
+    piece: AMPLE,
+    failed_read: None,
+    room: AMPLE,
+    failed_put: None,
+    note_room: AMPLE,
+};
 
 /// What a run leaves.
 #[derive(Drop)]
@@ -19,41 +42,42 @@ pub struct Outcome {
     pub notes: MemSink,
 }
 
-/// The parts of a session or of an output, one behind the other.
-pub fn joined(alloc: Global, parts: &[&[u8]]) -> Result<Vec<u8>, AllocError> {
-    let mut whole = Vec::new(alloc);
-    for part in parts {
-        whole.extend_from_slice(part)?;
-    }
-    Ok(whole)
-}
-
-/// A source of a session that gives at most `piece` bytes a call, and never fails.
-pub fn source_of(alloc: Global, session: &[&[u8]], piece: usize) -> Result<MemSource, AllocError>
-    requires { 1 ≤ piece }
-{
-    Ok(MemSource::new(joined(alloc, session)?, piece, Vec::new(alloc)))
-}
-
-/// A sink with room for all that is written, which never fails.
-pub fn ample_sink(alloc: Global) -> Result<MemSink, AllocError> {
-    MemSink::new(alloc, AMPLE, Vec::new(alloc))
-}
-
-/// Runs the engine.
+/// Runs the engine on the words of a text.
 pub fn run(
     alloc: Global,
-    words: &[&str],
-    mut input: MemSource,
-    mut out: MemSink,
-    mut notes: MemSink,
+    words: &str,
+    session: Vec<u8>,
+    streams: Streams,
 ) -> Result<Outcome, AllocError> {
-    let mut list = Vec::new(alloc);
-    for word in words {
-        list.push(Bytes::from_slice(alloc, word.as_bytes())?)?;
-    }
-    let status = statsd_top(alloc, list.as_slice(), &mut input, &mut out, &mut notes);
+    let words = words_of(alloc, words)?;
+    let mut input = source_of(alloc, session, streams)?;
+    let mut out = MemSink::new(alloc, streams.room, listed(alloc, streams.failed_put)?)?;
+    let mut notes = MemSink::new(alloc, streams.note_room, Vec::new(alloc))?;
+    let status = statsd_top(alloc, words.as_slice(), &mut input, &mut out, &mut notes);
     Ok(Outcome { status, out, notes })
+}
+
+/// The words of a text, with blanks between them.
+fn words_of(alloc: Global, text: &str) -> Result<Vec<Bytes>, AllocError> {
+    let mut words = Vec::new(alloc);
+    for word in text.split_whitespace() {
+        words.push(Bytes::from_slice(alloc, word.as_bytes())?)?;
+    }
+    Ok(words)
+}
+
+fn source_of(alloc: Global, session: Vec<u8>, streams: Streams) -> Result<MemSource, AllocError> {
+    let fails = listed(alloc, streams.failed_read)?;
+    Ok(MemSource::new(session, streams.piece.max(1), fails))
+}
+
+/// The calls that fail: one, or none.
+fn listed(alloc: Global, call: Option<u64>) -> Result<Vec<u64>, AllocError> {
+    let mut calls = Vec::new(alloc);
+    if let Some(call) = call {
+        calls.push(call)?;
+    }
+    Ok(calls)
 }
 
 /// Asserts what a run left.
@@ -62,33 +86,43 @@ pub fn assert_left<R: Abort + AllocGlobal>(
     name: &str,
     outcome: &Outcome,
     status: u8,
-    replies: &[&[u8]],
+    replies: &[u8],
     note: &str,
-) -> Result<(), Fail> {
-    let wanted = joined(rt.alloc(), replies)?;
-    assert_eq!(rt; outcome.status, status, "at {name}");
-    assert_eq!(rt; outcome.out.bytes(), wanted.as_slice(), "at {name}");
-    assert_eq!(rt; outcome.notes.bytes(), note.as_bytes(), "at {name}");
-    Ok(())
+) {
+    assert!(rt;
+        outcome.status == status,
+        "status {} at {name}",
+        outcome.status
+    );
+    assert!(rt; outcome.out.bytes() == replies, "replies at {name}");
+    assert!(rt; outcome.notes.bytes() == note.as_bytes(), "note at {name}");
 }
 
-/// Replays a session over a source and sinks that don't fail, and asserts what that left.
+/// Runs `replay` on the session of a text, and asserts what that left. The replies and the note are texts too.
 pub fn assert_replay<R: Abort + AllocGlobal>(
     rt: &R,
     name: &str,
-    session: &[&[u8]],
+    session: &str,
     status: u8,
-    replies: &[&[u8]],
+    replies: &str,
     note: &str,
 ) -> Result<(), Fail> {
-    let alloc = rt.alloc();
-    let input = source_of(alloc, session, AMPLE)?;
-    let outcome = run(
-        alloc,
-        &["replay"],
-        input,
-        ample_sink(alloc)?,
-        ample_sink(alloc)?,
-    )?;
-    assert_left(rt, name, &outcome, status, replies, note)
+    assert_run(rt, name, session, SOUND, status, replies, note)
+}
+
+/// The same over streams that may fail.
+pub fn assert_run<R: Abort + AllocGlobal>(
+    rt: &R,
+    name: &str,
+    session: &str,
+    streams: Streams,
+    status: u8,
+    replies: &str,
+    note: &str,
+) -> Result<(), Fail> {
+    let session = bytes_of(rt.alloc(), session)?;
+    let replies = bytes_of(rt.alloc(), replies)?;
+    let outcome = run(rt.alloc(), "replay", session, streams)?;
+    assert_left(rt, name, &outcome, status, replies.as_slice(), note);
+    Ok(())
 }

@@ -1,13 +1,30 @@
 //! The engine over readers and writers of std.
-use super::parts::{ATOM_AT_2, ATOM_AT_3, CUT, INSTALL, INSTALLED, TWO_BY_3};
-use super::run::{ample_sink, joined};
+use super::parts::bytes_of;
+use super::run::AMPLE;
 use atom_record::Bytes;
-use sd_io::{StdSink, StdSource};
+use sd_io::{MemSink, Sink, Source, StdSink, StdSource};
 use statsd_cli::statsd_top;
 use std::alloc::AllocError;
 use std::io;
 use std::io::{ErrorKind, Read, Write};
+use std::process::Abort;
 use std::test::Fail;
+
+/// Runs `replay` over these, and asserts the status and the note.
+fn assert_status<R: Abort + AllocGlobal, S: Source, K: Sink>(
+    rt: &R,
+    input: &mut S,
+    out: &mut K,
+    status: u8,
+    note: &str,
+) -> Result<(), Fail> {
+    let mut notes = MemSink::new(rt.alloc(), AMPLE, Vec::new(rt.alloc()))?;
+    let words = [Bytes::from_slice(rt.alloc(), b"replay")?];
+    let ended = statsd_top(rt.alloc(), &words, input, out, &mut notes);
+    assert!(rt; ended == status, "status {status}");
+    assert!(rt; notes.bytes() == note.as_bytes(), "note {note}");
+    Ok(())
+}
 
 /// Gives its bytes one a call, and then fails.
 #[derive(Drop)]
@@ -29,16 +46,11 @@ impl Read for Failing<'_> {
 
 #[test]
 fn answers_nothing_where_the_reader_fails(rt: HostRuntime) -> Result<(), Fail> {
-    let alloc = rt.alloc();
-    let session = joined(alloc, &[INSTALL, ATOM_AT_2])?;
+    let session = bytes_of(rt.alloc(), "install atom2")?;
     let mut input = StdSource::new(Failing(session.as_slice()));
-    let mut out = ample_sink(alloc)?;
-    let mut notes = ample_sink(alloc)?;
-    let words = [Bytes::from_slice(alloc, b"replay")?];
-    let status = statsd_top(alloc, &words, &mut input, &mut out, &mut notes);
-    assert_eq!(rt; status, 4);
-    assert_eq!(rt; out.bytes(), b"".as_slice());
-    assert_eq!(rt; notes.bytes(), b"statsd: read fault\n".as_slice());
+    let mut out = MemSink::new(rt.alloc(), AMPLE, Vec::new(rt.alloc()))?;
+    assert_status(&rt, &mut input, &mut out, 4, "statsd: read fault\n")?;
+    assert!(rt; out.bytes().is_empty());
     Ok(())
 }
 
@@ -76,27 +88,33 @@ impl Write for Taking {
 
 #[test]
 fn tells_whether_the_writer_took_all(rt: HostRuntime) -> Result<(), Fail> {
-    let alloc = rt.alloc();
     for (takes, status, replies, note) in [
-        (Takes::OneByte, 0, [INSTALLED, TWO_BY_3].as_slice(), ""),
-        (Takes::Nothing, 5, &[], "statsd: write fault\n"),
-        (Takes::AnError, 5, &[], "statsd: write fault\n"),
+        (Takes::OneByte, 0, "installed two-by-3", ""),
+        (Takes::Nothing, 5, "", "statsd: write fault\n"),
+        (Takes::AnError, 5, "", "statsd: write fault\n"),
     ] {
-        let session = joined(alloc, &[INSTALL, ATOM_AT_2, ATOM_AT_3, CUT])?;
-        let mut input = StdSource::new(session.as_slice());
-        let mut taking = Taking {
-            takes,
-            bytes: Vec::new(alloc),
-        };
-        let mut out = StdSink::new(&mut taking);
-        let mut notes = ample_sink(alloc)?;
-        let words = [Bytes::from_slice(alloc, b"replay")?];
-        assert_eq!(rt;
-            statsd_top(alloc, &words, &mut input, &mut out, &mut notes),
-            status
-        );
-        assert_eq!(rt; taking.bytes.as_slice(), joined(alloc, replies)?.as_slice());
-        assert_eq!(rt; notes.bytes(), note.as_bytes());
+        assert_takes(&rt, takes, status, replies, note)?;
     }
+    Ok(())
+}
+
+fn assert_takes<R: Abort + AllocGlobal>(
+    rt: &R,
+    takes: Takes,
+    status: u8,
+    replies: &str,
+    note: &str,
+) -> Result<(), Fail> {
+    let session = bytes_of(rt.alloc(), "install atom2 atom3 cut")?;
+    let mut input = StdSource::new(session.as_slice());
+    let mut taking = Taking {
+        takes,
+        bytes: Vec::new(rt.alloc()),
+    };
+    assert_status(rt, &mut input, &mut StdSink::new(&mut taking), status, note)?;
+    assert!(rt;
+        taking.bytes == bytes_of(rt.alloc(), replies)?,
+        "replies of {status}"
+    );
     Ok(())
 }

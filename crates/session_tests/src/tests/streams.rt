@@ -1,118 +1,132 @@
 //! Sources that give little at a time, and sources and sinks that fail.
-use super::parts::{ATOM_AT_2, ATOM_AT_3, CUT, INSTALL, INSTALLED, TWO_BY_3};
-use super::run::{AMPLE, ample_sink, assert_left, joined, run, source_of};
-use sd_io::{MemSink, MemSource};
+use super::parts::bytes_of;
+use super::run::{AMPLE, Outcome, SOUND, Streams, assert_run, run};
+use std::process::Abort;
 use std::test::Fail;
 
 /// Two atoms and a cut, 83 bytes. The replies have 79.
-const SESSION: [&[u8]; 4] = [INSTALL, ATOM_AT_2, ATOM_AT_3, CUT];
+const SESSION: &str = "install atom2 atom3 cut";
 
 #[test]
 fn reads_in_pieces(rt: HostRuntime) -> Result<(), Fail> {
-    let alloc = rt.alloc();
     for piece in [1, 3, AMPLE] {
-        let input = source_of(alloc, &SESSION, piece)?;
-        let outcome = run(
-            alloc,
-            &["replay"],
-            input,
-            ample_sink(alloc)?,
-            ample_sink(alloc)?,
-        )?;
-        assert_left(&rt, "pieces", &outcome, 0, &[INSTALLED, TWO_BY_3], "")?;
+        let streams = Streams { piece, ..SOUND };
+        assert_run(&rt, "pieces", SESSION, streams, 0, "installed two-by-3", "")?;
     }
     Ok(())
 }
 
 #[test]
 fn ends_where_a_read_fails(rt: HostRuntime) -> Result<(), Fail> {
-    let alloc = rt.alloc();
     // A byte a call, and the call that gives none. A read that fails comes before any frame is judged.
-    for fails in 0..84 {
-        let input = MemSource::new(joined(alloc, &SESSION)?, 1, [fails].to_vec(alloc)?);
-        let outcome = run(
-            alloc,
-            &["replay"],
-            input,
-            ample_sink(alloc)?,
-            ample_sink(alloc)?,
+    for call in 0..84 {
+        let streams = Streams {
+            piece: 1,
+            failed_read: Some(call),
+            ..SOUND
+        };
+        assert_run(
+            &rt,
+            "a read",
+            SESSION,
+            streams,
+            4,
+            "",
+            "statsd: read fault\n",
         )?;
-        assert_left(&rt, "a read", &outcome, 4, &[], "statsd: read fault\n")?;
     }
     Ok(())
 }
 
+/// The number of the put that fails, and what was written: a reply whole, and of a report its first 21 bytes.
+const PUTS: [(u64, &str); 3] = [
+    (0, ""),
+    (1, "installed"),
+    (2, "installed 3200000000000000_06 own"),
+];
+
 #[test]
 fn ends_where_a_put_fails(rt: HostRuntime) -> Result<(), Fail> {
-    let alloc = rt.alloc();
-    for (fails, front) in [
-        (0, [b"".as_slice(), b""]),
-        (1, [INSTALLED, b""]),
-        (2, [INSTALLED, &TWO_BY_3[..21]]),
-    ] {
-        let input = source_of(alloc, &SESSION, AMPLE)?;
-        let out = MemSink::new(alloc, AMPLE, [fails].to_vec(alloc)?)?;
-        let outcome = run(alloc, &["replay"], input, out, ample_sink(alloc)?)?;
-        assert_left(&rt, "a put", &outcome, 5, &front, "statsd: write fault\n")?;
+    for (call, front) in PUTS {
+        let streams = Streams {
+            failed_put: Some(call),
+            ..SOUND
+        };
+        assert_run(
+            &rt,
+            "a put",
+            SESSION,
+            streams,
+            5,
+            front,
+            "statsd: write fault\n",
+        )?;
     }
     Ok(())
 }
 
 #[test]
 fn writes_what_there_is_room_for(rt: HostRuntime) -> Result<(), Fail> {
-    let alloc = rt.alloc();
-    let text = joined(alloc, &[INSTALLED, TWO_BY_3])?;
+    let replies = bytes_of(rt.alloc(), "installed two-by-3")?;
     for room in 0..80 {
-        let input = source_of(alloc, &SESSION, AMPLE)?;
-        let out = MemSink::new(alloc, room, Vec::new(alloc))?;
-        let outcome = run(alloc, &["replay"], input, out, ample_sink(alloc)?)?;
-        let status = if room == 79 { 0 } else { 5 };
-        assert_eq!(rt; outcome.status, status, "at {room}");
-        assert_eq!(rt; outcome.out.bytes().len(), room);
+        let streams = Streams { room, ..SOUND };
+        let session = bytes_of(rt.alloc(), SESSION)?;
+        let outcome = run(rt.alloc(), "replay", session, streams)?;
         assert!(rt;
-            text.as_slice().starts_with(outcome.out.bytes()),
+            outcome.status == if room == 79 { 0 } else { 5 },
             "at {room}"
         );
+        assert_front(&rt, outcome.out.bytes(), replies.as_slice(), room);
     }
     Ok(())
 }
 
+/// Asserts that so many bytes were written, the first of these.
+fn assert_front<R: Abort>(rt: &R, written: &[u8], whole: &[u8], room: usize) {
+    assert!(rt; written.len() == room, "length at {room}");
+    assert!(rt; whole.starts_with(written), "at {room}");
+}
+
+/// Words, a session, whether the first read fails, the output's room, the status, and the note.
+const NOTES: [(&str, &str, Option<u64>, usize, u8, &str); 4] = [
+    (
+        "reply",
+        SESSION,
+        None,
+        AMPLE,
+        2,
+        "statsd: usage: replay | check | load SEED FRAMES\n",
+    ),
+    (
+        "replay",
+        "install atom2 0d00",
+        None,
+        AMPLE,
+        3,
+        "statsd: bad session at 48: 1 cut\n",
+    ),
+    ("replay", SESSION, Some(0), AMPLE, 4, "statsd: read fault\n"),
+    ("replay", SESSION, None, 0, 5, "statsd: write fault\n"),
+];
+
 #[test]
 fn keeps_its_status_where_the_note_fails(rt: HostRuntime) -> Result<(), Fail> {
-    let alloc = rt.alloc();
-    let cut = b"\x0d\0".as_slice();
-    for (word, session, fails, room, status, note) in [
-        (
-            "reply",
-            SESSION.as_slice(),
-            [].as_slice(),
-            AMPLE,
-            2,
-            "statsd: usage: replay | check | load SEED FRAMES\n",
-        ),
-        (
-            "replay",
-            &[INSTALL, ATOM_AT_2, cut],
-            &[],
-            AMPLE,
-            3,
-            "statsd: bad session at 48: 1 cut\n",
-        ),
-        ("replay", &SESSION, &[0], AMPLE, 4, "statsd: read fault\n"),
-        ("replay", &SESSION, &[], 0, 5, "statsd: write fault\n"),
-    ] {
+    for (words, session, failed_read, room, status, note) in NOTES {
         for note_room in 0..note.len() {
-            let input = MemSource::new(joined(alloc, session)?, AMPLE, fails.to_vec(alloc)?);
-            let out = MemSink::new(alloc, room, Vec::new(alloc))?;
-            let notes = MemSink::new(alloc, note_room, Vec::new(alloc))?;
-            let outcome = run(alloc, &[word], input, out, notes)?;
-            assert_eq!(rt; outcome.status, status, "at {note_room}");
-            assert_eq!(rt; outcome.notes.bytes().len(), note_room);
-            assert!(rt;
-                note.as_bytes().starts_with(outcome.notes.bytes()),
-                "at {note_room}"
-            );
+            let streams = Streams {
+                failed_read,
+                room,
+                note_room,
+                ..SOUND
+            };
+            let outcome = run(rt.alloc(), words, bytes_of(rt.alloc(), session)?, streams)?;
+            assert_noted(&rt, &outcome, status, note, note_room);
         }
     }
     Ok(())
+}
+
+fn assert_noted<R: Abort>(rt: &R, outcome: &Outcome, status: u8, note: &str, room: usize) {
+    assert!(rt; outcome.status == status, "status {status} at {room}");
+    assert_front(rt, outcome.notes.bytes(), note.as_bytes(), room);
 }

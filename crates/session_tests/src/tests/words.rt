@@ -1,29 +1,24 @@
 //! Words of a command line that the engine doesn't take.
-use super::parts::REPORT;
-use super::run::{AMPLE, ample_sink, assert_left, run, source_of};
+use super::parts::bytes_of;
+use super::run::{SOUND, assert_left, run};
 use std::test::Fail;
+
+const ROWS: [(&str, &str); 6] = [
+    ("no word", ""),
+    ("a word more", "replay x"),
+    ("a load without frames", "load 1"),
+    ("a load of too many frames", "load 1 4000000001"),
+    ("a front of the word", "repla"),
+    ("the word and more", "replayed"),
+];
 
 #[test]
 fn takes_no_other_words(rt: HostRuntime) -> Result<(), Fail> {
-    let alloc = rt.alloc();
-    for (name, words) in [
-        ("no word", [].as_slice()),
-        ("a word more", &["replay", "x"]),
-        ("a load without frames", &["load", "1"]),
-        ("a load of too many frames", &["load", "1", "4000000001"]),
-        ("a front of the word", &["repla"]),
-        ("the word and more", &["replayed"]),
-    ] {
-        let input = source_of(alloc, &[REPORT], AMPLE)?;
-        let outcome = run(alloc, words, input, ample_sink(alloc)?, ample_sink(alloc)?)?;
-        assert_left(
-            &rt,
-            name,
-            &outcome,
-            2,
-            &[],
-            "statsd: usage: replay | check | load SEED FRAMES\n",
-        )?;
+    let note = "statsd: usage: replay | check | load SEED FRAMES\n";
+    for (name, words) in ROWS {
+        let session = bytes_of(rt.alloc(), "report")?;
+        let outcome = run(rt.alloc(), words, session, SOUND)?;
+        assert_left(&rt, name, &outcome, 2, &[], note);
     }
     Ok(())
 }

@@ -1,0 +1,99 @@
+//! Each note by its line, and each front of the line where the room ends.
+use sd_io::{MemSink, WriteFailed};
+use session_frames::SessionFault;
+use statsd_cli::{Note, write_note};
+use std::process::Abort;
+use std::test::Fail;
+
+const PLAIN: [(Note, &str); 4] = [
+    (
+        Note::Usage,
+        "statsd: usage: replay | check | load SEED FRAMES\n",
+    ),
+    (Note::ReadFault, "statsd: read fault\n"),
+    (Note::WriteFault, "statsd: write fault\n"),
+    (Note::NoMemory, "statsd: out of memory\n"),
+];
+
+/// Where a frame with a fault begins, the fault, and the line.
+const FAULTS: [(u64, SessionFault, &str); 9] = [
+    (
+        0,
+        SessionFault::TimeBackwards(u64::MAX, u64::MAX),
+        "statsd: bad session at 0: 7 time backwards 18446744073709551615 18446744073709551615\n",
+    ),
+    (
+        1073741824,
+        SessionFault::Cut,
+        "statsd: bad session at 1073741824: 1 cut\n",
+    ),
+    (
+        1073741824,
+        SessionFault::TooLong(1048577),
+        "statsd: bad session at 1073741824: 2 too long 1048577\n",
+    ),
+    (
+        1073741824,
+        SessionFault::BadLength,
+        "statsd: bad session at 1073741824: 3 bad length\n",
+    ),
+    (
+        1073741824,
+        SessionFault::UnknownKind(255),
+        "statsd: bad session at 1073741824: 4 unknown kind 255\n",
+    ),
+    (
+        1073741824,
+        SessionFault::BadBody(2),
+        "statsd: bad session at 1073741824: 5 bad body 2\n",
+    ),
+    (
+        1073741824,
+        SessionFault::BadAtom(8),
+        "statsd: bad session at 1073741824: 6 bad atom 8\n",
+    ),
+    (
+        1073741824,
+        SessionFault::TimeBackwards(30, 29),
+        "statsd: bad session at 1073741824: 7 time backwards 30 29\n",
+    ),
+    (
+        1073741824,
+        SessionFault::TooManyFrames,
+        "statsd: bad session at 1073741824: 8 too many frames\n",
+    ),
+];
+
+#[test]
+fn writes_each_line_or_a_front_of_it(rt: HostRuntime) -> Result<(), Fail> {
+    for (note, line) in PLAIN {
+        assert_line(&rt, &note, line)?;
+    }
+    for (at, fault, line) in FAULTS {
+        assert_line(&rt, &Note::BadSession { at, fault }, line)?;
+    }
+    Ok(())
+}
+
+/// Asserts that a note is this line, and in less room the front that the room takes.
+fn assert_line<R: Abort + AllocGlobal>(rt: &R, note: &Note, line: &str) -> Result<(), Fail> {
+    assert_written(rt, note, 128, Ok(()), line.as_bytes())?;
+    for room in 0..line.len() {
+        let front = line.as_bytes().get(..room).unwrap_or_default();
+        assert_written(rt, note, room, Err(WriteFailed), front)?;
+    }
+    Ok(())
+}
+
+fn assert_written<R: Abort + AllocGlobal>(
+    rt: &R,
+    note: &Note,
+    room: usize,
+    answer: Result<(), WriteFailed>,
+    bytes: &[u8],
+) -> Result<(), Fail> {
+    let mut notes = MemSink::new(rt.alloc(), room, Vec::new(rt.alloc()))?;
+    assert!(rt; write_note(note, &mut notes) == answer, "at {room}");
+    assert!(rt; notes.bytes() == bytes, "at {room}");
+    Ok(())
+}
