@@ -9,6 +9,7 @@ use Rattle.bucket_meaning.specs.Kept.{counted}
 use Rattle.dim_table.specs.declared.answer.Admit.{Admit}
 use Rattle.dim_table.specs.declared.answer.Admit.TheVariants.{At, Full}
 
+-- Rows by key, the most keys that fit, and how many arrivals were dropped.
 pub record Table (K V : Type 0) : Type 0 where
   pub rows : List (K × V)
   pub bound : ℕ

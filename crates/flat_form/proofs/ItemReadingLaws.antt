@@ -23,7 +23,7 @@ use Rattle.atom_record.proofs.TypedLaws.{typed_takes, typed_again, short_value}
 use Rattle.atom_record.proofs.AtomReadingPayloads.{atom_takes, atom_again}
 use Rattle.flat_form.specs.declared.item.Item.{Item}
 use Rattle.flat_form.specs.declared.item.Item.TheVariants.{Num, Dims, Slices, AtomItem, Chunk}
-use Rattle.flat_form.specs.ItemReading.{NoItem, Unspelled, without_reason, uint_at, counted_at, value_in, values_at, leaf_at, slice_at, slices_at, dims_at, item_at}
+use Rattle.flat_form.specs.ItemReading.{NoItem, Unspelled, without_reason, item_uint_at, counted_at, value_in, values_at, leaf_at, slice_at, slices_at, dims_at, item_at}
 use Rattle.flat_form.specs.ItemSpelling.{spelled_leaf, spelled_slice, spelled_item}
 use Rattle.flat_form.specs.Savable.{IsShortLeaf, IsSavable}
 use Rattle.flat_form.specs.ItemRange.{IsLeafInRange, IsSliceInRange, IsItemInRange}
@@ -47,7 +47,7 @@ ok_is x y e = cc
 
 -- a number that was read is spelled so
 uint_takes : (width : Width) (limit : ℕ) (wide : IsWide width limit) (bytes : List ℕ) (x : ℕ × List ℕ)
-    → IsBytes bytes → uint_at width bytes ≡ Ok x → Takes bytes (to_le_bytes width x.0) x.1 × (x.0 < limit)
+    → IsBytes bytes → item_uint_at width bytes ≡ Ok x → Takes bytes (to_le_bytes width x.0) x.1 × (x.0 < limit)
 uint_takes width limit wide bytes x fits read =
     let size = byte_len width in
     let there = passed (nat_lt (length bytes) size) Unspelled
@@ -58,7 +58,7 @@ uint_takes width limit wide bytes x fits read =
 
 -- and one that is spelled is read again
 uint_again : (width : Width) (limit : ℕ) (wide : IsWide width limit) (n : ℕ) (rest : List ℕ) → n < limit
-    → uint_at width (to_le_bytes width n ++ rest) ≡ Ok (n, rest)
+    → item_uint_at width (to_le_bytes width n ++ rest) ≡ Ok (n, rest)
 uint_again width limit wide n rest below =
     let len = wide.len n in
     let long : nat_lt (length (to_le_bytes width n ++ rest)) (byte_len width) ≡ false =
@@ -114,10 +114,10 @@ module _ {X : Type 0} (at : List ℕ → Result (X × List ℕ) NoItem) (text : 
   pub listed_takes : ((bytes : List ℕ) (x : X × List ℕ) → IsBytes bytes → at bytes ≡ Ok x
       → Takes bytes (text x.0) x.1 × Sound x.0)
       → (bytes : List ℕ) (x : List X × List ℕ) → IsBytes bytes
-      → (uint_at w16 bytes >>= λ count. many at count.0 count.1) ≡ Ok x
+      → (item_uint_at w16 bytes >>= λ count. many at count.0 count.1) ≡ Ok x
       → Takes bytes (to_le_bytes w16 (length x.0) ++ flat_map text x.0) x.1 × All Sound x.0 × (length x.0 < 2 ^ 16)
   listed_takes each bytes x fits read =
-      let count = bind_ok (uint_at w16 bytes) (λ count. many at count.0 count.1) x read in
+      let count = bind_ok (item_uint_at w16 bytes) (λ count. many at count.0 count.1) x read in
       let front = uint_takes w16 (2 ^ 16) wide16 bytes count.0 fits count.1 in
       let all = many_takes each count.0.0 count.0.1 x front.0.fits count.2 in
       let numbered : Takes bytes (to_le_bytes w16 (length x.0)) count.0.1 =
@@ -131,10 +131,10 @@ module _ {X : Type 0} (at : List ℕ → Result (X × List ℕ) NoItem) (text : 
   -- those that are spelled after their number are read again
   pub listed_again : ((x : X) (rest : List ℕ) → Sound x → at (text x ++ rest) ≡ Ok (x, rest))
       → (xs : List X) (rest : List ℕ) → length xs < 2 ^ 16 → All Sound xs
-      → (uint_at w16 ((to_le_bytes w16 (length xs) ++ flat_map text xs) ++ rest) >>= λ count. many at count.0
+      → (item_uint_at w16 ((to_le_bytes w16 (length xs) ++ flat_map text xs) ++ rest) >>= λ count. many at count.0
       count.1) ≡ Ok (xs, rest)
   listed_again each xs rest short all =
-      let number : uint_at w16 ((to_le_bytes w16 (length xs) ++ flat_map text xs) ++ rest) ≡ Ok
+      let number : item_uint_at w16 ((to_le_bytes w16 (length xs) ++ flat_map text xs) ++ rest) ≡ Ok
       (length xs, flat_map text xs ++ rest) =
       rw (append_assoc (to_le_bytes w16 (length xs)) (flat_map text xs) rest)
       (uint_again w16 (2 ^ 16) wide16 (length xs) (flat_map text xs ++ rest) short) in
@@ -221,12 +221,12 @@ slice_takes [] x fits read = absurd cc
 slice_takes (tag ∷ bytes) x fits read =
     let rest : IsBytes bytes = IsBytes-rest tag bytes fits in
     let is_read : Slice × List ℕ → Type 0 = λ y. Takes (tag ∷ bytes) (spelled_slice y.0) y.1 × IsSliceInRange y.0 in
-    elim (chosen (tag == 1) (uint_at w32 bytes >>= λ id. uint_at w32 id.1 >>= λ value. Ok
+    elim (chosen (tag == 1) (item_uint_at w32 bytes >>= λ id. item_uint_at w32 id.1 >>= λ value. Ok
     (Plain id.0 (cast_signed w32 value.0), value.1)) _ (Ok x) read) [
       | inl this ↦
-          let id = bind_ok (uint_at w32 bytes) (λ id. uint_at w32 id.1 >>= λ value. Ok
+          let id = bind_ok (item_uint_at w32 bytes) (λ id. item_uint_at w32 id.1 >>= λ value. Ok
           (Plain id.0 (cast_signed w32 value.0), value.1)) x this.1 in
-          let value = bind_ok (uint_at w32 id.0.1)
+          let value = bind_ok (item_uint_at w32 id.0.1)
           (λ value. Ok (Plain id.0.0 (cast_signed w32 value.0), value.1)) x id.2 in
           let first = uint_takes w32 (2 ^ 32) wide32 bytes id.0 rest id.1 in
           let second = uint_takes w32 (2 ^ 32) wide32 id.0.1 value.0 first.0.fits value.1 in
@@ -237,12 +237,12 @@ slice_takes (tag ∷ bytes) x fits read =
                 (to_le_bytes w32 (cast_unsigned w32 (cast_signed w32 value.0.0))) value.0.1 first.0 spelled),
             (first.1, signed32 value.0.0 second.1),
           )
-      | inr other ↦ elim (chosen (tag == 2) (uint_at w32 bytes >>= λ id. uint_at w64 id.1 >>= λ group. Ok
+      | inr other ↦ elim (chosen (tag == 2) (item_uint_at w32 bytes >>= λ id. item_uint_at w64 id.1 >>= λ group. Ok
           (Group id.0 (cast_signed w64 group.0), group.1)) (Err Unspelled) (Ok x) other.1) [
             | inl this ↦
-                let id = bind_ok (uint_at w32 bytes) (λ id. uint_at w64 id.1 >>= λ group. Ok
+                let id = bind_ok (item_uint_at w32 bytes) (λ id. item_uint_at w64 id.1 >>= λ group. Ok
                 (Group id.0 (cast_signed w64 group.0), group.1)) x this.1 in
-                let group = bind_ok (uint_at w64 id.0.1)
+                let group = bind_ok (item_uint_at w64 id.0.1)
                 (λ group. Ok (Group id.0.0 (cast_signed w64 group.0), group.1)) x id.2 in
                 let first = uint_takes w32 (2 ^ 32) wide32 bytes id.0 rest id.1 in
                 let second = uint_takes w64 (2 ^ 64) wide64 id.0.1 group.0 first.0.fits group.1 in
@@ -315,7 +315,7 @@ counted_takes : (width : Width) (limit : ℕ) (wide : IsWide width limit) (bytes
     → IsBytes bytes → counted_at width bytes ≡ Ok x
     → Takes bytes (to_le_bytes width (length x.0) ++ x.0) x.1 × (length x.0 < limit) × IsBytes x.0
 counted_takes width limit wide bytes x fits read =
-    let step = bind_ok (uint_at width bytes) (λ len. if nat_lt (length len.1) len.0 then Err Unspelled else Ok
+    let step = bind_ok (item_uint_at width bytes) (λ len. if nat_lt (length len.1) len.0 then Err Unspelled else Ok
     (take len.0 len.1, drop len.0 len.1)) x read in
     let len = step.0 in
     let number = uint_takes width limit wide bytes len fits step.1 in
@@ -360,9 +360,9 @@ item_takes [] x fits read = absurd cc
 item_takes (tag ∷ bytes) x fits read =
     let rest : IsBytes bytes = IsBytes-rest tag bytes fits in
     let is_read : Item × List ℕ → Type 0 = λ y. Takes (tag ∷ bytes) (spelled_item y.0) y.1 × IsItem y.0 in
-    elim (chosen (tag == 1) (uint_at w64 bytes >>= λ number. Ok (Num number.0, number.1)) _ (Ok x) read) [
+    elim (chosen (tag == 1) (item_uint_at w64 bytes >>= λ number. Ok (Num number.0, number.1)) _ (Ok x) read) [
       | inl this ↦
-          let number = bind_ok (uint_at w64 bytes) (λ number. Ok (Num number.0, number.1)) x this.1 in
+          let number = bind_ok (item_uint_at w64 bytes) (λ number. Ok (Num number.0, number.1)) x this.1 in
           let took = uint_takes w64 (2 ^ 64) wide64 bytes number.0 rest number.1 in
           subst is_read (ok_is (Num number.0.0, number.0.1) x number.2)
           (tagged tag 1 bytes (to_le_bytes w64 number.0.0) number.0.1 this.0 took.0, (tt, took.1))

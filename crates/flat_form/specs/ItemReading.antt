@@ -29,15 +29,15 @@ without_reason (Ok read) = Ok read
 without_reason (Err reason) = Err Unspelled
 
 -- a number of so many bytes, low byte first
-abbrev pub uint_at : Width → List ℕ → Result (ℕ × List ℕ) NoItem
-uint_at width bytes =
+abbrev pub item_uint_at : Width → List ℕ → Result (ℕ × List ℕ) NoItem
+item_uint_at width bytes =
     if nat_lt (length bytes) (byte_len width) then Err Unspelled
     else Ok (from_le_bytes width (take (byte_len width) bytes), drop (byte_len width) bytes)
 
 -- a number of so many bytes, and as many bytes as it says
 abbrev pub counted_at : Width → List ℕ → Result (List ℕ × List ℕ) NoItem
 counted_at width bytes =
-    uint_at width bytes >>= λ len.
+    item_uint_at width bytes >>= λ len.
     if nat_lt (length len.1) len.0 then Err Unspelled else Ok (take len.0 len.1, drop len.0 len.1)
 
 -- a value after the byte of its kind
@@ -46,7 +46,7 @@ value_in bytes = without_reason (typed_at bytes)
 
 -- values after their number
 unfoldable pub values_at : List ℕ → Result (List Value × List ℕ) NoItem
-values_at bytes = uint_at w16 bytes >>= λ count. many value_in count.0 count.1
+values_at bytes = item_uint_at w16 bytes >>= λ count. many value_in count.0 count.1
 
 -- one leaf
 unfoldable pub leaf_at : List ℕ → Result (Leaf × List ℕ) NoItem
@@ -61,9 +61,9 @@ leaf_at (tag ∷ bytes) =
 unfoldable pub slice_at : List ℕ → Result (Slice × List ℕ) NoItem
 slice_at [] = Err Unspelled
 slice_at (tag ∷ bytes) =
-    if tag == 1 then (uint_at w32 bytes >>= λ id. uint_at w32 id.1 >>= λ value. Ok
+    if tag == 1 then (item_uint_at w32 bytes >>= λ id. item_uint_at w32 id.1 >>= λ value. Ok
     (Plain id.0 (cast_signed w32 value.0), value.1))
-    else if tag == 2 then (uint_at w32 bytes >>= λ id. uint_at w64 id.1 >>= λ group. Ok
+    else if tag == 2 then (item_uint_at w32 bytes >>= λ id. item_uint_at w64 id.1 >>= λ group. Ok
     (Group id.0 (cast_signed w64 group.0), group.1))
     else Err Unspelled
 
@@ -74,13 +74,13 @@ slices_at (count ∷ bytes) = many slice_at count bytes
 
 -- leaves after their number
 abbrev pub dims_at : List ℕ → Result (List Leaf × List ℕ) NoItem
-dims_at bytes = uint_at w16 bytes >>= λ count. many leaf_at count.0 count.1
+dims_at bytes = item_uint_at w16 bytes >>= λ count. many leaf_at count.0 count.1
 
 -- one item: a tag and its content
 unfoldable pub item_at : List ℕ → Result (Item × List ℕ) NoItem
 item_at [] = Err Unspelled
 item_at (tag ∷ bytes) =
-    if tag == 1 then (uint_at w64 bytes >>= λ number. Ok (Num number.0, number.1))
+    if tag == 1 then (item_uint_at w64 bytes >>= λ number. Ok (Num number.0, number.1))
     else if tag == 2 then (dims_at bytes >>= λ dims. Ok (Dims dims.0, dims.1))
     else if tag == 3 then (slices_at bytes >>= λ slices. Ok (Slices slices.0, slices.1))
     else if tag == 4 then (counted_at w16 bytes >>= λ payload. without_reason (atom_at payload.0) >>= λ atom. Ok

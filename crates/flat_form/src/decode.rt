@@ -2,7 +2,7 @@
 ghost use Rattle.std.specs.Prelude.{◌≡◌, ℕ, List, ◌∷◌, Result, Ok, Err};
 ghost use Rattle.std.specs.Int.{w16, w32, w64};
 ghost use Rattle.sd_base.specs.Reads.{GivesBy, many};
-ghost use Rattle.flat_form.specs.ItemReading.{NoItem, no_item_of, uint_at, counted_at, values_at, item_at};
+ghost use Rattle.flat_form.specs.ItemReading.{NoItem, no_item_of, item_uint_at, counted_at, values_at, item_at};
 ghost use Rattle.flat_form.specs.ItemRange.{ReadsItems};
 
 use crate::{FlatError, Item, Items};
@@ -11,7 +11,7 @@ use sd_base::Seq;
 use std::alloc::Global;
 
 fn u16_of(bytes: &[u8]) -> Result<(u16, &[u8]), FlatError>
-    ensures { GivesBy no_item_of (λ x. (x.0, x.1.now)) result (uint_at w16 bytes.now) }
+    ensures { GivesBy no_item_of (λ x. (x.0, x.1.now)) result (item_uint_at w16 bytes.now) }
 {
     let Some((front, rest)) = bytes.split_first_chunk::<2>() else {
         return Err(FlatError::Bad);
@@ -20,7 +20,7 @@ fn u16_of(bytes: &[u8]) -> Result<(u16, &[u8]), FlatError>
 }
 
 fn u32_of(bytes: &[u8]) -> Result<(u32, &[u8]), FlatError>
-    ensures { GivesBy no_item_of (λ x. (x.0, x.1.now)) result (uint_at w32 bytes.now) }
+    ensures { GivesBy no_item_of (λ x. (x.0, x.1.now)) result (item_uint_at w32 bytes.now) }
 {
     let Some((front, rest)) = bytes.split_first_chunk::<4>() else {
         return Err(FlatError::Bad);
@@ -29,7 +29,7 @@ fn u32_of(bytes: &[u8]) -> Result<(u32, &[u8]), FlatError>
 }
 
 fn u64_of(bytes: &[u8]) -> Result<(u64, &[u8]), FlatError>
-    ensures { GivesBy no_item_of (λ x. (x.0, x.1.now)) result (uint_at w64 bytes.now) }
+    ensures { GivesBy no_item_of (λ x. (x.0, x.1.now)) result (item_uint_at w64 bytes.now) }
 {
     let Some((front, rest)) = bytes.split_first_chunk::<8>() else {
         return Err(FlatError::Bad);

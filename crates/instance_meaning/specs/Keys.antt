@@ -19,6 +19,7 @@ least_of [] = 0
 least_of (x ∷ []) = x
 least_of (x ∷ y ∷ more) = min x (least_of (y ∷ more))
 
+-- the greatest of these numbers, or 0
 abbrev pub greatest_of : List ℕ → ℕ
 greatest_of [] = 0
 greatest_of (x ∷ more) = max x (greatest_of more)
@@ -44,6 +45,7 @@ picked leaf entries =
     entry.field == leaf.field
     && (entry.sub == leaf.sub && picks leaf.position (indexes_of leaf.field entries) entry.index)) entries
 
+-- the values of these entries
 abbrev pub values_of : List AtomField → List Value
 values_of entries = map (λ (entry : AtomField). entry.value) entries
 

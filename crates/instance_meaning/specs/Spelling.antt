@@ -18,32 +18,38 @@ int_field number value = varint_field number (cast_unsigned w64 value)
 abbrev pub count_field : ℕ → ℕ → List ℕ
 count_field number count = if nat_lt 0 count then varint_field number count else []
 
+-- a truth as a number
 abbrev pub bool_number : Bool → ℕ
 bool_number truth = if truth then 1 else 0
 
 -- the value of a leaf, but for raw bytes, which stand after the leaf's place
-abbrev pub value_bytes : Option Value → List ℕ
-value_bytes (Some (Str text)) = bytes_field 2 text
-value_bytes (Some (Int value)) = int_field 3 value
-value_bytes (Some (Long value)) = int_field 4 value
-value_bytes (Some (Truth value)) = varint_field 5 (bool_number value)
-value_bytes (Some (Bits32 bits)) = fixed32_field 6 bits
-value_bytes _ = []
+abbrev pub shown_value_bytes : Option Value → List ℕ
+shown_value_bytes (Some (Str text)) = bytes_field 2 text
+shown_value_bytes (Some (Int value)) = int_field 3 value
+shown_value_bytes (Some (Long value)) = int_field 4 value
+shown_value_bytes (Some (Truth value)) = varint_field 5 (bool_number value)
+shown_value_bytes (Some (Bits32 bits)) = fixed32_field 6 bits
+shown_value_bytes _ = []
 
+-- the raw bytes of a leaf, if it has any
 abbrev pub raw_bytes : Option Value → List ℕ
 raw_bytes (Some (Raw bytes)) = bytes_field 1002 bytes
 raw_bytes _ = []
 
+-- a leaf of a key
 abbrev pub leaf_bytes : LeafTree → List ℕ
-leaf_bytes leaf = value_bytes leaf.value ++ (count_field 1001 leaf.place ++ raw_bytes leaf.value)
+leaf_bytes leaf = shown_value_bytes leaf.value ++ (count_field 1001 leaf.place ++ raw_bytes leaf.value)
 
+-- a state by which a row is sliced
 abbrev pub slice_bytes : Slice → List ℕ
 slice_bytes (Plain atom_id value) = varint_field 1 atom_id ++ int_field 3 value
 slice_bytes (Group atom_id group) = varint_field 1 atom_id ++ int_field 2 group
 
+-- a bucket of a key
 abbrev pub bucket_bytes : NumBucket → List ℕ
 bucket_bytes bucket = varint_field 1 bucket.start ++ (varint_field 2 bucket.end ++ int_field 3 bucket.value)
 
+-- a row: its buckets, its key and its slices
 abbrev pub row_bytes : NumTree → List ℕ
 row_bytes row =
     flat_map (λ bucket. bytes_field 3 (bucket_bytes bucket)) row.buckets
@@ -58,6 +64,7 @@ rows_bytes rows = flat_map (λ row. bytes_field 1 (row_bytes row)) rows
 abbrev pub body_bytes : MetricBody → List ℕ
 body_bytes (Counts rows) = bytes_field 5 (rows_bytes rows)
 
+-- a metric with its rows
 abbrev pub metric_bytes : MetricTree → List ℕ
 metric_bytes metric =
     int_field 1 metric.id
@@ -66,6 +73,7 @@ metric_bytes metric =
     ++ (varint_field 10 metric.size
     ++ (count_field 1001 metric.dropped ++ (count_field 1002 metric.not_kept ++ count_field 1003 metric.missing)))))
 
+-- how many were dropped, by an id
 abbrev pub drop_bytes : Drop64 → List ℕ
 drop_bytes drop = int_field 1 drop.id ++ varint_field 2 drop.number
 

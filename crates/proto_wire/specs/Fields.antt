@@ -19,6 +19,7 @@ pub record FieldOf : Type 0 where
   pub payload_at : ℕ
   pub body : BodyOf
 
+-- what a field holds, without where its bytes lie in memory
 abbrev pub body_seen : Body → BodyOf
 body_seen (held.Varint value) = Varint value
 body_seen (held.Fixed64 value) = Fixed64 value

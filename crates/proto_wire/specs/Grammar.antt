@@ -26,6 +26,7 @@ pub record IsTag (bytes : List ℕ) (number : ℕ) (wire_type : WireType) : Type
   pub named : 1 ≤ number
   pub fits : number < 2 ^ 29
 
+-- the wire type under which a field's content is laid out
 abbrev pub wire_type_for : BodyOf → WireType
 wire_type_for (Varint value) = wire.Varint
 wire_type_for (Fixed64 value) = wire.Fixed64
@@ -103,16 +104,19 @@ pub data Written : Type 0 where
   AsBytes : ℕ → List ℕ → Written
   AsFixed32 : ℕ → ℕ → Written
 
+-- the bytes of a field that a writer wrote
 abbrev pub spelling : Written → List ℕ
 spelling (AsVarint number value) = varint_field number value
 spelling (AsBytes number bytes) = bytes_field number bytes
 spelling (AsFixed32 number value) = fixed32_field number value
 
+-- the number of a field that a writer wrote
 abbrev pub written_number : Written → ℕ
 written_number (AsVarint number value) = number
 written_number (AsBytes number bytes) = number
 written_number (AsFixed32 number value) = number
 
+-- what a field that a writer wrote holds
 abbrev pub written_body : Written → BodyOf
 written_body (AsVarint number value) = Varint value
 written_body (AsBytes number bytes) = Bytes bytes

@@ -15,6 +15,7 @@ use Rattle.proto_wire.specs.WireCauses.{cause_long_varint, cause_cut, cause_unkn
 use Rattle.proto_wire.specs.WireTypes.{wire_type_of}
 use Rattle.proto_wire.specs.Fields.{Varint, Fixed64, Bytes, Group, Fixed32, FieldOf, Rest, inside_of, seen}
 
+-- a fault of this cause, at this offset
 abbrev pub fault_at : ℕ → ℕ → WireFault
 fault_at at cause = record { offset = at; cause = cause }
 
@@ -40,6 +41,7 @@ taken_at at count bytes = ok_or (front_bytes count bytes) (fault_at at cause_cut
 abbrev pub fixed_at : Width → ℕ → List ℕ → Result (ℕ × List ℕ) WireFault
 fixed_at width at bytes = ok_or (front_number width bytes) (fault_at at cause_cut)
 
+-- a tag, if its wire type is known
 abbrev pub tag_with : ℕ → ℕ → Option WireType → Result Tag WireFault
 tag_with at number None = Err (fault_at at cause_unknown_wire_type)
 tag_with at number (Some wire_type) = Ok (record { number = number; wire_type = wire_type })
@@ -110,6 +112,7 @@ is_group_end wire.Bytes = false
 is_group_end wire.GroupStart = false
 is_group_end wire.Fixed32 = false
 
+-- the tag is the end of the group with this number
 abbrev pub ends : ℕ → Tag → Bool
 ends number tag = is_group_end tag.wire_type && (tag.number == number)
 
@@ -161,9 +164,11 @@ pub record Walk : Type 0 where
   pub fields : List FieldOf
   pub fault : Option WireFault
 
+-- a walk with one field more in front
 abbrev pub with_field : FieldOf → Walk → Walk
 with_field field walk = record { fields = field ∷ walk.fields; fault = walk.fault }
 
+-- a walk that is over
 abbrev pub stopped : Option WireFault → Walk
 stopped fault = record { fields = []; fault = fault }
 
@@ -183,6 +188,7 @@ walk_turns (suc turns) rest =
 unfoldable pub walk_from : Rest → Walk
 walk_from rest = walk_turns (length rest.bytes) rest
 
+-- the fields of a walk, or its fault
 abbrev pub fields_or : Walk → Result (List FieldOf) WireFault
 fields_or walk = fields_unless walk.fault walk.fields
   where

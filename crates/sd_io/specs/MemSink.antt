@@ -1,6 +1,7 @@
 -- What a contract sees of a `MemSink`, and of a call that isn't to fail.
 use Rattle.std.specs.Prelude.{ℕ, ◌-◌, ◌+◌, ◌<◌, List, length, take, Contains}
 
+-- What a contract sees of a sink in memory.
 pub record SinkContents : Type 0 where
   -- the bytes that were written
   pub written : List ℕ

@@ -1,6 +1,7 @@
 -- What a contract sees of a `MemSource`, and of a call that isn't to fail.
 use Rattle.std.specs.Prelude.{◌≡◌, ℕ, min, List, ◌++◌, length, take, drop, Contains}
 
+-- What a contract sees of a source in memory.
 pub record SourceContents : Type 0 where
   -- the bytes to come
   pub left : List ℕ

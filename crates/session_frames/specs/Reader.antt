@@ -10,6 +10,7 @@ use Rattle.session_frames.specs.declared.frame.SessionFault.TheVariants.{TooMany
 use Rattle.session_frames.specs.FrameLimits.{most_input}
 use Rattle.session_frames.specs.Frames.{Ended, Whole, next_frame, Place, start, past, BreaksBy, is_too_much}
 
+-- A reader: what it holds, where it stands, and whether its source ended.
 pub record Reading : Type 0 where
   -- the bytes that were taken and come after the frames given so far
   pub pending : List ℕ

@@ -23,6 +23,7 @@ install_answer (Err refusal) old = answers.Refused refusal
 install_answer (Ok linked) None = answers.Installed
 install_answer (Ok linked) (Some old) = answers.Replaced
 
+-- the answer to a remove, where this is live under its id
 abbrev pub remove_answer : Option Installed → ReplyBody
 remove_answer None = answers.NoConfig
 remove_answer (Some config) = answers.Removed

@@ -26,18 +26,23 @@ IsReplay words = words ≡ codes "replay" ∷ []
 abbrev pub status_done : ℕ
 status_done = 0
 
+-- the words are none that the program knows
 abbrev pub status_usage : ℕ
 status_usage = 2
 
+-- the session has a fault
 abbrev pub status_bad_session : ℕ
 status_bad_session = 3
 
+-- the input failed
 abbrev pub status_read_fault : ℕ
 status_read_fault = 4
 
+-- the output failed
 abbrev pub status_write_fault : ℕ
 status_write_fault = 5
 
+-- memory was wanting
 abbrev pub status_no_memory : ℕ
 status_no_memory = 6
 
