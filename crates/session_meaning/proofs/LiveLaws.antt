@@ -1,4 +1,4 @@
--- The live configurations and their histories behind one more own frame.
+-- The live configurations and their histories after one more own frame.
 use Rattle.std.proofs.Common.{◌≡◌, ℕ, suc, ◌+◌, ◌<◌, ℤ, Bool, true, false, not, cond, List, [], ◌∷◌, ◌++◌, length, take, drop, Result, Ok, Err, refl, sym, ap, subst, ◌∙◌, append_assoc, arith}
 use Rattle.std.specs.Prelude.{◌||◌}
 use Rattle.std.specs.List.{list_any}
@@ -24,7 +24,7 @@ live_from-push before configs (first ∷ frames) frame =
     live_from-push (before ++ first ∷ []) (live_after before first configs) frames frame
     ∙ ap (λ b. live_after b frame (live_from before configs (first ∷ frames))) (append_assoc before (first ∷ []) frames)
 
--- what is live behind one more own frame
+-- what is live after one more own frame
 pub live-push : (frames : List Frame) (frame : Frame)
     → live (frames ++ frame ∷ []) ≡ live_after frames frame (live frames)
 live-push frames frame = live_from-push [] [] frames frame
@@ -40,11 +40,11 @@ ArePlaced-later count more [] placed = tt
 ArePlaced-later count more (config ∷ configs) placed =
     (omega (arith, placed.0), ArePlaced-later count more configs placed.1)
 
-chosen : (same : Bool) (count : ℕ) (new old : Installed) (others behind : List Installed) → new.place < count
-    → ArePlaced count (old ∷ others) → ArePlaced count behind
-    → ArePlaced count (cond same (new ∷ others) (old ∷ behind))
-chosen true count new old others behind is placed placed_behind = (is, placed.1)
-chosen false count new old others behind is placed placed_behind = (placed.0, placed_behind)
+chosen : (same : Bool) (count : ℕ) (new old : Installed) (others back : List Installed) → new.place < count
+    → ArePlaced count (old ∷ others) → ArePlaced count back
+    → ArePlaced count (cond same (new ∷ others) (old ∷ back))
+chosen true count new old others back is placed placed_after = (is, placed.1)
+chosen false count new old others back is placed placed_after = (placed.0, placed_after)
 
 ArePlaced-with_config : (count : ℕ) (new : Installed) (configs : List Installed) → new.place < count
     → ArePlaced count configs → ArePlaced count (with_config new configs)
@@ -72,14 +72,14 @@ ArePlaced-installed place id (Ok linked) configs placed =
         (ArePlaced-later place 1 configs placed)
 ArePlaced-installed place id (Err refusal) configs placed = ArePlaced-later place 1 configs placed
 
-ArePlaced-behind : (before : List Frame) (frame : Frame) (configs : List Installed) → ArePlaced (length before) configs
+ArePlaced-after : (before : List Frame) (frame : Frame) (configs : List Installed) → ArePlaced (length before) configs
     → ArePlaced (length before + 1) (live_after before frame configs)
-ArePlaced-behind before (Log frame) configs placed = ArePlaced-later (length before) 1 configs placed
-ArePlaced-behind before (Install uid id config) configs placed =
+ArePlaced-after before (Log frame) configs placed = ArePlaced-later (length before) 1 configs placed
+ArePlaced-after before (Install uid id config) configs placed =
     ArePlaced-installed (length before) id (linked_of_bytes config) configs placed
-ArePlaced-behind before (Remove uid id) configs placed =
+ArePlaced-after before (Remove uid id) configs placed =
     ArePlaced-later (length before) 1 (without_id id configs) (ArePlaced-without_id (length before) id configs placed)
-ArePlaced-behind before (Report uid id include_current) configs placed =
+ArePlaced-after before (Report uid id include_current) configs placed =
     ArePlaced-later (length before) 1 configs placed
 
 ArePlaced-live_from : (before : List Frame) (configs : List Installed) (frames : List Frame)
@@ -88,7 +88,7 @@ ArePlaced-live_from before configs [] placed = ArePlaced-later (length before) 0
 ArePlaced-live_from before configs (frame ∷ frames) placed =
     let more : length (before ++ frame ∷ []) ≡ length before + 1 = length-append before (frame ∷ []) in
     let one : ArePlaced (length (before ++ frame ∷ [])) (live_after before frame configs) =
-        rw more (ArePlaced-behind before frame configs placed) in
+        rw more (ArePlaced-after before frame configs placed) in
     let all = ArePlaced-live_from (before ++ frame ∷ []) (live_after before frame configs) frames one in
     let count : length (before ++ frame ∷ []) + length frames ≡ length before + length (frame ∷ frames) =
         omega (arith, more) in
@@ -109,12 +109,12 @@ history_of-push client frames frame config placed =
         take-append-le config.place frames (frame ∷ []) (omega (arith, placed)) in
     let front : take (suc config.place) (frames ++ frame ∷ []) ≡ take (suc config.place) frames =
         take-append-le (suc config.place) frames (frame ∷ []) (omega (arith, placed)) in
-    let behind : drop (suc config.place) (frames ++ frame ∷ []) ≡ drop (suc config.place) frames ++ frame ∷ [] =
+    let back : drop (suc config.place) (frames ++ frame ∷ []) ≡ drop (suc config.place) frames ++ frame ∷ [] =
         drop-append-le (suc config.place) frames (frame ∷ []) (omega (arith, placed)) in
     let steps : given_after step (take (suc config.place) (frames ++ frame ∷ []))
         (drop (suc config.place) (frames ++ frame ∷ []))
     ≡ given_after step (take (suc config.place) frames) (drop (suc config.place) frames) ++ step frames frame =
-    rw (front, behind) (given_after-push step (take (suc config.place) frames) (drop (suc config.place) frames) frame
+    rw (front, back) (given_after-push step (take (suc config.place) frames) (drop (suc config.place) frames) frame
     ∙ ap (λ all. given_after step (take (suc config.place) frames) (drop (suc config.place) frames) ++ step all frame)
         (take-append-drop (suc config.place) frames)) in
     let base : clock_of (take config.place (frames ++ frame ∷ [])) ≡ clock_of (take config.place frames) =
@@ -214,20 +214,20 @@ AreDistinct-installed place id (Ok linked) configs distinct =
     AreDistinct-with_config (record { id = id; linked = linked; place = place }) configs distinct
 AreDistinct-installed place id (Err refusal) configs distinct = distinct
 
-AreDistinct-behind : (before : List Frame) (frame : Frame) (configs : List Installed) → AreDistinct configs
+AreDistinct-after : (before : List Frame) (frame : Frame) (configs : List Installed) → AreDistinct configs
     → AreDistinct (live_after before frame configs)
-AreDistinct-behind before (Log frame) configs distinct = distinct
-AreDistinct-behind before (Install uid id config) configs distinct =
+AreDistinct-after before (Log frame) configs distinct = distinct
+AreDistinct-after before (Install uid id config) configs distinct =
     AreDistinct-installed (length before) id (linked_of_bytes config) configs distinct
-AreDistinct-behind before (Remove uid id) configs distinct = AreDistinct-without_id id configs distinct
-AreDistinct-behind before (Report uid id include_current) configs distinct = distinct
+AreDistinct-after before (Remove uid id) configs distinct = AreDistinct-without_id id configs distinct
+AreDistinct-after before (Report uid id include_current) configs distinct = distinct
 
 AreDistinct-live_from : (before : List Frame) (configs : List Installed) (frames : List Frame) → AreDistinct configs
     → AreDistinct (live_from before configs frames)
 AreDistinct-live_from before configs [] distinct = distinct
 AreDistinct-live_from before configs (frame ∷ frames) distinct =
     AreDistinct-live_from (before ++ frame ∷ []) (live_after before frame configs) frames
-        (AreDistinct-behind before frame configs distinct)
+        (AreDistinct-after before frame configs distinct)
 
 -- no two live configurations of a client have one id
 pub live_distinct : (frames : List Frame) → AreDistinct (live frames)

@@ -7,7 +7,7 @@ use Rattle.session_frames.specs.declared.frame.Frame.TheVariants.{Log, Install, 
 use Rattle.session_frames.specs.Frames.{clock_after}
 use Rattle.session_meaning.specs.Log.{is_own, own, clock_from, clock_of}
 
--- a frame of the client comes behind its own frames
+-- a frame of the client comes after its own frames
 pub own-push_own : (client : ℤ) (frames : List Frame) (frame : Frame) → is_own client frame ≡ true
     → own client (frames ++ frame ∷ []) ≡ own client frames ++ frame ∷ []
 own-push_own client frames frame is =
@@ -26,7 +26,7 @@ clock_from-push : (clock : ℕ) (frames : List Frame) (frame : Frame)
 clock_from-push clock [] frame = refl
 clock_from-push clock (first ∷ frames) frame = clock_from-push (clock_after clock first) frames frame
 
--- the clock behind one more frame
+-- the clock after one more frame
 pub clock_of-push : (frames : List Frame) (frame : Frame)
     → clock_of (frames ++ frame ∷ []) ≡ clock_after (clock_of frames) frame
 clock_of-push frames frame = clock_from-push 0 frames frame

@@ -10,8 +10,8 @@ use Rattle.std.proofs.lemmas.List.{length-append, length-set, get_or-drop, take_
 pub record IsFirst {X : Type 0} (test : X → Bool) (all : List X) (at : ℕ) : Type 0 where
   pub front : List X
   pub here : X
-  pub behind : List X
-  pub parts : all ≡ front ++ here ∷ behind
+  pub back : List X
+  pub parts : all ≡ front ++ here ∷ back
   pub place : at ≡ length front
   pub passes : test here ≡ true
   pub before : list_any test front ≡ false
@@ -21,7 +21,7 @@ module _ {X : Type 0} (test : X → Bool) where
   next_first x all at fails first = record {
     front = x ∷ first.front;
     here = first.here;
-    behind = first.behind;
+    back = first.back;
     parts = ap (λ l. x ∷ l) first.parts;
     place = ap suc first.place;
     passes = first.passes;
@@ -40,7 +40,7 @@ module _ {X : Type 0} (test : X → Bool) where
         let here : Some from ≡ Some at = ap (λ b. cond b (Some from) (position_from test (from + 1) all)) (sym is)
             ∙ e in
         let same : from ≡ at = cc in
-        (omega arith, record { front = []; here = x; behind = all; parts = refl; place = omega arith; passes = is;
+        (omega arith, record { front = []; here = x; back = all; parts = refl; place = omega arith; passes = is;
             before = refl })
     by_case false is rest =
         let later : position_from test (from + 1) all ≡ Some at =
@@ -83,42 +83,42 @@ module _ {X : Type 0} (test : X → Bool) where
       → (test x ≡ false) × (list_any test all ≡ false)
   head_fails x all e = (grind arith, grind arith)
 
-  find_behind : (front : List X) (x : X) (behind : List X) → list_any test front ≡ false → test x ≡ true
-      → find test (front ++ x ∷ behind) ≡ Some x
-  find_behind [] x behind none is = ap (λ b. cond b (Some x) (find test behind)) is
-  find_behind (y ∷ front) x behind none is =
+  find_after : (front : List X) (x : X) (back : List X) → list_any test front ≡ false → test x ≡ true
+      → find test (front ++ x ∷ back) ≡ Some x
+  find_after [] x back none is = ap (λ b. cond b (Some x) (find test back)) is
+  find_after (y ∷ front) x back none is =
       let h = head_fails y front none in
-      ap (λ b. cond b (Some y) (find test (front ++ x ∷ behind))) h.0 ∙ find_behind front x behind h.1 is
+      ap (λ b. cond b (Some y) (find test (front ++ x ∷ back))) h.0 ∙ find_after front x back h.1 is
 
   pub find_none : (all : List X) → list_any test all ≡ false → find test all ≡ None
   find_none [] none = refl
   find_none (x ∷ all) none = let h = head_fails x all none in
       ap (λ b. cond b (Some x) (find test all)) h.0 ∙ find_none all h.1
 
-  any_behind : (front : List X) (x : X) (behind : List X) → test x ≡ true → list_any test (front ++ x ∷ behind) ≡ true
-  any_behind [] x behind is = ap (λ b. b || list_any test behind) is
-  any_behind (y ∷ front) x behind is = let rest = any_behind front x behind is in grind arith
+  any_after : (front : List X) (x : X) (back : List X) → test x ≡ true → list_any test (front ++ x ∷ back) ≡ true
+  any_after [] x back is = ap (λ b. b || list_any test back) is
+  any_after (y ∷ front) x back is = let rest = any_after front x back is in grind arith
 
   module _ (all : List X) (at : ℕ) (first : IsFirst test all at) where
     pub find_first : find test all ≡ Some first.here
-    find_first = ap (find test) first.parts ∙ find_behind first.front first.here first.behind first.before first.passes
+    find_first = ap (find test) first.parts ∙ find_after first.front first.here first.back first.before first.passes
 
     pub any_first : list_any test all ≡ true
-    any_first = ap (list_any test) first.parts ∙ any_behind first.front first.here first.behind first.passes
+    any_first = ap (list_any test) first.parts ∙ any_after first.front first.here first.back first.passes
 
     pub within : at < length all
     within = let len = ap length first.parts in
-        omega (arith, first.place, length-append first.front (first.here ∷ first.behind))
+        omega (arith, first.place, length-append first.front (first.here ∷ first.back))
 
-    pub set_first : (x : X) → set all at x ≡ first.front ++ x ∷ first.behind
+    pub set_first : (x : X) → set all at x ≡ first.front ++ x ∷ first.back
     set_first x = ap (λ l. set l at x) first.parts
-        ∙ ap (λ n. set (first.front ++ first.here ∷ first.behind) n x) first.place
-        ∙ set-append_seam first.front first.here first.behind x
+        ∙ ap (λ n. set (first.front ++ first.here ∷ first.back) n x) first.place
+        ∙ set-append_seam first.front first.here first.back x
 
     pub get_first : (d : X) → get_or all at d ≡ first.here
     get_first d = ap (λ l. get_or l at d) first.parts
-        ∙ ap (λ n. get_or (first.front ++ first.here ∷ first.behind) n d) first.place
-        ∙ get_or-append_seam first.front first.here first.behind d
+        ∙ ap (λ n. get_or (first.front ++ first.here ∷ first.back) n d) first.place
+        ∙ get_or-append_seam first.front first.here first.back d
 
 -- A write at the next place of a list that is rewritten in its place.
 pub record IsRewritten {A : Type 0} (f : A → A) (now old : List A) (i : ℕ) : Type 0 where

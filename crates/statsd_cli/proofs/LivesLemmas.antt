@@ -19,39 +19,39 @@ abbrev pub with_own : Live → List Live → List Live
 with_own new [] = new ∷ []
 with_own new (old ∷ others) = if has_id new.id old then new ∷ others else old ∷ with_own new others
 
-at_first_behind : (test : Live → Bool) (change : Live → Live) (front : List Live) (here : Live) (behind : List Live)
+at_first_after : (test : Live → Bool) (change : Live → Live) (front : List Live) (here : Live) (back : List Live)
     → list_any test front ≡ false → test here ≡ true
-    → at_first test change (front ++ here ∷ behind) ≡ front ++ change here ∷ behind
-at_first_behind test change [] here behind none is =
-    ap (λ b. cond b (change here ∷ behind) (here ∷ at_first test change behind)) is
-at_first_behind test change (first ∷ front) here behind none is =
+    → at_first test change (front ++ here ∷ back) ≡ front ++ change here ∷ back
+at_first_after test change [] here back none is =
+    ap (λ b. cond b (change here ∷ back) (here ∷ at_first test change back)) is
+at_first_after test change (first ∷ front) here back none is =
     let h = head_fails test first front none in
-    ap (λ b. cond b (change first ∷ (front ++ here ∷ behind)) (first ∷ at_first test change (front ++ here ∷ behind)))
+    ap (λ b. cond b (change first ∷ (front ++ here ∷ back)) (first ∷ at_first test change (front ++ here ∷ back)))
         h.0
-    ∙ ap (λ l. first ∷ l) (at_first_behind test change front here behind h.1 is)
+    ∙ ap (λ l. first ∷ l) (at_first_after test change front here back h.1 is)
 
 -- the change at the first that passes is a write at its place
 pub at_first_set : (test : Live → Bool) (change : Live → Live) (all : List Live) (at : ℕ) (first : IsFirst test all at)
     → at_first test change all ≡ set all at (change first.here)
 at_first_set test change all at first =
-    ap (at_first test change) first.parts ∙ at_first_behind test change first.front first.here first.behind first.before
+    ap (at_first test change) first.parts ∙ at_first_after test change first.front first.here first.back first.before
         first.passes ∙ sym (set_first test all at first (change first.here))
 
-with_live_behind : (new : Live) (front : List Live) (here : Live) (behind : List Live)
+with_live_after : (new : Live) (front : List Live) (here : Live) (back : List Live)
     → list_any (is_at new.uid new.id) front ≡ false → is_at new.uid new.id here ≡ true
-    → with_live new (front ++ here ∷ behind) ≡ front ++ new ∷ behind
-with_live_behind new [] here behind none is = ap (λ b. cond b (new ∷ behind) (here ∷ with_live new behind)) is
-with_live_behind new (first ∷ front) here behind none is =
+    → with_live new (front ++ here ∷ back) ≡ front ++ new ∷ back
+with_live_after new [] here back none is = ap (λ b. cond b (new ∷ back) (here ∷ with_live new back)) is
+with_live_after new (first ∷ front) here back none is =
     let h = head_fails (is_at new.uid new.id) first front none in
-    ap (λ b. cond b (new ∷ (front ++ here ∷ behind)) (first ∷ with_live new (front ++ here ∷ behind))) h.0
-    ∙ ap (λ l. first ∷ l) (with_live_behind new front here behind h.1 is)
+    ap (λ b. cond b (new ∷ (front ++ here ∷ back)) (first ∷ with_live new (front ++ here ∷ back))) h.0
+    ∙ ap (λ l. first ∷ l) (with_live_after new front here back h.1 is)
 
 -- where there is one with the id, the new one is written at its place
 pub with_live_set : (new : Live) (all : List Live) (at : ℕ) → IsFirst (is_at new.uid new.id) all at
     → set all at new ≡ with_live new all
 with_live_set new all at first =
     set_first (is_at new.uid new.id) all at first new
-    ∙ sym (ap (with_live new) first.parts ∙ with_live_behind new first.front first.here first.behind first.before
+    ∙ sym (ap (with_live new) first.parts ∙ with_live_after new first.front first.here first.back first.before
         first.passes)
 
 -- where there is none, it goes last

@@ -56,10 +56,10 @@ begins_along left old reader hub is stands = record {
 }
 
 -- the replies to more frames come after
-text_behind : (frames others : List Frame) → (more : List ℕ) × (text (frames ++ others) ≡ text frames ++ more)
-text_behind frames [] = ([], ap text (append-nil frames) ∙ sym (append-nil (text frames)))
-text_behind frames (frame ∷ others) =
-    let rest = text_behind (frames ++ frame ∷ []) others in (
+text_after : (frames others : List Frame) → (more : List ℕ) × (text (frames ++ others) ≡ text frames ++ more)
+text_after frames [] = ([], ap text (append-nil frames) ∙ sym (append-nil (text frames)))
+text_after frames (frame ∷ others) =
+    let rest = text_after (frames ++ frame ∷ []) others in (
       reply_text frames frame ++ rest.0,
       ap text (sym (append_assoc frames (frame ∷ []) others)) ∙ rest.1 ∙ ap (λ l. l ++ rest.0) (text-push frames frame)
           ∙ append_assoc (text frames) (reply_text frames frame) rest.0,
@@ -246,7 +246,7 @@ module _ (lo ln o n : Option (List ℕ)) (reader : Reading) (hub : Hub) (a : IsA
         let front : AppendsFront o m (text (a.frames ++ frame ∷ [])) =
             subst (AppendsFront o m) (sym (text-push a.frames frame))
             (front_after o n m (text a.frames) (reply_text a.frames frame) a.written served) in
-        let behind = text_behind (a.frames ++ frame ∷ []) others.0 in
+        let back = text_after (a.frames ++ frame ∷ []) others.0 in
         record {
           taken = a.taken ++ g.taken;
           consumes = Consumes-trans lo ln lm a.taken g.taken a.consumes g.consumes;
@@ -254,8 +254,8 @@ module _ (lo ln o n : Option (List ℕ)) (reader : Reading) (hub : Hub) (a : IsA
             frames = (a.frames ++ frame ∷ []) ++ others.0;
             end = others.1;
             session = whole_session others.0 others.1 others.2;
-            written = subst (AppendsFront o m) (sym behind.1)
-                (front_before o m (text (a.frames ++ frame ∷ [])) behind.0 front);
+            written = subst (AppendsFront o m) (sym back.1)
+                (front_before o m (text (a.frames ++ frame ∷ [])) back.0 front);
           };
         }
     ends_in_serve NoMemory served =
