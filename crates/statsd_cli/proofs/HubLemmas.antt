@@ -258,11 +258,6 @@ clock_kept : (hub new : Hub) (frames : List Frame) (frame : Frame)
     → new.clock ≡ clock_of (frames ++ frame ∷ [])
 clock_kept hub new frames frame command same is = same ∙ is ∙ sym (clock_of-push frames frame ∙ command)
 
--- a new hub stands for no frame
-pub stands_new : (hub : Hub) → hub.clock ≡ 0 → hub.lives.items ≡ [] → HubStandsFor hub []
-stands_new hub clock none = record { clock = clock; configs =
-    λ uid. subst (λ items. AllStand uid [] (filter (is_of uid) items) []) (sym none) tt }
-
 -- a frame of the log
 pub stands_log : (hub new : Hub) (frames : List Frame) (frame : LogFrame) → new.clock ≡ log_time frame
     → new.lives.items ≡ map (logged_live frame) hub.lives.items → IsFaultlessLog frame

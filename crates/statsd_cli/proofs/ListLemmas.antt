@@ -141,9 +141,3 @@ rewritten_next f now old i d v lt h is =
       rest = drop-set-lt (i + 1) now i v (omega arith) ∙ sym (drop-drop 1 i now) ∙ ap (drop 1) h.rest
           ∙ drop-drop 1 i old;
     }
-
-pub rewritten_all : {A : Type 0} (f : A → A) (now old : List A) (i : ℕ) → length now ≤ i → IsRewritten f now old i
-    → now ≡ map f old
-rewritten_all f now old i le h =
-    let le_old : length old ≤ i = omega (arith, h.len) in
-    sym (take_all i now le) ∙ h.done ∙ ap (map f) (take_all i old le_old)

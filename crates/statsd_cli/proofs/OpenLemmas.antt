@@ -56,10 +56,6 @@ ones : (n : ℕ) → length (of_key same_key no_key (arrivals n)) ≡ n
 ones zero = refl
 ones (suc n) = ap suc (ones n)
 
--- a part in which nothing came has no row
-pub no_row : (start end : ℕ) → rows_of counting 800 (record { start = start; end = end; came = [] }) ≡ []
-no_row start end = refl
-
 -- a part in which something came has one row, with the number of what came
 pub one_row : (start end n : ℕ) → rows_of counting 800 (record { start = start; end = end; came = arrivals (suc n) })
     ≡ record { key = no_key; start = start; end = end; value = counted (suc n) } ∷ []
