@@ -4,7 +4,7 @@ use Rattle.std.specs.Prelude.{◌||◌, is_some}
 use Rattle.std.specs.List.{list_any, position_from}
 use Rattle.std.proofs.Math.Seq.{set-append_seam, get_or-append_seam}
 use Rattle.std.proofs.Math.Nat.{add-zero}
-use Rattle.std.proofs.lemmas.List.{length-append, length-set, get_or-drop, take_more_set, take_more, drop-set-lt, drop-drop, take_all, map-append}
+use Rattle.std.proofs.lemmas.List.{length-append, length-set, get_or-drop, take_more_set, take_more, drop-set-lt, drop-drop, map-append}
 
 -- The first that passes has this place.
 pub record IsFirst {X : Type 0} (test : X → Bool) (all : List X) (at : ℕ) : Type 0 where
