@@ -1,0 +1,5 @@
+pub mod RepeatLemmas
+pub mod LeafLemmas
+pub mod EndLemmas
+pub mod WalkLemmas
+pub mod TableLemmas
