@@ -78,8 +78,8 @@ nearer_stays end x y z stays is =
 pub nearer_leaves : (end : End) (x y z : ℕ) → nearer_index end x y ≢ x → nearer_index end y z ≢ x
 nearer_leaves end x y z moves back =
     moves (
-      nearer_comm end x y ∙ ap (nearer_index end y) (sym back) ∙ nearer_assoc end y y z
-      ∙ ap (λ w. nearer_index end w z) (nearer_same end y) ∙ back
+    nearer_comm end x y ∙ ap (nearer_index end y) (sym back) ∙ nearer_assoc end y y z
+    ∙ ap (λ w. nearer_index end w z) (nearer_same end y) ∙ back
     )
 
 -- the end of no indexes, and of one more

@@ -10,8 +10,8 @@ use Rattle.field_select.specs.declared.error.SelectError.{SelectError}
 use Rattle.field_select.specs.declared.error.SelectError.TheVariants.{BadForm, Memory}
 use Rattle.field_select.specs.contracts.leaf.LeafPathExact.TheImpl.Laws.{exact-law as leaf_exact}
 use Rattle.field_select.proofs.RepeatLemmas.{All-none, all_apart}
-use Rattle.field_select.specs.FieldSets.{same_leaf, has_repeat, may_be_picked, IsLeaf, IsFieldSet}
-use Rattle.field_select.specs.WellFormed.{is_number_to, number_or_zero, number_in, position_in, children_in, is_message_field, is_atom_field, path_at, path_in_message, field_leaves, leaves_of, is_well_formed, set_of, GivesForm}
+use Rattle.field_select.specs.FieldSets.{greatest_field, may_be_picked, IsLeaf, IsFieldSet}
+use Rattle.field_select.specs.WellFormed.{greatest_id, is_number_to, number_or_zero, number_in, position_in, children_in, is_message_field, is_atom_field, path_at, path_in_message, field_leaves, leaves_of, is_well_formed, set_of, GivesForm}
 
 -- both tests hold
 first_holds : (a b : Bool) → (a && b) ≡ true → a ≡ true
@@ -23,15 +23,15 @@ second_holds true b both = both
 second_holds false b both = cc
 
 -- a number that is from 1 to 127
-in_range : (number : Option ℤ) → is_number_to 127 number ≡ true → (1 ≤ number_or_zero number) × (number_or_zero number ≤ 127)
+in_range : (number : Option ℤ) → is_number_to greatest_field number ≡ true → (1 ≤ number_or_zero number) × (number_or_zero number ≤ greatest_field)
 in_range (Some (pos n)) is = grind arith
 in_range _ is = cc
 
 -- the leaf at a field of an atom
-path_is_leaf : (tree : FieldMatcher) (sub : ℕ) → is_atom_field tree ≡ true → sub ≤ 127 → IsLeaf (path_at tree sub)
+path_is_leaf : (tree : FieldMatcher) (sub : ℕ) → is_atom_field tree ≡ true → sub ≤ greatest_field → IsLeaf (path_at tree sub)
 path_is_leaf tree sub is within =
     let number = in_range (number_in tree) (first_holds _ _ is) in
-    record { field = number; sub = within; position = first_holds _ _ (second_holds (is_number_to 127 (number_in tree)) _ is) }
+    record { field = number; sub = within; position = first_holds _ _ (second_holds (is_number_to greatest_field (number_in tree)) _ is) }
 
 -- the leaves at the fields of a message
 message_leaves : (tree : FieldMatcher) (children : List FieldMatcher) → is_atom_field tree ≡ true
@@ -49,7 +49,7 @@ leaves_by : (childless : Bool) (tree : FieldMatcher) → is_atom_field tree ≡ 
 leaves_by true tree is = All-cons IsLeaf (path_at tree 0) [] (path_is_leaf tree 0 is (omega arith)) (All-none IsLeaf)
 leaves_by false tree is =
     message_leaves tree (children_in tree) is
-    (second_holds (may_be_picked (position_in tree)) _ (second_holds (is_number_to 127 (number_in tree)) _ is))
+    (second_holds (may_be_picked (position_in tree)) _ (second_holds (is_number_to greatest_field (number_in tree)) _ is))
 
 leaves_are : (trees : List FieldMatcher) → list_all is_atom_field trees ≡ true → All IsLeaf (flat_map field_leaves trees)
 leaves_are [] each = All-none IsLeaf
@@ -64,7 +64,7 @@ not_false false is = refl
 
 set_is : (tree : FieldMatcher) → is_well_formed tree ≡ true → IsFieldSet (set_of tree)
 set_is tree good =
-    let below = second_holds (is_none (position_in tree)) _ (second_holds (is_number_to 2147483647 (number_in tree)) _ good) in
+    let below = second_holds (is_none (position_in tree)) _ (second_holds (is_number_to greatest_id (number_in tree)) _ good) in
     record {
       each = leaves_are (children_in tree) (first_holds (list_all is_atom_field (children_in tree)) _ below);
       once = all_apart (leaves_of tree) (not_false _ (second_holds (list_all is_atom_field (children_in tree)) _ below));

@@ -1,3 +1,4 @@
+mod Worked
 pub mod RepeatLemmas
 pub mod LeafLemmas
 pub mod EndLemmas

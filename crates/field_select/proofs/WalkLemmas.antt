@@ -47,7 +47,7 @@ differs x y apart = differs_by (x == y) x y refl apart ∙ refl
 -- an entry at the nearest index so far comes after what was found there
 kept_there : (at here : Bool) (found : Option Value) (entry : AtomField) (rest : List AtomField)
     → earlier_or (cond at (cond (here && is_none found) (Some entry.value) found) found) (first_of rest)
-      ≡ earlier_or found (first_of (cond (here && at) (entry ∷ rest) rest))
+    ≡ earlier_or found (first_of (cond (here && at) (entry ∷ rest) rest))
 kept_there true true (Some value) entry rest = refl
 kept_there true true None entry rest = refl
 kept_there true false (Some value) entry rest = refl
@@ -74,7 +74,7 @@ abbrev WalksFrom : End → LeafPath → List AtomField → Type 0
 WalksFrom end leaf entries =
     (index : ℕ) (found : Option Value)
     → Walks index (nearer_index end index (end_index end (field_indexes leaf.field entries))) found
-      (nearest_after end leaf (index, found) entries).1 (λ at. first_at leaf.field leaf.sub at entries)
+    (nearest_after end leaf (index, found) entries).1 (λ at. first_at leaf.field leaf.sub at entries)
 
 -- what stands at an index, with an entry of the field before these
 abbrev with_entry : LeafPath → AtomField → List AtomField → ℕ → Option Value
@@ -85,23 +85,22 @@ with_entry leaf entry more at =
 step_stays : (end : End) (leaf : LeafPath) (entry : AtomField) (more : List AtomField) (index : ℕ) (found : Option Value)
     → nearer_index end index entry.index ≡ index → WalksFrom end leaf more
     → Walks index (nearer_index end index (end_index end (entry.index ∷ field_indexes leaf.field more))) found
-      (nearest_after end leaf (index, cond (entry.index == index) (found_after leaf.sub found entry) found) more).1
-      (with_entry leaf entry more)
+    (nearest_after end leaf (index, cond (entry.index == index) (found_after leaf.sub found entry) found) more).1
+    (with_entry leaf entry more)
 step_stays end leaf entry more index found stays walks =
     let rest = end_index end (field_indexes leaf.field more) in
     let kept = cond (entry.index == index) (found_after leaf.sub found entry) found in
     let same : nearer_index end index (end_index end (entry.index ∷ field_indexes leaf.field more)) ≡ nearer_index end index rest =
-      end_moves_on end index entry.index (field_indexes leaf.field more) ∙ ap (λ near. nearer_index end near rest) stays in
-    (
+    end_moves_on end index entry.index (field_indexes leaf.field more) ∙ ap (λ near. nearer_index end near rest) stays in (
       λ is. (walks index kept).0 (sym same ∙ is)
-        ∙ kept_there (entry.index == index) (entry.sub == leaf.sub) found entry (filter (stands_at leaf.field leaf.sub index) more),
+          ∙ kept_there (entry.index == index) (entry.sub == leaf.sub) found entry (filter (stands_at leaf.field leaf.sub index) more),
       λ isnt.
-        let away : nearer_index end index rest ≢ index = λ is. isnt (same ∙ is) in
-        let other : entry.index ≢ nearer_index end index rest = λ is. away (nearer_stays end index entry.index rest stays (sym is)) in
-        (walks index kept).1 away
-        ∙ passed_over (entry.index == nearer_index end index rest) (entry.sub == leaf.sub) entry
+          let away : nearer_index end index rest ≢ index = λ is. isnt (same ∙ is) in
+          let other : entry.index ≢ nearer_index end index rest = λ is. away (nearer_stays end index entry.index rest stays (sym is)) in
+          (walks index kept).1 away
+          ∙ passed_over (entry.index == nearer_index end index rest) (entry.sub == leaf.sub) entry
           (filter (stands_at leaf.field leaf.sub (nearer_index end index rest)) more) (differs _ _ other)
-        ∙ ap (with_entry leaf entry more) (sym same),
+          ∙ ap (with_entry leaf entry more) (sym same),
     )
 
 -- one step at an entry of the field: its index is nearer, and the nearest after all or not
@@ -109,41 +108,40 @@ step_moves_by : (test : Bool) (end : End) (leaf : LeafPath) (entry : AtomField) 
     → (nearer_index end entry.index (end_index end (field_indexes leaf.field more)) == entry.index) ≡ test
     → WalksFrom end leaf more
     → (nearest_after end leaf (entry.index, found_after leaf.sub None entry) more).1
-      ≡ with_entry leaf entry more (nearer_index end entry.index (end_index end (field_indexes leaf.field more)))
+    ≡ with_entry leaf entry more (nearer_index end entry.index (end_index end (field_indexes leaf.field more)))
 step_moves_by true end leaf entry more test walks =
     let nearest = nearer_index end entry.index (end_index end (field_indexes leaf.field more)) in
     let is : nearest ≡ entry.index = eqb-true nearest entry.index test in
     (walks entry.index (found_after leaf.sub None entry)).0 is
     ∙ begins_there (entry.index == entry.index) (entry.sub == leaf.sub) entry
-      (filter (stands_at leaf.field leaf.sub entry.index) more) (eq-eqb entry.index entry.index refl)
+    (filter (stands_at leaf.field leaf.sub entry.index) more) (eq-eqb entry.index entry.index refl)
     ∙ ap (with_entry leaf entry more) (sym is)
 step_moves_by false end leaf entry more test walks =
     let nearest = nearer_index end entry.index (end_index end (field_indexes leaf.field more)) in
     let isnt : nearest ≢ entry.index = eqb-false nearest entry.index test in
     (walks entry.index (found_after leaf.sub None entry)).1 isnt
     ∙ passed_over (entry.index == nearest) (entry.sub == leaf.sub) entry
-      (filter (stands_at leaf.field leaf.sub nearest) more) (differs _ _ (λ is. isnt (sym is)))
+    (filter (stands_at leaf.field leaf.sub nearest) more) (differs _ _ (λ is. isnt (sym is)))
 
 step_moves : (end : End) (leaf : LeafPath) (entry : AtomField) (more : List AtomField) (index : ℕ) (found : Option Value)
     → nearer_index end index entry.index ≢ index → WalksFrom end leaf more
     → Walks index (nearer_index end index (end_index end (entry.index ∷ field_indexes leaf.field more))) found
-      (nearest_after end leaf (entry.index, found_after leaf.sub None entry) more).1 (with_entry leaf entry more)
+    (nearest_after end leaf (entry.index, found_after leaf.sub None entry) more).1 (with_entry leaf entry more)
 step_moves end leaf entry more index found moves walks =
     let rest = end_index end (field_indexes leaf.field more) in
     let same : nearer_index end index (end_index end (entry.index ∷ field_indexes leaf.field more)) ≡ nearer_index end entry.index rest =
-      end_moves_on end index entry.index (field_indexes leaf.field more) ∙ ap (λ near. nearer_index end near rest) (nearer_moves end index entry.index moves) in
-    (
+    end_moves_on end index entry.index (field_indexes leaf.field more) ∙ ap (λ near. nearer_index end near rest) (nearer_moves end index entry.index moves) in (
       λ is. absurd (nearer_leaves end index entry.index rest moves (sym same ∙ is)),
       λ isnt. step_moves_by (nearer_index end entry.index rest == entry.index) end leaf entry more refl walks
-        ∙ ap (with_entry leaf entry more) (sym same),
+          ∙ ap (with_entry leaf entry more) (sym same),
     )
 
 -- one step at an entry of the field, nearer or not
 step_walks : (test : Bool) (end : End) (leaf : LeafPath) (entry : AtomField) (more : List AtomField) (index : ℕ) (found : Option Value)
     → (nearer_index end index entry.index == index) ≡ test → WalksFrom end leaf more
     → Walks index (nearer_index end index (end_index end (entry.index ∷ field_indexes leaf.field more))) found
-      (nearest_after end leaf (cond test (index, cond (entry.index == index) (found_after leaf.sub found entry) found) (entry.index, found_after leaf.sub None entry)) more).1
-      (with_entry leaf entry more)
+    (nearest_after end leaf (cond test (index, cond (entry.index == index) (found_after leaf.sub found entry) found) (entry.index, found_after leaf.sub None entry)) more).1
+    (with_entry leaf entry more)
 step_walks true end leaf entry more index found test walks =
     step_stays end leaf entry more index found (eqb-true (nearer_index end index entry.index) index test) walks
 step_walks false end leaf entry more index found test walks =
@@ -153,10 +151,10 @@ step_walks false end leaf entry more index found test walks =
 entry_walks : (here : Bool) (end : End) (leaf : LeafPath) (entry : AtomField) (more : List AtomField) (index : ℕ) (found : Option Value)
     → WalksFrom end leaf more
     → Walks index
-      (nearer_index end index (end_index end (map (λ (one : AtomField). one.index) (cond here (entry ∷ filter (is_repeated_at leaf.field) more) (filter (is_repeated_at leaf.field) more)))))
-      found
-      (cond here (nearest_after end leaf (nearest_step end leaf.sub index found entry) more) (nearest_after end leaf (index, found) more)).1
-      (λ at. first_of (cond (here && (entry.sub == leaf.sub && entry.index == at)) (entry ∷ filter (stands_at leaf.field leaf.sub at) more) (filter (stands_at leaf.field leaf.sub at) more)))
+    (nearer_index end index (end_index end (map (λ (one : AtomField). one.index) (cond here (entry ∷ filter (is_repeated_at leaf.field) more) (filter (is_repeated_at leaf.field) more)))))
+    found
+    (cond here (nearest_after end leaf (nearest_step end leaf.sub index found entry) more) (nearest_after end leaf (index, found) more)).1
+    (λ at. first_of (cond (here && (entry.sub == leaf.sub && entry.index == at)) (entry ∷ filter (stands_at leaf.field leaf.sub at) more) (filter (stands_at leaf.field leaf.sub at) more)))
 entry_walks true end leaf entry more index found walks =
     step_walks (nearer_index end index entry.index == index) end leaf entry more index found refl walks
 entry_walks false end leaf entry more index found walks = walks index found
@@ -196,7 +194,7 @@ picks_there end leaf entries is entry =
     let indexes = field_indexes leaf.field entries in
     four_tests (entry.field == leaf.field) (nat_lt 0 entry.index) (entry.sub == leaf.sub) (entry.index == end_index end indexes)
     ∙ ap (λ picked. entry.field == leaf.field && (entry.sub == leaf.sub && picked))
-      (end_picks end indexes entry.index ∙ ap (λ position. picks_index position indexes entry.index) (sym is))
+    (end_picks end indexes entry.index ∙ ap (λ position. picks_index position indexes entry.index) (sym is))
 
 -- from nothing the walk finds what stands at the nearest index
 walk_from_none : (test : Bool) (end : End) (leaf : LeafPath) (entries : List AtomField)

@@ -1,5 +1,5 @@
 -- The first or the last index of a field, as one walk over the entries finds it.
-use Rattle.std.specs.Prelude.{ℕ, Bool, true, false, ◌&&◌, ◌==◌, nat_lt, max, is_none, List, [], ◌∷◌, map, filter, Option, Some, None, if◌then◌else◌}
+use Rattle.std.specs.Prelude.{ℕ, Bool, true, false, ◌&&◌, ◌==◌, nat_lt, max, is_none, List, [], ◌∷◌, map, filter, slice_index, slice_set, Option, Some, None, if◌then◌else◌}
 use Rattle.config_types.specs.declared.fields.Position.{Position}
 use Rattle.config_types.specs.declared.fields.Position.TheVariants as positions
 use Rattle.atom_record.specs.declared.value.Value.{Value}
@@ -31,6 +31,11 @@ nearer_index Last x y = max x y
 abbrev pub end_index : End → List ℕ → ℕ
 end_index First indexes = least_index indexes
 end_index Last indexes = greatest_index indexes
+
+-- a table of the nearest index of each field, after one more index of a field, or 0
+abbrev pub ends_after : End → List ℕ → ℕ → ℕ → List ℕ
+ends_after end ends field index =
+    if nat_lt 0 index then slice_set ends field (nearer_index end (slice_index ends field) index) else ends
 
 -- the value of an entry, if it has this sub and there was none before it
 abbrev pub found_after : ℕ → Option Value → AtomField → Option Value

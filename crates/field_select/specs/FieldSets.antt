@@ -7,6 +7,10 @@ use Rattle.field_select.specs.declared.leaf.LeafPath.{LeafPath}
 use Rattle.field_select.specs.declared.leaf.FieldSet.{FieldSet}
 use Rattle.field_select.specs.contracts.leaf.LeafPathPartialEq.TheImpl as leaf_test
 
+-- the greatest number of a field of an atom or of a message
+abbrev pub greatest_field : ℕ
+greatest_field = 127
+
 -- two leaves are equal
 abbrev pub same_leaf : LeafPath → LeafPath → Bool
 same_leaf = leaf_test.ghosts.eq
@@ -34,8 +38,8 @@ is_all (Some positions.All) = true
 
 -- a leaf of a set: a field of an atom, or of a message there, and not with ANY
 pub record IsLeaf (leaf : LeafPath) : Type 0 where
-  pub field : (1 ≤ leaf.field) × (leaf.field ≤ 127)
-  pub sub : leaf.sub ≤ 127
+  pub field : (1 ≤ leaf.field) × (leaf.field ≤ greatest_field)
+  pub sub : leaf.sub ≤ greatest_field
   pub position : may_be_picked leaf.position ≡ true
 
 -- a set of leaves: each is one, and none comes twice

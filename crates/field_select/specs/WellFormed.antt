@@ -9,11 +9,7 @@ use Rattle.field_select.specs.declared.leaf.LeafPath.{LeafPath}
 use Rattle.field_select.specs.declared.leaf.FieldSet.{FieldSet}
 use Rattle.field_select.specs.declared.error.SelectError.{SelectError}
 use Rattle.field_select.specs.declared.error.SelectError.TheVariants.{BadForm, Memory}
-use Rattle.field_select.specs.FieldSets.{same_leaf, has_repeat, may_be_picked}
-
--- the greatest number of a field of an atom or of a message
-abbrev pub greatest_field : ℕ
-greatest_field = 127
+use Rattle.field_select.specs.FieldSets.{greatest_field, has_repeat, may_be_picked}
 
 -- the greatest id of an atom, 2^31 - 1
 abbrev pub greatest_id : ℕ

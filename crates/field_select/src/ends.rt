@@ -1,7 +1,7 @@
 //! The first and the last index at which an atom has entries of a field.
 ghost use Rattle.std.specs.Prelude.{◌≡◌, ℕ, ◌<◌, slice_index};
 ghost use Rattle.field_select.specs.LeafValues.{field_indexes};
-ghost use Rattle.field_select.specs.Ends.{nearer_index, end_index};
+ghost use Rattle.field_select.specs.Ends.{nearer_index, end_index, ends_after};
 
 use atom_record::AtomField;
 
@@ -26,16 +26,21 @@ pub fn nearer(end: End, index: u8, other: u8) -> u8
 
 /// For each field the index that is nearest to an end, or 0 where the field isn't repeated.
 pub fn ends_of(end: End, entries: &[AtomField]) -> [u8; 256]
-    ensures {
-        (field : ℕ) → field < 256 → slice_index result field ≡ end_index end (field_indexes field entries.now)
-    }
+    ensures { (field : ℕ) → field < 256 → slice_index result field ≡ end_index end (field_indexes field entries.now) }
 {
     let mut ends = [0; 256];
     for entry in entries {
-        if entry.index > 0 {
-            let field = entry.field as usize;
-            ends[field] = nearer(end, ends[field], entry.index);
-        }
+        note_index(end, &mut ends, entry.field, entry.index);
     }
     ends
+}
+
+// Notes an index of a field.
+fn note_index(end: End, ends: &mut [u8; 256], field: u8, index: u8)
+    ensures { ends.new ≡ ends_after end ends.old field index }
+{
+    if index > 0 {
+        let field = field as usize;
+        ends[field] = nearer(end, ends[field], index);
+    }
 }

@@ -1,14 +1,14 @@
 //! The leaves of a tree of field numbers.
 ghost use Rattle.std.specs.Prelude.{◌≡◌, Some, None, IfOk, not, if◌then◌else◌};
 ghost use Rattle.std.specs.List.{flat_map, list_all};
-ghost use Rattle.field_select.specs.FieldSets.{IsFieldSet, has_repeat};
-ghost use Rattle.field_select.specs.WellFormed.{is_number_to, number_or_zero, number_in, greatest_id, greatest_field, is_message_field, is_atom_field, field_leaves, is_well_formed, set_of, GivesForm, AddsLeaves};
+ghost use Rattle.field_select.specs.FieldSets.{greatest_field, IsFieldSet, has_repeat};
+ghost use Rattle.field_select.specs.WellFormed.{is_number_to, number_or_zero, number_in, greatest_id, is_message_field, is_atom_field, field_leaves, is_well_formed, set_of, GivesForm, AddsLeaves};
 
 use crate::{FieldSet, LeafPath, SelectError};
 use config_types::{FieldMatcher, Position};
+use indexmap::IndexSet;
 use sd_base::Seq;
 use std::alloc::{AllocError, Global};
-use indexmap::IndexSet;
 
 /// The greatest number of a field of an atom or of a message.
 const MAX_FIELD: i32 = 127;

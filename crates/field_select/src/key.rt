@@ -23,12 +23,7 @@ pub fn key_of(alloc: Global, set: &FieldSet, atom: &Atom) -> Result<DimKey, Allo
 }
 
 // What an atom has at a leaf of this kind of atom.
-fn value_of(
-    alloc: Global,
-    atom_id: u32,
-    leaf: &LeafPath,
-    atom: &Atom,
-) -> Result<Leaf, AllocError>
+fn value_of(alloc: Global, atom_id: u32, leaf: &LeafPath, atom: &Atom) -> Result<Leaf, AllocError>
     ensures { IfOk result (λ value. value ≡ leaf_value atom_id leaf.now atom.now) }
 {
     if atom.id != atom_id {

@@ -3,15 +3,15 @@
 
 mod ends;
 mod error;
-mod picked;
 mod form;
 mod key;
 mod leaf;
+mod picked;
 mod value;
 
 pub use error::SelectError;
-pub use picked::filter;
 pub use form::field_set;
 pub use key::key_of;
 pub use leaf::{FieldSet, LeafPath};
+pub use picked::filter;
 pub use value::leaf_value;

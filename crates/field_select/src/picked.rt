@@ -17,10 +17,16 @@ pub fn filter(alloc: Global, set: &FieldSet, atom: &Atom) -> Result<Atom, AllocE
 {
     if atom.id != set.atom_id {
         let fields = Seq::new(alloc);
-        return Ok(Atom { id: atom.id, fields });
+        return Ok(Atom {
+            id: atom.id,
+            fields,
+        });
     }
     let fields = picked_entries(alloc, set.leaves.as_slice(), atom.fields.as_slice())?;
-    Ok(Atom { id: atom.id, fields })
+    Ok(Atom {
+        id: atom.id,
+        fields,
+    })
 }
 
 // The entries that some leaf picks. The ends of all fields are found first, so each leaf reads an entry once.
@@ -29,9 +35,7 @@ fn picked_entries(
     leaves: &[LeafPath],
     entries: &[AtomField],
 ) -> Result<Seq<AtomField>, AllocError>
-    ensures {
-        IfOk result (λ kept. kept ≡ filter (some_leaf_picks leaves.now entries.now) entries.now)
-    }
+    ensures { IfOk result (λ kept. kept ≡ filter (some_leaf_picks leaves.now entries.now) entries.now) }
 {
     let first = ends_of(End::First, entries);
     let last = ends_of(End::Last, entries);

@@ -75,12 +75,8 @@ fn step<'a>(
     found: Option<&'a Value>,
     entry: &'a AtomField,
 ) -> (u8, Option<&'a Value>)
-    ensures index {
-        result.0 ≡ (nearest_step end sub index (option_copied found.entry) entry.now).0
-    }
-    ensures found {
-        option_copied result.1 ≡ (nearest_step end sub index (option_copied found.entry) entry.now).1
-    }
+    ensures index { result.0 ≡ (nearest_step end sub index (option_copied found.entry) entry.now).0 }
+    ensures found { option_copied result.1 ≡ (nearest_step end sub index (option_copied found.entry) entry.now).1 }
 {
     if nearer(end, index, entry.index) != index {
         return (entry.index, found_at(sub, None, entry));
@@ -92,11 +88,7 @@ fn step<'a>(
 }
 
 // The value of an entry that has this sub, if none was found before it.
-fn found_at<'a>(
-    sub: u8,
-    found: Option<&'a Value>,
-    entry: &'a AtomField,
-) -> Option<&'a Value>
+fn found_at<'a>(sub: u8, found: Option<&'a Value>, entry: &'a AtomField) -> Option<&'a Value>
     ensures { option_copied result ≡ found_after sub (option_copied found.entry) entry.now }
 {
     if entry.sub == sub && found.is_none() {
