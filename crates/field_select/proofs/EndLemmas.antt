@@ -19,7 +19,8 @@ lesser_both : (x y : ℕ) → 1 ≤ x → 1 ≤ y → lesser_index x y ≡ min x
 lesser_both x y one_le other_le = grind arith
 
 -- the nearest of three
-pub nearer_assoc : (end : End) (x y z : ℕ) → nearer_index end x (nearer_index end y z) ≡ nearer_index end (nearer_index end x y) z
+pub nearer_assoc : (end : End) (x y z : ℕ)
+    → nearer_index end x (nearer_index end y z) ≡ nearer_index end (nearer_index end x y) z
 nearer_assoc First zero y z = refl
 nearer_assoc First (suc x) zero z = ap (λ w. lesser_index w z) (sym (lesser_zero (suc x)))
 nearer_assoc First (suc x) (suc y) zero =
@@ -39,7 +40,8 @@ nearer_comm First zero y = sym (lesser_zero y)
 nearer_comm First (suc x) zero = lesser_zero (suc x)
 nearer_comm First (suc x) (suc y) =
     let least : min (suc x) (suc y) ≡ min (suc y) (suc x) = omega arith in
-    lesser_both (suc x) (suc y) (omega arith) (omega arith) ∙ least ∙ sym (lesser_both (suc y) (suc x) (omega arith) (omega arith))
+    lesser_both (suc x) (suc y) (omega arith) (omega arith) ∙ least
+    ∙ sym (lesser_both (suc y) (suc x) (omega arith) (omega arith))
 nearer_comm Last x y = omega arith
 
 -- an index is as near as itself
@@ -70,9 +72,11 @@ nearer_moves First (suc x) (suc y) moves =
 nearer_moves Last x y moves = omega arith
 
 -- where y is the nearest after all, and isn't nearer than x, x is
-pub nearer_stays : (end : End) (x y z : ℕ) → nearer_index end x y ≡ x → nearer_index end x z ≡ y → nearer_index end x z ≡ x
+pub nearer_stays : (end : End) (x y z : ℕ) → nearer_index end x y ≡ x → nearer_index end x z ≡ y
+    → nearer_index end x z ≡ x
 nearer_stays end x y z stays is =
-    ap (λ w. nearer_index end w z) (sym (nearer_same end x)) ∙ sym (nearer_assoc end x x z) ∙ ap (nearer_index end x) is ∙ stays
+    ap (λ w. nearer_index end w z) (sym (nearer_same end x)) ∙ sym (nearer_assoc end x x z) ∙ ap (nearer_index end x) is
+    ∙ stays
 
 -- after a nearer index came, the old one is never the nearest again
 pub nearer_leaves : (end : End) (x y z : ℕ) → nearer_index end x y ≢ x → nearer_index end y z ≢ x
@@ -87,11 +91,14 @@ pub end_of_none : (end : End) → end_index end [] ≡ 0
 end_of_none First = refl
 end_of_none Last = refl
 
-pub end_of_more : (end : End) (x : ℕ) (more : List ℕ) → end_index end (x ∷ more) ≡ nearer_index end x (end_index end more)
+pub end_of_more : (end : End) (x : ℕ) (more : List ℕ)
+    → end_index end (x ∷ more) ≡ nearer_index end x (end_index end more)
 end_of_more First x more = refl
 end_of_more Last x more = refl
 
 -- the nearest index so far and those to come, with one index more among them
 pub end_moves_on : (end : End) (index i : ℕ) (more : List ℕ)
-    → nearer_index end index (end_index end (i ∷ more)) ≡ nearer_index end (nearer_index end index i) (end_index end more)
-end_moves_on end index i more = ap (nearer_index end index) (end_of_more end i more) ∙ nearer_assoc end index i (end_index end more)
+    → nearer_index end index (end_index end (i ∷ more)) ≡ nearer_index end (nearer_index end index i)
+    (end_index end more)
+end_moves_on end index i more = ap (nearer_index end index) (end_of_more end i more)
+    ∙ nearer_assoc end index i (end_index end more)

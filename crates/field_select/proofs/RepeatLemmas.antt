@@ -32,7 +32,8 @@ abbrev among : List LeafPath → List LeafPath → Bool
 among before leaves = list_any (λ leaf. list_any (same_leaf leaf) before) leaves
 
 same_symm : (x y : LeafPath) → same_leaf x y ≡ same_leaf y x
-same_symm x y = same_from_decides _ _ (leaf_exact x y) (let other = leaf_exact y x in (λ h. sym (other.0 h), λ e. other.1 (sym e)))
+same_symm x y = same_from_decides _ _ (leaf_exact x y)
+    (let other = leaf_exact y x in (λ h. sym (other.0 h), λ e. other.1 (sym e)))
 
 -- four tests in another order
 four_tests : (a b c d : Bool) → ((a || (b || false)) || (c || d)) ≡ ((a || c) || (b || d))
@@ -48,7 +49,8 @@ among-append before x [] = refl
 among-append before x (y ∷ more) =
     ap (λ found. found || among (before ++ x ∷ []) more) (list_any-append (same_leaf y) before (x ∷ []))
     ∙ ap (λ rest. (list_any (same_leaf y) before || (same_leaf y x || false)) || rest) (among-append before x more)
-    ∙ ap (λ same. (list_any (same_leaf y) before || (same || false)) || (among before more || list_any (same_leaf x) more)) (same_symm y x)
+    ∙ ap (λ same. (list_any (same_leaf y) before || (same || false))
+    || (among before more || list_any (same_leaf x) more)) (same_symm y x)
     ∙ four_tests (list_any (same_leaf y) before) (same_leaf x y) (among before more) (list_any (same_leaf x) more)
 
 -- four tests, grouped otherwise
@@ -74,7 +76,8 @@ pub repeat_after_nothing : (leaves : List LeafPath) → repeat_after [] leaves �
 repeat_after_nothing leaves = after_is [] leaves ∙ ap (λ found. found || has_repeat leaves) (none_among leaves)
 
 -- a leaf that isn't among others differs from each
-apart : (leaf : LeafPath) (others : List LeafPath) → list_any (same_leaf leaf) others ≡ false → All (λ other. leaf ≢ other) others
+apart : (leaf : LeafPath) (others : List LeafPath) → list_any (same_leaf leaf) others ≡ false
+    → All (λ other. leaf ≢ other) others
 apart leaf [] none = All-none (λ other. leaf ≢ other)
 apart leaf (x ∷ more) none =
     All-cons (λ other. leaf ≢ other) x more

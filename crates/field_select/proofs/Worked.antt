@@ -17,13 +17,15 @@ use Rattle.field_select.specs.LeafValues.{key_of, filtered}
 
 -- a tree of field numbers, and one without position or children
 abbrev tree : ℕ → Option Position → List FieldMatcher → FieldMatcher
-tree number position children = roll-FieldMatcher (record { field = Some (pos number); position = position; children = children })
+tree number position children = roll-FieldMatcher
+    (record { field = Some (pos number); position = position; children = children })
 
 -- the parts of a tree that is made of them
 parts_of : (number : Option ℤ) (position : Option Position) (children : List FieldMatcher)
     → out-FieldMatcher (roll-FieldMatcher (record { field = number; position = position; children = children }))
     ≡ record { field = number; position = position; children = children }
-parts_of number position children = out-roll-FieldMatcher (record { field = number; position = position; children = children })
+parts_of number position children = out-roll-FieldMatcher
+    (record { field = number; position = position; children = children })
 
 abbrev plain : ℕ → FieldMatcher
 plain number = tree number None []
@@ -38,7 +40,8 @@ five leaves = record { atom_id = 5; leaves = leaves }
 abbrev three_fields : FieldMatcher
 three_fields = tree 5 None (plain 1 ∷ tree 2 (Some Last) [] ∷ tree 3 (Some First) (plain 1 ∷ plain 2 ∷ []) ∷ [])
 
-has_four_leaves : set_of three_fields ≡ five (leaf 1 None 0 ∷ leaf 2 (Some Last) 0 ∷ leaf 3 (Some First) 1 ∷ leaf 3 (Some First) 2 ∷ [])
+has_four_leaves : set_of three_fields ≡ five
+    (leaf 1 None 0 ∷ leaf 2 (Some Last) 0 ∷ leaf 3 (Some First) 1 ∷ leaf 3 (Some First) 2 ∷ [])
 has_four_leaves = search (rules, parts_of)
 
 is_formed : is_well_formed three_fields ≡ true
@@ -100,7 +103,8 @@ abbrev int : ℕ → Value
 int number = Int (pos number)
 
 -- each position on a field that isn't repeated, and on one that is
-plain_leaves : key_of (five (leaf 1 None 0 ∷ leaf 1 (Some First) 0 ∷ leaf 1 (Some All) 0 ∷ leaf 2 None 0 ∷ leaf 4 None 0 ∷ [])) atom
+plain_leaves : key_of (five (leaf 1 None 0 ∷ leaf 1 (Some First) 0 ∷ leaf 1 (Some All) 0 ∷ leaf 2 None 0 ∷ leaf 4 None 0
+    ∷ [])) atom
     ≡ One (int 7) ∷ Missing ∷ Missing ∷ Missing ∷ Missing ∷ []
 plain_leaves = refl
 
@@ -109,7 +113,8 @@ repeated_leaves : key_of (five (leaf 2 (Some First) 0 ∷ leaf 2 (Some Last) 0 �
 repeated_leaves = refl
 
 -- the index is picked first: where it lacks the field of the message, nothing is there
-message_leaves : key_of (five (leaf 3 (Some First) 1 ∷ leaf 3 (Some First) 2 ∷ leaf 3 (Some Last) 1 ∷ leaf 3 (Some Last) 2 ∷ [])) atom
+message_leaves : key_of (five (leaf 3 (Some First) 1 ∷ leaf 3 (Some First) 2 ∷ leaf 3 (Some Last) 1
+    ∷ leaf 3 (Some Last) 2 ∷ [])) atom
     ≡ One (int 41) ∷ Missing ∷ Missing ∷ One (int 53) ∷ []
 message_leaves = refl
 
@@ -119,18 +124,21 @@ all_of_a_message : key_of (five (leaf 3 (Some All) 1 ∷ leaf 3 (Some All) 2 ∷
 all_of_a_message = refl
 
 -- an atom of another id
-other_atom : key_of (record { atom_id = 6; leaves = leaf 1 None 0 ∷ leaf 2 (Some All) 0 ∷ [] }) atom ≡ Missing ∷ Missing ∷ []
+other_atom : key_of (record { atom_id = 6; leaves = leaf 1 None 0 ∷ leaf 2 (Some All) 0 ∷ [] }) atom ≡ Missing ∷ Missing
+    ∷ []
 other_atom = refl
 
 empty_key : key_of (five []) atom ≡ []
 empty_key = refl
 
 -- the entries that some leaf picks stand in the atom's order, each once
-filtered_entries : (filtered (five (leaf 3 (Some All) 2 ∷ leaf 2 (Some Last) 0 ∷ leaf 2 (Some All) 0 ∷ leaf 3 (Some First) 2 ∷ [])) atom).fields
+filtered_entries : (filtered (five (leaf 3 (Some All) 2 ∷ leaf 2 (Some Last) 0 ∷ leaf 2 (Some All) 0
+    ∷ leaf 3 (Some First) 2 ∷ [])) atom).fields
     ≡ entry 2 1 0 10 ∷ entry 2 2 0 20 ∷ entry 2 3 0 30 ∷ entry 3 2 2 52 ∷ entry 3 3 2 53 ∷ []
 filtered_entries = refl
 
-filtered_ends : (filtered (five (leaf 2 (Some Last) 0 ∷ leaf 3 (Some First) 1 ∷ [])) atom).fields ≡ entry 2 3 0 30 ∷ entry 3 1 1 41 ∷ []
+filtered_ends : (filtered (five (leaf 2 (Some Last) 0 ∷ leaf 3 (Some First) 1 ∷ [])) atom).fields ≡ entry 2 3 0 30
+    ∷ entry 3 1 1 41 ∷ []
 filtered_ends = refl
 
 filtered_other : filtered (record { atom_id = 6; leaves = leaf 1 None 0 ∷ [] }) atom ≡ record { id = 5; fields = [] }

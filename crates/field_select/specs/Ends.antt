@@ -1,4 +1,4 @@
--- The first or the last index of a field, as one walk over the entries finds it.
+-- The first or the last index of a field, as one walk over the entries finds it. For private clauses.
 use Rattle.std.specs.Prelude.{ℕ, Bool, true, false, ◌&&◌, ◌==◌, nat_lt, max, is_none, List, [], ◌∷◌, map, filter, slice_index, slice_set, Option, Some, None, if◌then◌else◌}
 use Rattle.config_types.specs.declared.fields.Position.{Position}
 use Rattle.config_types.specs.declared.fields.Position.TheVariants as positions

@@ -3,13 +3,10 @@ use Rattle.std.specs.Prelude.{◌≡◌, ◌≢◌, ℕ, ◌≤◌, Bool, true, 
 use Rattle.std.specs.List.{list_all, list_any}
 use Rattle.config_types.specs.declared.fields.Position.{Position}
 use Rattle.config_types.specs.declared.fields.Position.TheVariants as positions
+pub use Rattle.config_types.specs.Askable.{greatest_field}
 use Rattle.field_select.specs.declared.leaf.LeafPath.{LeafPath}
 use Rattle.field_select.specs.declared.leaf.FieldSet.{FieldSet}
 use Rattle.field_select.specs.contracts.leaf.LeafPathPartialEq.TheImpl as leaf_test
-
--- the greatest number of a field of an atom or of a message
-abbrev pub greatest_field : ℕ
-greatest_field = 127
 
 -- two leaves are equal
 abbrev pub same_leaf : LeafPath → LeafPath → Bool

@@ -2,7 +2,7 @@
 ghost use Rattle.std.specs.Prelude.{◌≡◌, Some, None, IfOk, not, if◌then◌else◌};
 ghost use Rattle.std.specs.List.{flat_map, list_all};
 ghost use Rattle.field_select.specs.FieldSets.{greatest_field, IsFieldSet, has_repeat};
-ghost use Rattle.field_select.specs.WellFormed.{is_number_to, number_or_zero, number_in, greatest_id, is_message_field, is_atom_field, field_leaves, is_well_formed, set_of, GivesForm, AddsLeaves};
+ghost use Rattle.field_select.specs.WellFormed.{is_number_to, number_or_zero, number_in, greatest_atom_id, is_message_field, is_atom_field, field_leaves, is_well_formed, set_of, GivesForm, AddsLeaves};
 
 use crate::{FieldSet, LeafPath, SelectError};
 use config_types::{FieldMatcher, Position};
@@ -40,7 +40,7 @@ fn formed_set(alloc: Global, tree: &FieldMatcher) -> Result<FieldSet, SelectErro
 
 // The id of an atom.
 fn atom_id_in(number: Option<i32>) -> Option<u32>
-    ensures { result ≡ (if is_number_to greatest_id number then Some (number_or_zero number) else None) }
+    ensures { result ≡ (if is_number_to greatest_atom_id number then Some (number_or_zero number) else None) }
 {
     match number {
         Some(id) if id > 0 => Some(id as u32),

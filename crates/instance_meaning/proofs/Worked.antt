@@ -5,7 +5,7 @@ use Rattle.atom_record.specs.declared.log.LogFrame.TheVariants.{AtomAt}
 use Rattle.atom_record.specs.declared.value.Value.TheVariants.{Int, Str}
 use Rattle.atom_record.specs.declared.value.Leaf.TheVariants.{Missing, One, Many}
 use Rattle.instance_meaning.specs.Linked.{First, Last, All, Simple, Linked}
-use Rattle.instance_meaning.specs.Keys.{key_of}
+use Rattle.instance_meaning.specs.Keys.{picked_key}
 use Rattle.instance_meaning.specs.History.{Logged, Reported, Step, History, truths_of}
 use Rattle.instance_meaning.specs.Report.{NumBucket, NumTree, ReportTree, Counts, report_of}
 use Rattle.instance_meaning.specs.Spelling.{report_bytes}
@@ -100,7 +100,7 @@ chain = record {
 }
 
 -- the first, the last, all, a plain field, one that isn't there, and the last index without that inner field
-keys : key_of (record {
+keys : picked_key (record {
   atom_id = 10;
   leaves =
       record { field = 1; position = Some First; sub = 1 } ∷ record { field = 1; position = Some Last; sub = 1 }
@@ -112,6 +112,6 @@ keys : key_of (record {
 keys = refl
 
 -- an atom of another kind has nothing there
-other_kind : key_of (record { atom_id = 11; leaves = record { field = 3; position = None; sub = 0 } ∷ [] }) chain
+other_kind : picked_key (record { atom_id = 11; leaves = record { field = 3; position = None; sub = 0 } ∷ [] }) chain
     ≡ Missing ∷ []
 other_kind = refl

@@ -10,7 +10,7 @@ use Rattle.bucket_meaning.specs.Marks.{Mark, Ends, Came, Asked}
 use Rattle.bucket_meaning.specs.Kept.{Taken, counted}
 use Rattle.bucket_meaning.specs.Rows.{Kind, report}
 use Rattle.instance_meaning.specs.Linked.{Metric}
-use Rattle.instance_meaning.specs.Keys.{key_of, same_key}
+use Rattle.instance_meaning.specs.Keys.{picked_key, same_key}
 use Rattle.instance_meaning.specs.History.{What, Logged, Reported, Step, moments_of, truth_at}
 
 -- A row: a key's value in a part.
@@ -31,7 +31,7 @@ counting = record {
 
 -- the key by which a metric counts an atom
 abbrev pub metric_key : Metric → Atom → MetricKey
-metric_key metric atom = record { dims = key_of metric.dims atom; slices = [] }
+metric_key metric atom = record { dims = picked_key metric.dims atom; slices = [] }
 
 -- an atom arrives if the metric's matcher holds
 abbrev pub arrivals_at : Metric → Step → List (Mark (MetricKey × ℕ))

@@ -56,10 +56,10 @@ leaf_of (Some All) (value ∷ more) = Many (value ∷ more)
 leaf_of position (value ∷ more) = One value
 
 -- the value of a leaf; another kind of atom has none
-abbrev pub leaf_value : ℕ → Atom → LeafPath → Leaf
-leaf_value atom_id atom leaf =
+abbrev pub picked_leaf : ℕ → Atom → LeafPath → Leaf
+picked_leaf atom_id atom leaf =
     if atom.id == atom_id then leaf_of leaf.position (values_of (picked leaf atom.fields)) else Missing
 
 -- the key of an atom's dimensions
-abbrev pub key_of : FieldSet → Atom → List Leaf
-key_of set atom = map (leaf_value set.atom_id atom) set.leaves
+abbrev pub picked_key : FieldSet → Atom → List Leaf
+picked_key set atom = map (picked_leaf set.atom_id atom) set.leaves

@@ -26,7 +26,8 @@ pub fn atom(alloc: Global, id: u32, rows: &[(u8, u8, u8, i32)]) -> Result<Atom, 
     Ok(Atom { id, fields })
 }
 
-/// An atom of id 5: field 1 once; field 2 three times; at field 3 messages, of which the first has no field 2, the last no
+/// An atom of id 5: field 1 once; field 2 three times; at field 3 messages, of which the first has no field 2, the
+/// last no
 /// field 1 and the third no field at all but 3; field 4 both at index 0 and at index 7.
 pub fn sample(alloc: Global) -> Result<Atom, AllocError> {
     let rows = [

@@ -158,7 +158,8 @@ fn refuses_a_leaf_that_comes_twice(rt: HostRuntime) -> Result<(), Fail> {
     Ok(())
 }
 
-/// The fields of messages, 127 for each field and position: 64,516 leaves, all but those without a message. The last of them
+/// The fields of messages, 127 for each field and position: 64,516 leaves, all but those without a message. The
+/// last of them
 /// comes once more if asked.
 fn many(alloc: Global, again: bool) -> Result<FieldMatcher, AllocError> {
     let mut top = field(alloc, 5, None);

@@ -12,7 +12,8 @@ pub fn field(alloc: Global, number: i32, position: Option<Position>) -> FieldMat
     }
 }
 
-/// The tree of an atom's id with the fields that stand in the rows: a number, a position, and a field of a message or 0.
+/// The tree of an atom's id with the fields that stand in the rows: a number, a position, and a field of a message
+/// or 0.
 /// Each row stands below a field of its own.
 pub fn tree(
     alloc: Global,

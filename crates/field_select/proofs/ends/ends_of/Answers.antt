@@ -18,5 +18,6 @@ loop-entry-preserved c =
     c.loop-entry-test.true c.entry-item.is c.loop-entry.invariant.long (omega arith) c.loop-entry.invariant.nearest in
     record {
       long = c.type_inv.ends;
-      nearest = subst (λ ends. AreEnds c.args.end ends (drop (c.loop-entry.entry-index + 1) c.args.entries.now) wanted) (sym c.note_index.ensures) nearest;
+      nearest = subst (λ ends. AreEnds c.args.end ends (drop (c.loop-entry.entry-index + 1) c.args.entries.now) wanted)
+          (sym c.note_index.ensures) nearest;
     }

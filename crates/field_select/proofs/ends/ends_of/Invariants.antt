@@ -7,5 +7,7 @@ use Rattle.field_select.proofs.ends.ends_of.Given as goal
 abbrev pub invariant-loop-entry : goal.invariant-loop-entry
 invariant-loop-entry l = record {
   long : length l.ends ≡ 256;
-  nearest : (field : ℕ) → field < 256 → nearer_index l.end (slice_index l.ends field) (end_index l.end (field_indexes field (drop l.entry-index l.entries))) ≡ end_index l.end (field_indexes field l.entries);
+  nearest : (field : ℕ) → field < 256 → nearer_index l.end (slice_index l.ends field)
+      (end_index l.end (field_indexes field (drop l.entry-index l.entries))) ≡ end_index l.end
+      (field_indexes field l.entries);
 }

@@ -7,5 +7,6 @@ use Rattle.field_select.proofs.form.add_leaves.Given as goal
 abbrev pub invariant-loop-child : goal.invariant-loop-child
 invariant-loop-child l = record {
   formed : list_all is_message_field (drop l.child-index l.child-items) ≡ list_all is_message_field l.child-items;
-  leaves : l.leaves ++ map (path_in_message l.tree) (drop l.child-index l.child-items) ≡ l.fn.leaves ++ map (path_in_message l.tree) l.child-items;
+  leaves : l.leaves ++ map (path_in_message l.tree) (drop l.child-index l.child-items) ≡ l.fn.leaves
+      ++ map (path_in_message l.tree) l.child-items;
 }
