@@ -1,14 +1,9 @@
 -- Lemmas on specs/Ends.antt: what the walk to an end finds, and that tables of ends say which entries are picked.
-use Rattle.std.proofs.Common.{◌≡◌, ◌≢◌, ℕ, zero, suc, ◌+◌, ◌<◌, ◌≤◌, ◌==◌, nat_lt, min, max, cond, Bool, true, false, ◌&&◌, ◌||◌, List, [], ◌∷◌, ◌++◌, map, filter, Option, Some, None, is_none, refl, sym, ap, ◌∙◌, subst, arith}
-use Rattle.std.specs.List.{list_any}
-use Rattle.std.proofs.lemmas.Grind.{common_steps}
-use Rattle.atom_record.specs.declared.value.Value.{Value}
-use Rattle.atom_record.specs.declared.atom.AtomField.{AtomField}
+use Rattle.std.proofs.Common.{◌≡◌, ◌≢◌, ℕ, zero, suc, ◌≤◌, min, List, [], ◌∷◌, refl, sym, ap, ◌∙◌, arith}
 use Rattle.field_select.specs.declared.ends.End.{End}
 use Rattle.field_select.specs.declared.ends.End.TheVariants.{First, Last}
-use Rattle.field_select.specs.declared.leaf.LeafPath.{LeafPath}
-use Rattle.field_select.specs.LeafValues.{is_repeated_at, field_indexes, lesser_index, first_value, picks_entry, picked_values}
-use Rattle.field_select.specs.Ends.{nearer_index, end_index, end_position, found_after, nearest_step, nearest_after}
+use Rattle.field_select.specs.LeafValues.{lesser_index}
+use Rattle.field_select.specs.Ends.{nearer_index, end_index}
 
 -- 0 is none, on either side
 lesser_zero : (x : ℕ) → lesser_index x 0 ≡ x

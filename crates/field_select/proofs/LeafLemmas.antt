@@ -1,14 +1,10 @@
 -- Lemmas on specs/WellFormed.antt: the leaves of a well-formed tree are those of a set.
-use Rattle.std.proofs.Common.{◌≡◌, ◌≢◌, ℕ, ℤ, pos, ◌<◌, ◌≤◌, ◌==◌, cond, Bool, true, false, not, ◌&&◌, ◌||◌, List, [], ◌∷◌, ◌++◌, length, map, Option, Some, None, is_none, All, AllPairs, IfOk, Result, Ok, Err, refl, sym, ap, ◌∙◌, subst, arith, rules}
-use Rattle.std.specs.List.{flat_map, list_all, list_any}
-use Rattle.std.proofs.lemmas.Grind.{common_steps}
+use Rattle.std.proofs.Common.{◌≡◌, ℕ, ℤ, pos, ◌≤◌, ◌==◌, cond, Bool, true, false, not, ◌&&◌, List, [], ◌∷◌, length, map, Option, Some, is_none, All, IfOk, Result, Ok, Err, refl, sym, subst, arith}
+use Rattle.std.specs.List.{flat_map, list_all}
 use Rattle.std.proofs.lemmas.List.Elements.{All-append, All-cons}
 use Rattle.config_types.specs.declared.fields.FieldMatcher.{FieldMatcher}
-use Rattle.field_select.specs.declared.leaf.LeafPath.{LeafPath}
 use Rattle.field_select.specs.declared.leaf.FieldSet.{FieldSet}
 use Rattle.field_select.specs.declared.error.SelectError.{SelectError}
-use Rattle.field_select.specs.declared.error.SelectError.TheVariants.{BadForm, Memory}
-use Rattle.field_select.specs.contracts.leaf.LeafPathExact.TheImpl.Laws.{exact-law as leaf_exact}
 use Rattle.field_select.proofs.RepeatLemmas.{All-none, all_apart}
 use Rattle.field_select.specs.FieldSets.{greatest_field, may_be_picked, IsLeaf, IsFieldSet}
 use Rattle.field_select.specs.WellFormed.{greatest_atom_id, is_number_to, number_or_zero, number_in, position_in, child_trees, is_message_field, is_atom_field, path_at, path_in_message, field_leaves, leaves_of, is_well_formed, set_of, GivesForm}

@@ -1,5 +1,5 @@
 -- Worked sets of fields, leaf values, keys and filtered atoms, by computing.
-use Rattle.std.proofs.Common.{◌≡◌, ℕ, ℤ, pos, Bool, true, false, List, [], ◌∷◌, Option, Some, None, refl, rules}
+use Rattle.std.proofs.Common.{◌≡◌, ℕ, ℤ, pos, true, false, List, [], ◌∷◌, Option, Some, None, refl, rules}
 use Rattle.config_types.specs.declared.fields.FieldMatcher.{FieldMatcher}
 use Rattle.config_types.specs.declared.fields.FieldMatcher.TheViews.{out-FieldMatcher, roll-FieldMatcher, out-roll-FieldMatcher}
 use Rattle.config_types.specs.declared.fields.Position.{Position}

@@ -6,7 +6,7 @@ use Rattle.atom_record.specs.declared.value.Value.{Value}
 use Rattle.atom_record.specs.declared.atom.AtomField.{AtomField}
 use Rattle.field_select.specs.declared.ends.End.{End}
 use Rattle.field_select.specs.declared.ends.End.TheVariants.{First, Last}
-use Rattle.field_select.specs.LeafValues.{is_repeated_at, field_indexes, lesser_index, least_index, greatest_index, picks_entry}
+use Rattle.field_select.specs.LeafValues.{is_repeated_at, lesser_index, least_index, greatest_index, picks_entry}
 use Rattle.field_select.specs.declared.leaf.LeafPath.{LeafPath}
 
 -- the position that picks an end

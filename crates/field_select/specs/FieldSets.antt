@@ -1,5 +1,5 @@
 -- What every set of leaves keeps.
-use Rattle.std.specs.Prelude.{◌≡◌, ◌≢◌, ℕ, ◌≤◌, Bool, true, false, not, ◌||◌, List, [], ◌∷◌, Option, Some, None, All, AllPairs}
+use Rattle.std.specs.Prelude.{◌≡◌, ◌≢◌, ◌≤◌, Bool, true, false, not, ◌||◌, List, [], ◌∷◌, Option, Some, None, All, AllPairs}
 use Rattle.std.specs.List.{list_all, list_any}
 use Rattle.config_types.specs.declared.fields.Position.{Position}
 use Rattle.config_types.specs.declared.fields.Position.TheVariants as positions

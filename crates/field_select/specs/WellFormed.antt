@@ -1,10 +1,9 @@
 -- Which trees of field numbers are well-formed, and which leaves they have.
-use Rattle.std.specs.Prelude.{◌≡◌, ℕ, ℤ, pos, nat_lt, nat_le, ◌==◌, Bool, true, false, not, ◌&&◌, ◌||◌, List, [], ◌∷◌, ◌++◌, length, map, Option, Some, None, is_none, Result, Ok, Err, if◌then◌else◌}
-use Rattle.std.specs.List.{flat_map, list_all, list_any}
+use Rattle.std.specs.Prelude.{◌≡◌, ℕ, ℤ, pos, nat_lt, nat_le, ◌==◌, Bool, true, false, not, ◌&&◌, List, [], ◌∷◌, ◌++◌, length, map, Option, Some, is_none, Result, Ok, Err, if◌then◌else◌}
+use Rattle.std.specs.List.{flat_map, list_all}
 use Rattle.config_types.specs.declared.fields.FieldMatcher.{FieldMatcher}
 use Rattle.config_types.specs.declared.fields.FieldMatcher.TheViews.{out-FieldMatcher}
 use Rattle.config_types.specs.declared.fields.Position.{Position}
-use Rattle.config_types.specs.declared.fields.Position.TheVariants.{Any}
 pub use Rattle.config_types.specs.Askable.{greatest_atom_id}
 use Rattle.field_select.specs.declared.leaf.LeafPath.{LeafPath}
 use Rattle.field_select.specs.declared.leaf.FieldSet.{FieldSet}

@@ -26,7 +26,8 @@ pub fn nearer(end: End, index: u8, other: u8) -> u8
 
 /// For each field the index that is nearest to an end, or 0 where the field isn't repeated.
 pub fn ends_of(end: End, entries: &[AtomField]) -> [u8; 256]
-    ensures { (field : ℕ) → field < 256 → slice_index result field ≡ end_index end (field_indexes field entries.now) }
+    ensures { (field : ℕ) → field < 256
+        → slice_index result field ≡ end_index end (field_indexes field entries.now) }
 {
     let mut ends = [0; 256];
     for entry in entries {

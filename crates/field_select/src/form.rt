@@ -40,7 +40,8 @@ fn formed_set(alloc: Global, tree: &FieldMatcher) -> Result<FieldSet, SelectErro
 
 // The id of an atom.
 fn atom_id_in(number: Option<i32>) -> Option<u32>
-    ensures { result ≡ (if is_number_to greatest_atom_id number then Some (number_or_zero number) else None) }
+    ensures { result ≡
+        (if is_number_to greatest_atom_id number then Some (number_or_zero number) else None) }
 {
     match number {
         Some(id) if id > 0 => Some(id as u32),
@@ -50,7 +51,8 @@ fn atom_id_in(number: Option<i32>) -> Option<u32>
 
 // The number of a field of an atom or of a message.
 fn field_in(number: Option<i32>) -> Option<u8>
-    ensures { result ≡ (if is_number_to greatest_field number then Some (number_or_zero number) else None) }
+    ensures { result ≡
+        (if is_number_to greatest_field number then Some (number_or_zero number) else None) }
 {
     match number {
         Some(field) if field > 0 && field <= MAX_FIELD => Some(field as u8),
@@ -60,7 +62,8 @@ fn field_in(number: Option<i32>) -> Option<u8>
 
 // The number of a field of a message, which has neither a position nor children.
 fn message_field_in(tree: &FieldMatcher) -> Option<u8>
-    ensures { result ≡ (if is_message_field tree.now then Some (number_or_zero (number_in tree.now)) else None) }
+    ensures { result ≡
+        (if is_message_field tree.now then Some (number_or_zero (number_in tree.now)) else None) }
 {
     let field = field_in(tree.field)?;
     if tree.position.is_some() || !tree.children.is_empty() {
@@ -71,7 +74,8 @@ fn message_field_in(tree: &FieldMatcher) -> Option<u8>
 
 // Adds the leaves at a field of an atom.
 fn add_leaves(leaves: &mut Seq<LeafPath>, tree: &FieldMatcher) -> Result<(), SelectError>
-    ensures { AddsLeaves result (is_atom_field tree.now) leaves.old (field_leaves tree.now) leaves.new }
+    ensures { AddsLeaves result (is_atom_field tree.now) leaves.old (field_leaves tree.now)
+        leaves.new }
 {
     let Some(field) = field_in(tree.field) else {
         return Err(SelectError::BadForm);
@@ -103,7 +107,8 @@ fn add_leaves(leaves: &mut Seq<LeafPath>, tree: &FieldMatcher) -> Result<(), Sel
 
 // The leaves at the fields of an atom.
 fn leaves_in(alloc: Global, trees: &[FieldMatcher]) -> Result<Seq<LeafPath>, SelectError>
-    ensures { GivesForm result (list_all is_atom_field trees.now) (flat_map field_leaves trees.now) }
+    ensures { GivesForm result (list_all is_atom_field trees.now)
+        (flat_map field_leaves trees.now) }
 {
     let mut leaves = Seq::new(alloc);
     for tree in trees {

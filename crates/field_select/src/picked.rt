@@ -35,7 +35,8 @@ fn picked_entries(
     leaves: &[LeafPath],
     entries: &[AtomField],
 ) -> Result<Seq<AtomField>, AllocError>
-    ensures { IfOk result (λ kept. kept ≡ filter (some_leaf_picks leaves.now entries.now) entries.now) }
+    ensures { IfOk result (λ kept.
+        kept ≡ filter (some_leaf_picks leaves.now entries.now) entries.now) }
 {
     let first = ends_of(End::First, entries);
     let last = ends_of(End::Last, entries);

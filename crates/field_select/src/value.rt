@@ -75,8 +75,10 @@ fn step<'a>(
     found: Option<&'a Value>,
     entry: &'a AtomField,
 ) -> (u8, Option<&'a Value>)
-    ensures index { result.0 ≡ (nearest_step end sub index (option_copied found.entry) entry.now).0 }
-    ensures found { option_copied result.1 ≡ (nearest_step end sub index (option_copied found.entry) entry.now).1 }
+    ensures index { result.0
+        ≡ (nearest_step end sub index (option_copied found.entry) entry.now).0 }
+    ensures found { option_copied result.1
+        ≡ (nearest_step end sub index (option_copied found.entry) entry.now).1 }
 {
     if nearer(end, index, entry.index) != index {
         return (entry.index, found_at(sub, None, entry));

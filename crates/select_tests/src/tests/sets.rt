@@ -223,9 +223,10 @@ fn compares_and_shows(rt: HostRuntime) -> Result<(), Fail> {
         Err(_) => assert!(rt; false),
     }
     let text = format!(in rt.alloc(); "{:?} {:?}", set, SelectError::BadForm)?;
-    assert!(rt;
-        text.as_str()
-            == "FieldSet { atom_id: 5, leaves: Seq { items: [LeafPath { field: 1, position: Some(Last), sub: 2 }] } } BadForm"
-    );
+    let leaf = "LeafPath { field: 1, position: Some(Last), sub: 2 }";
+    let wanted = format!(in rt.alloc();
+        "FieldSet {{ atom_id: 5, leaves: Seq {{ items: [{leaf}] }} }} BadForm"
+    )?;
+    assert!(rt; text == wanted);
     Ok(())
 }
