@@ -19,9 +19,14 @@ typed_takes (number ∷ bytes) x fits read =
     let kind = bind_ok (kind_at number) (λ kind. value_at kind bytes) x read in
     let took = value_takes kind.0 bytes x (IsBytes-rest number bytes fits) kind.2 in
     let named : number ≡ type_of x.0 = kind_takes number kind.0 kind.1 ∙ ap number_of (sym took.same)
-        ∙ sym (type_is x.0) in
-    (record { parts = ap (λ (b : ℕ). b ∷ bytes) named ∙ ap (λ (l : List ℕ). type_of x.0 ∷ l) took.took.parts; fits =
-        took.took.fits }, took.fits)
+    ∙ sym (type_is x.0) in (
+      record {
+        parts = ap (λ (b : ℕ). b ∷ bytes) named ∙ ap (λ (l : List ℕ). type_of x.0 ∷ l) took.took.parts;
+        fits =
+            took.took.fits;
+      },
+      took.fits,
+    )
 
 -- what is spelled is read again
 pub typed_again : (value : Value) (rest : List ℕ) → IsInRange value

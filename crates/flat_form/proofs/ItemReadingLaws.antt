@@ -403,7 +403,7 @@ item_takes (tag ∷ bytes) x fits read =
                         (Err Unspelled) (Ok x) fifth.1) [
                           | inl this ↦
                               let chunk = bind_ok (counted_at w32 bytes) (λ chunk. Ok (Chunk chunk.0, chunk.1)) x this.1
-                                  in
+                              in
                               let took = counted_takes w32 (2 ^ 32) wide32 bytes chunk.0 rest chunk.1 in
                               subst is_read (ok_is (Chunk chunk.0.0, chunk.0.1) x chunk.2) (
                                 tagged tag 5 bytes (to_le_bytes w32 (length chunk.0.0) ++ chunk.0.0) chunk.0.1 this.0

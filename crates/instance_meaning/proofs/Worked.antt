@@ -15,8 +15,14 @@ use Rattle.proto_wire.specs.Spelling.{varint}
 abbrev counts_of : ℕ → Linked
 counts_of size = record {
   matchers = Simple 5 ∷ [];
-  metrics = record { id = pos 100; shown = true; what = 0; dims = record { atom_id = 0; leaves = [] }; size = size;
-      bound = 800 } ∷ [];
+  metrics = record {
+    id = pos 100;
+    shown = true;
+    what = 0;
+    dims = record { atom_id = 0; leaves = [] };
+    size = size;
+    bound = 800;
+  } ∷ [];
 }
 
 abbrev atom_of : ℕ → ℕ → Step
@@ -32,7 +38,7 @@ history size steps = record { uid = pos 10; id = pos 7; base = 0; linked = count
 -- two atoms, and a report with a cut at 3
 least : report_bytes (report_of (history 3600000000000 (atom_of 2 5 ∷ atom_of 3 5 ∷ [])) true 3) ≡
     10 ∷ 4 ∷ 8 ∷ 10 ∷ 16 ∷ 7 ∷ 18 ∷ 29 ∷ 10 ∷ 23 ∷ 8 ∷ 100 ∷ 42 ∷ 10 ∷ 10 ∷ 8 ∷ 26 ∷ 6 ∷ 8 ∷ 0 ∷ 16 ∷ 3 ∷ 24 ∷ 2 ∷ 72
-        ∷ 0 ∷ 80 ∷ 128 ∷ 192 ∷ 226 ∷ 133 ∷ 227 ∷ 104 ∷ 24 ∷ 0 ∷ 32 ∷ 3 ∷ []
+    ∷ 0 ∷ 80 ∷ 128 ∷ 192 ∷ 226 ∷ 133 ∷ 227 ∷ 104 ∷ 24 ∷ 0 ∷ 32 ∷ 3 ∷ []
 unfolding report_bytes report_of varint
 least = refl
 
@@ -49,8 +55,16 @@ tree size last now buckets = record {
   id = pos 7;
   last = last;
   now = now;
-  metrics = record { id = pos 100; base = 0; size = size; dropped = 0; not_kept = 0; missing = 0; body =
-      Counts (rows buckets) } ∷ [];
+  metrics = record {
+    id = pos 100;
+    base = 0;
+    size = size;
+    dropped = 0;
+    not_kept = 0;
+    missing = 0;
+    body =
+        Counts (rows buckets);
+  } ∷ [];
   predicate_drops = [];
   state_drops = [];
   state_atoms_dropped = 0;
@@ -108,7 +122,7 @@ keys : picked_key (record {
       ∷ record { field = 4; position = None; sub = 0 } ∷ record { field = 1; position = Some Last; sub = 2 } ∷ [];
 }) chain
     ≡ One (Int (pos 1000)) ∷ One (Int (pos 1001)) ∷ Many (Int (pos 1000) ∷ Int (pos 1001) ∷ []) ∷ One (Int (negsuc 0))
-        ∷ Missing ∷ Missing ∷ []
+    ∷ Missing ∷ Missing ∷ []
 keys = refl
 
 -- an atom of another kind has nothing there

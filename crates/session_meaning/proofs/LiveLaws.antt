@@ -18,7 +18,7 @@ use Rattle.session_meaning.specs.Live.{Installed, with_config, without_id, insta
 
 live_from-push : (before : List Frame) (configs : List Installed) (frames : List Frame) (frame : Frame)
     → live_from before configs (frames ++ frame ∷ []) ≡ live_after (before ++ frames) frame
-        (live_from before configs frames)
+    (live_from before configs frames)
 live_from-push before configs [] frame = ap (λ b. live_after b frame configs) (sym (append-nil before))
 live_from-push before configs (first ∷ frames) frame =
     live_from-push (before ++ first ∷ []) (live_after before first configs) frames frame
@@ -51,7 +51,7 @@ ArePlaced-with_config : (count : ℕ) (new : Installed) (configs : List Installe
 ArePlaced-with_config count new [] is placed = (is, tt)
 ArePlaced-with_config count new (old ∷ others) is placed =
     chosen (int_eq old.id new.id) count new old others (with_config new others) is placed
-        (ArePlaced-with_config count new others is placed.1)
+    (ArePlaced-with_config count new others is placed.1)
 
 left : (stays : Bool) (count : ℕ) (config : Installed) (others : List Installed) → config.place < count
     → ArePlaced count others → ArePlaced count (cond stays (config ∷ others) others)
@@ -63,13 +63,13 @@ ArePlaced-without_id : (count : ℕ) (id : ℤ) (configs : List Installed) → A
 ArePlaced-without_id count id [] placed = tt
 ArePlaced-without_id count id (config ∷ others) placed =
     left (not (int_eq config.id id)) count config (without_id id others) placed.0
-        (ArePlaced-without_id count id others placed.1)
+    (ArePlaced-without_id count id others placed.1)
 
 ArePlaced-installed : (place : ℕ) (id : ℤ) (found : Result Linked Refusal) (configs : List Installed)
     → ArePlaced place configs → ArePlaced (place + 1) (installed place id found configs)
 ArePlaced-installed place id (Ok linked) configs placed =
     ArePlaced-with_config (place + 1) (record { id = id; linked = linked; place = place }) configs (omega arith)
-        (ArePlaced-later place 1 configs placed)
+    (ArePlaced-later place 1 configs placed)
 ArePlaced-installed place id (Err refusal) configs placed = ArePlaced-later place 1 configs placed
 
 ArePlaced-after : (before : List Frame) (frame : Frame) (configs : List Installed) → ArePlaced (length before) configs
@@ -88,10 +88,10 @@ ArePlaced-live_from before configs [] placed = ArePlaced-later (length before) 0
 ArePlaced-live_from before configs (frame ∷ frames) placed =
     let more : length (before ++ frame ∷ []) ≡ length before + 1 = length-append before (frame ∷ []) in
     let one : ArePlaced (length (before ++ frame ∷ [])) (live_after before frame configs) =
-        rw more (ArePlaced-after before frame configs placed) in
+    rw more (ArePlaced-after before frame configs placed) in
     let all = ArePlaced-live_from (before ++ frame ∷ []) (live_after before frame configs) frames one in
     let count : length (before ++ frame ∷ []) + length frames ≡ length before + length (frame ∷ frames) =
-        omega (arith, more) in
+    omega (arith, more) in
     subst (λ n. ArePlaced n (live_from before configs (frame ∷ frames))) count all
 
 -- each live configuration was installed by one of the frames
@@ -102,38 +102,38 @@ live_placed frames = subst (λ n. ArePlaced n (live frames)) (omega arith) (AreP
 pub history_of-push : (client : ℤ) (frames : List Frame) (frame : Frame) (config : Installed)
     → config.place < length frames
     → history_of client (frames ++ frame ∷ []) config ≡ with_steps (history_of client frames config)
-        (step_at config.id config.linked frames frame)
+    (step_at config.id config.linked frames frame)
 history_of-push client frames frame config placed =
     let step = step_at config.id config.linked in
     let before : take config.place (frames ++ frame ∷ []) ≡ take config.place frames =
-        take-append-le config.place frames (frame ∷ []) (omega (arith, placed)) in
+    take-append-le config.place frames (frame ∷ []) (omega (arith, placed)) in
     let front : take (suc config.place) (frames ++ frame ∷ []) ≡ take (suc config.place) frames =
-        take-append-le (suc config.place) frames (frame ∷ []) (omega (arith, placed)) in
+    take-append-le (suc config.place) frames (frame ∷ []) (omega (arith, placed)) in
     let back : drop (suc config.place) (frames ++ frame ∷ []) ≡ drop (suc config.place) frames ++ frame ∷ [] =
-        drop-append-le (suc config.place) frames (frame ∷ []) (omega (arith, placed)) in
+    drop-append-le (suc config.place) frames (frame ∷ []) (omega (arith, placed)) in
     let steps : given_after step (take (suc config.place) (frames ++ frame ∷ []))
-        (drop (suc config.place) (frames ++ frame ∷ []))
+    (drop (suc config.place) (frames ++ frame ∷ []))
     ≡ given_after step (take (suc config.place) frames) (drop (suc config.place) frames) ++ step frames frame =
     rw (front, back) (given_after-push step (take (suc config.place) frames) (drop (suc config.place) frames) frame
     ∙ ap (λ all. given_after step (take (suc config.place) frames) (drop (suc config.place) frames) ++ step all frame)
-        (take-append-drop (suc config.place) frames)) in
+    (take-append-drop (suc config.place) frames)) in
     let base : clock_of (take config.place (frames ++ frame ∷ [])) ≡ clock_of (take config.place frames) =
-        ap clock_of before in
+    ap clock_of before in
     cc
 
 -- a configuration that was just installed has seen nothing, and its base is the clock
 pub history_of-new : (client : ℤ) (frames : List Frame) (frame : Frame) (config : Installed)
     → config.place ≡ length frames
     → history_of client (frames ++ frame ∷ []) config
-        ≡ record { uid = client; id = config.id; base = clock_of frames; linked = config.linked; steps = [] }
+    ≡ record { uid = client; id = config.id; base = clock_of frames; linked = config.linked; steps = [] }
 history_of-new client frames frame config here =
     let step = step_at config.id config.linked in
     let before : take config.place (frames ++ frame ∷ []) ≡ frames =
-        take_at frames (frame ∷ []) config.place (sym here) in
+    take_at frames (frame ∷ []) config.place (sym here) in
     let none : drop (suc config.place) (frames ++ frame ∷ []) ≡ [] =
-        drop_all (suc config.place) (frames ++ frame ∷ []) (omega (arith, here, length-append frames (frame ∷ []))) in
+    drop_all (suc config.place) (frames ++ frame ∷ []) (omega (arith, here, length-append frames (frame ∷ []))) in
     let steps : given_after step (take (suc config.place) (frames ++ frame ∷ []))
-        (drop (suc config.place) (frames ++ frame ∷ [])) ≡ [] = rw none refl in
+    (drop (suc config.place) (frames ++ frame ∷ [])) ≡ [] = rw none refl in
     let base : clock_of (take config.place (frames ++ frame ∷ [])) ≡ clock_of frames = ap clock_of before in
     cc
 
@@ -161,28 +161,30 @@ has_config-with_config : (id : ℤ) (new : Installed) (configs : List Installed)
 has_config-with_config id new [] = grind arith
 has_config-with_config id new (old ∷ others) =
     by_case (int_eq old.id new.id) refl (has_config-with_config id new others) where
-  by_case : (same : Bool) → int_eq old.id new.id ≡ same
-      → has_config id (with_config new others) ≡ (has_config id others || int_eq new.id id)
-      → has_config id (cond same (new ∷ others) (old ∷ with_config new others))
+      by_case : (same : Bool) → int_eq old.id new.id ≡ same
+          → has_config id (with_config new others) ≡ (has_config id others || int_eq new.id id)
+          → has_config id (cond same (new ∷ others) (old ∷ with_config new others))
           ≡ (has_config id (old ∷ others) || int_eq new.id id)
-  by_case true e rest = let one : int_eq old.id id ≡ int_eq new.id id =
-      ap (λ n. int_eq n id) ((signed_Decides old.id new.id).0 e) in grind arith
-  by_case false e rest = grind arith
+      by_case true e rest = let one : int_eq old.id id ≡ int_eq new.id id =
+          ap (λ n. int_eq n id) ((signed_Decides old.id new.id).0 e) in grind arith
+      by_case false e rest = grind arith
 
 AreDistinct-with_config : (new : Installed) (configs : List Installed) → AreDistinct configs
     → AreDistinct (with_config new configs)
 AreDistinct-with_config new [] distinct = (refl, tt)
 AreDistinct-with_config new (old ∷ others) distinct =
     by_case (int_eq old.id new.id) refl (AreDistinct-with_config new others distinct.1) where
-  by_case : (same : Bool) → int_eq old.id new.id ≡ same → AreDistinct (with_config new others)
-      → AreDistinct (cond same (new ∷ others) (old ∷ with_config new others))
-  by_case true e rest = (ap (λ id. has_config id others) (sym ((signed_Decides old.id new.id).0 e)) ∙ distinct.0,
-      distinct.1)
-  by_case false e rest =
-      let apart : int_eq new.id old.id ≡ false = int_eq_sym new.id old.id ∙ e in
-      let head : has_config old.id (with_config new others) ≡ false =
+      by_case : (same : Bool) → int_eq old.id new.id ≡ same → AreDistinct (with_config new others)
+          → AreDistinct (cond same (new ∷ others) (old ∷ with_config new others))
+      by_case true e rest = (
+        ap (λ id. has_config id others) (sym ((signed_Decides old.id new.id).0 e)) ∙ distinct.0,
+        distinct.1,
+      )
+      by_case false e rest =
+          let apart : int_eq new.id old.id ≡ false = int_eq_sym new.id old.id ∙ e in
+          let head : has_config old.id (with_config new others) ≡ false =
           has_config-with_config old.id new others ∙ ap (λ b. b || int_eq new.id old.id) distinct.0 ∙ apart in
-      (head, rest)
+          (head, rest)
 
 kept_if : (stays : Bool) (id : ℤ) (config : Installed) (others rest : List Installed)
     → has_config id (config ∷ others) ≡ false → has_config id rest ≡ false
@@ -196,17 +198,17 @@ has_config-without id gone [] none = none
 has_config-without id gone (config ∷ others) none =
     let tail : has_config id others ≡ false = grind arith in
     kept_if (not (int_eq config.id gone)) id config others (without_id gone others) none
-        (has_config-without id gone others tail)
+    (has_config-without id gone others tail)
 
 AreDistinct-without_id : (gone : ℤ) (configs : List Installed) → AreDistinct configs
     → AreDistinct (without_id gone configs)
 AreDistinct-without_id gone [] distinct = tt
 AreDistinct-without_id gone (config ∷ others) distinct =
     by_case (not (int_eq config.id gone)) (AreDistinct-without_id gone others distinct.1) where
-  by_case : (stays : Bool) → AreDistinct (without_id gone others)
-      → AreDistinct (cond stays (config ∷ without_id gone others) (without_id gone others))
-  by_case true rest = (has_config-without config.id gone others distinct.0, rest)
-  by_case false rest = rest
+      by_case : (stays : Bool) → AreDistinct (without_id gone others)
+          → AreDistinct (cond stays (config ∷ without_id gone others) (without_id gone others))
+      by_case true rest = (has_config-without config.id gone others distinct.0, rest)
+      by_case false rest = rest
 
 AreDistinct-installed : (place : ℕ) (id : ℤ) (found : Result Linked Refusal) (configs : List Installed)
     → AreDistinct configs → AreDistinct (installed place id found configs)
@@ -227,7 +229,7 @@ AreDistinct-live_from : (before : List Frame) (configs : List Installed) (frames
 AreDistinct-live_from before configs [] distinct = distinct
 AreDistinct-live_from before configs (frame ∷ frames) distinct =
     AreDistinct-live_from (before ++ frame ∷ []) (live_after before frame configs) frames
-        (AreDistinct-after before frame configs distinct)
+    (AreDistinct-after before frame configs distinct)
 
 -- no two live configurations of a client have one id
 pub live_distinct : (frames : List Frame) → AreDistinct (live frames)

@@ -12,14 +12,14 @@ pub own-push_own : (client : ℤ) (frames : List Frame) (frame : Frame) → is_o
     → own client (frames ++ frame ∷ []) ≡ own client frames ++ frame ∷ []
 own-push_own client frames frame is =
     filter-append (is_own client) frames (frame ∷ [])
-        ∙ ap (λ (mine : Bool). own client frames ++ cond mine (frame ∷ []) []) is
+    ∙ ap (λ (mine : Bool). own client frames ++ cond mine (frame ∷ []) []) is
 
 -- a command of another client is none of its own frames
 pub own-push_other : (client : ℤ) (frames : List Frame) (frame : Frame) → is_own client frame ≡ false
     → own client (frames ++ frame ∷ []) ≡ own client frames
 own-push_other client frames frame is =
     filter-append (is_own client) frames (frame ∷ [])
-        ∙ ap (λ (mine : Bool). own client frames ++ cond mine (frame ∷ []) []) is ∙ append-nil (own client frames)
+    ∙ ap (λ (mine : Bool). own client frames ++ cond mine (frame ∷ []) []) is ∙ append-nil (own client frames)
 
 clock_from-push : (clock : ℕ) (frames : List Frame) (frame : Frame)
     → clock_from clock (frames ++ frame ∷ []) ≡ clock_after (clock_from clock frames) frame
@@ -43,13 +43,13 @@ clock_from-own client clock [] = refl
 clock_from-own client clock (Log frame ∷ frames) = clock_from-own client (clock_after clock (Log frame)) frames
 clock_from-own client clock (Install uid id config ∷ frames) =
     skipped (is_own client (Install uid id config)) clock (Install uid id config) (own client frames) refl
-        ∙ clock_from-own client clock frames
+    ∙ clock_from-own client clock frames
 clock_from-own client clock (Remove uid id ∷ frames) =
     skipped (is_own client (Remove uid id)) clock (Remove uid id) (own client frames) refl
-        ∙ clock_from-own client clock frames
+    ∙ clock_from-own client clock frames
 clock_from-own client clock (Report uid id include_current ∷ frames) =
     skipped (is_own client (Report uid id include_current)) clock (Report uid id include_current) (own client frames)
-        refl ∙ clock_from-own client clock frames
+    refl ∙ clock_from-own client clock frames
 
 -- a client's own frames have the clock of all
 pub clock_of-own : (client : ℤ) (frames : List Frame) → clock_of (own client frames) ≡ clock_of frames

@@ -45,26 +45,27 @@ idle : (uid : ℤ) (frames : List Frame) (frame : Frame) (held : Live) (config :
 idle uid frames frame held config placed none h =
     let same : history_of uid (frames ++ frame ∷ []) config ≡ history_of uid frames config =
     history_of-push uid frames frame config placed ∙ ap (with_steps (history_of uid frames config)) none
-        ∙ no_step (history_of uid frames config) in
+    ∙ no_step (history_of uid frames config) in
     record { id = h.id; instance = subst (InstanceStandsFor held.instance) (sym same) h.instance }
 
 -- a frame that is no step to any
 all_idle : (uid : ℤ) (frames : List Frame) (frame : Frame)
     → ((id : ℤ) (linked : Linked) → step_at id linked frames frame ≡ [])
     → (lives : List Live) (configs : List Installed) → ArePlaced (length frames) configs
-        → AllStand uid frames lives configs → AllStand uid (frames ++ frame ∷ []) lives configs
+    → AllStand uid frames lives configs → AllStand uid (frames ++ frame ∷ []) lives configs
 all_idle uid frames frame none [] [] placed h = tt
 all_idle uid frames frame none [] (config ∷ configs) placed h = absurd h
 all_idle uid frames frame none (held ∷ lives) [] placed h = absurd h
-all_idle uid frames frame none (held ∷ lives) (config ∷ configs) placed h =
-    (idle uid frames frame held config placed.0 (none config.id config.linked) h.0,
-        all_idle uid frames frame none lives configs placed.1 h.1)
+all_idle uid frames frame none (held ∷ lives) (config ∷ configs) placed h = (
+  idle uid frames frame held config placed.0 (none config.id config.linked) h.0,
+  all_idle uid frames frame none lives configs placed.1 h.1,
+)
 
 -- a frame of the log comes to all
 all_logged : (uid : ℤ) (frames : List Frame) (frame : LogFrame) → IsFaultlessLog frame
     → (lives : List Live) (configs : List Installed) → ArePlaced (length frames) configs
     → AllStand uid frames lives configs → AllStand uid (frames ++ Log frame ∷ []) (map (logged_live frame) lives)
-        configs
+    configs
 all_logged uid frames frame fine [] [] placed h = tt
 all_logged uid frames frame fine [] (config ∷ configs) placed h = absurd h
 all_logged uid frames frame fine (held ∷ lives) [] placed h = absurd h
@@ -88,48 +89,49 @@ all_apart uid id cut frames (held ∷ lives) (config ∷ configs) placed none h 
     let head : int_eq config.id id ≡ false = grind arith in
     let tail : has_config id configs ≡ false = grind arith in
     let apart : int_eq id config.id ≡ false = int_eq_sym id config.id ∙ head in
-    let skipped : step_at config.id config.linked frames (Report uid id cut) ≡ [] = rw apart refl in
-    (idle uid frames (Report uid id cut) held config placed.0 skipped h.0,
-        all_apart uid id cut frames lives configs placed.1 tail h.1)
+    let skipped : step_at config.id config.linked frames (Report uid id cut) ≡ [] = rw apart refl in (
+      idle uid frames (Report uid id cut) held config placed.0 skipped h.0,
+      all_apart uid id cut frames lives configs placed.1 tail h.1,
+    )
 
 -- a report is a step to the one configuration of its id
 all_reported : (uid id : ℤ) (cut : Bool) (frames : List Frame) (lives : List Live) (configs : List Installed)
     → ArePlaced (length frames) configs → AreDistinct configs
     → AllStand uid frames lives configs → AllStand uid (frames ++ Report uid id cut ∷ [])
-        (at_first (has_id id) (reported_live cut (clock_of frames)) lives) configs
+    (at_first (has_id id) (reported_live cut (clock_of frames)) lives) configs
 all_reported uid id cut frames [] [] placed distinct h = tt
 all_reported uid id cut frames [] (config ∷ configs) placed distinct h = absurd h
 all_reported uid id cut frames (held ∷ lives) [] placed distinct h = absurd h
 all_reported uid id cut frames (held ∷ lives) (config ∷ configs) placed distinct h =
     by_case (int_eq held.id id) refl (all_reported uid id cut frames lives configs placed.1 distinct.1 h.1) where
-  by_case : (same : Bool) → int_eq held.id id ≡ same
-      → AllStand uid (frames ++ Report uid id cut ∷ [])
+      by_case : (same : Bool) → int_eq held.id id ≡ same
+          → AllStand uid (frames ++ Report uid id cut ∷ [])
           (at_first (has_id id) (reported_live cut (clock_of frames)) lives) configs
-      → AllStand uid (frames ++ Report uid id cut ∷ [])
+          → AllStand uid (frames ++ Report uid id cut ∷ [])
           (cond same (reported_live cut (clock_of frames) held ∷ lives)
           (held ∷ at_first (has_id id) (reported_live cut (clock_of frames)) lives)) (config ∷ configs)
-  by_case true e rest =
-      let is : config.id ≡ id = sym h.0.id ∙ (signed_Decides held.id id).0 e in
-      let asked : int_eq id config.id ≡ true = (signed_Decides id config.id).1 (sym is) in
-      let step : step_at config.id config.linked frames (Report uid id cut) ≡ asked_step cut (clock_of frames) ∷ [] =
+      by_case true e rest =
+          let is : config.id ≡ id = sym h.0.id ∙ (signed_Decides held.id id).0 e in
+          let asked : int_eq id config.id ≡ true = (signed_Decides id config.id).1 (sym is) in
+          let step : step_at config.id config.linked frames (Report uid id cut) ≡ asked_step cut (clock_of frames) ∷ [] =
           rw asked refl in
-      let history : history_of uid (frames ++ Report uid id cut ∷ []) config ≡ with_steps (history_of uid frames config)
+          let history : history_of uid (frames ++ Report uid id cut ∷ []) config ≡ with_steps (history_of uid frames config)
           (asked_step cut (clock_of frames) ∷ []) =
-      history_of-push uid frames (Report uid id cut) config placed.0
+          history_of-push uid frames (Report uid id cut) config placed.0
           ∙ ap (with_steps (history_of uid frames config)) step in
-      let one : LiveStandsFor uid (frames ++ Report uid id cut ∷ []) (reported_live cut (clock_of frames) held) config =
+          let one : LiveStandsFor uid (frames ++ Report uid id cut ∷ []) (reported_live cut (clock_of frames) held) config =
           record {
-        id = h.0.id;
-        instance = subst (InstanceStandsFor (reported cut (clock_of frames) held.instance)) (sym history)
-            (stands_reported held.instance (history_of uid frames config) cut (clock_of frames) h.0.instance);
-      } in
-      let none : has_config id configs ≡ false = ap (λ n. has_config n configs) (sym is) ∙ distinct.0 in
-      (one, all_apart uid id cut frames lives configs placed.1 none h.1)
-  by_case false e rest =
-      let head : int_eq config.id id ≡ false = ap (λ n. int_eq n id) (sym h.0.id) ∙ e in
-      let apart : int_eq id config.id ≡ false = int_eq_sym id config.id ∙ head in
-      let skipped : step_at config.id config.linked frames (Report uid id cut) ≡ [] = rw apart refl in
-      (idle uid frames (Report uid id cut) held config placed.0 skipped h.0, rest)
+            id = h.0.id;
+            instance = subst (InstanceStandsFor (reported cut (clock_of frames) held.instance)) (sym history)
+                (stands_reported held.instance (history_of uid frames config) cut (clock_of frames) h.0.instance);
+          } in
+          let none : has_config id configs ≡ false = ap (λ n. has_config n configs) (sym is) ∙ distinct.0 in
+          (one, all_apart uid id cut frames lives configs placed.1 none h.1)
+      by_case false e rest =
+          let head : int_eq config.id id ≡ false = ap (λ n. int_eq n id) (sym h.0.id) ∙ e in
+          let apart : int_eq id config.id ≡ false = int_eq_sym id config.id ∙ head in
+          let skipped : step_at config.id config.linked frames (Report uid id cut) ≡ [] = rw apart refl in
+          (idle uid frames (Report uid id cut) held config placed.0 skipped h.0, rest)
 
 -- a configuration goes in at the same place on both sides
 all_with : (uid : ℤ) (frames : List Frame) (new : Live) (config : Installed) → LiveStandsFor uid frames new config
@@ -140,36 +142,36 @@ all_with uid frames new config one [] (other ∷ configs) h = absurd h
 all_with uid frames new config one (held ∷ lives) [] h = absurd h
 all_with uid frames new config one (held ∷ lives) (other ∷ configs) h =
     by_case (int_eq held.id new.id) refl (all_with uid frames new config one lives configs h.1) where
-  by_case : (same : Bool) → int_eq held.id new.id ≡ same
-      → AllStand uid frames (with_own new lives) (with_config config configs)
-      → AllStand uid frames (cond same (new ∷ lives) (held ∷ with_own new lives))
+      by_case : (same : Bool) → int_eq held.id new.id ≡ same
+          → AllStand uid frames (with_own new lives) (with_config config configs)
+          → AllStand uid frames (cond same (new ∷ lives) (held ∷ with_own new lives))
           (cond (int_eq other.id config.id) (config ∷ configs) (other ∷ with_config config configs))
-  by_case same e rest =
-      let both : int_eq other.id config.id ≡ same =
+      by_case same e rest =
+          let both : int_eq other.id config.id ≡ same =
           ap (λ n. int_eq n config.id) (sym h.0.id) ∙ ap (int_eq held.id) (sym one.id) ∙ e in
-      rw both (either same rest) where
-        either : (same : Bool) → AllStand uid frames (with_own new lives) (with_config config configs)
-            → AllStand uid frames (cond same (new ∷ lives) (held ∷ with_own new lives))
+          rw both (either same rest) where
+            either : (same : Bool) → AllStand uid frames (with_own new lives) (with_config config configs)
+                → AllStand uid frames (cond same (new ∷ lives) (held ∷ with_own new lives))
                 (cond same (config ∷ configs) (other ∷ with_config config configs))
-        either true rest = (one, h.1)
-        either false rest = (h.0, rest)
+            either true rest = (one, h.1)
+            either false rest = (h.0, rest)
 
 -- what has an id goes out on both sides
 all_without : (uid id : ℤ) (frames : List Frame) (lives : List Live) (configs : List Installed)
     → AllStand uid frames lives configs → AllStand uid frames (filter (λ held. not (has_id id held)) lives)
-        (without_id id configs)
+    (without_id id configs)
 all_without uid id frames [] [] h = tt
 all_without uid id frames [] (config ∷ configs) h = absurd h
 all_without uid id frames (held ∷ lives) [] h = absurd h
 all_without uid id frames (held ∷ lives) (config ∷ configs) h =
     rw (ap (λ n. int_eq n id) (sym h.0.id)) (either (int_eq held.id id) (all_without uid id frames lives configs h.1))
-    where
-  either : (same : Bool) → AllStand uid frames (filter (λ held. not (has_id id held)) lives) (without_id id configs)
-      → AllStand uid frames (cond (not same) (held ∷ filter (λ held. not (has_id id held)) lives)
-          (filter (λ held. not (has_id id held)) lives))
-          (cond (not same) (config ∷ without_id id configs) (without_id id configs))
-  either true rest = rest
-  either false rest = (h.0, rest)
+  where
+    either : (same : Bool) → AllStand uid frames (filter (λ held. not (has_id id held)) lives) (without_id id configs)
+        → AllStand uid frames (cond (not same) (held ∷ filter (λ held. not (has_id id held)) lives)
+        (filter (λ held. not (has_id id held)) lives))
+        (cond (not same) (config ∷ without_id id configs) (without_id id configs))
+    either true rest = rest
+    either false rest = (h.0, rest)
 
 -- what is found of an id on both sides
 pub data Both (uid id : ℤ) (frames : List Frame) : Option Live → Option Installed → Type 0 where
@@ -184,16 +186,16 @@ all_find uid id frames [] (config ∷ configs) h = absurd h
 all_find uid id frames (held ∷ lives) [] h = absurd h
 all_find uid id frames (held ∷ lives) (config ∷ configs) h =
     by_case (int_eq held.id id) refl (all_find uid id frames lives configs h.1) where
-  by_case : (same : Bool) → int_eq held.id id ≡ same
-      → Both uid id frames (find (has_id id) lives) (config_at id configs)
-      → Both uid id frames (cond same (Some held) (find (has_id id) lives))
+      by_case : (same : Bool) → int_eq held.id id ≡ same
+          → Both uid id frames (find (has_id id) lives) (config_at id configs)
+          → Both uid id frames (cond same (Some held) (find (has_id id) lives))
           (cond (int_eq config.id id) (Some config) (config_at id configs))
-  by_case true e rest =
-      let is : int_eq config.id id ≡ true = ap (λ n. int_eq n id) (sym h.0.id) ∙ e in
-      rw is (both_there held config ((signed_Decides config.id id).0 is) h.0)
-  by_case false e rest =
-      let isnt : int_eq config.id id ≡ false = ap (λ n. int_eq n id) (sym h.0.id) ∙ e in
-      rw isnt rest
+      by_case true e rest =
+          let is : int_eq config.id id ≡ true = ap (λ n. int_eq n id) (sym h.0.id) ∙ e in
+          rw is (both_there held config ((signed_Decides config.id id).0 is) h.0)
+      by_case false e rest =
+          let isnt : int_eq config.id id ≡ false = ap (λ n. int_eq n id) (sym h.0.id) ∙ e in
+          rw isnt rest
 
 -- an id is there on both sides or on neither
 all_any : (uid id : ℤ) (frames : List Frame) (lives : List Live) (configs : List Installed)
@@ -203,10 +205,10 @@ all_any uid id frames [] (config ∷ configs) h = absurd h
 all_any uid id frames (held ∷ lives) [] h = absurd h
 all_any uid id frames (held ∷ lives) (config ∷ configs) h =
     rw (ap (λ n. int_eq n id) (sym h.0.id)) (either (int_eq held.id id) (all_any uid id frames lives configs h.1)) where
-  either : (same : Bool) → list_any (has_id id) lives ≡ is_some (config_at id configs)
-      → (same || list_any (has_id id) lives) ≡ is_some (cond same (Some config) (config_at id configs))
-  either true rest = refl
-  either false rest = rest
+      either : (same : Bool) → list_any (has_id id) lives ≡ is_some (config_at id configs)
+          → (same || list_any (has_id id) lives) ≡ is_some (cond same (Some config) (config_at id configs))
+      either true rest = refl
+      either false rest = rest
 
 none_there : (id : ℤ) (configs : List Installed) → config_at id configs ≡ None → has_config id configs ≡ false
 none_there id [] none = refl
@@ -225,11 +227,11 @@ Seen uid frames items = AllStand uid (own uid frames) (filter (is_of uid) items)
 -- after a frame that is the client's own
 seen_own : (uid : ℤ) (frames : List Frame) (frame : Frame) (items : List Live) → is_own uid frame ≡ true
     → AllStand uid (own uid frames ++ frame ∷ []) (filter (is_of uid) items)
-        (live_after (own uid frames) frame (live (own uid frames))) → Seen uid (frames ++ frame ∷ []) items
+    (live_after (own uid frames) frame (live (own uid frames))) → Seen uid (frames ++ frame ∷ []) items
 seen_own uid frames frame items mine h =
     subst (λ all. AllStand uid all (filter (is_of uid) items) (live all)) (sym (own-push_own uid frames frame mine))
     (subst (AllStand uid (own uid frames ++ frame ∷ []) (filter (is_of uid) items))
-        (sym (live-push (own uid frames) frame)) h)
+    (sym (live-push (own uid frames) frame)) h)
 
 -- after a command of another client
 seen_other : (uid : ℤ) (frames : List Frame) (frame : Frame) (old items : List Live) → is_own uid frame ≡ false
@@ -242,7 +244,7 @@ seen_other uid frames frame old items other same h =
 seen_all : (client : ℤ) (frames : List Frame) (frame : Frame) (old items : List Live)
     → ((uid : ℤ) → is_own uid frame ≡ int_eq client uid)
     → Seen client (frames ++ frame ∷ []) items
-        → ((uid : ℤ) → int_eq client uid ≡ false → filter (is_of uid) items ≡ filter (is_of uid) old)
+    → ((uid : ℤ) → int_eq client uid ≡ false → filter (is_of uid) items ≡ filter (is_of uid) old)
     → ((uid : ℤ) → Seen uid frames old) → (uid : ℤ) → Seen uid (frames ++ frame ∷ []) items
 seen_all client frames frame old items is mine others h uid = by_case (int_eq client uid) refl where
   by_case : (same : Bool) → int_eq client uid ≡ same → Seen uid (frames ++ frame ∷ []) items
@@ -266,9 +268,9 @@ stands_log hub new frames frame clock items fine h = record {
   clock = clock ∙ sym (clock_of-push frames (Log frame));
   configs = λ uid. seen_own uid frames (Log frame) new.lives.items refl
       (subst (λ lives. AllStand uid (own uid frames ++ Log frame ∷ []) lives (live (own uid frames)))
-          (sym (ap (filter (is_of uid)) items ∙ own_logged uid frame hub.lives.items))
+      (sym (ap (filter (is_of uid)) items ∙ own_logged uid frame hub.lives.items))
       (all_logged uid (own uid frames) frame fine (filter (is_of uid) hub.lives.items) (live (own uid frames))
-          (live_placed (own uid frames)) (h.configs uid)));
+      (live_placed (own uid frames)) (h.configs uid)));
 }
 
 -- a command: the hub stands for the frames with it, and its answer is theirs
@@ -289,13 +291,13 @@ module _ (hub new : Hub) (frames : List Frame) (uid id : ℤ) (same_clock : new.
   serves_remove body r =
       let held = filter (is_of uid) hub.lives.items in
       let left : filter (is_of uid) new.lives.items ≡ filter (λ l. not (has_id id l)) held =
-          ap (filter (is_of uid)) r.left ∙ own_removed uid id hub.lives.items in
+      ap (filter (is_of uid)) r.left ∙ own_removed uid id hub.lives.items in
       let idle_all = all_idle uid (own uid frames) (Remove uid id) (λ id linked. refl) held (live (own uid frames))
-          (live_placed (own uid frames)) (h.configs uid) in
+      (live_placed (own uid frames)) (h.configs uid) in
       let own_case : Seen uid (frames ++ Remove uid id ∷ []) new.lives.items =
       seen_own uid frames (Remove uid id) new.lives.items (mine_is uid)
       (subst (λ lives. AllStand uid (own uid frames ++ Remove uid id ∷ []) lives
-          (without_id id (live (own uid frames)))) (sym left)
+      (without_id id (live (own uid frames)))) (sym left)
       (all_without uid id (own uid frames ++ Remove uid id ∷ []) held (live (own uid frames)) idle_all)) in
       let there : list_any (is_at uid id) hub.lives.items ≡ is_some (config_at id (live (own uid frames))) =
       own_any uid id hub.lives.items ∙ all_any uid id (own uid frames) held (live (own uid frames)) (h.configs uid) in
@@ -313,19 +315,19 @@ module _ (hub new : Hub) (frames : List Frame) (uid id : ℤ) (same_clock : new.
   reported_answer : (cut : Bool) (held : Live) (config : Installed) → config.id ≡ id
       → LiveStandsFor uid (own uid frames) held config
       → report_bytes (shown_tree uid id (shown_by cut hub.clock held.instance)) ≡ report_bytes
-          (report_of (history_of uid (own uid frames) config) cut (clock_of (own uid frames)))
+      (report_of (history_of uid (own uid frames) config) cut (clock_of (own uid frames)))
   reported_answer cut held config is one =
       ap (λ n. report_bytes (shown_tree uid n (shown_by cut hub.clock held.instance))) (sym is)
       ∙ ap report_bytes (shows held.instance (history_of uid (own uid frames) config) cut hub.clock one.instance)
       ∙ ap (λ now. report_bytes (report_of (history_of uid (own uid frames) config) cut now))
-          (h.clock ∙ sym (clock_of-own uid frames))
+      (h.clock ∙ sym (clock_of-own uid frames))
 
   -- what a report leaves of the client's list, and what it answers, by what is found on both sides
   report_case : (cut : Bool) (body : ReplyBody) (held : Option Live) (config : Option Installed)
       → Both uid id (own uid frames) held config → config_at id (live (own uid frames)) ≡ config
       → Reports hub.clock uid id cut held hub.lives.items new.lives.items body
       → AllStand uid (own uid frames ++ Report uid id cut ∷ []) (filter (is_of uid) new.lives.items)
-          (live (own uid frames))
+      (live (own uid frames))
       × (body ≡ report_answer uid (own uid frames) cut config)
       × ((n : ℤ) → int_eq uid n ≡ false → filter (is_of n) new.lives.items ≡ filter (is_of n) hub.lives.items)
   report_case cut body None None neither is r =
@@ -333,7 +335,7 @@ module _ (hub new : Hub) (frames : List Frame) (uid id : ℤ) (same_clock : new.
         subst (λ lives. AllStand uid (mine ++ Report uid id cut ∷ []) lives (live mine))
             (sym (ap (filter (is_of uid)) r.0))
             (all_apart uid id cut mine (filter (is_of uid) hub.lives.items) (live mine) (live_placed mine)
-                (none_there id (live mine) is) (h.configs uid)),
+            (none_there id (live mine) is) (h.configs uid)),
         r.1,
         λ n apart. ap (filter (is_of n)) r.0,
       )
@@ -341,12 +343,12 @@ module _ (hub new : Hub) (frames : List Frame) (uid id : ℤ) (same_clock : new.
       let mine = own uid frames in
       let now : hub.clock ≡ clock_of mine = h.clock ∙ sym (clock_of-own uid frames) in
       let changed : filter (is_of uid) new.lives.items ≡ at_first (has_id id) (reported_live cut (clock_of mine))
-          (filter (is_of uid) hub.lives.items) =
+      (filter (is_of uid) hub.lives.items) =
       ap (filter (is_of uid)) r.0 ∙ own_reported uid id cut hub.clock hub.lives.items
-          ∙ ap (λ time. at_first (has_id id) (reported_live cut time) (filter (is_of uid) hub.lives.items)) now in (
+      ∙ ap (λ time. at_first (has_id id) (reported_live cut time) (filter (is_of uid) hub.lives.items)) now in (
         subst (λ lives. AllStand uid (mine ++ Report uid id cut ∷ []) lives (live mine)) (sym changed)
             (all_reported uid id cut mine (filter (is_of uid) hub.lives.items) (live mine) (live_placed mine)
-                (live_distinct mine) (h.configs uid)),
+            (live_distinct mine) (h.configs uid)),
         r.1 ∙ ap answers.ReportBytes (reported_answer cut held config same one),
         λ n apart. ap (filter (is_of n)) r.0 ∙ other_reported n uid apart id cut hub.clock hub.lives.items,
       )
@@ -360,9 +362,9 @@ module _ (hub new : Hub) (frames : List Frame) (uid id : ℤ) (same_clock : new.
   serves_report cut body r =
       let mine = own uid frames in
       let seen = subst (λ f. Reports hub.clock uid id cut f hub.lives.items new.lives.items body)
-          (own_find uid id hub.lives.items) r in
+      (own_find uid id hub.lives.items) r in
       let done = report_case cut body (find (has_id id) (filter (is_of uid) hub.lives.items)) (config_at id (live mine))
-          (all_find uid id mine (filter (is_of uid) hub.lives.items) (live mine) (h.configs uid)) refl seen in
+      (all_find uid id mine (filter (is_of uid) hub.lives.items) (live mine) (h.configs uid)) refl seen in
       record {
         stands = record {
           clock = clock_kept hub new frames (Report uid id cut) refl same_clock h.clock;
@@ -381,13 +383,13 @@ module _ (hub new : Hub) (frames : List Frame) (uid id : ℤ) (same_clock : new.
   install_case : (config : List ℕ) (body : ReplyBody) (read : Result CountConfig Refusal)
       → linked_of_bytes config ≡ asked read → Installs hub.clock uid id read hub.lives.items new.lives.items body
       → AllStand uid (own uid frames ++ Install uid id config ∷ []) (filter (is_of uid) new.lives.items)
-          (installed (length (own uid frames)) id (linked_of_bytes config) (live (own uid frames)))
+      (installed (length (own uid frames)) id (linked_of_bytes config) (live (own uid frames)))
       × (body ≡ install_answer (linked_of_bytes config) (config_at id (live (own uid frames))))
       × ((n : ℤ) → int_eq uid n ≡ false → filter (is_of n) new.lives.items ≡ filter (is_of n) hub.lives.items)
   install_case config body (Err refusal) is r =
       let mine = own uid frames in
       let still = all_idle uid mine (Install uid id config) (λ id linked. refl) (filter (is_of uid) hub.lives.items)
-          (live mine) (live_placed mine) (h.configs uid) in (
+      (live mine) (live_placed mine) (h.configs uid) in (
         rw is (subst (λ lives. AllStand uid (mine ++ Install uid id config ∷ []) lives (live mine))
             (sym (ap (filter (is_of uid)) r.0)) still),
         rw is r.1,
@@ -396,7 +398,7 @@ module _ (hub new : Hub) (frames : List Frame) (uid id : ℤ) (same_clock : new.
   install_case config body (Ok count) is r =
       let mine = own uid frames in
       let still = all_idle uid mine (Install uid id config) (λ id linked. refl) (filter (is_of uid) hub.lives.items)
-          (live mine) (live_placed mine) (h.configs uid) in
+      (live mine) (live_placed mine) (h.configs uid) in
       let held : Live = record { uid = uid; id = id; instance = fresh count hub.clock } in
       let put : Installed = record { id = id; linked = linked_of count.atom_id count.metric_id; place = length mine } in
       let history = history_of-new uid mine (Install uid id config) put refl in
@@ -404,18 +406,24 @@ module _ (hub new : Hub) (frames : List Frame) (uid id : ℤ) (same_clock : new.
       let one : LiveStandsFor uid (mine ++ Install uid id config ∷ []) held put = record {
         id = refl;
         instance = subst (InstanceStandsFor (fresh count hub.clock)) (sym history)
-            (stands_fresh count hub.clock (record { uid = uid; id = id; base = clock_of mine; linked =
-            linked_of count.atom_id count.metric_id; steps = [] }) now refl refl);
+            (stands_fresh count hub.clock (record {
+              uid = uid;
+              id = id;
+              base = clock_of mine;
+              linked =
+                  linked_of count.atom_id count.metric_id;
+              steps = [];
+            }) now refl refl);
       } in
       let lives : filter (is_of uid) new.lives.items ≡ with_own held (filter (is_of uid) hub.lives.items) =
-          ap (filter (is_of uid)) r.0 ∙ own_with held hub.lives.items in
+      ap (filter (is_of uid)) r.0 ∙ own_with held hub.lives.items in
       let there : list_any (is_at uid id) hub.lives.items ≡ is_some (config_at id (live mine)) =
       own_any uid id hub.lives.items ∙ all_any uid id mine (filter (is_of uid) hub.lives.items) (live mine)
-          (h.configs uid) in (
+      (h.configs uid) in (
         rw is (subst (λ l. AllStand uid (mine ++ Install uid id config ∷ []) l (with_config put (live mine)))
             (sym lives)
             (all_with uid (mine ++ Install uid id config ∷ []) held put one (filter (is_of uid) hub.lives.items)
-                (live mine) still)),
+            (live mine) still)),
         rw is (r.1 ∙ ap (λ b. cond b answers.Replaced answers.Installed) there
             ∙ installed_answer (linked_of count.atom_id count.metric_id) (config_at id (live mine))),
         λ n apart. ap (filter (is_of n)) r.0 ∙ other_with n held apart hub.lives.items,

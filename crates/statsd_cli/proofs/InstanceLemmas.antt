@@ -40,7 +40,7 @@ no_ends : (base : ℕ) (before : List Moment) (now : Moment) → now.at < 360000
     → ends_at base 3600000000000 before now ≡ []
 no_ends base before now early =
     ap (filter (λ end. crosses now end && not (list_any (λ earlier. crosses earlier end) before)))
-        (no_full_ends base now.at early)
+    (no_full_ends base now.at early)
 
 none_crossed : (base : ℕ) (before : List Step) (frame : LogFrame) (truths : List Bool) → log_time frame < 3600000000000
     → crossed_at base 3600000000000 before (record { at = log_time frame; what = Logged frame; truths = truths }) ≡ []
@@ -54,11 +54,11 @@ none_crossed base before (Pull at id outcome) truths early =
 -- the books after one more step
 books_at-push : (config : CountConfig) (base : ℕ) (steps : List Step) (step : Step)
     → books_at config base (steps ++ step ∷ []) ≡ books_from dropping (books_at config base steps)
-        (marks_at base (metric_of config) steps step)
+    (marks_at base (metric_of config) steps step)
 books_at-push config base steps step =
     ap (books_of dropping base) (given-push (marks_at base (metric_of config)) steps step)
     ∙ books-append dropping (record { start = base; came = []; closed = []; dropped = 0; missing = 0 })
-        (marks_of base (metric_of config) steps) (marks_at base (metric_of config) steps step)
+    (marks_of base (metric_of config) steps) (marks_at base (metric_of config) steps step)
 
 -- the books that an open part is
 abbrev opened : ℕ → ℕ → Books (MetricKey × ℕ)
@@ -67,23 +67,40 @@ opened start n = record { start = start; came = arrivals n; closed = []; dropped
 alike : (start start' dropped dropped' missing missing' : ℕ) (came came' : List (MetricKey × ℕ))
     (closed closed' : List (Part (MetricKey × ℕ)))
     → start ≡ start' → came ≡ came' → closed ≡ closed' → dropped ≡ dropped' → missing ≡ missing'
-    → (let a : Books (MetricKey × ℕ) = record { start = start; came = came; closed = closed; dropped = dropped;
-        missing = missing } in
-    let b : Books (MetricKey × ℕ) = record { start = start'; came = came'; closed = closed'; dropped = dropped';
-        missing = missing' } in a ≡ b)
+    → (let a : Books (MetricKey × ℕ) = record {
+      start = start;
+      came = came;
+      closed = closed;
+      dropped = dropped;
+      missing = missing;
+    } in
+    let b : Books (MetricKey × ℕ) = record {
+      start = start';
+      came = came';
+      closed = closed';
+      dropped = dropped';
+      missing = missing';
+    } in a ≡ b)
 alike start start' dropped dropped' missing missing' came came' closed closed' a b c d e = cc
 
 open_books : (it : Instance) (books : Books (MetricKey × ℕ)) → OpenStandsFor it books
     → books ≡ opened it.start (length books.came)
 open_books it books h =
     alike books.start it.start books.dropped 0 books.missing 0 books.came (arrivals (length books.came)) books.closed []
-        (sym h.start) h.came h.closed h.dropped h.missing
+    (sym h.start) h.came h.closed h.dropped h.missing
 
 is_open : (it : Instance) (start n : ℕ) → it.start ≡ start → it.count ≡ counted n → OpenStandsFor it (opened start n)
 is_open it start n at count =
     let len : length (arrivals n) ≡ n = length-replicate n (no_key, 1) in
-    record { start = at; count = count ∙ ap counted (sym len); came = ap arrivals (sym len); closed = refl; dropped =
-        refl; missing = refl }
+    record {
+      start = at;
+      count = count ∙ ap counted (sym len);
+      came = ap arrivals (sym len);
+      closed = refl;
+      dropped =
+          refl;
+      missing = refl;
+    }
 
 open_came : (it : Instance) (books : Books (MetricKey × ℕ)) → OpenStandsFor it books
     → OpenStandsFor (raised it) (after dropping books (Came (no_key, 1)))
@@ -91,7 +108,7 @@ open_came it books h =
     let n = length books.came in
     let is : books ≡ opened it.start n = open_books it books h in
     let next : after dropping (opened it.start n) (Came (no_key, 1)) ≡ opened it.start (suc n) = let came =
-        one_more n in let none = drops_none n in cc in
+    one_more n in let none = drops_none n in cc in
     subst (OpenStandsFor (raised it)) (sym (ap (λ b. after dropping b (Came (no_key, 1))) is ∙ next))
     (is_open (raised it) it.start (suc n) refl (omega (arith, h.count)))
 
@@ -137,12 +154,12 @@ step_of frame truths = record { at = log_time frame; what = Logged frame; truths
 books_logged : (config : CountConfig) (base : ℕ) (steps : List Step) (frame : LogFrame) (truths : List Bool)
     → log_time frame < 3600000000000
     → books_at config base (steps ++ step_of frame truths ∷ []) ≡ books_from dropping (books_at config base steps)
-        (arrivals_at (metric_of config) (step_of frame truths) ++ [])
+    (arrivals_at (metric_of config) (step_of frame truths) ++ [])
 books_logged config base steps frame truths early =
     books_at-push config base steps (step_of frame truths)
     ∙ ap (λ ends. books_from dropping (books_at config base steps)
-        (map (λ end. Ends end) ends ++ (arrivals_at (metric_of config) (step_of frame truths) ++ [])))
-        (none_crossed base steps frame truths early)
+    (map (λ end. Ends end) ends ++ (arrivals_at (metric_of config) (step_of frame truths) ++ [])))
+    (none_crossed base steps frame truths early)
 
 same_open : (it : Instance) (books books' : Books (MetricKey × ℕ)) → OpenStandsFor it books → books' ≡ books
     → OpenStandsFor it books'
@@ -150,14 +167,14 @@ same_open it books books' h e = subst (OpenStandsFor it) (sym e) h
 
 counted_or_not : (it : Instance) (books : Books (MetricKey × ℕ)) (comes : Bool) → OpenStandsFor it books
     → OpenStandsFor (cond comes (raised it) it)
-        (books_from dropping books (cond comes (Came (no_key, 1) ∷ []) [] ++ []))
+    (books_from dropping books (cond comes (Came (no_key, 1) ∷ []) [] ++ []))
 counted_or_not it books true h = open_came it books h
 counted_or_not it books false h = h
 
 open_logged : (it : Instance) (books : Books (MetricKey × ℕ)) (frame : LogFrame) → OpenStandsFor it books
     → OpenStandsFor (logged frame it) (books_from dropping books
-        (arrivals_at (metric_of it.config) (step_of frame
-        (truths_of (linked_of it.config.atom_id it.config.metric_id) frame)) ++ []))
+    (arrivals_at (metric_of it.config) (step_of frame
+    (truths_of (linked_of it.config.atom_id it.config.metric_id) frame)) ++ []))
 open_logged it books (Tick at) h = h
 open_logged it books (AtomAt at atom) h = counted_or_not it books (atom.id == it.config.atom_id) h
 open_logged it books (Pull at id outcome) h = h
@@ -185,13 +202,13 @@ stands_logged it history frame fine h =
     let early : log_time frame < 3600000000000 = fine.timely in
     let books = books_at it.config history.base history.steps in
     let one : OpenStandsFor (logged frame it)
-        (books_from dropping books (arrivals_at (metric_of it.config) (step_of frame truths) ++ [])) =
+    (books_from dropping books (arrivals_at (metric_of it.config) (step_of frame truths) ++ [])) =
     subst (λ (linked : Linked). OpenStandsFor (logged frame it)
-        (books_from dropping books (arrivals_at (metric_of it.config) (step_of frame (truths_of linked frame)) ++ [])))
-        (sym h.configuration) (open_logged it books frame h.opened) in
+    (books_from dropping books (arrivals_at (metric_of it.config) (step_of frame (truths_of linked frame)) ++ [])))
+    (sym h.configuration) (open_logged it books frame h.opened) in
     let two : OpenStandsFor (logged frame it)
-        (books_at it.config history.base (history.steps ++ step_of frame truths ∷ [])) =
-        same_open (logged frame it) _ _ one (books_logged it.config history.base history.steps frame truths early) in
+    (books_at it.config history.base (history.steps ++ step_of frame truths ∷ [])) =
+    same_open (logged frame it) _ _ one (books_logged it.config history.base history.steps frame truths early) in
     record {
       configuration = h.configuration ∙ ap (λ (config : CountConfig). linked_of config.atom_id config.metric_id)
           (sym kept.0);
@@ -224,9 +241,9 @@ stands_reported it history cut now h =
     let kept = keeps_reported it cut now in
     let books = books_at it.config history.base history.steps in
     let one : OpenStandsFor (reported cut now it)
-        (books_at it.config history.base (history.steps ++ asked_step cut now ∷ [])) =
+    (books_at it.config history.base (history.steps ++ asked_step cut now ∷ [])) =
     same_open (reported cut now it) _ _ (open_reported it books cut now h.opened)
-        (books_at-push it.config history.base history.steps (asked_step cut now)) in
+    (books_at-push it.config history.base history.steps (asked_step cut now)) in
     record {
       configuration = h.configuration ∙ ap (λ (config : CountConfig). linked_of config.atom_id config.metric_id)
           (sym kept.0);
@@ -260,29 +277,46 @@ closed_tree it base zero now count = sym (ap (λ c. shown_with it base now (buck
 closed_tree it base (suc n) now count =
     let some : (counted (suc n) == 0) ≡ false = not_none (counted (suc n)) (omega arith) in
     ap (λ rows. metric_tree base (metric_of it.config) (taken counting.weight (rows ++ []) 0 0))
-        (one_row it.start now n)
+    (one_row it.start now n)
     ∙ sym (ap (λ none. shown_with it base now (bucket_if it now (counted (suc n)) none)) some)
     ∙ sym (ap (λ c. shown_with it base now (bucket_if it now c (c == 0))) count)
 
 -- the metric's tree after a report, with or without a cut
 cut_tree : (it : Instance) (base n : ℕ) (cut : Bool) (now : ℕ) → it.count ≡ counted n
     → tree_of it.config base (books_from dropping (opened it.start n) (cut_at cut now)) ≡ shown_with it base now
-        (cond cut (closed_at now it) None)
+    (cond cut (closed_at now it) None)
 cut_tree it base n true now count = closed_tree it base n now count
 cut_tree it base n false now count = refl
 
 trees_alike : (uid id : ℤ) (last last' now : ℕ) (metrics metrics' : List MetricTree) → last ≡ last' → metrics ≡ metrics'
-    → (let a : ReportTree = record { uid = uid; id = id; last = last; now = now; metrics = metrics; predicate_drops =
-        []; state_drops = []; state_atoms_dropped = 0 } in
-    let b : ReportTree = record { uid = uid; id = id; last = last'; now = now; metrics = metrics'; predicate_drops = [];
-        state_drops = []; state_atoms_dropped = 0 } in a ≡ b)
+    → (let a : ReportTree = record {
+      uid = uid;
+      id = id;
+      last = last;
+      now = now;
+      metrics = metrics;
+      predicate_drops =
+          [];
+      state_drops = [];
+      state_atoms_dropped = 0;
+    } in
+    let b : ReportTree = record {
+      uid = uid;
+      id = id;
+      last = last';
+      now = now;
+      metrics = metrics';
+      predicate_drops = [];
+      state_drops = [];
+      state_atoms_dropped = 0;
+    } in a ≡ b)
 trees_alike uid id last last' now metrics metrics' d e = cc
 
 -- the trees of the metrics that a report shows
 abbrev shown_trees : History → Bool → ℕ → Linked → List MetricTree
 shown_trees history cut now linked =
     map (λ (metric : Metric). metric_tree history.base metric (shown_of history.base metric history.steps cut now))
-        (filter (λ (metric : Metric). metric.shown) linked.metrics)
+    (filter (λ (metric : Metric). metric.shown) linked.metrics)
 
 -- what an instance shows is the report of its history
 pub shows : (it : Instance) (history : History) (cut : Bool) (now : ℕ) → InstanceStandsFor it history
@@ -291,19 +325,19 @@ unfolding report_of
 shows it history cut now h =
     let n = length (books_at it.config history.base history.steps).came in
     let books : books_of dropping history.base
-        (marks_of history.base (metric_of it.config) history.steps ++ cut_at cut now) ≡ books_from dropping
-        (opened it.start n) (cut_at cut now) =
+    (marks_of history.base (metric_of it.config) history.steps ++ cut_at cut now) ≡ books_from dropping
+    (opened it.start n) (cut_at cut now) =
     books-append dropping (record { start = history.base; came = []; closed = []; dropped = 0; missing = 0 })
-        (marks_of history.base (metric_of it.config) history.steps) (cut_at cut now)
+    (marks_of history.base (metric_of it.config) history.steps) (cut_at cut now)
     ∙ ap (λ b. books_from dropping b (cut_at cut now))
-        (open_books it (books_at it.config history.base history.steps) h.opened) in
+    (open_books it (books_at it.config history.base history.steps) h.opened) in
     let tree : tree_of it.config history.base
-        (books_of dropping history.base (marks_of history.base (metric_of it.config) history.steps ++ cut_at cut now))
-        ≡ shown_with it it.base now (cond cut (closed_at now it) None) =
+    (books_of dropping history.base (marks_of history.base (metric_of it.config) history.steps ++ cut_at cut now))
+    ≡ shown_with it it.base now (cond cut (closed_at now it) None) =
     ap (tree_of it.config history.base) books ∙ cut_tree it history.base n cut now h.opened.count
-        ∙ ap (λ base. shown_with it base now (cond cut (closed_at now it) None)) (sym h.base) in
+    ∙ ap (λ base. shown_with it base now (cond cut (closed_at now it) None)) (sym h.base) in
     let all : shown_trees history cut now history.linked ≡ shown_with it it.base now (cond cut (closed_at now it) None)
-        ∷ [] =
+    ∷ [] =
     ap (shown_trees history cut now) h.configuration ∙ ap (λ t. t ∷ []) tree in
     trees_alike history.uid history.id it.last (last_report history.base history.steps) now
-        (shown_metric (shown_by cut now it) ∷ []) (shown_trees history cut now history.linked) h.last (sym all)
+    (shown_metric (shown_by cut now it) ∷ []) (shown_trees history cut now history.linked) h.last (sym all)

@@ -38,13 +38,22 @@ module _ {X : Type 0} (test : X → Bool) where
         → (from ≤ at) × IsFirst test (x ∷ all) (at - from)
     by_case true is rest =
         let here : Some from ≡ Some at = ap (λ b. cond b (Some from) (position_from test (from + 1) all)) (sym is)
-            ∙ e in
-        let same : from ≡ at = cc in
-        (omega arith, record { front = []; here = x; back = all; parts = refl; place = omega arith; passes = is;
-            before = refl })
+        ∙ e in
+        let same : from ≡ at = cc in (
+          omega arith,
+          record {
+            front = [];
+            here = x;
+            back = all;
+            parts = refl;
+            place = omega arith;
+            passes = is;
+            before = refl;
+          },
+        )
     by_case false is rest =
         let later : position_from test (from + 1) all ≡ Some at =
-            ap (λ b. cond b (Some from) (position_from test (from + 1) all)) (sym is) ∙ e in
+        ap (λ b. cond b (Some from) (position_from test (from + 1) all)) (sym is) ∙ e in
         let found = rest later in
         let le : from + 1 ≤ at = found.0 in
         let place : suc (at - (from + 1)) ≡ at - from = omega arith in
@@ -65,7 +74,7 @@ module _ {X : Type 0} (test : X → Bool) where
         absurd (cc)
     by_case false is rest =
         let later : position_from test (from + 1) all ≡ None =
-            ap (λ b. cond b (Some from) (position_from test (from + 1) all)) (sym is) ∙ e in
+        ap (λ b. cond b (Some from) (position_from test (from + 1) all)) (sym is) ∙ e in
         ap (λ b. b || list_any test all) is ∙ rest later
 
   -- a search from a number on finds something where something passes
@@ -73,10 +82,10 @@ module _ {X : Type 0} (test : X → Bool) where
   some_found from [] = refl
   some_found from (x ∷ all) = by_case (test x) (position_from test (from + 1) all) (list_any test all)
       (some_found (from + 1) all) where
-    by_case : (passes : Bool) (later : Option ℕ) (any : Bool) → is_some later ≡ any
-        → is_some (cond passes (Some from) later) ≡ (passes || any)
-    by_case true later any e = refl
-    by_case false later any e = e
+        by_case : (passes : Bool) (later : Option ℕ) (any : Bool) → is_some later ≡ any
+            → is_some (cond passes (Some from) later) ≡ (passes || any)
+        by_case true later any e = refl
+        by_case false later any e = e
 
   -- nothing passes in a front
   pub head_fails : (x : X) (all : List X) → list_any test (x ∷ all) ≡ false
@@ -130,8 +139,8 @@ pub rewritten_next : {A : Type 0} (f : A → A) (now old : List A) (i : ℕ) (d 
     → IsRewritten f now old i → v ≡ f (get_or now i d) → IsRewritten f (set now i v) old (i + 1)
 rewritten_next f now old i d v lt h is =
     let here : get_or now i d ≡ get_or old i d =
-        ap (λ n. get_or now n d) (sym (add-zero i)) ∙ sym (get_or-drop i now 0 d) ∙ ap (λ l. get_or l 0 d) h.rest
-        ∙ get_or-drop i old 0 d ∙ ap (λ n. get_or old n d) (add-zero i) in
+    ap (λ n. get_or now n d) (sym (add-zero i)) ∙ sym (get_or-drop i now 0 d) ∙ ap (λ l. get_or l 0 d) h.rest
+    ∙ get_or-drop i old 0 d ∙ ap (λ n. get_or old n d) (add-zero i) in
     record {
       len = length-set now i v ∙ h.len;
       done = take_more_set now i v lt ∙ ap (λ l. l ++ v ∷ []) h.done

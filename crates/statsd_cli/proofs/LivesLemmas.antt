@@ -27,7 +27,7 @@ at_first_after test change [] here back none is =
 at_first_after test change (first ∷ front) here back none is =
     let h = head_fails test first front none in
     ap (λ b. cond b (change first ∷ (front ++ here ∷ back)) (first ∷ at_first test change (front ++ here ∷ back)))
-        h.0
+    h.0
     ∙ ap (λ l. first ∷ l) (at_first_after test change front here back h.1 is)
 
 -- the change at the first that passes is a write at its place
@@ -35,7 +35,7 @@ pub at_first_set : (test : Live → Bool) (change : Live → Live) (all : List L
     → at_first test change all ≡ set all at (change first.here)
 at_first_set test change all at first =
     ap (at_first test change) first.parts ∙ at_first_after test change first.front first.here first.back first.before
-        first.passes ∙ sym (set_first test all at first (change first.here))
+    first.passes ∙ sym (set_first test all at first (change first.here))
 
 with_live_after : (new : Live) (front : List Live) (here : Live) (back : List Live)
     → list_any (is_at new.uid new.id) front ≡ false → is_at new.uid new.id here ≡ true
@@ -52,7 +52,7 @@ pub with_live_set : (new : Live) (all : List Live) (at : ℕ) → IsFirst (is_at
 with_live_set new all at first =
     set_first (is_at new.uid new.id) all at first new
     ∙ sym (ap (with_live new) first.parts ∙ with_live_after new first.front first.here first.back first.before
-        first.passes)
+    first.passes)
 
 -- where there is none, it goes last
 pub with_live_push : (new : Live) (all : List Live) → list_any (is_at new.uid new.id) all ≡ false
@@ -69,10 +69,10 @@ pub own_logged : (uid : ℤ) (frame : LogFrame) (all : List Live)
 own_logged uid frame [] = refl
 own_logged uid frame (first ∷ others) = by_case (is_of uid first) (filter (is_of uid) (map (logged_live frame) others))
     (filter (is_of uid) others) (own_logged uid frame others) where
-  by_case : (mine : Bool) (done kept : List Live) → done ≡ map (logged_live frame) kept
-      → cond mine (logged_live frame first ∷ done) done ≡ map (logged_live frame) (cond mine (first ∷ kept) kept)
-  by_case true done kept e = ap (λ l. logged_live frame first ∷ l) e
-  by_case false done kept e = e
+      by_case : (mine : Bool) (done kept : List Live) → done ≡ map (logged_live frame) kept
+          → cond mine (logged_live frame first ∷ done) done ≡ map (logged_live frame) (cond mine (first ∷ kept) kept)
+      by_case true done kept e = ap (λ l. logged_live frame first ∷ l) e
+      by_case false done kept e = e
 
 module _ (mine test : Live → Bool) (change : Live → Live) (kept : (held : Live) → mine (change held) ≡ mine held) where
   -- the change of the first of mine that passes is that of the first that passes among mine
@@ -82,9 +82,9 @@ module _ (mine test : Live → Bool) (change : Live → Live) (kept : (held : Li
   filter_at_first (first ∷ others) = by_case (mine first) (test first) refl refl (filter_at_first others) where
     by_case : (is has : Bool) → mine first ≡ is → test first ≡ has
         → filter mine (at_first (λ held. mine held && test held) change others) ≡ at_first test change
-            (filter mine others)
+        (filter mine others)
         → filter mine (at_first (λ held. mine held && test held) change (first ∷ others)) ≡ at_first test change
-            (filter mine (first ∷ others))
+        (filter mine (first ∷ others))
     by_case true true e f rest = rw (e, f, kept first, e) refl
     by_case true false e f rest = rw (e, f, e, rest) refl
     by_case false has e f rest = rw (e, e, rest) refl
@@ -95,10 +95,10 @@ module _ (mine test : Live → Bool) (change : Live → Live) (kept : (held : Li
   filter_at_first_other other apart [] = refl
   filter_at_first_other other apart (first ∷ others) =
       by_case (other first) refl (filter_at_first_other other apart others) where
-    by_case : (passes : Bool) → other first ≡ passes → filter mine (at_first other change others) ≡ filter mine others
-        → filter mine (at_first other change (first ∷ others)) ≡ filter mine (first ∷ others)
-    by_case true e rest = let none : mine first ≡ false = apart first e in rw (e, kept first, none) refl
-    by_case false e rest = rw (e, rest) refl
+        by_case : (passes : Bool) → other first ≡ passes → filter mine (at_first other change others) ≡ filter mine others
+            → filter mine (at_first other change (first ∷ others)) ≡ filter mine (first ∷ others)
+        by_case true e rest = let none : mine first ≡ false = apart first e in rw (e, kept first, none) refl
+        by_case false e rest = rw (e, rest) refl
 
 module _ (mine test : Live → Bool) where
   -- what stays of mine
@@ -108,9 +108,9 @@ module _ (mine test : Live → Bool) where
   filter_left (first ∷ others) = by_case (mine first) (test first) refl refl (filter_left others) where
     by_case : (is has : Bool) → mine first ≡ is → test first ≡ has
         → filter mine (filter (λ held. not (mine held && test held)) others) ≡ filter (λ held. not (test held))
-            (filter mine others)
+        (filter mine others)
         → filter mine (filter (λ held. not (mine held && test held)) (first ∷ others)) ≡ filter
-            (λ held. not (test held)) (filter mine (first ∷ others))
+        (λ held. not (test held)) (filter mine (first ∷ others))
     by_case true true e f rest = rw (e, f, rest) refl
     by_case true false e f rest = rw (e, f, e, rest) refl
     by_case false has e f rest = rw (e, e, rest) refl
@@ -120,11 +120,11 @@ module _ (mine test : Live → Bool) where
   filter_left_other other apart [] = refl
   filter_left_other other apart (first ∷ others) =
       by_case (other first) refl (filter_left_other other apart others) where
-    by_case : (passes : Bool) → other first ≡ passes
-        → filter mine (filter (λ held. not (other held)) others) ≡ filter mine others
-        → filter mine (filter (λ held. not (other held)) (first ∷ others)) ≡ filter mine (first ∷ others)
-    by_case true e rest = let none : mine first ≡ false = apart first e in rw (e, none, rest) refl
-    by_case false e rest = rw (e, rest) refl
+        by_case : (passes : Bool) → other first ≡ passes
+            → filter mine (filter (λ held. not (other held)) others) ≡ filter mine others
+            → filter mine (filter (λ held. not (other held)) (first ∷ others)) ≡ filter mine (first ∷ others)
+        by_case true e rest = let none : mine first ≡ false = apart first e in rw (e, none, rest) refl
+        by_case false e rest = rw (e, rest) refl
 
   -- the first of mine that passes is the first that passes among mine
   find_among : (all : List Live) → find (λ held. mine held && test held) all ≡ find test (filter mine all)
@@ -160,12 +160,12 @@ not_mine uid other id apart held is =
 -- a report, a remove and an install, seen at the client's own list
 pub own_reported : (uid id : ℤ) (cut : Bool) (now : ℕ) (all : List Live)
     → filter (is_of uid) (at_first (is_at uid id) (reported_live cut now) all) ≡ at_first (has_id id)
-        (reported_live cut now) (filter (is_of uid) all)
+    (reported_live cut now) (filter (is_of uid) all)
 own_reported uid id cut now all = filter_at_first (is_of uid) (has_id id) (reported_live cut now) (λ held. refl) all
 
 pub own_removed : (uid id : ℤ) (all : List Live)
     → filter (is_of uid) (filter (λ held. not (is_at uid id held)) all) ≡ filter (λ held. not (has_id id held))
-        (filter (is_of uid) all)
+    (filter (is_of uid) all)
 own_removed uid id all = filter_left (is_of uid) (has_id id) all
 
 pub own_find : (uid id : ℤ) (all : List Live) → find (is_at uid id) all ≡ find (has_id id) (filter (is_of uid) all)
@@ -201,13 +201,13 @@ pub other_with : (uid : ℤ) (new : Live) → int_eq new.uid uid ≡ false → (
     → filter (is_of uid) (with_live new all) ≡ filter (is_of uid) all
 other_with uid new apart [] = rw apart refl
 other_with uid new apart (old ∷ others) = by_case (is_at new.uid new.id old) refl (other_with uid new apart others)
-    where
-  by_case : (at : Bool) → is_at new.uid new.id old ≡ at
-      → filter (is_of uid) (with_live new others) ≡ filter (is_of uid) others
-      → filter (is_of uid) (with_live new (old ∷ others)) ≡ filter (is_of uid) (old ∷ others)
-  by_case true e rest = let none : is_of uid old ≡ false = not_mine uid new.uid new.id apart old e in
-      rw (e, apart, none) refl
-  by_case false e rest = rw (e, rest) refl
+  where
+    by_case : (at : Bool) → is_at new.uid new.id old ≡ at
+        → filter (is_of uid) (with_live new others) ≡ filter (is_of uid) others
+        → filter (is_of uid) (with_live new (old ∷ others)) ≡ filter (is_of uid) (old ∷ others)
+    by_case true e rest = let none : is_of uid old ≡ false = not_mine uid new.uid new.id apart old e in
+        rw (e, apart, none) refl
+    by_case false e rest = rw (e, rest) refl
 
 -- one that only its instance changes
 pub with_instance : (held : Live) (it changed : Instance) → it ≡ changed

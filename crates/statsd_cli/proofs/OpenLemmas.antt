@@ -47,7 +47,7 @@ one_more (suc n) = ap (λ more. (no_key, 1) ∷ more) (one_more n)
 pub drops_none : (n : ℕ) → drops counting 800 (arrivals n) (no_key, 1) ≡ 0
 drops_none n =
     ap (λ came. dropped same_key 800 (keys_of counting 800 came) - dropped same_key 800
-        (keys_of counting 800 (arrivals n))) (one_more n)
+    (keys_of counting 800 (arrivals n))) (one_more n)
     ∙ ap (λ all. dropped same_key 800 all - dropped same_key 800 (keys_of counting 800 (arrivals n))) (keys_are (suc n))
     ∙ ap (λ count. count - dropped same_key 800 (keys_of counting 800 (arrivals n))) (none_dropped (suc n))
     ∙ omega arith

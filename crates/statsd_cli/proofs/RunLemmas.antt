@@ -77,8 +77,13 @@ module _ (lo ln o n : Option (List ℕ)) (reader : Reading) (hub : Hub) (a : IsA
   within_all : (more : List ℕ) → FitsSession reader.place (reader.pending ++ more)
       → length (a.taken ++ more) ≤ most_input
   within_all more within =
-      omega (arith, within, Begins_bytes start a.taken a.frames reader.place reader.pending a.begins,
-          length-append a.taken more, length-append reader.pending more)
+      omega (
+        arith,
+        within,
+        Begins_bytes start a.taken a.frames reader.place reader.pending a.begins,
+        length-append a.taken more,
+        length-append reader.pending more,
+      )
 
   further : (more : List ℕ) → Begins start (a.taken ++ more) a.frames reader.place (reader.pending ++ more)
   further more = Begins-more start a.taken a.frames reader.place reader.pending more a.begins
@@ -111,7 +116,7 @@ module _ (lo ln o n : Option (List ℕ)) (reader : Reading) (hub : Hub) (a : IsA
       session = frames_of-Reads (a.taken ++ g.taken) a.frames Clean (within_all g.taken g.within)
           (subst (λ all. Reads start (a.taken ++ g.taken) all Clean) (append-nil a.frames)
           (Reads-from_Begins start (a.taken ++ g.taken) a.frames reader.place (reader.pending ++ g.taken) [] Clean
-              (further g.taken) g.next.0));
+          (further g.taken) g.next.0));
       at_end = g.next.1;
       written = a.written;
     };
@@ -145,8 +150,8 @@ module _ (lo ln o n : Option (List ℕ)) (reader : Reading) (hub : Hub) (a : IsA
       let same : reader.pending ++ taken ≡ a.taken ++ taken = ap (λ l. l ++ taken) (pending ∙ sym none.1) in
       let much : IsTrue (is_too_much (a.taken ++ taken)) = subst (λ l. IsTrue (is_too_much l)) same h.too_much in
       let at_most : frames_of (a.taken ++ taken) [] (Bad at TooManyFrames) =
-          subst (λ place. frames_of (a.taken ++ taken) [] (Bad place TooManyFrames)) (sym h.placed)
-          (frames_of-too_much (a.taken ++ taken) much) in
+      subst (λ place. frames_of (a.taken ++ taken) [] (Bad place TooManyFrames)) (sym h.placed)
+      (frames_of-too_much (a.taken ++ taken) much) in
       record {
         taken = a.taken ++ taken;
         consumes = Consumes-trans lo ln lm a.taken taken a.consumes consumes;
@@ -172,7 +177,7 @@ module _ (lo ln o n : Option (List ℕ)) (reader : Reading) (hub : Hub) (a : IsA
           end = others.1;
           session = frames_of-Reads (a.taken ++ taken) (a.frames ++ others.0) others.1 (within_all taken within)
               (Reads-from_Begins start (a.taken ++ taken) a.frames reader.place (reader.pending ++ taken) others.0
-                  others.1 (further taken) others.2);
+              others.1 (further taken) others.2);
           written = a.written;
         };
       }
@@ -184,8 +189,14 @@ module _ (lo ln o n : Option (List ℕ)) (reader : Reading) (hub : Hub) (a : IsA
       record {
         taken = a.taken ++ taken;
         consumes = Consumes-trans lo ln lm a.taken taken a.consumes consumes;
-        outcome = record { answered = []; others = all.0; end = all.1; session = all.2; written =
-            subst (λ frames. Appends o n (text frames)) (none_yet is).0 a.written };
+        outcome = record {
+          answered = [];
+          others = all.0;
+          end = all.1;
+          session = all.2;
+          written =
+              subst (λ frames. Appends o n (text frames)) (none_yet is).0 a.written;
+        };
       }
 
   -- the reader gave no frame
@@ -206,15 +217,20 @@ module _ (lo ln o n : Option (List ℕ)) (reader : Reading) (hub : Hub) (a : IsA
     one_more =
         subst (λ place. Begins start (a.taken ++ g.taken) (a.frames ++ frame ∷ []) place after.pending) (sym g.next.1)
         (Begins-push start (a.taken ++ g.taken) a.frames reader.place (reader.pending ++ g.taken) frame after.pending
-            (further g.taken) g.next.0)
+        (further g.taken) g.next.0)
 
     -- the place is further on, and within what a session may have
     pub comes_nearer : (most_input + 1) - after.place.bytes < (most_input + 1) - reader.place.bytes
     comes_nearer =
         let place : after.place.bytes ≡ reader.place.bytes
-            + (length (reader.pending ++ g.taken) - length after.pending) = ap (λ (p : Place). p.bytes) g.next.1 in
-        omega (arith, place, g.within, whole_takes reader.place.clock (reader.pending ++ g.taken) frame after.pending
-            g.next.0)
+        + (length (reader.pending ++ g.taken) - length after.pending) = ap (λ (p : Place). p.bytes) g.next.1 in
+        omega (
+          arith,
+          place,
+          g.within,
+          whole_takes reader.place.clock (reader.pending ++ g.taken) frame after.pending
+              g.next.0,
+        )
 
     -- the frame was served
     pub goes_on : (new : Hub) → IsServed n m a.frames frame (Ok new) → IsAlong lo lm o m after new
@@ -234,7 +250,7 @@ module _ (lo ln o n : Option (List ℕ)) (reader : Reading) (hub : Hub) (a : IsA
     whole_session others end reads =
         frames_of-Reads (a.taken ++ g.taken) ((a.frames ++ frame ∷ []) ++ others) end (within_all g.taken g.within)
         (Reads-from_Begins start (a.taken ++ g.taken) (a.frames ++ frame ∷ []) after.place after.pending others end
-            one_more reads)
+        one_more reads)
 
     -- the frame wasn't served
     pub ends_in_serve : (ending : Ending) → IsServed n m a.frames frame (Err ending) → IsRun lo lm o m ending
@@ -244,8 +260,8 @@ module _ (lo ln o n : Option (List ℕ)) (reader : Reading) (hub : Hub) (a : IsA
     ends_in_serve WriteFault served =
         let others = some_reading after.place after.pending in
         let front : AppendsFront o m (text (a.frames ++ frame ∷ [])) =
-            subst (AppendsFront o m) (sym (text-push a.frames frame))
-            (front_after o n m (text a.frames) (reply_text a.frames frame) a.written served) in
+        subst (AppendsFront o m) (sym (text-push a.frames frame))
+        (front_after o n m (text a.frames) (reply_text a.frames frame) a.written served) in
         let back = text_after (a.frames ++ frame ∷ []) others.0 in
         record {
           taken = a.taken ++ g.taken;
@@ -285,7 +301,7 @@ clean_within false bytes frames e h = absurd (cc)
 
 never_too_many : (too_much : Bool) (taken : List ℕ) (frames : List Frame) (at : ℕ) → too_much ≡ false
     → MatchBool too_much ((frames ≡ []) × (Bad at TooManyFrames ≡ Bad most_input TooManyFrames))
-        (Reads start taken frames (Bad at TooManyFrames)) → ⊥
+    (Reads start taken frames (Bad at TooManyFrames)) → ⊥
 never_too_many true taken frames at e h = absurd (cc)
 never_too_many false taken frames at e h =
     let last = Begins-from_Reads start taken frames (Bad at TooManyFrames) h in
@@ -301,14 +317,14 @@ not_bad : (bytes rest taken : List ℕ) (o n : Option (List ℕ)) (at : ℕ) (fa
 not_bad bytes rest taken o n at fault frames is h good =
     ⊎_elim
     (λ (own : fault ≡ TooManyFrames). ⊎_elim
-      (λ (much : is_too_much taken ≡ true). clean_within (is_too_much bytes) bytes frames
-        (ap is_too_much is ∙ much_more taken rest much) good)
-      (λ (few : is_too_much taken ≡ false). never_too_many (is_too_much taken) taken h.frames at few
-        (subst (λ told. frames_of taken h.frames (Bad at told)) own h.session))
-      (cases_Bool (is_too_much taken)))
+    (λ (much : is_too_much taken ≡ true). clean_within (is_too_much bytes) bytes frames
+    (ap is_too_much is ∙ much_more taken rest much) good)
+    (λ (few : is_too_much taken ≡ false). never_too_many (is_too_much taken) taken h.frames at few
+    (subst (λ told. frames_of taken h.frames (Bad at told)) own h.session))
+    (cases_Bool (is_too_much taken)))
     (λ (ended : rest ≡ []). same_end bytes frames h.frames at fault good
-      (subst (λ l. frames_of l h.frames (Bad at fault)) (sym (is ∙ ap (λ r. taken ++ r) ended ∙ append-nil taken))
-      h.session))
+    (subst (λ l. frames_of l h.frames (Bad at fault)) (sym (is ∙ ap (λ r. taken ++ r) ended ∙ append-nil taken))
+    h.session))
     h.whole
 
 pub good_isnt_bad : (bytes : List ℕ) (left o n : Option (List ℕ)) (at : ℕ) (fault : SessionFault) (frames : List Frame)
@@ -335,7 +351,7 @@ module _ (left_new o n : Option (List ℕ)) (status read_before read_now write_b
   complete_at : (bytes : List ℕ) (ending : Ending) → status ≡ status_of ending → IsRun (Some bytes) left_new o n ending
       → (ending ≡ ReadFault → Rose read_before read_now) → (ending ≡ WriteFault → Rose write_before write_now)
       → (frames : List Frame) → frames_of bytes frames Clean → (Rose read_before read_now → ⊥)
-          → (Rose write_before write_now → ⊥) → (status ≡ 0) ⊎ (status ≡ 6)
+      → (Rose write_before write_now → ⊥) → (status ≡ 0) ⊎ (status ≡ 6)
   complete_at bytes Done is run reads writes frames good no_read no_write = inl is
   complete_at bytes (BadSession at fault) is run reads writes frames good no_read no_write =
       absurd (good_isnt_bad bytes left_new o n at fault frames run good)
@@ -346,6 +362,6 @@ module _ (left_new o n : Option (List ℕ)) (status read_before read_now write_b
   pub complete : (left : Option (List ℕ)) (ending : Ending) → status ≡ status_of ending → IsRun left left_new o n ending
       → (ending ≡ ReadFault → Rose read_before read_now) → (ending ≡ WriteFault → Rose write_before write_now)
       → IfSome left (λ bytes. (frames : List Frame) → frames_of bytes frames Clean → (Rose read_before read_now → ⊥)
-          → (Rose write_before write_now → ⊥) → (status ≡ 0) ⊎ (status ≡ 6))
+      → (Rose write_before write_now → ⊥) → (status ≡ 0) ⊎ (status ≡ 6))
   complete None ending is run reads writes = tt
   complete (Some bytes) ending is run reads writes = complete_at bytes ending is run reads writes

@@ -50,7 +50,6 @@ impl Hub {
         ensures serves { (frames : List Frame) → HubStandsFor self frames
             → IsFaultless frame → IsInTime (clock_of frames) frame
             → IfOk result (λ r. HubStandsFor r.0 (frames ++ frame ∷ []) × (r.1 ≡ reply_to frames frame)) }
-
     {
         match frame {
             Frame::Log(frame) => {

@@ -13,11 +13,15 @@ index_mut-requires c =
     let uid_fits : SFits w32 new.uid = search rules in
     let id_fits : SFits w64 new.id = search rules in
     let found : Some c.in-Some.at ≡ position_from (is_at new.uid new.id) 0 c.deref.result.now =
-        simp to_z-of_z at c.in-Some.ensures in
+    simp to_z-of_z at c.in-Some.ensures in
     let first = first_at (is_at new.uid new.id) c.in-Some.at c.args.lives.now.items
-        (ap (position_from (is_at new.uid new.id) 0) (sym c.deref.ensures.value) ∙ sym found) in
-    omega (arith, within (is_at new.uid new.id) c.args.lives.now.items c.in-Some.at first, c.deref.ensures.len,
-        ap length c.deref.ensures.value)
+    (ap (position_from (is_at new.uid new.id) 0) (sym c.deref.ensures.value) ∙ sym found) in
+    omega (
+      arith,
+      within (is_at new.uid new.id) c.args.lives.now.items c.in-Some.at first,
+      c.deref.ensures.len,
+      ap length c.deref.ensures.value,
+    )
 
 pub returns-in-Some-clause-lives : goal.returns-in-Some-clause-lives
 returns-in-Some-clause-lives c =
@@ -25,9 +29,9 @@ returns-in-Some-clause-lives c =
     let uid_fits : SFits w32 new.uid = search rules in
     let id_fits : SFits w64 new.id = search rules in
     let found : Some c.in-Some.at ≡ position_from (is_at new.uid new.id) 0 c.deref.result.now =
-        simp to_z-of_z at c.in-Some.ensures in
+    simp to_z-of_z at c.in-Some.ensures in
     let first = first_at (is_at new.uid new.id) c.in-Some.at c.args.lives.now.items
-        (ap (position_from (is_at new.uid new.id) 0) (sym c.deref.ensures.value) ∙ sym found) in
+    (ap (position_from (is_at new.uid new.id) 0) (sym c.deref.ensures.value) ∙ sym found) in
     with_live_set new c.args.lives.now.items c.in-Some.at first
 
 pub returns-in-Some-clause-replaced : goal.returns-in-Some-clause-replaced
@@ -36,9 +40,9 @@ returns-in-Some-clause-replaced c =
     let uid_fits : SFits w32 new.uid = search rules in
     let id_fits : SFits w64 new.id = search rules in
     let found : Some c.in-Some.at ≡ position_from (is_at new.uid new.id) 0 c.deref.result.now =
-        simp to_z-of_z at c.in-Some.ensures in
+    simp to_z-of_z at c.in-Some.ensures in
     let first = first_at (is_at new.uid new.id) c.in-Some.at c.args.lives.now.items
-        (ap (position_from (is_at new.uid new.id) 0) (sym c.deref.ensures.value) ∙ sym found) in
+    (ap (position_from (is_at new.uid new.id) 0) (sym c.deref.ensures.value) ∙ sym found) in
     sym (any_first (is_at new.uid new.id) c.args.lives.now.items c.in-Some.at first)
 
 pub returns-in_ok-push-in-None-clause-lives : goal.returns-in_ok-push-in-None-clause-lives
@@ -47,9 +51,9 @@ returns-in_ok-push-in-None-clause-lives c =
     let uid_fits : SFits w32 new.uid = search rules in
     let id_fits : SFits w64 new.id = search rules in
     let found : None ≡ position_from (is_at new.uid new.id) 0 c.deref.result.now =
-        simp to_z-of_z at c.in-None.ensures in
+    simp to_z-of_z at c.in-None.ensures in
     let none = none_found (is_at new.uid new.id) 0 c.args.lives.now.items
-        (ap (position_from (is_at new.uid new.id) 0) (sym c.deref.ensures.value) ∙ sym found) in
+    (ap (position_from (is_at new.uid new.id) 0) (sym c.deref.ensures.value) ∙ sym found) in
     c.in_ok-push-in-None.ensures.items ∙ with_live_push new c.args.lives.now.items none
 
 pub returns-in_ok-push-in-None-clause-replaced : goal.returns-in_ok-push-in-None-clause-replaced
@@ -58,6 +62,6 @@ returns-in_ok-push-in-None-clause-replaced c =
     let uid_fits : SFits w32 new.uid = search rules in
     let id_fits : SFits w64 new.id = search rules in
     let found : None ≡ position_from (is_at new.uid new.id) 0 c.deref.result.now =
-        simp to_z-of_z at c.in-None.ensures in
+    simp to_z-of_z at c.in-None.ensures in
     sym (none_found (is_at new.uid new.id) 0 c.args.lives.now.items
-        (ap (position_from (is_at new.uid new.id) 0) (sym c.deref.ensures.value) ∙ sym found))
+    (ap (position_from (is_at new.uid new.id) 0) (sym c.deref.ensures.value) ∙ sym found))

@@ -10,4 +10,4 @@ returns c =
     let uid_fits = c.ranges.uid in
     let id_fits = c.ranges.id in
     filter_same _ (λ live. not (is_at c.args.uid c.args.id live)) _ (λ live stays f k. search (rules, to_z-of_z)) _ _
-        c.retain.ensures.filtered
+    c.retain.ensures.filtered

@@ -15,11 +15,11 @@ returns c =
     let id : c.cast_unsigned.result ≡ cast_unsigned w64 shown.metric_id = simp to_z-of_z at c.cast_unsigned.ensures in
     let rows : c.deref.result.now ≡ rows_bytes (row_trees shown.bucket) =
     c.deref.ensures.value ∙ c.in_ok-rows.ensures
-        ∙ ap (λ bucket. rows_bytes (row_trees bucket)) c.as_ref.ensures.value in
+    ∙ ap (λ bucket. rows_bytes (row_trees bucket)) c.as_ref.ensures.value in
     c.into_bytes.ensures
     ∙ four_fields _ _ _ _ _ _ _ _ _ c.new-message.ensures c.in_ok-varint_field.ensures.field
-        c.in_ok-bytes_field.ensures.field c.in_ok-varint_field-2.ensures.field c.in_ok-varint_field-3.ensures.field
+    c.in_ok-bytes_field.ensures.field c.in_ok-varint_field-2.ensures.field c.in_ok-varint_field-3.ensures.field
     ∙ ap (λ bits. varint_field 1 bits ++ (bytes_field 5 c.deref.result.now
-        ++ (varint_field 9 shown.base ++ (varint_field 10 3600000000000 ++ [])))) id
+    ++ (varint_field 9 shown.base ++ (varint_field 10 3600000000000 ++ [])))) id
     ∙ ap (λ all. int_field 1 shown.metric_id ++ (bytes_field 5 all
-        ++ (varint_field 9 shown.base ++ (varint_field 10 3600000000000 ++ [])))) rows
+    ++ (varint_field 9 shown.base ++ (varint_field 10 3600000000000 ++ [])))) rows

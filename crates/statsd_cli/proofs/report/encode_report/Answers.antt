@@ -14,11 +14,11 @@ returns c =
     let uid_fits = c.ranges.uid in
     let id_fits = c.ranges.id in
     let owner : c.in_ok-owner.owner.items ≡ owner_bytes (shown_tree c.args.uid c.args.id shown) =
-        simp to_z-of_z at (c.in_ok-owner.ensures shown) in
+    simp to_z-of_z at (c.in_ok-owner.ensures shown) in
     let config : c.in_ok-config.config.items ≡ config_bytes (shown_tree c.args.uid c.args.id shown) =
-        c.in_ok-config.ensures c.args.uid c.args.id in
+    c.in_ok-config.ensures c.args.uid c.args.id in
     c.from_vec.ensures ∙ c.into_bytes.ensures
     ∙ two_fields _ _ _ _ _ c.new-message.ensures c.in_ok-bytes_field.ensures.field c.in_ok-bytes_field-2.ensures.field
     ∙ ap (λ bytes. bytes_field 1 bytes ++ bytes_field 2 c.deref-2.result.now) (c.deref.ensures.value ∙ owner)
     ∙ ap (λ bytes. bytes_field 1 (owner_bytes (shown_tree c.args.uid c.args.id shown)) ++ bytes_field 2 bytes)
-        (c.deref-2.ensures.value ∙ config)
+    (c.deref-2.ensures.value ∙ config)

@@ -9,7 +9,7 @@ pub returns-in-len1 : goal.returns-in-len1
 returns-in-len1 c =
     let word = c.word-item.result in
     let one : c.args.words.now ≡ word ∷ [] = one_word c.args.words.now word (omega arith) (omega arith) c.word-item.is
-        in
+    in
     let same = slice_eq-Decides Decides-eqb _ _ _ c.eq.ensures in (
       λ yes. one ∙ ap (λ w. w ∷ []) (sym c.as_slice.ensures ∙ same.0 yes ∙ c.as_slice-in-len1.ensures),
       λ is. let bytes : word ≡ codes "replay" = cc (sym one ∙ is) in

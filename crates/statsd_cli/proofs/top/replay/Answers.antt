@@ -5,33 +5,36 @@ use Rattle.statsd_cli.proofs.RunLemmas.{begins_along, clock_along, ends_done, en
 use Rattle.statsd_cli.proofs.top.replay.Goals as goal
 
 pub frames-init : goal.frames-init
-frames-init g c = record { along = begins_along _ _ _ _ c.new-reader.ensures c.new-hub.ensures; reads = omega arith;
-    writes = omega arith }
+frames-init g c = record {
+  along = begins_along _ _ _ _ c.new-reader.ensures c.new-hub.ensures;
+  reads = omega arith;
+  writes = omega arith;
+}
 
 pub returns-in-Err-clause-run : goal.returns-in-Err-clause-run
 returns-in-Err-clause-run g c =
     let along = c.frames.invariant.along in
     rw c.ending_of.ensures (ends_refused _ _ _ _ c.frames.reader c.frames.hub along _ c.in-Err.e
-        (c.in-Err.ensures.refuses along.in_step))
+    (c.in-Err.ensures.refuses along.in_step))
 
 pub returns-in_default-clause-run : goal.returns-in_default-clause-run
 returns-in_default-clause-run g c =
     let along = c.frames.invariant.along in
     ends_done _ _ _ _ c.frames.reader c.frames.hub along _ c.in-Ok.given.0
-        (rw c.in_default.is at (c.in-Ok.ensures.gives along.in_step))
+    (rw c.in_default.is at (c.in-Ok.ensures.gives along.in_step))
 
 pub frames-smaller : goal.frames-smaller
 frames-smaller g c =
     let along = c.frames.invariant.along in
     comes_nearer _ _ _ _ c.frames.reader c.frames.hub along _ c.in-Ok.given.0 c.in-Some.frame
-        (rw c.in-Some.is at (c.in-Ok.ensures.gives along.in_step)) (g.K.Sink.written c.serve.new.out)
+    (rw c.in-Some.is at (c.in-Ok.ensures.gives along.in_step)) (g.K.Sink.written c.serve.new.out)
 
 pub frames-preserved : goal.frames-preserved
 frames-preserved g c =
     let along = c.frames.invariant.along in
     let good = rw c.in-Some.is at c.in-Ok.ensures.faultless in
     let in_time = subst (λ n. IsInTime n c.in-Some.frame) (clock_along _ _ _ _ c.frames.reader c.frames.hub along)
-        good.1 in
+    good.1 in
     record {
       along = goes_on _ _ _ _ c.frames.reader c.frames.hub along _ c.in-Ok.given.0 c.in-Some.frame
           (rw c.in-Some.is at (c.in-Ok.ensures.gives along.in_step)) _ c.in-Ok-serve.served
@@ -45,7 +48,7 @@ returns-in-Err-serve-clause-run g c =
     let along = c.frames.invariant.along in
     let good = rw c.in-Some.is at c.in-Ok.ensures.faultless in
     let in_time = subst (λ n. IsInTime n c.in-Some.frame) (clock_along _ _ _ _ c.frames.reader c.frames.hub along)
-        good.1 in
+    good.1 in
     ends_in_serve _ _ _ _ c.frames.reader c.frames.hub along _ c.in-Ok.given.0 c.in-Some.frame
-        (rw c.in-Some.is at (c.in-Ok.ensures.gives along.in_step)) _ c.in-Err-serve.ending
+    (rw c.in-Some.is at (c.in-Ok.ensures.gives along.in_step)) _ c.in-Err-serve.ending
     (c.in-Err-serve.ensures.serves along.frames along.stands good.0 in_time)

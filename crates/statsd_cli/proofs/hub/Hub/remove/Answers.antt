@@ -17,5 +17,5 @@ returns-clause-lives c =
     let found : c.place_of.result ≡ position_from test 0 c.deref.result.now = simp to_z-of_z at c.place_of.ensures in
     let there : c.is_some-there.result ≡ list_any test c.args.self.now.lives.items =
     c.is_some-there.ensures ∙ ap is_some (found ∙ ap (position_from test 0) c.deref.ensures.value)
-        ∙ some_found test 0 c.args.self.now.lives.items in
+    ∙ some_found test 0 c.args.self.now.lives.items in
     record { left = left; answer = c.remove_answer.ensures ∙ ap (λ b. cond b answers.Removed answers.NoConfig) there }

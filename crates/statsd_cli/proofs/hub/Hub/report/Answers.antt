@@ -21,7 +21,7 @@ returns-in_default-clause-lives c =
     let found : None ≡ position_from test 0 c.deref.result.now = simp to_z-of_z at c.in_default.ensures in
     let none = none_found test 0 old (ap (position_from test 0) (sym c.deref.ensures.value) ∙ sym found) in
     subst (λ live. Reports c.args.self.now.clock c.args.uid c.args.id c.args.include_current live old old
-        answers.NoConfig) (sym (find_none test old none)) (refl, refl)
+    answers.NoConfig) (sym (find_none test old none)) (refl, refl)
 
 pub index_mut-live-requires : goal.index_mut-live-requires
 index_mut-live-requires c =
@@ -30,9 +30,13 @@ index_mut-live-requires c =
     let test = is_at c.args.uid c.args.id in
     let found : Some c.in-Some.at ≡ position_from test 0 c.deref.result.now = simp to_z-of_z at c.in-Some.ensures in
     let first = first_at test c.in-Some.at c.args.self.now.lives.items
-        (ap (position_from test 0) (sym c.deref.ensures.value) ∙ sym found) in
-    omega (arith, within test c.args.self.now.lives.items c.in-Some.at first, c.deref.ensures.len,
-        ap length c.deref.ensures.value)
+    (ap (position_from test 0) (sym c.deref.ensures.value) ∙ sym found) in
+    omega (
+      arith,
+      within test c.args.self.now.lives.items c.in-Some.at first,
+      c.deref.ensures.len,
+      ap length c.deref.ensures.value,
+    )
 
 pub returns-clause-lives : goal.returns-clause-lives
 returns-clause-lives c =
@@ -50,16 +54,17 @@ returns-clause-lives c =
     let first = first_at test at old (ap (position_from test 0) (sym c.deref.ensures.value) ∙ sym found) in
     let here : held ≡ first.here = c.index_mut-live.ensures.value ∙ get_first test old at first held in
     let changed : (let live : Live = record { uid = held.uid; id = held.id; instance = c.report-shown.new.self } in
-        live ≡ reported_live cut now first.here) =
+    live ≡ reported_live cut now first.here) =
     ap (λ it. record { uid = held.uid; id = held.id; instance = it }) c.report-shown.ensures.after
-        ∙ ap (reported_live cut now) here in
+    ∙ ap (reported_live cut now) here in
     let report : c.in_ok-report.report ≡ report_bytes (shown_tree uid id c.report-shown.result) =
-        simp to_z-of_z at c.in_ok-report.ensures in
+    simp to_z-of_z at c.in_ok-report.ensures in
     let shown : c.report-shown.result ≡ shown_by cut now first.here.instance =
-        c.report-shown.ensures.shown ∙ ap (λ (live : Live). shown_by cut now live.instance) here in
+    c.report-shown.ensures.shown ∙ ap (λ (live : Live). shown_by cut now live.instance) here in
     subst (λ live. Reports now uid id cut live old
-        (set old at (record { uid = held.uid; id = held.id; instance = c.report-shown.new.self }))
-        (answers.ReportBytes c.in_ok-report.report))
-    (sym (find_first test old at first))
-    (ap (set old at) changed ∙ sym (at_first_set test (reported_live cut now) old at first),
-        ap answers.ReportBytes (report ∙ ap (λ s. report_bytes (shown_tree uid id s)) shown))
+    (set old at (record { uid = held.uid; id = held.id; instance = c.report-shown.new.self }))
+    (answers.ReportBytes c.in_ok-report.report))
+    (sym (find_first test old at first)) (
+      ap (set old at) changed ∙ sym (at_first_set test (reported_live cut now) old at first),
+      ap answers.ReportBytes (report ∙ ap (λ s. report_bytes (shown_tree uid id s)) shown),
+    )
