@@ -61,7 +61,7 @@ empty = linked_by [] said.empty_config
 cut_record : linked_of_bytes said.cut_bytes ≡ Err (Wire 2 0)
 cut_record = linked_by said.cut_bytes said.cut_config
 
--- an activation of metrics isn't supported, and so on to the end of these rows
+-- What isn't supported is told by its path. First an activation of metrics.
 activation : linked_of_bytes said.activation_bytes ≡ Err (Unsupported (17 ∷ []))
 activation = linked_by said.activation_bytes said.activation_config
 
