@@ -8,4 +8,5 @@ pub mod PassLemmas
 pub mod TreeLemmas
 pub mod ValuesLemmas
 pub mod WalkLemmas
+pub mod WorkedConfigs
 mod WorkedTrees

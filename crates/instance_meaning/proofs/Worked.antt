@@ -1,54 +1,28 @@
--- Worked histories and their reports, by computing.
-use Rattle.std.proofs.Common.{◌≡◌, ℕ, ℤ, pos, negsuc, Bool, true, false, List, [], ◌∷◌, Some, None, refl}
+-- Worked histories, their reports as trees, and keys, by computing. `WorkedReports.antt` has reports as bytes.
+use Rattle.std.proofs.Common.{◌≡◌, ℕ, ℤ, pos, negsuc, true, false, List, [], ◌∷◌, Some, None, refl}
 use Rattle.atom_record.specs.declared.atom.Atom.{Atom}
-use Rattle.atom_record.specs.declared.log.LogFrame.TheVariants.{AtomAt}
 use Rattle.atom_record.specs.declared.value.Value.TheVariants.{Int, Str}
 use Rattle.atom_record.specs.declared.value.Leaf.TheVariants.{Missing, One, Many}
-use Rattle.instance_meaning.specs.Linked.{First, Last, All, Simple, Linked}
+use Rattle.instance_meaning.specs.Linked.{First, Last, All, LeafPath}
 use Rattle.instance_meaning.specs.Keys.{picked_key}
-use Rattle.instance_meaning.specs.History.{Logged, Reported, Step, History, truths_of}
+use Rattle.instance_meaning.specs.History.{Step, History}
 use Rattle.instance_meaning.specs.Report.{NumBucket, NumTree, ReportTree, Counts, report_of}
-use Rattle.instance_meaning.specs.Spelling.{report_bytes}
-use Rattle.proto_wire.specs.Spelling.{varint}
+use Rattle.instance_meaning.proofs.WorkedReports.{counts_of, atom_of, asked}
 
--- a metric that counts atoms of id 5, in buckets of some size
-abbrev counts_of : ℕ → Linked
-counts_of size = record {
-  matchers = Simple 5 ∷ [];
-  metrics = record {
-    id = pos 100;
-    shown = true;
-    what = 0;
-    dims = record { atom_id = 0; leaves = [] };
-    size = size;
-    bound = 800;
-  } ∷ [];
-}
-
-abbrev atom_of : ℕ → ℕ → Step
-atom_of at id = let frame = AtomAt at (record { id = id; fields = [] }) in
-    record { at = at; what = Logged frame; truths = truths_of (counts_of 0) frame }
-
-abbrev asked : ℕ → Bool → Step
-asked at cut = record { at = at; what = Reported cut; truths = [] }
-
+-- what the configuration 7 of the client 10 has seen since 0, in buckets of some size
 abbrev history : ℕ → List Step → History
 history size steps = record { uid = pos 10; id = pos 7; base = 0; linked = counts_of size; steps = steps }
 
--- two atoms, and a report with a cut at 3
-least : report_bytes (report_of (history 3600000000000 (atom_of 2 5 ∷ atom_of 3 5 ∷ [])) true 3) ≡
-    10 ∷ 4 ∷ 8 ∷ 10 ∷ 16 ∷ 7 ∷ 18 ∷ 29 ∷ 10 ∷ 23 ∷ 8 ∷ 100 ∷ 42 ∷ 10 ∷ 10 ∷ 8 ∷ 26 ∷ 6 ∷ 8 ∷ 0 ∷ 16 ∷ 3 ∷ 24 ∷ 2 ∷ 72
-    ∷ 0 ∷ 80 ∷ 128 ∷ 192 ∷ 226 ∷ 133 ∷ 227 ∷ 104 ∷ 24 ∷ 0 ∷ 32 ∷ 3 ∷ []
-unfolding report_bytes report_of varint
-least = refl
-
+-- a bucket with a count
 abbrev bucket : ℕ → ℕ → ℤ → NumBucket
 bucket start end value = record { start = start; end = end; value = value }
 
+-- the rows of a metric without keys: one with these buckets, or none
 abbrev rows : List NumBucket → List NumTree
 rows [] = []
 rows (first ∷ more) = record { leaves = []; slices = []; buckets = first ∷ more } ∷ []
 
+-- the report of such a history, by the clock at the last report, now, and the buckets that are shown
 abbrev tree : ℕ → ℕ → ℕ → List NumBucket → ReportTree
 tree size last now buckets = record {
   uid = pos 10;
@@ -62,8 +36,7 @@ tree size last now buckets = record {
     dropped = 0;
     not_kept = 0;
     missing = 0;
-    body =
-        Counts (rows buckets);
+    body = Counts (rows buckets);
   } ∷ [];
   predicate_drops = [];
   state_drops = [];
@@ -81,8 +54,8 @@ without_a_cut : report_of (history 1000 (atom_of 1 5 ∷ [])) false 1 ≡ tree 1
 unfolding report_of
 without_a_cut = refl
 
-then_a_cut : report_of (history 1000 (atom_of 1 5 ∷ asked 1 false ∷ atom_of 2 5 ∷ [])) true 2 ≡ tree 1000 1 2
-    (bucket 0 2 (pos 2) ∷ [])
+then_a_cut : report_of (history 1000 (atom_of 1 5 ∷ asked 1 false ∷ atom_of 2 5 ∷ [])) true 2
+    ≡ tree 1000 1 2 (bucket 0 2 (pos 2) ∷ [])
 unfolding report_of
 then_a_cut = refl
 
@@ -114,15 +87,22 @@ chain = record {
 }
 
 -- the first, the last, all, a plain field, one that isn't there, and the last index without that inner field
-keys : picked_key (record {
-  atom_id = 10;
-  leaves =
-      record { field = 1; position = Some First; sub = 1 } ∷ record { field = 1; position = Some Last; sub = 1 }
-      ∷ record { field = 1; position = Some All; sub = 1 } ∷ record { field = 3; position = None; sub = 0 }
-      ∷ record { field = 4; position = None; sub = 0 } ∷ record { field = 1; position = Some Last; sub = 2 } ∷ [];
-}) chain
-    ≡ One (Int (pos 1000)) ∷ One (Int (pos 1001)) ∷ Many (Int (pos 1000) ∷ Int (pos 1001) ∷ []) ∷ One (Int (negsuc 0))
-    ∷ Missing ∷ Missing ∷ []
+abbrev six_leaves : List LeafPath
+six_leaves =
+    record { field = 1; position = Some First; sub = 1 }
+    ∷ record { field = 1; position = Some Last; sub = 1 }
+    ∷ record { field = 1; position = Some All; sub = 1 }
+    ∷ record { field = 3; position = None; sub = 0 }
+    ∷ record { field = 4; position = None; sub = 0 }
+    ∷ record { field = 1; position = Some Last; sub = 2 } ∷ []
+
+keys : picked_key (record { atom_id = 10; leaves = six_leaves }) chain
+    ≡ One (Int (pos 1000))
+    ∷ One (Int (pos 1001))
+    ∷ Many (Int (pos 1000) ∷ Int (pos 1001) ∷ [])
+    ∷ One (Int (negsuc 0))
+    ∷ Missing
+    ∷ Missing ∷ []
 keys = refl
 
 -- an atom of another kind has nothing there

@@ -1,5 +1,7 @@
--- Worked sessions, by computing: frames in, replies and their bytes out.
-use Rattle.std.proofs.Common.{◌≡◌, ℕ, ℤ, pos, negsuc, Bool, true, false, List, [], ◌∷◌, Ok, Err, refl}
+-- Worked sessions, by computing: frames in, replies and their bytes out. What the bytes of a configuration say is taken
+-- from the rows of `config_decode`, and the bytes of a report from those of `instance_meaning`.
+use Rattle.std.proofs.Common.{◌≡◌, ℕ, ℤ, pos, negsuc, Bool, true, false, List, [], ◌∷◌, ◌++◌, Result, Ok, Err, refl, ap}
+use Rattle.std.specs.List.{flat_map}
 use Rattle.atom_record.specs.declared.log.LogFrame.TheVariants.{Tick, AtomAt}
 use Rattle.session_frames.specs.declared.frame.Frame.{Frame}
 use Rattle.session_frames.specs.declared.frame.Frame.TheVariants.{Log, Install, Remove, Report}
@@ -7,141 +9,131 @@ use Rattle.session_frames.specs.declared.reply.Reply.{Reply}
 use Rattle.session_frames.specs.declared.reply.ReplyBody.{ReplyBody}
 use Rattle.session_frames.specs.declared.reply.ReplyBody.TheVariants as answers
 use Rattle.session_frames.specs.declared.reply.Refusal.TheVariants.{Wire, Unsupported}
-use Rattle.proto_wire.specs.Spelling.{varint}
-use Rattle.proto_wire.specs.WireReading.{walk_from, walk_turns, inside_at, field_at, field_with, tag_at, tag_of, varint_at, taken_at}
-use Rattle.config_decode.specs.Walk.{walk_of, walk_in as all_levels}
+use Rattle.session_frames.specs.Replies.{reply_bytes}
+use Rattle.config_types.specs.declared.config.Config.{Config}
+use Rattle.config_decode.specs.ConfigFault.{ConfigFault}
 use Rattle.config_decode.specs.Config.{config_of}
-use Rattle.instance_meaning.specs.Report.{report_of}
-use Rattle.instance_meaning.specs.Spelling.{report_bytes}
-use Rattle.session_meaning.specs.Config.{linked_of_bytes, linked_of, other_form}
+use Rattle.config_decode.proofs.WorkedConfigs as said
+use Rattle.instance_meaning.proofs.WorkedReports as shown
+use Rattle.session_meaning.specs.Config.{linked_of_bytes, linked_of, built_of, other_form}
 use Rattle.session_meaning.specs.Answers.{reply_to, replies, text}
 
--- {7: {1: 1, 2: {1: 5}}, 3: {1: 100, 2: 1}}
-abbrev config : List ℕ
-config = 58 ∷ 6 ∷ 8 ∷ 1 ∷ 18 ∷ 2 ∷ 8 ∷ 5 ∷ 26 ∷ 4 ∷ 8 ∷ 100 ∷ 16 ∷ 1 ∷ []
+-- what the bytes of a configuration ask for, by what they say
+linked_by : (bytes : List ℕ) {answer : Result Config ConfigFault}
+    → config_of bytes ≡ answer
+    → linked_of_bytes bytes ≡ built_of answer
+unfolding linked_of_bytes
+linked_by bytes says = ap built_of says
 
-read : linked_of_bytes config ≡ Ok (linked_of 5 (pos 100))
-unfolding linked_of_bytes config_of walk_of all_levels walk_from walk_turns inside_at field_at field_with tag_at tag_of
-    varint_at taken_at
-read = refl
+-- a matcher of the atoms of id 5, and the metric 100 that counts them
+least : linked_of_bytes said.least_bytes ≡ Ok (linked_of 5 (pos 100))
+least = linked_by said.least_bytes said.least_config
 
--- the metric's id is -1, spelled in ten bytes
-below_zero : linked_of_bytes (58 ∷ 6 ∷ 8 ∷ 1 ∷ 18 ∷ 2 ∷ 8 ∷ 5 ∷ 26 ∷ 13 ∷ 8 ∷ 255 ∷ 255 ∷ 255 ∷ 255 ∷ 255 ∷ 255 ∷ 255
-    ∷ 255 ∷ 255 ∷ 1 ∷ 16 ∷ 1 ∷ []) ≡ Ok (linked_of 5 (negsuc 0))
-unfolding linked_of_bytes config_of walk_of all_levels walk_from walk_turns inside_at field_at field_with tag_at tag_of
-    varint_at taken_at
-below_zero = refl
+-- the metric's id is -1
+below_zero : linked_of_bytes said.below_zero_bytes ≡ Ok (linked_of 5 (negsuc 0))
+below_zero = linked_by said.below_zero_bytes said.below_zero_config
 
 -- the matcher's id and the atom's id are spelled in more bytes than they need
-overlong : linked_of_bytes (58 ∷ 9 ∷ 8 ∷ 129 ∷ 0 ∷ 18 ∷ 4 ∷ 8 ∷ 133 ∷ 128 ∷ 0 ∷ 26 ∷ 4 ∷ 8 ∷ 100 ∷ 16 ∷ 1 ∷ []) ≡ Ok
-    (linked_of 5 (pos 100))
-unfolding linked_of_bytes config_of walk_of all_levels walk_from walk_turns inside_at field_at field_with tag_at tag_of
-    varint_at taken_at
-overlong = refl
+overlong : linked_of_bytes said.overlong_bytes ≡ Ok (linked_of 5 (pos 100))
+overlong = linked_by said.overlong_bytes said.overlong_config
 
--- the records in the other order, and a third record of a number that no field has
-other_order : linked_of_bytes (26 ∷ 4 ∷ 8 ∷ 100 ∷ 16 ∷ 1 ∷ 58 ∷ 6 ∷ 8 ∷ 1 ∷ 18 ∷ 2 ∷ 8 ∷ 5 ∷ []) ≡ Ok
-    (linked_of 5 (pos 100))
-unfolding linked_of_bytes config_of walk_of all_levels walk_from walk_turns inside_at field_at field_with tag_at tag_of
-    varint_at taken_at
-other_order = refl
+-- the records stand in the other order
+other_order : linked_of_bytes said.other_order_bytes ≡ Ok (linked_of 5 (pos 100))
+other_order = linked_by said.other_order_bytes said.other_order_config
 
-third_record : linked_of_bytes (58 ∷ 6 ∷ 8 ∷ 1 ∷ 18 ∷ 2 ∷ 8 ∷ 5 ∷ 26 ∷ 4 ∷ 8 ∷ 100 ∷ 16 ∷ 1 ∷ 152 ∷ 6 ∷ 1 ∷ []) ≡ Ok
-    (linked_of 5 (pos 100))
-unfolding linked_of_bytes config_of walk_of all_levels walk_from walk_turns inside_at field_at field_with tag_at tag_of
-    varint_at taken_at
-third_record = refl
+-- there is a third record, of a number that no field has
+third_record : linked_of_bytes said.third_record_bytes ≡ Ok (linked_of 5 (pos 100))
+third_record = linked_by said.third_record_bytes said.third_record_config
 
--- another matcher's id, an atom id of 0, and no bytes
-another_matcher : linked_of_bytes (58 ∷ 6 ∷ 8 ∷ 1 ∷ 18 ∷ 2 ∷ 8 ∷ 5 ∷ 26 ∷ 4 ∷ 8 ∷ 100 ∷ 16 ∷ 2 ∷ []) ≡ Err other_form
-unfolding linked_of_bytes config_of walk_of all_levels walk_from walk_turns inside_at field_at field_with tag_at tag_of
-    varint_at taken_at
-another_matcher = refl
+-- the metric counts what another matcher matches
+another_matcher : linked_of_bytes said.another_matcher_bytes ≡ Err other_form
+another_matcher = linked_by said.another_matcher_bytes said.another_matcher_config
 
-no_atom : linked_of_bytes (58 ∷ 6 ∷ 8 ∷ 1 ∷ 18 ∷ 2 ∷ 8 ∷ 0 ∷ 26 ∷ 4 ∷ 8 ∷ 100 ∷ 16 ∷ 1 ∷ []) ≡ Err other_form
-unfolding linked_of_bytes config_of walk_of all_levels walk_from walk_turns inside_at field_at field_with tag_at tag_of
-    varint_at taken_at
-no_atom = refl
+-- the atom's id is 0
+no_atom : linked_of_bytes said.no_atom_bytes ≡ Err other_form
+no_atom = linked_by said.no_atom_bytes said.no_atom_config
 
+-- there are no bytes
 empty : linked_of_bytes [] ≡ Err other_form
-unfolding linked_of_bytes config_of walk_of all_levels walk_from walk_turns inside_at field_at field_with tag_at tag_of
-    varint_at taken_at
-empty = refl
+empty = linked_by [] said.empty_config
 
 -- a record that is cut
-cut_record : linked_of_bytes (58 ∷ 5 ∷ []) ≡ Err (Wire 2 0)
-unfolding linked_of_bytes config_of walk_of all_levels walk_from walk_turns inside_at field_at field_with tag_at tag_of
-    varint_at taken_at
-cut_record = refl
+cut_record : linked_of_bytes said.cut_bytes ≡ Err (Wire 2 0)
+cut_record = linked_by said.cut_bytes said.cut_config
 
--- what isn't supported: an activation, a bucket of unit 0, a test of a float, an overflow and an activation of a count,
--- an overflow of a value
-activation : linked_of_bytes (138 ∷ 1 ∷ 0 ∷ []) ≡ Err (Unsupported (17 ∷ []))
-unfolding linked_of_bytes config_of walk_of all_levels walk_from walk_turns inside_at field_at field_with tag_at tag_of
-    varint_at taken_at
-activation = refl
+-- What isn't supported is told by its path. First an activation of metrics.
+activation : linked_of_bytes said.activation_bytes ≡ Err (Unsupported (17 ∷ []))
+activation = linked_by said.activation_bytes said.activation_config
 
-bucket_unit : linked_of_bytes (58 ∷ 6 ∷ 8 ∷ 1 ∷ 18 ∷ 2 ∷ 8 ∷ 5 ∷ 26 ∷ 6 ∷ 8 ∷ 100 ∷ 16 ∷ 1 ∷ 40 ∷ 0 ∷ []) ≡ Err
-    (Unsupported (3 ∷ 5 ∷ []))
-unfolding linked_of_bytes config_of walk_of all_levels walk_from walk_turns inside_at field_at field_with tag_at tag_of
-    varint_at taken_at
-bucket_unit = refl
+-- a bucket of unit 0
+bucket_unit : linked_of_bytes said.bucket_unit_bytes ≡ Err (Unsupported (3 ∷ 5 ∷ []))
+bucket_unit = linked_by said.bucket_unit_bytes said.bucket_unit_config
 
-float_test : linked_of_bytes (58 ∷ 15 ∷ 8 ∷ 1 ∷ 18 ∷ 11 ∷ 8 ∷ 5 ∷ 18 ∷ 7 ∷ 8 ∷ 1 ∷ 69 ∷ 0 ∷ 0 ∷ 0 ∷ 0 ∷ []) ≡ Err
-    (Unsupported (7 ∷ 2 ∷ 2 ∷ 8 ∷ []))
-unfolding linked_of_bytes config_of walk_of all_levels walk_from walk_turns inside_at field_at field_with tag_at tag_of
-    varint_at taken_at
-float_test = refl
+-- a test against a float
+float_test : linked_of_bytes said.float_test_bytes ≡ Err (Unsupported (7 ∷ 2 ∷ 2 ∷ 8 ∷ []))
+float_test = linked_by said.float_test_bytes said.float_test_config
 
-overflow_of_count : linked_of_bytes (58 ∷ 6 ∷ 8 ∷ 1 ∷ 18 ∷ 2 ∷ 8 ∷ 5 ∷ 26 ∷ 21 ∷ 8 ∷ 100 ∷ 16 ∷ 1 ∷ 34 ∷ 6 ∷ 8 ∷ 5 ∷ 26
-    ∷ 2 ∷ 8 ∷ 1 ∷ 40 ∷ 232 ∷ 7 ∷ 200 ∷ 62 ∷ 2 ∷ 208 ∷ 62 ∷ 1 ∷ []) ≡ Err (Unsupported (3 ∷ 1002 ∷ []))
-unfolding linked_of_bytes config_of walk_of all_levels walk_from walk_turns inside_at field_at field_with tag_at tag_of
-    varint_at taken_at
-overflow_of_count = refl
+-- an overflow of a metric that counts
+overflow_of_count : linked_of_bytes said.overflow_of_count_bytes ≡ Err (Unsupported (3 ∷ 1002 ∷ []))
+overflow_of_count = linked_by said.overflow_of_count_bytes said.overflow_of_count_config
 
-activation_of_count : linked_of_bytes (58 ∷ 6 ∷ 8 ∷ 1 ∷ 18 ∷ 2 ∷ 8 ∷ 5 ∷ 58 ∷ 6 ∷ 8 ∷ 2 ∷ 18 ∷ 2 ∷ 8 ∷ 6 ∷ 26 ∷ 11 ∷ 8
-    ∷ 100 ∷ 16 ∷ 1 ∷ 146 ∷ 63 ∷ 4 ∷ 8 ∷ 2 ∷ 16 ∷ 1 ∷ []) ≡ Err (Unsupported (3 ∷ 1010 ∷ []))
-unfolding linked_of_bytes config_of walk_of all_levels walk_from walk_turns inside_at field_at field_with tag_at tag_of
-    varint_at taken_at
-activation_of_count = refl
+-- an activation of a metric that counts
+activation_of_count : linked_of_bytes said.activation_of_count_bytes ≡ Err (Unsupported (3 ∷ 1010 ∷ []))
+activation_of_count = linked_by said.activation_of_count_bytes said.activation_of_count_config
 
-overflow_of_value : linked_of_bytes (58 ∷ 6 ∷ 8 ∷ 1 ∷ 18 ∷ 2 ∷ 8 ∷ 5 ∷ 34 ∷ 7 ∷ 8 ∷ 100 ∷ 16 ∷ 1 ∷ 208 ∷ 62 ∷ 1 ∷ [])
-    ≡ Err (Unsupported (4 ∷ 1002 ∷ []))
-unfolding linked_of_bytes config_of walk_of all_levels walk_from walk_turns inside_at field_at field_with tag_at tag_of
-    varint_at taken_at
-overflow_of_value = refl
+-- an overflow of a metric of values
+overflow_of_value : linked_of_bytes said.overflow_of_value_bytes ≡ Err (Unsupported (4 ∷ 1002 ∷ []))
+overflow_of_value = linked_by said.overflow_of_value_bytes said.overflow_of_value_config
 
+-- a client installs its configuration 7
 abbrev install : ℤ → Frame
-install uid = Install uid (pos 7) config
+install uid = Install uid (pos 7) said.least_bytes
 
-abbrev atom : ℕ → ℕ → Frame
-atom at id = Log (AtomAt at (record { id = id; fields = [] }))
+-- a client takes it out
+abbrev remove : ℤ → Frame
+remove uid = Remove uid (pos 7)
 
+-- a client asks for its report, with or without a cut
 abbrev ask : ℤ → Bool → Frame
 ask uid cut = Report uid (pos 7) cut
 
+-- an atom without fields at a time
+abbrev atom : ℕ → ℕ → Frame
+atom at id = Log (AtomAt at (record { id = id; fields = [] }))
+
+-- the reply to a client on its configuration 7
 abbrev reply : ℤ → ReplyBody → Reply
 reply uid body = record { uid = uid; id = pos 7; body = body }
 
--- a report of uid 10: the clock at the last report, now, and the rows' bytes
-abbrev least_report : List ℕ
-least_report = 10 ∷ 4 ∷ 8 ∷ 10 ∷ 16 ∷ 7 ∷ 18 ∷ 29 ∷ 10 ∷ 23 ∷ 8 ∷ 100 ∷ 42 ∷ 10 ∷ 10 ∷ 8 ∷ 26 ∷ 6 ∷ 8 ∷ 0 ∷ 16 ∷ 3 ∷ 24
-    ∷ 2 ∷ 72 ∷ 0 ∷ 80 ∷ 128 ∷ 192 ∷ 226 ∷ 133 ∷ 227 ∷ 104 ∷ 24 ∷ 0 ∷ 32 ∷ 3 ∷ []
+-- the reply with a report
+abbrev reported : ℤ → List ℕ → Reply
+reported uid report = reply uid (answers.ReportBytes report)
 
 -- an install, two atoms and a report with a cut
-least_session : replies (install (pos 10) ∷ atom 2 5 ∷ atom 3 5 ∷ ask (pos 10) true ∷ []) ≡ reply (pos 10)
-    answers.Installed ∷ reply (pos 10) (answers.ReportBytes least_report) ∷ []
-unfolding reply_to report_bytes report_of varint linked_of_bytes config_of walk_of all_levels walk_from walk_turns
-    inside_at field_at field_with tag_at tag_of varint_at taken_at
-least_session = refl
+abbrev least_session : List Frame
+least_session = install (pos 10) ∷ atom 2 5 ∷ atom 3 5 ∷ ask (pos 10) true ∷ []
 
-least_text : text (install (pos 10) ∷ atom 2 5 ∷ atom 3 5 ∷ ask (pos 10) true ∷ []) ≡ 13 ∷ 0 ∷ 0 ∷ 0 ∷ 0 ∷ 0 ∷ 0 ∷ 0 ∷ 1
-    ∷ 10 ∷ 0 ∷ 0 ∷ 0 ∷ 7 ∷ 0 ∷ 0 ∷ 0 ∷ 0 ∷ 0 ∷ 0 ∷ 0 ∷ 50 ∷ 0 ∷ 0 ∷ 0 ∷ 0 ∷ 0 ∷ 0 ∷ 0 ∷ 6 ∷ 10 ∷ 0 ∷ 0 ∷ 0 ∷ 7 ∷ 0 ∷ 0
-    ∷ 0 ∷ 0 ∷ 0 ∷ 0 ∷ 0 ∷ 10 ∷ 4 ∷ 8 ∷ 10 ∷ 16 ∷ 7 ∷ 18 ∷ 29 ∷ 10 ∷ 23 ∷ 8 ∷ 100 ∷ 42 ∷ 10 ∷ 10 ∷ 8 ∷ 26 ∷ 6 ∷ 8 ∷ 0
-    ∷ 16 ∷ 3 ∷ 24 ∷ 2 ∷ 72 ∷ 0 ∷ 80 ∷ 128 ∷ 192 ∷ 226 ∷ 133 ∷ 227 ∷ 104 ∷ 24 ∷ 0 ∷ 32 ∷ 3 ∷ []
-unfolding text reply_to report_bytes report_of varint linked_of_bytes config_of walk_of all_levels walk_from walk_turns
-    inside_at field_at field_with tag_at tag_of varint_at taken_at
-least_text = refl
+-- its replies
+abbrev least_replies : List Reply
+least_replies = reply (pos 10) answers.Installed ∷ reported (pos 10) shown.least_report ∷ []
+
+least_replied : replies least_session ≡ least_replies
+unfolding reply_to
+least_replied = rw least (rw shown.least_reported refl)
+
+-- 13 bytes: installed, the uid 10, the configuration 7
+abbrev installed_bytes : List ℕ
+installed_bytes = 13 ∷ 0 ∷ 0 ∷ 0 ∷ 0 ∷ 0 ∷ 0 ∷ 0 ∷ 1 ∷ 10 ∷ 0 ∷ 0 ∷ 0 ∷ 7 ∷ 0 ∷ 0 ∷ 0 ∷ 0 ∷ 0 ∷ 0 ∷ 0 ∷ []
+
+-- 50 bytes: a report, the uid 10, the configuration 7, and the report's 37 bytes
+abbrev reported_bytes : List ℕ
+reported_bytes =
+    50 ∷ 0 ∷ 0 ∷ 0 ∷ 0 ∷ 0 ∷ 0 ∷ 0 ∷ 6 ∷ 10 ∷ 0 ∷ 0 ∷ 0 ∷ 7 ∷ 0 ∷ 0 ∷ 0 ∷ 0 ∷ 0 ∷ 0 ∷ 0 ∷ shown.least_report
+
+-- the bytes of the two replies
+least_text : text least_session ≡ installed_bytes ++ reported_bytes
+unfolding text
+least_text = ap (flat_map reply_bytes) least_replied
 
 -- no configuration
 no_config : replies (ask (pos 10) false ∷ []) ≡ reply (pos 10) answers.NoConfig ∷ []
@@ -149,80 +141,118 @@ unfolding reply_to
 no_config = refl
 
 -- a report without a cut shows no row, and the count goes on to the next, which cuts
-cut_later : replies (install (pos 10) ∷ atom 2 5 ∷ ask (pos 10) false ∷ atom 3 5 ∷ ask (pos 10) true ∷ []) ≡ reply
-    (pos 10) answers.Installed ∷ reply (pos 10)
-    (answers.ReportBytes (10 ∷ 4 ∷ 8 ∷ 10 ∷ 16 ∷ 7 ∷ 18 ∷ 19 ∷ 10 ∷ 13 ∷ 8 ∷ 100 ∷ 42 ∷ 0 ∷ 72 ∷ 0 ∷ 80 ∷ 128 ∷ 192
-    ∷ 226 ∷ 133 ∷ 227 ∷ 104 ∷ 24 ∷ 0 ∷ 32 ∷ 2 ∷ []))
-    ∷ reply (pos 10) (answers.ReportBytes (10 ∷ 4 ∷ 8 ∷ 10 ∷ 16 ∷ 7 ∷ 18 ∷ 29 ∷ 10 ∷ 23 ∷ 8 ∷ 100 ∷ 42 ∷ 10 ∷ 10 ∷ 8
-    ∷ 26 ∷ 6 ∷ 8 ∷ 0 ∷ 16 ∷ 3 ∷ 24 ∷ 2 ∷ 72 ∷ 0 ∷ 80 ∷ 128 ∷ 192 ∷ 226 ∷ 133 ∷ 227 ∷ 104 ∷ 24 ∷ 2 ∷ 32 ∷ 3 ∷ [])) ∷ []
-unfolding reply_to report_bytes report_of varint linked_of_bytes config_of walk_of all_levels walk_from walk_turns
-    inside_at field_at field_with tag_at tag_of varint_at taken_at
-cut_later = refl
+abbrev cut_later_session : List Frame
+cut_later_session = install (pos 10) ∷ atom 2 5 ∷ ask (pos 10) false ∷ atom 3 5 ∷ ask (pos 10) true ∷ []
+
+-- its replies
+abbrev cut_later_replies : List Reply
+cut_later_replies =
+    reply (pos 10) answers.Installed
+    ∷ reported (pos 10) shown.uncut_report
+    ∷ reported (pos 10) shown.cut_later_report ∷ []
+
+cut_later : replies cut_later_session ≡ cut_later_replies
+unfolding reply_to
+cut_later = rw least (rw shown.uncut_reported (rw shown.cut_later_reported refl))
 
 -- two reports with a cut at one time: the part between them has no length and no row
-two_cuts : replies (install (pos 10) ∷ atom 2 5 ∷ ask (pos 10) true ∷ ask (pos 10) true ∷ []) ≡ reply (pos 10)
-    answers.Installed ∷ reply (pos 10) (answers.ReportBytes
-    (10 ∷ 4 ∷ 8 ∷ 10 ∷ 16 ∷ 7 ∷ 18 ∷ 29 ∷ 10 ∷ 23 ∷ 8 ∷ 100 ∷ 42 ∷ 10 ∷ 10 ∷ 8 ∷ 26 ∷ 6 ∷ 8 ∷ 0 ∷ 16 ∷ 2 ∷ 24 ∷ 1 ∷ 72
-    ∷ 0 ∷ 80 ∷ 128 ∷ 192 ∷ 226 ∷ 133 ∷ 227 ∷ 104 ∷ 24 ∷ 0 ∷ 32 ∷ 2 ∷ []))
-    ∷ reply (pos 10) (answers.ReportBytes (10 ∷ 4 ∷ 8 ∷ 10 ∷ 16 ∷ 7 ∷ 18 ∷ 19 ∷ 10 ∷ 13 ∷ 8 ∷ 100 ∷ 42 ∷ 0 ∷ 72 ∷ 0 ∷ 80
-    ∷ 128 ∷ 192 ∷ 226 ∷ 133 ∷ 227 ∷ 104 ∷ 24 ∷ 2 ∷ 32 ∷ 2 ∷ [])) ∷ []
-unfolding reply_to report_bytes report_of varint linked_of_bytes config_of walk_of all_levels walk_from walk_turns
-    inside_at field_at field_with tag_at tag_of varint_at taken_at
-two_cuts = refl
+abbrev two_cuts_session : List Frame
+two_cuts_session = install (pos 10) ∷ atom 2 5 ∷ ask (pos 10) true ∷ ask (pos 10) true ∷ []
+
+-- its replies
+abbrev two_cuts_replies : List Reply
+two_cuts_replies =
+    reply (pos 10) answers.Installed
+    ∷ reported (pos 10) shown.one_atom_report
+    ∷ reported (pos 10) shown.second_cut_report ∷ []
+
+two_cuts : replies two_cuts_session ≡ two_cuts_replies
+unfolding reply_to
+two_cuts = rw least (rw shown.one_atom_reported (rw shown.second_cut_reported refl))
 
 -- an install of the same id takes the count with it, and the base is the clock
-replaced : replies (install (pos 10) ∷ atom 2 5 ∷ install (pos 10) ∷ atom 3 5 ∷ ask (pos 10) true ∷ []) ≡ reply (pos 10)
-    answers.Installed ∷ reply (pos 10) answers.Replaced
-    ∷ reply (pos 10) (answers.ReportBytes (10 ∷ 4 ∷ 8 ∷ 10 ∷ 16 ∷ 7 ∷ 18 ∷ 29 ∷ 10 ∷ 23 ∷ 8 ∷ 100 ∷ 42 ∷ 10 ∷ 10 ∷ 8
-    ∷ 26 ∷ 6 ∷ 8 ∷ 2 ∷ 16 ∷ 3 ∷ 24 ∷ 1 ∷ 72 ∷ 2 ∷ 80 ∷ 128 ∷ 192 ∷ 226 ∷ 133 ∷ 227 ∷ 104 ∷ 24 ∷ 2 ∷ 32 ∷ 3 ∷ [])) ∷ []
-unfolding reply_to report_bytes report_of varint linked_of_bytes config_of walk_of all_levels walk_from walk_turns
-    inside_at field_at field_with tag_at tag_of varint_at taken_at
-replaced = refl
+abbrev replaced_session : List Frame
+replaced_session = install (pos 10) ∷ atom 2 5 ∷ install (pos 10) ∷ atom 3 5 ∷ ask (pos 10) true ∷ []
+
+-- its replies
+abbrev replaced_replies : List Reply
+replaced_replies =
+    reply (pos 10) answers.Installed
+    ∷ reply (pos 10) answers.Replaced
+    ∷ reported (pos 10) (shown.since_two_report 10) ∷ []
+
+replaced : replies replaced_session ≡ replaced_replies
+unfolding reply_to
+replaced = rw least (rw shown.since_two_reported refl)
 
 -- two clients with the same id
-two_clients : replies (install (pos 10) ∷ atom 2 5 ∷ install (pos 20) ∷ atom 3 5 ∷ ask (pos 20) true ∷ ask (pos 10) true
-    ∷ []) ≡ reply (pos 10) answers.Installed ∷ reply (pos 20) answers.Installed
-    ∷ reply (pos 20) (answers.ReportBytes (10 ∷ 4 ∷ 8 ∷ 20 ∷ 16 ∷ 7 ∷ 18 ∷ 29 ∷ 10 ∷ 23 ∷ 8 ∷ 100 ∷ 42 ∷ 10 ∷ 10 ∷ 8
-    ∷ 26 ∷ 6 ∷ 8 ∷ 2 ∷ 16 ∷ 3 ∷ 24 ∷ 1 ∷ 72 ∷ 2 ∷ 80 ∷ 128 ∷ 192 ∷ 226 ∷ 133 ∷ 227 ∷ 104 ∷ 24 ∷ 2 ∷ 32 ∷ 3 ∷ []))
-    ∷ reply (pos 10) (answers.ReportBytes (10 ∷ 4 ∷ 8 ∷ 10 ∷ 16 ∷ 7 ∷ 18 ∷ 29 ∷ 10 ∷ 23 ∷ 8 ∷ 100 ∷ 42 ∷ 10 ∷ 10 ∷ 8
-    ∷ 26 ∷ 6 ∷ 8 ∷ 0 ∷ 16 ∷ 3 ∷ 24 ∷ 2 ∷ 72 ∷ 0 ∷ 80 ∷ 128 ∷ 192 ∷ 226 ∷ 133 ∷ 227 ∷ 104 ∷ 24 ∷ 0 ∷ 32 ∷ 3 ∷ [])) ∷ []
-unfolding reply_to report_bytes report_of varint linked_of_bytes config_of walk_of all_levels walk_from walk_turns
-    inside_at field_at field_with tag_at tag_of varint_at taken_at
-two_clients = refl
+abbrev two_clients_session : List Frame
+two_clients_session =
+    install (pos 10) ∷ atom 2 5 ∷ install (pos 20) ∷ atom 3 5 ∷ ask (pos 20) true ∷ ask (pos 10) true ∷ []
+
+-- its replies
+abbrev two_clients_replies : List Reply
+two_clients_replies =
+    reply (pos 10) answers.Installed
+    ∷ reply (pos 20) answers.Installed
+    ∷ reported (pos 20) (shown.since_two_report 20)
+    ∷ reported (pos 10) shown.least_report ∷ []
+
+two_clients : replies two_clients_session ≡ two_clients_replies
+unfolding reply_to
+two_clients = rw least (rw shown.since_two_reported_to_twenty (rw shown.least_reported refl))
 
 -- an atom of another id is not counted
-other_atom : replies (install (pos 10) ∷ atom 2 6 ∷ atom 3 5 ∷ ask (pos 10) true ∷ []) ≡ reply (pos 10)
-    answers.Installed ∷ reply (pos 10) (answers.ReportBytes
-    (10 ∷ 4 ∷ 8 ∷ 10 ∷ 16 ∷ 7 ∷ 18 ∷ 29 ∷ 10 ∷ 23 ∷ 8 ∷ 100 ∷ 42 ∷ 10 ∷ 10 ∷ 8 ∷ 26 ∷ 6 ∷ 8 ∷ 0 ∷ 16 ∷ 3 ∷ 24 ∷ 1 ∷ 72
-    ∷ 0 ∷ 80 ∷ 128 ∷ 192 ∷ 226 ∷ 133 ∷ 227 ∷ 104 ∷ 24 ∷ 0 ∷ 32 ∷ 3 ∷ [])) ∷ []
-unfolding reply_to report_bytes report_of varint linked_of_bytes config_of walk_of all_levels walk_from walk_turns
-    inside_at field_at field_with tag_at tag_of varint_at taken_at
-other_atom = refl
+abbrev other_atom_session : List Frame
+other_atom_session = install (pos 10) ∷ atom 2 6 ∷ atom 3 5 ∷ ask (pos 10) true ∷ []
+
+other_atom : replies other_atom_session
+    ≡ reply (pos 10) answers.Installed ∷ reported (pos 10) shown.other_atom_report ∷ []
+unfolding reply_to
+other_atom = rw least (rw shown.other_atom_reported refl)
 
 -- a refused install changes nothing
-refused : replies (install (pos 10) ∷ atom 2 5 ∷ Install (pos 10) (pos 7) [] ∷ ask (pos 10) true ∷ []) ≡ reply (pos 10)
-    answers.Installed ∷ reply (pos 10) (answers.Refused other_form)
-    ∷ reply (pos 10) (answers.ReportBytes (10 ∷ 4 ∷ 8 ∷ 10 ∷ 16 ∷ 7 ∷ 18 ∷ 29 ∷ 10 ∷ 23 ∷ 8 ∷ 100 ∷ 42 ∷ 10 ∷ 10 ∷ 8
-    ∷ 26 ∷ 6 ∷ 8 ∷ 0 ∷ 16 ∷ 2 ∷ 24 ∷ 1 ∷ 72 ∷ 0 ∷ 80 ∷ 128 ∷ 192 ∷ 226 ∷ 133 ∷ 227 ∷ 104 ∷ 24 ∷ 0 ∷ 32 ∷ 2 ∷ [])) ∷ []
-unfolding reply_to report_bytes report_of varint linked_of_bytes config_of walk_of all_levels walk_from walk_turns
-    inside_at field_at field_with tag_at tag_of varint_at taken_at
-refused = refl
+abbrev refused_session : List Frame
+refused_session = install (pos 10) ∷ atom 2 5 ∷ Install (pos 10) (pos 7) [] ∷ ask (pos 10) true ∷ []
+
+-- its replies
+abbrev refused_replies : List Reply
+refused_replies =
+    reply (pos 10) answers.Installed
+    ∷ reply (pos 10) (answers.Refused other_form)
+    ∷ reported (pos 10) shown.one_atom_report ∷ []
+
+refused : replies refused_session ≡ refused_replies
+unfolding reply_to
+refused = rw least (rw empty (rw shown.one_atom_reported refl))
 
 -- a configuration is taken out; then there is none
-removed : replies (install (pos 10) ∷ Remove (pos 10) (pos 7) ∷ ask (pos 10) true ∷ Remove (pos 10) (pos 7) ∷ [])
-    ≡ reply (pos 10) answers.Installed ∷ reply (pos 10) answers.Removed ∷ reply (pos 10) answers.NoConfig
-    ∷ reply (pos 10) answers.NoConfig ∷ []
-unfolding reply_to report_bytes report_of varint linked_of_bytes config_of walk_of all_levels walk_from walk_turns
-    inside_at field_at field_with tag_at tag_of varint_at taken_at
-removed = refl
+abbrev removed_session : List Frame
+removed_session = install (pos 10) ∷ remove (pos 10) ∷ ask (pos 10) true ∷ remove (pos 10) ∷ []
 
--- two crossed ends, by an atom and by a tick
-two_ends : replies (install (pos 10) ∷ atom 1 5 ∷ atom 3600000000001 5 ∷ atom 3600000000002 5 ∷ Log (Tick 7200000000000)
-    ∷ ask (pos 10) false ∷ []) ≡ reply (pos 10) answers.Installed
-    ∷ reply (pos 10) (answers.ReportBytes (10 ∷ 4 ∷ 8 ∷ 10 ∷ 16 ∷ 7 ∷ 18 ∷ 59 ∷ 10 ∷ 47 ∷ 8 ∷ 100 ∷ 42 ∷ 34 ∷ 10 ∷ 32
-    ∷ 26 ∷ 11 ∷ 8 ∷ 0 ∷ 16 ∷ 128 ∷ 192 ∷ 226 ∷ 133 ∷ 227 ∷ 104 ∷ 24 ∷ 1 ∷ 26 ∷ 17 ∷ 8 ∷ 128 ∷ 192 ∷ 226 ∷ 133 ∷ 227
-    ∷ 104 ∷ 16 ∷ 128 ∷ 128 ∷ 197 ∷ 139 ∷ 198 ∷ 209 ∷ 1 ∷ 24 ∷ 2 ∷ 72 ∷ 0 ∷ 80 ∷ 128 ∷ 192 ∷ 226 ∷ 133 ∷ 227 ∷ 104 ∷ 24
-    ∷ 0 ∷ 32 ∷ 128 ∷ 128 ∷ 197 ∷ 139 ∷ 198 ∷ 209 ∷ 1 ∷ [])) ∷ []
-unfolding reply_to report_bytes report_of varint linked_of_bytes config_of walk_of all_levels walk_from walk_turns
-    inside_at field_at field_with tag_at tag_of varint_at taken_at
-two_ends = refl
+-- its replies
+abbrev removed_replies : List Reply
+removed_replies =
+    reply (pos 10) answers.Installed
+    ∷ reply (pos 10) answers.Removed
+    ∷ reply (pos 10) answers.NoConfig
+    ∷ reply (pos 10) answers.NoConfig ∷ []
+
+removed : replies removed_session ≡ removed_replies
+unfolding reply_to
+removed = rw least refl
+
+-- two crossed ends, by an atom and by a tick; an hour is 3,600,000,000,000 nanoseconds
+abbrev two_ends_session : List Frame
+two_ends_session =
+    install (pos 10)
+    ∷ atom 1 5
+    ∷ atom 3600000000001 5
+    ∷ atom 3600000000002 5
+    ∷ Log (Tick 7200000000000)
+    ∷ ask (pos 10) false ∷ []
+
+two_ends : replies two_ends_session
+    ≡ reply (pos 10) answers.Installed ∷ reported (pos 10) shown.two_ends_report ∷ []
+unfolding reply_to
+two_ends = rw least (rw shown.two_ends_reported refl)

@@ -1,0 +1,233 @@
+-- Worked configurations, by computing: what their bytes say, or why they are refused. The crates above take their rows
+-- from these. In a comment, {7: {1: 1}} is a message whose field 7 holds a message whose field 1 is 1.
+use Rattle.std.proofs.Common.{◌≡◌, ℕ, ℤ, pos, negsuc, List, [], ◌∷◌, ◌++◌, Some, None, Ok, Err, refl}
+use Rattle.proto_wire.specs.WireReading.{inside_at, walk_from, walk_turns, field_at, field_with, tag_at, tag_of, varint_at, taken_at}
+use Rattle.config_types.specs.declared.config.Config.{Config}
+use Rattle.config_types.specs.declared.matcher.MatcherBody.TheVariants as matcher
+use Rattle.config_types.specs.declared.matcher.MatcherDef.{MatcherDef}
+use Rattle.config_types.specs.declared.metric.CountDef.{CountDef}
+use Rattle.config_decode.specs.ConfigFault.{Wire, Unsupported}
+use Rattle.config_decode.specs.Walk as whole
+use Rattle.config_decode.specs.Walk.{walk_of}
+use Rattle.config_decode.specs.Config.{config_of}
+
+-- a configuration with nothing but matchers and metrics that count
+abbrev pub tree_with : List MatcherDef → List CountDef → Config
+tree_with matchers counts = record {
+  matchers = matchers;
+  predicates = [];
+  states = [];
+  events = [];
+  counts = counts;
+  values = [];
+  gauges = [];
+  durations = [];
+  no_report = [];
+}
+
+-- a matcher of this id, which matches the atoms of an id
+abbrev pub atom_matcher : ℤ → ℤ → MatcherDef
+atom_matcher id atom_id = record {
+  id = Some id;
+  body = Some (matcher.Simple (record { atom_id = Some atom_id; tests = [] }));
+}
+
+-- a metric of this id, which counts what a matcher matches
+abbrev pub plain_count : ℤ → ℤ → CountDef
+plain_count id what = record {
+  common = record { id = Some id; what = Some what; condition = None; links = [] };
+  sliced = record { dims = None; bucket = None; bound = None; slices = []; state_links = [] };
+}
+
+-- the matcher 1, of the atoms of id 5: {7: {1: 1, 2: {1: 5}}}
+abbrev pub matcher_bytes : List ℕ
+matcher_bytes = 58 ∷ 6 ∷ 8 ∷ 1 ∷ 18 ∷ 2 ∷ 8 ∷ 5 ∷ []
+
+-- the metric 100, which counts what the matcher 1 matches: {3: {1: 100, 2: 1}}
+abbrev pub count_bytes : List ℕ
+count_bytes = 26 ∷ 4 ∷ 8 ∷ 100 ∷ 16 ∷ 1 ∷ []
+
+-- this matcher and this metric
+abbrev pub least_bytes : List ℕ
+least_bytes = matcher_bytes ++ count_bytes
+
+-- what they say
+abbrev pub least_tree : Config
+least_tree = tree_with (atom_matcher (pos 1) (pos 5) ∷ []) (plain_count (pos 100) (pos 1) ∷ [])
+
+pub least_config : config_of least_bytes ≡ Ok least_tree
+unfolding config_of walk_of whole.walk_in inside_at
+    walk_from walk_turns field_at field_with tag_at tag_of varint_at taken_at
+least_config = refl
+
+-- the metric's id is -1, which is spelled in ten bytes: {3: {1: -1, 2: 1}}
+abbrev pub below_zero_bytes : List ℕ
+below_zero_bytes =
+    matcher_bytes
+    ++ 26 ∷ 13 ∷ 8 ∷ 255 ∷ 255 ∷ 255 ∷ 255 ∷ 255 ∷ 255 ∷ 255 ∷ 255 ∷ 255 ∷ 1 ∷ 16 ∷ 1 ∷ []
+
+-- what they say
+abbrev pub below_zero_tree : Config
+below_zero_tree = tree_with (atom_matcher (pos 1) (pos 5) ∷ []) (plain_count (negsuc 0) (pos 1) ∷ [])
+
+pub below_zero_config : config_of below_zero_bytes ≡ Ok below_zero_tree
+unfolding config_of walk_of whole.walk_in inside_at
+    walk_from walk_turns field_at field_with tag_at tag_of varint_at taken_at
+below_zero_config = refl
+
+-- the matcher's id 1 is spelled as 129, 0, and the atom's id 5 as 133, 128, 0
+abbrev pub overlong_bytes : List ℕ
+overlong_bytes = 58 ∷ 9 ∷ 8 ∷ 129 ∷ 0 ∷ 18 ∷ 4 ∷ 8 ∷ 133 ∷ 128 ∷ 0 ∷ count_bytes
+
+pub overlong_config : config_of overlong_bytes ≡ Ok least_tree
+unfolding config_of walk_of whole.walk_in inside_at
+    walk_from walk_turns field_at field_with tag_at tag_of varint_at taken_at
+overlong_config = refl
+
+-- the metric before its matcher
+abbrev pub other_order_bytes : List ℕ
+other_order_bytes = count_bytes ++ matcher_bytes
+
+pub other_order_config : config_of other_order_bytes ≡ Ok least_tree
+unfolding config_of walk_of whole.walk_in inside_at
+    walk_from walk_turns field_at field_with tag_at tag_of varint_at taken_at
+other_order_config = refl
+
+-- a third record, of a number that no field has: {99: 1}
+abbrev pub third_record_bytes : List ℕ
+third_record_bytes = least_bytes ++ 152 ∷ 6 ∷ 1 ∷ []
+
+pub third_record_config : config_of third_record_bytes ≡ Ok least_tree
+unfolding config_of walk_of whole.walk_in inside_at
+    walk_from walk_turns field_at field_with tag_at tag_of varint_at taken_at
+third_record_config = refl
+
+-- all the other way round: {99: 1, 3: {2: 1, 1: 100}, 7: {2: {1: 5}, 1: 1}}
+abbrev turned_round_bytes : List ℕ
+turned_round_bytes =
+    152 ∷ 6 ∷ 1
+    ∷ 26 ∷ 4 ∷ 16 ∷ 1 ∷ 8 ∷ 100
+    ∷ 58 ∷ 6 ∷ 18 ∷ 2 ∷ 8 ∷ 5 ∷ 8 ∷ 1 ∷ []
+
+turned_round : config_of turned_round_bytes ≡ Ok least_tree
+unfolding config_of walk_of whole.walk_in inside_at
+    walk_from walk_turns field_at field_with tag_at tag_of varint_at taken_at
+turned_round = refl
+
+-- the metric counts what a matcher 2 matches, of which there is none: {3: {1: 100, 2: 2}}
+abbrev pub another_matcher_bytes : List ℕ
+another_matcher_bytes = matcher_bytes ++ 26 ∷ 4 ∷ 8 ∷ 100 ∷ 16 ∷ 2 ∷ []
+
+-- what they say
+abbrev pub another_matcher_tree : Config
+another_matcher_tree = tree_with (atom_matcher (pos 1) (pos 5) ∷ []) (plain_count (pos 100) (pos 2) ∷ [])
+
+pub another_matcher_config : config_of another_matcher_bytes ≡ Ok another_matcher_tree
+unfolding config_of walk_of whole.walk_in inside_at
+    walk_from walk_turns field_at field_with tag_at tag_of varint_at taken_at
+another_matcher_config = refl
+
+-- the matcher names the atom's id 0, which no atom has: {7: {1: 1, 2: {1: 0}}}
+abbrev pub no_atom_bytes : List ℕ
+no_atom_bytes = 58 ∷ 6 ∷ 8 ∷ 1 ∷ 18 ∷ 2 ∷ 8 ∷ 0 ∷ count_bytes
+
+-- what they say
+abbrev pub no_atom_tree : Config
+no_atom_tree = tree_with (atom_matcher (pos 1) (pos 0) ∷ []) (plain_count (pos 100) (pos 1) ∷ [])
+
+pub no_atom_config : config_of no_atom_bytes ≡ Ok no_atom_tree
+unfolding config_of walk_of whole.walk_in inside_at
+    walk_from walk_turns field_at field_with tag_at tag_of varint_at taken_at
+no_atom_config = refl
+
+-- no bytes are a configuration that asks for nothing
+pub empty_config : config_of [] ≡ Ok (tree_with [] [])
+unfolding config_of walk_of whole.walk_in walk_from walk_turns
+empty_config = refl
+
+-- a record of field 7 with five bytes, of which there are none
+abbrev pub cut_bytes : List ℕ
+cut_bytes = 58 ∷ 5 ∷ []
+
+pub cut_config : config_of cut_bytes ≡ Err (Wire (record { offset = 0; cause = 2 }))
+unfolding config_of walk_of whole.walk_in inside_at
+    walk_from walk_turns field_at field_with tag_at tag_of varint_at taken_at
+cut_config = refl
+
+-- a fault of the wire format is told before what isn't supported, which here is {7: {4: 1}}
+fault_wins : config_of (58 ∷ 2 ∷ 32 ∷ 1 ∷ cut_bytes) ≡ Err (Wire (record { offset = 4; cause = 2 }))
+unfolding config_of walk_of whole.walk_in inside_at
+    walk_from walk_turns field_at field_with tag_at tag_of varint_at taken_at
+fault_wins = refl
+
+-- an activation of metrics: {17: {}}
+abbrev pub activation_bytes : List ℕ
+activation_bytes = 138 ∷ 1 ∷ 0 ∷ []
+
+pub activation_config : config_of activation_bytes ≡ Err (Unsupported (17 ∷ []))
+unfolding config_of walk_of whole.walk_in inside_at
+    walk_from walk_turns field_at field_with tag_at tag_of varint_at taken_at
+activation_config = refl
+
+-- the metric's buckets are of unit 0: {3: {1: 100, 2: 1, 5: 0}}
+abbrev pub bucket_unit_bytes : List ℕ
+bucket_unit_bytes = matcher_bytes ++ 26 ∷ 6 ∷ 8 ∷ 100 ∷ 16 ∷ 1 ∷ 40 ∷ 0 ∷ []
+
+pub bucket_unit_config : config_of bucket_unit_bytes ≡ Err (Unsupported (3 ∷ 5 ∷ []))
+unfolding config_of walk_of whole.walk_in inside_at
+    walk_from walk_turns field_at field_with tag_at tag_of varint_at taken_at
+bucket_unit_config = refl
+
+-- a bucket of a unit that isn't there, and then one of an hour: {3: {5: 10, 5: 5}}
+strict : config_of (26 ∷ 4 ∷ 40 ∷ 10 ∷ 40 ∷ 5 ∷ []) ≡ Err (Unsupported (3 ∷ 5 ∷ []))
+unfolding config_of walk_of whole.walk_in inside_at
+    walk_from walk_turns field_at field_with tag_at tag_of varint_at taken_at
+strict = refl
+
+-- the matcher tests that the field 1 is below a float: {7: {1: 1, 2: {1: 5, 2: {1: 1, 8: 0.0}}}}
+abbrev pub float_test_bytes : List ℕ
+float_test_bytes = 58 ∷ 15 ∷ 8 ∷ 1 ∷ 18 ∷ 11 ∷ 8 ∷ 5 ∷ 18 ∷ 7 ∷ 8 ∷ 1 ∷ 69 ∷ 0 ∷ 0 ∷ 0 ∷ 0 ∷ []
+
+pub float_test_config : config_of float_test_bytes ≡ Err (Unsupported (7 ∷ 2 ∷ 2 ∷ 8 ∷ []))
+unfolding config_of walk_of whole.walk_in inside_at
+    walk_from walk_turns field_at field_with tag_at tag_of varint_at taken_at
+float_test_config = refl
+
+-- A metric that counts by the field 1 of atom 5, in buckets of a second (the unit 1000), with two keys at most and an
+-- overflow: {3: {1: 100, 2: 1, 4: {1: 5, 3: {1: 1}}, 5: 1000, 1001: 2, 1002: 1}}
+abbrev pub overflow_of_count_bytes : List ℕ
+overflow_of_count_bytes =
+    matcher_bytes
+    ++ 26 ∷ 21 ∷ 8 ∷ 100 ∷ 16 ∷ 1
+    ∷ 34 ∷ 6 ∷ 8 ∷ 5 ∷ 26 ∷ 2 ∷ 8 ∷ 1
+    ∷ 40 ∷ 232 ∷ 7
+    ∷ 200 ∷ 62 ∷ 2
+    ∷ 208 ∷ 62 ∷ 1 ∷ []
+
+pub overflow_of_count_config : config_of overflow_of_count_bytes ≡ Err (Unsupported (3 ∷ 1002 ∷ []))
+unfolding config_of walk_of whole.walk_in inside_at
+    walk_from walk_turns field_at field_with tag_at tag_of varint_at taken_at
+overflow_of_count_config = refl
+
+-- A second matcher, and a metric with an activation by it:
+-- {7: {1: 1, 2: {1: 5}}, 7: {1: 2, 2: {1: 6}}, 3: {1: 100, 2: 1, 1010: {1: 2, 2: 1}}}
+abbrev pub activation_of_count_bytes : List ℕ
+activation_of_count_bytes =
+    matcher_bytes
+    ++ 58 ∷ 6 ∷ 8 ∷ 2 ∷ 18 ∷ 2 ∷ 8 ∷ 6
+    ∷ 26 ∷ 11 ∷ 8 ∷ 100 ∷ 16 ∷ 1
+    ∷ 146 ∷ 63 ∷ 4 ∷ 8 ∷ 2 ∷ 16 ∷ 1 ∷ []
+
+pub activation_of_count_config : config_of activation_of_count_bytes ≡ Err (Unsupported (3 ∷ 1010 ∷ []))
+unfolding config_of walk_of whole.walk_in inside_at
+    walk_from walk_turns field_at field_with tag_at tag_of varint_at taken_at
+activation_of_count_config = refl
+
+-- a value metric that has an overflow: {4: {1: 100, 2: 1, 1002: 1}}
+abbrev pub overflow_of_value_bytes : List ℕ
+overflow_of_value_bytes = matcher_bytes ++ 34 ∷ 7 ∷ 8 ∷ 100 ∷ 16 ∷ 1 ∷ 208 ∷ 62 ∷ 1 ∷ []
+
+pub overflow_of_value_config : config_of overflow_of_value_bytes ≡ Err (Unsupported (4 ∷ 1002 ∷ []))
+unfolding config_of walk_of whole.walk_in inside_at
+    walk_from walk_turns field_at field_with tag_at tag_of varint_at taken_at
+overflow_of_value_config = refl
