@@ -1,11 +1,14 @@
 -- Entries are read one after the other, for the loop of `entries_of`: each takes a byte at least,
 -- so turns that are left over change nothing.
-use Rattle.std.proofs.Common.{◌≡◌, ℕ, zero, suc, ◌≤◌, ◌<◌, Bool, true, false, not, ◌||◌, List, [], ◌∷◌, ◌++◌, length, Result, Ok, Err, refl, ap, ◌∙◌, arith, length-drop}
+use Rattle.std.proofs.Common.{◌≡◌, ℕ, zero, suc, ◌≤◌, ◌<◌, Bool, true, false, not, ◌||◌, List, [], ◌∷◌, ◌++◌, length, take, drop, Option, Result, Ok, Err, refl, ap, ◌∙◌, arith, length-drop}
 use Rattle.std.proofs.lemmas.List.Folds.{list_any-append}
 use Rattle.std.specs.Prelude.{if◌then◌else◌, nat_lt, ◌==◌}
-use Rattle.std.specs.Int.{Width, w16, w32, w64, byte_len}
+use Rattle.std.specs.Int.{Width, w16, w32, w64, byte_len, from_le_bytes}
 use Rattle.std.specs.List.{list_any}
+use Rattle.std.specs.Option.{ok_or, option_and_then}
 use Rattle.sd_base.specs.Reads.{◌>>=◌, FailsBy}
+use Rattle.sd_base.specs.Numbers.{front_bytes}
+use Rattle.sd_base.proofs.ReadsLemmas.{choice-holds}
 use Rattle.atom_record.specs.declared.atom.AtomField.{AtomField}
 use Rattle.atom_record.specs.declared.fault.AtomFault.{AtomFault}
 use Rattle.atom_record.specs.declared.fault.AtomFault.TheVariants.{Bad, Memory}
@@ -13,20 +16,13 @@ use Rattle.atom_record.specs.declared.parse.Place.{Place}
 use Rattle.atom_record.specs.declared.parse.Kind.{Kind}
 use Rattle.atom_record.specs.declared.parse.Kind.TheVariants as kinds
 use Rattle.atom_record.specs.Flags.{is_exclusive}
+use Rattle.atom_record.specs.AtomReasons.{reason_cut}
 use Rattle.atom_record.specs.AtomReading.{reason_of, number_at, text_at, bool_at, kind_at, value_at, is_in_range, is_after_last, may_have, entry_at, entries_in, entries_at}
 
 -- what was read leaves so many bytes at most
 abbrev pub Leaves : {X F : Type 0} → ℕ → Result (X × List ℕ) F → Type 0
 Leaves most (Ok x) = length x.1 ≤ most
 Leaves most (Err fault) = Unit {0}
-
--- a choice leaves no more than both of its sides
-Leaves-if : {X F : Type 0} (most : ℕ) (test : Bool) (x y : Result (X × List ℕ) F)
-    → Leaves most x
-    → Leaves most y
-    → Leaves most (if test then x else y)
-Leaves-if most true x y p q = p
-Leaves-if most false x y p q = q
 
 -- a reading after another leaves no more than it, if it leaves no more than what it is given
 Leaves-then : {X Y F : Type 0} (most : ℕ) (read : Result (X × List ℕ) F) (next : X × List ℕ → Result (Y × List ℕ) F)
@@ -39,21 +35,29 @@ Leaves-then most (Err fault) next p q = tt
 -- a number leaves no more bytes than there were
 number_leaves : (width : Width) (bytes : List ℕ) → Leaves (length bytes) (number_at width bytes)
 number_leaves width bytes =
-    Leaves-if (length bytes) (nat_lt (length bytes) (byte_len width)) _ _ tt
-    (omega (arith, length-drop (byte_len width) bytes))
+    choice-holds (λ (found : Option (ℕ × List ℕ)). Leaves (length bytes) (ok_or found reason_cut))
+    (nat_lt (length bytes) (byte_len width)) _ _ (λ _. tt) (λ _. omega (arith, length-drop (byte_len width) bytes))
 
 -- a truth leaves no more bytes than there were
 bool_leaves : (bytes : List ℕ) → Leaves (length bytes) (bool_at bytes)
 bool_leaves [] = tt
 bool_leaves (byte ∷ bytes) =
-    Leaves-if (suc (length bytes)) (byte == 0) _ _ (omega arith)
-    (Leaves-if (suc (length bytes)) (byte == 1) _ _ (omega arith) tt)
+    let leaves : Result (Bool × List ℕ) ℕ → Type 0 = Leaves (suc (length bytes)) in
+    choice-holds leaves (byte == 0) _ _ (λ _. omega arith)
+    (λ _. choice-holds leaves (byte == 1) _ _ (λ _. omega arith) (λ _. tt))
 
 -- a text leaves no more bytes than there were
 text_leaves : (bytes : List ℕ) → Leaves (length bytes) (text_at bytes)
 unfolding text_at
-text_leaves bytes = Leaves-then (length bytes) (number_at w16 bytes) _ (number_leaves w16 bytes)
-    (λ len le. Leaves-if (length bytes) (nat_lt (length len.1) len.0) _ _ tt (omega (arith, length-drop len.0 len.1)))
+text_leaves bytes =
+    let size = byte_len w16 in
+    let leaves : Option (ℕ × List ℕ) → Type 0 = λ count. Leaves (length bytes)
+    (ok_or (option_and_then (λ c. front_bytes c.0 c.1) count) reason_cut) in
+    choice-holds leaves (nat_lt (length bytes) size) _ _ (λ _. tt)
+    (λ _. choice-holds (λ (found : Option (List ℕ × List ℕ)). Leaves (length bytes) (ok_or found reason_cut))
+    (nat_lt (length (drop size bytes)) (from_le_bytes w16 (take size bytes))) _ _ (λ _. tt)
+    (λ _. omega (arith, length-drop size bytes,
+    length-drop (from_le_bytes w16 (take size bytes)) (drop size bytes))))
 
 -- a value leaves no more bytes than there were
 value_leaves : (kind : Kind) (bytes : List ℕ) → Leaves (length bytes) (value_at kind bytes)
@@ -88,11 +92,12 @@ entry_leaves : (before : List AtomField) (field index sub flags number : ℕ) (b
 unfolding entry_at
 entry_leaves before field index sub flags number bytes =
     let place : Place = record { field = field; index = index; sub = sub } in
-    Leaves-if (length bytes) (not (is_in_range place)) _ _ tt
-    (Leaves-if (length bytes) (not (is_after_last before place)) _ _ tt
-    (Leaves-after (length bytes) (kind_at number) _ (λ kind.
-    Leaves-if (length bytes) (not (may_have (list_any is_exclusive before) place kind flags)) _ _ tt
-    (Leaves-then (length bytes) (value_at kind bytes) _ (value_leaves kind bytes) (λ value le. le)))))
+    let leaves : Result (AtomField × List ℕ) ℕ → Type 0 = Leaves (length bytes) in
+    choice-holds leaves (not (is_in_range place)) _ _ (λ _. tt)
+    (λ _. choice-holds leaves (not (is_after_last before place)) _ _ (λ _. tt)
+    (λ _. Leaves-after (length bytes) (kind_at number) _
+    (λ kind. choice-holds leaves (not (may_have (list_any is_exclusive before) place kind flags)) _ _ (λ _. tt)
+    (λ _. Leaves-then (length bytes) (value_at kind bytes) _ (value_leaves kind bytes) (λ value le. le)))))
 
 -- no entry is read where there is no byte
 none_in_nothing : (before : List AtomField) (x : AtomField × List ℕ) → entry_at before [] ≡ Ok x → ⊥

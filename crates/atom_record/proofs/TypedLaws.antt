@@ -7,7 +7,8 @@ use Rattle.atom_record.specs.AtomReading.{kind_at, value_at}
 use Rattle.atom_record.specs.AtomSpelling.{type_of}
 use Rattle.atom_record.specs.AtomSound.{IsInRange}
 use Rattle.atom_record.specs.TypedValue.{typed_bytes, typed_at, HasShortText}
-use Rattle.atom_record.proofs.AtomReadingParts.{IsBytes, IsBytes-rest, bind_ok, Takes}
+use Rattle.sd_base.proofs.ReadsLemmas.{bind-ok}
+use Rattle.sd_base.proofs.NumbersLemmas.{IsBytes, IsBytes-rest, Takes}
 use Rattle.atom_record.proofs.AtomReadingValues.{value_takes, value_again, type_is, kind_takes, kind_again, number_of}
 
 -- what was read fits its bytes and is spelled so
@@ -16,7 +17,7 @@ pub typed_takes : (bytes : List ℕ) (x : Value × List ℕ) → IsBytes bytes �
 unfolding typed_at
 typed_takes [] x fits read = absurd cc
 typed_takes (number ∷ bytes) x fits read =
-    let kind = bind_ok (kind_at number) (λ kind. value_at kind bytes) x read in
+    let kind = bind-ok (kind_at number) (λ kind. value_at kind bytes) x read in
     let took = value_takes kind.0 bytes x (IsBytes-rest number bytes fits) kind.2 in
     let named : number ≡ type_of x.0 = kind_takes number kind.0 kind.1 ∙ ap number_of (sym took.same)
     ∙ sym (type_is x.0) in (
