@@ -4,11 +4,11 @@ use Rattle.std.proofs.Common.{◌≡◌, ℕ, List, [], ◌∷◌, ◌++◌, Ok,
 use Rattle.atom_record.specs.declared.value.Value.{Value}
 use Rattle.atom_record.specs.declared.value.Value.TheVariants as values
 use Rattle.atom_record.specs.AtomReading.{kind_at, value_at}
-use Rattle.atom_record.specs.AtomSpelling.{type_of}
+use Rattle.atom_record.specs.AtomSpelling.{type_of, value_bytes}
 use Rattle.atom_record.specs.AtomSound.{IsInRange}
 use Rattle.atom_record.specs.TypedValue.{typed_bytes, typed_at, HasShortText}
 use Rattle.sd_base.proofs.ReadsLemmas.{bind-ok}
-use Rattle.sd_base.proofs.NumbersLemmas.{IsBytes, IsBytes-rest, Takes}
+use Rattle.sd_base.proofs.NumbersLemmas.{IsBytes, IsBytes-rest, Takes, Takes-byte}
 use Rattle.atom_record.proofs.AtomReadingValues.{value_takes, value_again, type_is, kind_takes, kind_again, number_of}
 
 -- what was read fits its bytes and is spelled so
@@ -21,11 +21,7 @@ typed_takes (number ∷ bytes) x fits read =
     let took = value_takes kind.0 bytes x (IsBytes-rest number bytes fits) kind.2 in
     let named : number ≡ type_of x.0 = kind_takes number kind.0 kind.1 ∙ ap number_of (sym took.same)
     ∙ sym (type_is x.0) in (
-      record {
-        parts = ap (λ (b : ℕ). b ∷ bytes) named ∙ ap (λ (l : List ℕ). type_of x.0 ∷ l) took.took.parts;
-        fits =
-            took.took.fits;
-      },
+      rw named (Takes-byte (type_of x.0) bytes (value_bytes x.0) x.1 took.took),
       took.fits,
     )
 

@@ -12,8 +12,9 @@ use Rattle.sd_base.specs.Reads.{FailsBy}
 use Rattle.flat_form.specs.ItemReading.{no_item_of, item_at}
 use Rattle.flat_form.specs.ItemSpelling.{spelled_item, spelled_items}
 use Rattle.flat_form.specs.ItemRange.{CanBeSpelled, AreRead, ReadsItems}
-use Rattle.atom_record.proofs.AtomReadingParts.{IsBytes}
-use Rattle.flat_form.proofs.ItemReadingLaws.{ok_is, IsItem, item_takes, item_again}
+use Rattle.sd_base.proofs.ReadsLemmas.{ok-same}
+use Rattle.sd_base.proofs.NumbersLemmas.{IsBytes}
+use Rattle.flat_form.proofs.ItemReadingLaws.{IsItem, item_takes, item_again}
 
 -- the items are the front of the others
 pub record IsFrontOf (items others : List Item) : Type 0 where
@@ -104,7 +105,7 @@ goes_on bytes items rest item after has some read =
           let start = first_of_rest rest at.more some (left_of bytes items rest has others spelled at)
           (each_left items others at.more at.parts each) in
           let same : start.first ≡ item = ap (λ (z : Item × List ℕ). z.0)
-          (ok_is (start.first, spelled_items start.others) (item, after) (sym start.read ∙ read)) in
+          (ok-same (start.first, spelled_items start.others) (item, after) (sym start.read ∙ read)) in
           record {
             more = start.others;
             parts = at.parts ∙ ap (λ (l : List Item). items ++ l) start.is
