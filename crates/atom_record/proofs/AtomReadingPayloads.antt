@@ -89,8 +89,8 @@ id_takes : (bytes : List ℕ) (x : ℕ × List ℕ)
     → Takes bytes (to_le_bytes w32 x.0) x.1 × IsAtomId x.0
 unfolding id_at
 id_takes bytes x fits read =
-    let id = bind-ok (ok_or (front_number w32 bytes) reason_bad_id) (λ id. if not (is_atom_id id.0) then Err reason_bad_id
-    else Ok id) x read in
+    let id = bind-ok (ok_or (front_number w32 bytes) reason_bad_id)
+    (λ id. if not (is_atom_id id.0) then Err reason_bad_id else Ok id) x read in
     let may = choice-passed (not (is_atom_id id.0.0)) reason_bad_id (Ok id.0) x id.2 in
     let parts = and_parts (nat_lt 0 id.0.0) (nat_lt id.0.0 end_of_ids) (not-false (is_atom_id id.0.0) may.0) in
     let took = front_number-takes w32 (2 ^ 32) wide32 bytes id.0 fits

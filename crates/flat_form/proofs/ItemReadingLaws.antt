@@ -156,10 +156,10 @@ leaf_takes [] x fits read = absurd cc
 leaf_takes (tag ∷ bytes) x fits read =
     let rest : IsBytes bytes = IsBytes-rest tag bytes fits in
     let is_read : Leaf × List ℕ → Type 0 = λ y. Takes (tag ∷ bytes) (spelled_leaf y.0) y.1 × IsLeaf y.0 in
-    elim (choice-side (tag == 0) (Ok (Missing, bytes)) _ (Ok x) read) [
+    elim (choice-side (tag == 0) _ _ (Ok x) read) [
       | inl this ↦ subst is_read (ok-same (Missing, bytes) x this.1)
           (tagged tag 0 bytes [] bytes this.0 (record { parts = refl; fits = rest }), (tt, tt))
-      | inr other ↦ elim (choice-side (tag == 1) (value_in bytes >>= λ value. Ok (One value.0, value.1)) _ (Ok x) other.1) [
+      | inr other ↦ elim (choice-side (tag == 1) _ _ (Ok x) other.1) [
         | inl this ↦
             let value = bind-ok (value_in bytes) (λ value. Ok (One value.0, value.1)) x this.1 in
             let took = value_takes bytes value.0 rest value.1 in
@@ -167,18 +167,17 @@ leaf_takes (tag ∷ bytes) x fits read =
               tagged tag 1 bytes (typed_bytes value.0.0) value.0.1 this.0 took.0,
               (short_value value.0.0 took.1, took.1),
             )
-        | inr third ↦ elim (choice-side (tag == 2) (values_at bytes >>= λ all. Ok (Many all.0, all.1)) (Err Unspelled)
-            (Ok x) third.1) [
-              | inl this ↦
-                  let all = bind-ok (values_at bytes) (λ all. Ok (Many all.0, all.1)) x this.1 in
-                  let took = values_takes bytes all.0 rest all.1 in
-                  subst is_read (ok-same (Many all.0.0, all.0.1) x all.2) (
-                    tagged tag 2 bytes (to_le_bytes w16 (length all.0.0) ++ flat_map typed_bytes all.0.0) all.0.1 this.0
-                        took.0,
-                    ((took.2, λ k d less. short_value _ (took.1 k d less)), took.1),
-                  )
-              | inr never ↦ let bad = never.1 in absurd cc
-            ]
+        | inr third ↦ elim (choice-side (tag == 2) _ _ (Ok x) third.1) [
+          | inl this ↦
+              let all = bind-ok (values_at bytes) (λ all. Ok (Many all.0, all.1)) x this.1 in
+              let took = values_takes bytes all.0 rest all.1 in
+              subst is_read (ok-same (Many all.0.0, all.0.1) x all.2) (
+                tagged tag 2 bytes (to_le_bytes w16 (length all.0.0) ++ flat_map typed_bytes all.0.0) all.0.1 this.0
+                    took.0,
+                ((took.2, λ k d less. short_value _ (took.1 k d less)), took.1),
+              )
+          | inr never ↦ let bad = never.1 in absurd cc
+        ]
       ]
     ]
 
@@ -197,8 +196,7 @@ slice_takes [] x fits read = absurd cc
 slice_takes (tag ∷ bytes) x fits read =
     let rest : IsBytes bytes = IsBytes-rest tag bytes fits in
     let is_read : Slice × List ℕ → Type 0 = λ y. Takes (tag ∷ bytes) (spelled_slice y.0) y.1 × IsSliceInRange y.0 in
-    elim (choice-side (tag == 1) (item_uint_at w32 bytes >>= λ id. item_uint_at w32 id.1 >>= λ value. Ok
-    (Plain id.0 (cast_signed w32 value.0), value.1)) _ (Ok x) read) [
+    elim (choice-side (tag == 1) _ _ (Ok x) read) [
       | inl this ↦
           let id = bind-ok (item_uint_at w32 bytes) (λ id. item_uint_at w32 id.1 >>= λ value. Ok
           (Plain id.0 (cast_signed w32 value.0), value.1)) x this.1 in
@@ -213,24 +211,23 @@ slice_takes (tag ∷ bytes) x fits read =
                 (to_le_bytes w32 (cast_unsigned w32 (cast_signed w32 value.0.0))) value.0.1 first.0 spelled),
             (first.1, signed32 value.0.0 second.1),
           )
-      | inr other ↦ elim (choice-side (tag == 2) (item_uint_at w32 bytes >>= λ id. item_uint_at w64 id.1 >>= λ group. Ok
-          (Group id.0 (cast_signed w64 group.0), group.1)) (Err Unspelled) (Ok x) other.1) [
-            | inl this ↦
-                let id = bind-ok (item_uint_at w32 bytes) (λ id. item_uint_at w64 id.1 >>= λ group. Ok
-                (Group id.0 (cast_signed w64 group.0), group.1)) x this.1 in
-                let group = bind-ok (item_uint_at w64 id.0.1)
-                (λ group. Ok (Group id.0.0 (cast_signed w64 group.0), group.1)) x id.2 in
-                let first = uint_takes w32 (2 ^ 32) wide32 bytes id.0 rest id.1 in
-                let second = uint_takes w64 (2 ^ 64) wide64 id.0.1 group.0 first.0.fits group.1 in
-                let spelled : Takes id.0.1 (to_le_bytes w64 (cast_unsigned w64 (cast_signed w64 group.0.0))) group.0.1 =
-                rw (of_z-to_z w64 group.0.0 second.1) second.0 in
-                subst is_read (ok-same (Group id.0.0 (cast_signed w64 group.0.0), group.0.1) x group.2) (
-                  tagged tag 2 bytes _ group.0.1 this.0 (Takes-then bytes (to_le_bytes w32 id.0.0) id.0.1
-                      (to_le_bytes w64 (cast_unsigned w64 (cast_signed w64 group.0.0))) group.0.1 first.0 spelled),
-                  (first.1, signed64 group.0.0 second.1),
-                )
-            | inr never ↦ let bad = never.1 in absurd cc
-          ]
+      | inr other ↦ elim (choice-side (tag == 2) _ _ (Ok x) other.1) [
+        | inl this ↦
+            let id = bind-ok (item_uint_at w32 bytes) (λ id. item_uint_at w64 id.1 >>= λ group. Ok
+            (Group id.0 (cast_signed w64 group.0), group.1)) x this.1 in
+            let group = bind-ok (item_uint_at w64 id.0.1)
+            (λ group. Ok (Group id.0.0 (cast_signed w64 group.0), group.1)) x id.2 in
+            let first = uint_takes w32 (2 ^ 32) wide32 bytes id.0 rest id.1 in
+            let second = uint_takes w64 (2 ^ 64) wide64 id.0.1 group.0 first.0.fits group.1 in
+            let spelled : Takes id.0.1 (to_le_bytes w64 (cast_unsigned w64 (cast_signed w64 group.0.0))) group.0.1 =
+            rw (of_z-to_z w64 group.0.0 second.1) second.0 in
+            subst is_read (ok-same (Group id.0.0 (cast_signed w64 group.0.0), group.0.1) x group.2) (
+              tagged tag 2 bytes _ group.0.1 this.0 (Takes-then bytes (to_le_bytes w32 id.0.0) id.0.1
+                  (to_le_bytes w64 (cast_unsigned w64 (cast_signed w64 group.0.0))) group.0.1 first.0 spelled),
+              (first.1, signed64 group.0.0 second.1),
+            )
+        | inr never ↦ let bad = never.1 in absurd cc
+      ]
     ]
 
 -- a slice that is spelled is read again
@@ -319,13 +316,13 @@ item_takes [] x fits read = absurd cc
 item_takes (tag ∷ bytes) x fits read =
     let rest : IsBytes bytes = IsBytes-rest tag bytes fits in
     let is_read : Item × List ℕ → Type 0 = λ y. Takes (tag ∷ bytes) (spelled_item y.0) y.1 × IsItem y.0 in
-    elim (choice-side (tag == 1) (item_uint_at w64 bytes >>= λ number. Ok (Num number.0, number.1)) _ (Ok x) read) [
+    elim (choice-side (tag == 1) _ _ (Ok x) read) [
       | inl this ↦
           let number = bind-ok (item_uint_at w64 bytes) (λ number. Ok (Num number.0, number.1)) x this.1 in
           let took = uint_takes w64 (2 ^ 64) wide64 bytes number.0 rest number.1 in
           subst is_read (ok-same (Num number.0.0, number.0.1) x number.2)
           (tagged tag 1 bytes (to_le_bytes w64 number.0.0) number.0.1 this.0 took.0, (tt, took.1))
-      | inr second ↦ elim (choice-side (tag == 2) (dims_at bytes >>= λ dims. Ok (Dims dims.0, dims.1)) _ (Ok x) second.1) [
+      | inr second ↦ elim (choice-side (tag == 2) _ _ (Ok x) second.1) [
         | inl this ↦
             let dims = bind-ok (dims_at bytes) (λ dims. Ok (Dims dims.0, dims.1)) x this.1 in
             let took = dims_takes bytes dims.0 rest dims.1 in
@@ -334,45 +331,41 @@ item_takes (tag ∷ bytes) x fits read =
                   took.0,
               ((took.2, λ k d less. (took.1 k d less).0), λ k d less. (took.1 k d less).1),
             )
-        | inr third ↦ elim (choice-side (tag == 3) (slices_at bytes >>= λ slices. Ok (Slices slices.0, slices.1)) _
-            (Ok x) third.1) [
+        | inr third ↦ elim (choice-side (tag == 3) _ _ (Ok x) third.1) [
+          | inl this ↦
+              let slices = bind-ok (slices_at bytes) (λ slices. Ok (Slices slices.0, slices.1)) x this.1 in
+              let took = slices_takes bytes slices.0 rest slices.1 in
+              subst is_read (ok-same (Slices slices.0.0, slices.0.1) x slices.2) (
+                tagged tag 3 bytes (length slices.0.0 ∷ flat_map spelled_slice slices.0.0) slices.0.1 this.0 took.0,
+                (took.2, took.1),
+              )
+          | inr fourth ↦ elim (choice-side (tag == 4) _ _ (Ok x) fourth.1) [
+            | inl this ↦
+                let payload = bind-ok (counted_at w16 bytes)
+                (λ payload. without_reason (atom_at payload.0) >>= λ atom. Ok
+                (AtomItem atom, payload.1)) x this.1 in
+                let atom = bind-ok (without_reason (atom_at payload.0.0))
+                (λ atom. Ok (AtomItem atom, payload.0.1)) x payload.2 in
+                let took = counted_takes w16 (2 ^ 16) wide16 bytes payload.0 rest payload.1 in
+                let sound = atom_takes payload.0.0 atom.0 took.2 (kept (atom_at payload.0.0) atom.0 atom.1) in
+                let spelled : Takes bytes (sized_bytes (payload_of atom.0)) payload.0.1 =
+                subst (λ (t : List ℕ). Takes bytes (sized_bytes t) payload.0.1) sound.1 took.0 in
+                subst is_read (ok-same (AtomItem atom.0, payload.0.1) x atom.2)
+                (tagged tag 4 bytes (sized_bytes (payload_of atom.0)) payload.0.1 this.0 spelled, (sound.0, tt))
+            | inr fifth ↦ elim (choice-side (tag == 5) _ _ (Ok x) fifth.1) [
               | inl this ↦
-                  let slices = bind-ok (slices_at bytes) (λ slices. Ok (Slices slices.0, slices.1)) x this.1 in
-                  let took = slices_takes bytes slices.0 rest slices.1 in
-                  subst is_read (ok-same (Slices slices.0.0, slices.0.1) x slices.2) (
-                    tagged tag 3 bytes (length slices.0.0 ∷ flat_map spelled_slice slices.0.0) slices.0.1 this.0 took.0,
-                    (took.2, took.1),
+                  let chunk = bind-ok (counted_at w32 bytes) (λ chunk. Ok (Chunk chunk.0, chunk.1)) x this.1
+                  in
+                  let took = counted_takes w32 (2 ^ 32) wide32 bytes chunk.0 rest chunk.1 in
+                  subst is_read (ok-same (Chunk chunk.0.0, chunk.0.1) x chunk.2) (
+                    tagged tag 5 bytes (to_le_bytes w32 (length chunk.0.0) ++ chunk.0.0) chunk.0.1 this.0
+                        took.0,
+                    (took.1, tt),
                   )
-              | inr fourth ↦ elim (choice-side (tag == 4) (counted_at w16 bytes >>= λ payload. without_reason
-                  (atom_at payload.0) >>= λ atom. Ok (AtomItem atom, payload.1)) _ (Ok x) fourth.1) [
-                    | inl this ↦
-                        let payload = bind-ok (counted_at w16 bytes)
-                        (λ payload. without_reason (atom_at payload.0) >>= λ atom. Ok
-                        (AtomItem atom, payload.1)) x this.1 in
-                        let atom = bind-ok (without_reason (atom_at payload.0.0))
-                        (λ atom. Ok (AtomItem atom, payload.0.1)) x payload.2 in
-                        let took = counted_takes w16 (2 ^ 16) wide16 bytes payload.0 rest payload.1 in
-                        let sound = atom_takes payload.0.0 atom.0 took.2 (kept (atom_at payload.0.0) atom.0 atom.1) in
-                        let spelled : Takes bytes (sized_bytes (payload_of atom.0)) payload.0.1 =
-                        subst (λ (t : List ℕ). Takes bytes (sized_bytes t) payload.0.1) sound.1 took.0 in
-                        subst is_read (ok-same (AtomItem atom.0, payload.0.1) x atom.2)
-                        (tagged tag 4 bytes (sized_bytes (payload_of atom.0)) payload.0.1 this.0 spelled, (sound.0, tt))
-                    | inr fifth ↦ elim (choice-side (tag == 5)
-                        (counted_at w32 bytes >>= λ chunk. Ok (Chunk chunk.0, chunk.1))
-                        (Err Unspelled) (Ok x) fifth.1) [
-                          | inl this ↦
-                              let chunk = bind-ok (counted_at w32 bytes) (λ chunk. Ok (Chunk chunk.0, chunk.1)) x this.1
-                              in
-                              let took = counted_takes w32 (2 ^ 32) wide32 bytes chunk.0 rest chunk.1 in
-                              subst is_read (ok-same (Chunk chunk.0.0, chunk.0.1) x chunk.2) (
-                                tagged tag 5 bytes (to_le_bytes w32 (length chunk.0.0) ++ chunk.0.0) chunk.0.1 this.0
-                                    took.0,
-                                (took.1, tt),
-                              )
-                          | inr never ↦ let bad = never.1 in absurd cc
-                        ]
-                  ]
+              | inr never ↦ let bad = never.1 in absurd cc
             ]
+          ]
+        ]
       ]
     ]
 
