@@ -1,9 +1,10 @@
 -- Laws of the frames of a byte string, for statsd_cli too: any bytes are read in one way, and more bytes after whole
 -- frames change none of them.
-use Rattle.std.proofs.Common.{◌≡◌, IsTrue, ℕ, zero, suc, ◌+◌, ◌-◌, ◌≤◌, Bool, true, false, ◌==◌, nat_lt, if◌then◌else◌, MatchBool, fold, List, [], ◌∷◌, ◌++◌, length, take, drop, Result, Ok, Err, refl, sym, ap, ap₂, ◌∙◌, subst, subst₂, arith}
+use Rattle.std.proofs.Common.{◌≡◌, IsTrue, ℕ, zero, suc, ◌+◌, ◌-◌, ◌≤◌, Bool, true, false, ◌==◌, nat_lt, if◌then◌else◌, MatchBool, fold, List, [], ◌∷◌, ◌++◌, length, take, drop, Result, Ok, Err, refl, sym, ap, ap₂, ◌∙◌, subst, subst₂, arith, inl, inr}
 use Rattle.std.proofs.lemmas.Bool.Decides.{nat_tests}
 use Rattle.std.proofs.lemmas.List.{take-append-le, drop-append-le, length-append, length-drop}
 use Rattle.std.specs.Int.{w32, from_le_bytes}
+use Rattle.sd_base.proofs.ReadsLemmas.{choice-holds, choice-side}
 use Rattle.session_frames.specs.declared.frame.Frame.{Frame}
 use Rattle.session_frames.specs.declared.frame.FrameFault.{FrameFault}
 use Rattle.session_frames.specs.declared.frame.FrameFault.TheVariants.{Cut, TooLong, BadLength, UnknownKind, BadBody, BadAtom, TimeBackwards}
@@ -321,16 +322,6 @@ session_fault-other (BadBody reason) e = cc
 session_fault-other (BadAtom reason) e = cc
 session_fault-other (TimeBackwards last now) e = cc
 
--- what holds of both branches holds of the choice
-of_choice : {A : Type 0} (P : A → Type 0) (test : Bool) (x y : A) → P x → P y → P (if test then x else y)
-of_choice P true x y p q = p
-of_choice P false x y p q = q
-
--- A choice that is its first branch, and not its second, was decided for it.
-first_branch : (test : Bool) (x y z : Next) → (y ≡ z → ⊥) → (if test then x else y) ≡ z → test ≡ true
-first_branch true x y z differs e = refl
-first_branch false x y z differs e = absurd (differs e)
-
 followed_not_ended : (rest : List ℕ) (read : Result Frame FrameFault) → followed_by rest read ≡ Ended → ⊥
 followed_not_ended rest (Ok frame) e = cc
 followed_not_ended rest (Err fault) e = cc
@@ -344,10 +335,12 @@ pub next_ended : (clock : ℕ) (left : List ℕ) → next_frame clock left ≡ E
 unfolding next_frame
 next_ended clock left e =
     let P : Next → Type 0 = λ next. next ≡ Ended → ⊥ in
-    none_of_no_length left (first_branch (length left == 0) Ended _ Ended
-    (of_choice P (nat_lt (length left) 4) (Broken Cut) _ (λ f. cc)
-    (of_choice P (size_at left == 0) (Broken BadLength) _ (λ f. cc)
-    (of_choice P (nat_lt most_body (size_at left)) (Broken (TooLong (size_at left))) _ (λ f. cc)
-    (of_choice P (nat_lt (length (drop 4 left)) (size_at left)) (Broken Cut) _ (λ f. cc)
-    (followed_not_ended (drop (size_at left) (drop 4 left)) (frame_of clock (take (size_at left) (drop 4 left))))))))
-    e)
+    elim (choice-side (length left == 0) Ended _ Ended e) [
+      | inl none ↦ none_of_no_length left none.0
+      | inr some ↦ absurd (choice-holds P (nat_lt (length left) 4) (Broken Cut) _ (λ _ f. cc)
+          (λ _. choice-holds P (size_at left == 0) (Broken BadLength) _ (λ _ f. cc)
+          (λ _. choice-holds P (nat_lt most_body (size_at left)) (Broken (TooLong (size_at left))) _ (λ _ f. cc)
+          (λ _. choice-holds P (nat_lt (length (drop 4 left)) (size_at left)) (Broken Cut) _ (λ _ f. cc)
+          (λ _. followed_not_ended (drop (size_at left) (drop 4 left))
+          (frame_of clock (take (size_at left) (drop 4 left))))))) some.1)
+    ]
