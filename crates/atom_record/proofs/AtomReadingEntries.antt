@@ -50,7 +50,8 @@ spelled_entry : (entry : AtomField) (number : ℕ) (bytes rest : List ℕ)
 spelled_entry entry number bytes rest is took = record { parts = rw (is, took.parts) refl; fits = took.fits }
 
 -- an entry that choice-passed all tests
-passes_all : (before : List AtomField) (entry : AtomField) (number : ℕ) (bytes rest : List ℕ) → AreEntries before
+passes_all : (before : List AtomField) (entry : AtomField) (number : ℕ) (bytes rest : List ℕ)
+    → AreEntries before
     → is_in_range (place_of entry) ≡ true
     → is_after_last before (place_of entry) ≡ true
     → kind_at number ≡ Ok (kind_of entry.value)

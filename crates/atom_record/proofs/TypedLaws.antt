@@ -12,7 +12,9 @@ use Rattle.sd_base.proofs.NumbersLemmas.{IsBytes, IsBytes-rest, Takes, Takes-byt
 use Rattle.atom_record.proofs.AtomReadingValues.{value_takes, value_again, type_is, kind_takes, kind_again, number_of}
 
 -- what was read fits its bytes and is spelled so
-pub typed_takes : (bytes : List ℕ) (x : Value × List ℕ) → IsBytes bytes → typed_at bytes ≡ Ok x
+pub typed_takes : (bytes : List ℕ) (x : Value × List ℕ)
+    → IsBytes bytes
+    → typed_at bytes ≡ Ok x
     → Takes bytes (typed_bytes x.0) x.1 × IsInRange x.0
 unfolding typed_at
 typed_takes [] x fits read = absurd cc
@@ -26,7 +28,8 @@ typed_takes (number ∷ bytes) x fits read =
     )
 
 -- what is spelled is read again
-pub typed_again : (value : Value) (rest : List ℕ) → IsInRange value
+pub typed_again : (value : Value) (rest : List ℕ)
+    → IsInRange value
     → typed_at (typed_bytes value ++ rest) ≡ Ok (value, rest)
 unfolding typed_at
 typed_again value rest fits = rw (kind_again value) (value_again value rest fits)

@@ -31,27 +31,34 @@ use Rattle.flat_form.specs.Savable.{IsShortLeaf, IsSavable}
 use Rattle.flat_form.specs.ItemRange.{IsLeafInRange, IsSliceInRange, IsItemInRange}
 
 -- a byte in front that is this tag
-tagged : (tag number : ℕ) (bytes text rest : List ℕ) → (tag == number) ≡ true → Takes bytes text rest
+tagged : (tag number : ℕ) (bytes text rest : List ℕ)
+    → (tag == number) ≡ true
+    → Takes bytes text rest
     → Takes (tag ∷ bytes) (number ∷ text) rest
 tagged tag number bytes text rest is took = rw (eqb-true tag number is) (Takes-byte number bytes text rest took)
 
 -- a number that was read is spelled so
 uint_takes : (width : Width) (limit : ℕ) (wide : IsWide width limit) (bytes : List ℕ) (x : ℕ × List ℕ)
-    → IsBytes bytes → item_uint_at width bytes ≡ Ok x → Takes bytes (to_le_bytes width x.0) x.1 × (x.0 < limit)
+    → IsBytes bytes
+    → item_uint_at width bytes ≡ Ok x
+    → Takes bytes (to_le_bytes width x.0) x.1 × (x.0 < limit)
 uint_takes width limit wide bytes x fits read =
     front_number-takes width limit wide bytes x fits (ok_or-ok (front_number width bytes) Unspelled x read)
 
 -- and one that is spelled is read again
-uint_again : (width : Width) (limit : ℕ) (wide : IsWide width limit) (n : ℕ) (rest : List ℕ) → n < limit
+uint_again : (width : Width) (limit : ℕ) (wide : IsWide width limit) (n : ℕ) (rest : List ℕ)
+    → n < limit
     → item_uint_at width (to_le_bytes width n ++ rest) ≡ Ok (n, rest)
 uint_again width limit wide n rest below =
     ap (λ found. ok_or found Unspelled) (front_number-again width limit wide n rest below)
 
 module _ {X : Type 0} (at : List ℕ → Result (X × List ℕ) NoItem) (text : X → List ℕ) (Sound : X → Type 0) where
   -- so many that were read are spelled so, each is sound, and there are so many
-  pub many_takes : ((bytes : List ℕ) (x : X × List ℕ) → IsBytes bytes → at bytes ≡ Ok x
-      → Takes bytes (text x.0) x.1 × Sound x.0)
-      → (n : ℕ) (bytes : List ℕ) (x : List X × List ℕ) → IsBytes bytes → many at n bytes ≡ Ok x
+  pub many_takes :
+      ((bytes : List ℕ) (x : X × List ℕ) → IsBytes bytes → at bytes ≡ Ok x → Takes bytes (text x.0) x.1 × Sound x.0)
+      → (n : ℕ) (bytes : List ℕ) (x : List X × List ℕ)
+      → IsBytes bytes
+      → many at n bytes ≡ Ok x
       → Takes bytes (flat_map text x.0) x.1 × All Sound x.0 × (length x.0 ≡ n)
   unfolding many
   many_takes each zero bytes x fits read =
@@ -76,7 +83,9 @@ module _ {X : Type 0} (at : List ℕ → Result (X × List ℕ) NoItem) (text : 
 
   -- so many that are spelled are read again
   pub many_again : ((x : X) (rest : List ℕ) → Sound x → at (text x ++ rest) ≡ Ok (x, rest))
-      → (xs : List X) (rest : List ℕ) → All Sound xs → many at (length xs) (flat_map text xs ++ rest) ≡ Ok (xs, rest)
+      → (xs : List X) (rest : List ℕ)
+      → All Sound xs
+      → many at (length xs) (flat_map text xs ++ rest) ≡ Ok (xs, rest)
   unfolding many
   many_again each [] rest all = refl
   many_again each (x ∷ xs) rest all =
@@ -87,9 +96,10 @@ module _ {X : Type 0} (at : List ℕ → Result (X × List ℕ) NoItem) (text : 
       rw (first, others) refl
 
   -- after a number of two bytes
-  pub listed_takes : ((bytes : List ℕ) (x : X × List ℕ) → IsBytes bytes → at bytes ≡ Ok x
-      → Takes bytes (text x.0) x.1 × Sound x.0)
-      → (bytes : List ℕ) (x : List X × List ℕ) → IsBytes bytes
+  pub listed_takes :
+      ((bytes : List ℕ) (x : X × List ℕ) → IsBytes bytes → at bytes ≡ Ok x → Takes bytes (text x.0) x.1 × Sound x.0)
+      → (bytes : List ℕ) (x : List X × List ℕ)
+      → IsBytes bytes
       → (item_uint_at w16 bytes >>= λ count. many at count.0 count.1) ≡ Ok x
       → Takes bytes (to_le_bytes w16 (length x.0) ++ flat_map text x.0) x.1 × All Sound x.0 × (length x.0 < 2 ^ 16)
   listed_takes each bytes x fits read =
@@ -106,9 +116,11 @@ module _ {X : Type 0} (at : List ℕ → Result (X × List ℕ) NoItem) (text : 
 
   -- those that are spelled after their number are read again
   pub listed_again : ((x : X) (rest : List ℕ) → Sound x → at (text x ++ rest) ≡ Ok (x, rest))
-      → (xs : List X) (rest : List ℕ) → length xs < 2 ^ 16 → All Sound xs
-      → (item_uint_at w16 ((to_le_bytes w16 (length xs) ++ flat_map text xs) ++ rest) >>= λ count. many at count.0
-      count.1) ≡ Ok (xs, rest)
+      → (xs : List X) (rest : List ℕ)
+      → length xs < 2 ^ 16
+      → All Sound xs
+      → (item_uint_at w16 ((to_le_bytes w16 (length xs) ++ flat_map text xs) ++ rest)
+      >>= λ count. many at count.0 count.1) ≡ Ok (xs, rest)
   listed_again each xs rest short all =
       let number : item_uint_at w16 ((to_le_bytes w16 (length xs) ++ flat_map text xs) ++ rest) ≡ Ok
       (length xs, flat_map text xs ++ rest) =
@@ -122,24 +134,31 @@ kept (Ok y) x e = ap (λ z. Ok z) (ok-same y x e)
 kept (Err reason) x e = absurd cc
 
 -- a value that was read is spelled so and fits its bytes
-value_takes : (bytes : List ℕ) (x : Value × List ℕ) → IsBytes bytes → value_in bytes ≡ Ok x
+value_takes : (bytes : List ℕ) (x : Value × List ℕ)
+    → IsBytes bytes
+    → value_in bytes ≡ Ok x
     → Takes bytes (typed_bytes x.0) x.1 × IsInRange x.0
 value_takes bytes x fits read = typed_takes bytes x fits (kept (typed_at bytes) x read)
 
 -- a value that is spelled is read again
-value_again : (value : Value) (rest : List ℕ) → IsInRange value
+value_again : (value : Value) (rest : List ℕ)
+    → IsInRange value
     → value_in (typed_bytes value ++ rest) ≡ Ok (value, rest)
 value_again value rest fits = ap without_reason (typed_again value rest fits)
 
 -- values that were read after their number are spelled so
-values_takes : (bytes : List ℕ) (x : List Value × List ℕ) → IsBytes bytes → values_at bytes ≡ Ok x
+values_takes : (bytes : List ℕ) (x : List Value × List ℕ)
+    → IsBytes bytes
+    → values_at bytes ≡ Ok x
     → Takes bytes (to_le_bytes w16 (length x.0) ++ flat_map typed_bytes x.0) x.1 × All IsInRange x.0
     × (length x.0 < 2 ^ 16)
 unfolding values_at
 values_takes bytes x fits read = listed_takes value_in typed_bytes IsInRange value_takes bytes x fits read
 
 -- values that are spelled after their number are read again
-values_again : (xs : List Value) (rest : List ℕ) → length xs < 2 ^ 16 → All IsInRange xs
+values_again : (xs : List Value) (rest : List ℕ)
+    → length xs < 2 ^ 16
+    → All IsInRange xs
     → values_at ((to_le_bytes w16 (length xs) ++ flat_map typed_bytes xs) ++ rest) ≡ Ok (xs, rest)
 unfolding values_at
 values_again xs rest short all = listed_again value_in typed_bytes IsInRange value_again xs rest short all
@@ -149,7 +168,9 @@ abbrev IsLeaf : Leaf → Type 0
 IsLeaf leaf = IsShortLeaf leaf × IsLeafInRange leaf
 
 -- a leaf that was read is spelled so
-leaf_takes : (bytes : List ℕ) (x : Leaf × List ℕ) → IsBytes bytes → leaf_at bytes ≡ Ok x
+leaf_takes : (bytes : List ℕ) (x : Leaf × List ℕ)
+    → IsBytes bytes
+    → leaf_at bytes ≡ Ok x
     → Takes bytes (spelled_leaf x.0) x.1 × IsLeaf x.0
 unfolding leaf_at
 leaf_takes [] x fits read = absurd cc
@@ -189,7 +210,9 @@ leaf_again (One value) rest is = rw (value_again value rest is.1) refl
 leaf_again (Many all) rest is = rw (values_again all rest is.0.0 is.1) refl
 
 -- a slice that was read is spelled so
-slice_takes : (bytes : List ℕ) (x : Slice × List ℕ) → IsBytes bytes → slice_at bytes ≡ Ok x
+slice_takes : (bytes : List ℕ) (x : Slice × List ℕ)
+    → IsBytes bytes
+    → slice_at bytes ≡ Ok x
     → Takes bytes (spelled_slice x.0) x.1 × IsSliceInRange x.0
 unfolding slice_at
 slice_takes [] x fits read = absurd cc
@@ -231,7 +254,8 @@ slice_takes (tag ∷ bytes) x fits read =
     ]
 
 -- a slice that is spelled is read again
-slice_again : (slice : Slice) (rest : List ℕ) → IsSliceInRange slice
+slice_again : (slice : Slice) (rest : List ℕ)
+    → IsSliceInRange slice
     → slice_at (spelled_slice slice ++ rest) ≡ Ok (slice, rest)
 unfolding slice_at
 slice_again (Plain id value) rest is =
@@ -250,7 +274,9 @@ slice_again (Group id group) rest is =
     ) refl
 
 -- slices that were read are spelled so, and are fewer than 256
-slices_takes : (bytes : List ℕ) (x : List Slice × List ℕ) → IsBytes bytes → slices_at bytes ≡ Ok x
+slices_takes : (bytes : List ℕ) (x : List Slice × List ℕ)
+    → IsBytes bytes
+    → slices_at bytes ≡ Ok x
     → Takes bytes (length x.0 ∷ flat_map spelled_slice x.0) x.1 × All IsSliceInRange x.0 × (length x.0 < 2 ^ 8)
 slices_takes [] x fits read = absurd cc
 slices_takes (count ∷ bytes) x fits read =
@@ -264,24 +290,30 @@ slices_takes (count ∷ bytes) x fits read =
     )
 
 -- slices that are spelled are read again
-slices_again : (xs : List Slice) (rest : List ℕ) → All IsSliceInRange xs
+slices_again : (xs : List Slice) (rest : List ℕ)
+    → All IsSliceInRange xs
     → slices_at ((length xs ∷ flat_map spelled_slice xs) ++ rest) ≡ Ok (xs, rest)
 slices_again xs rest all = many_again slice_at spelled_slice IsSliceInRange slice_again xs rest all
 
 -- leaves that were read are spelled so, and are fewer than 65,536
-dims_takes : (bytes : List ℕ) (x : List Leaf × List ℕ) → IsBytes bytes → dims_at bytes ≡ Ok x
+dims_takes : (bytes : List ℕ) (x : List Leaf × List ℕ)
+    → IsBytes bytes
+    → dims_at bytes ≡ Ok x
     → Takes bytes (to_le_bytes w16 (length x.0) ++ flat_map spelled_leaf x.0) x.1 × All IsLeaf x.0
     × (length x.0 < 2 ^ 16)
 dims_takes bytes x fits read = listed_takes leaf_at spelled_leaf IsLeaf leaf_takes bytes x fits read
 
 -- leaves that are spelled are read again
-dims_again : (xs : List Leaf) (rest : List ℕ) → length xs < 2 ^ 16 → All IsLeaf xs
+dims_again : (xs : List Leaf) (rest : List ℕ)
+    → length xs < 2 ^ 16
+    → All IsLeaf xs
     → dims_at ((to_le_bytes w16 (length xs) ++ flat_map spelled_leaf xs) ++ rest) ≡ Ok (xs, rest)
 dims_again xs rest short all = listed_again leaf_at spelled_leaf IsLeaf leaf_again xs rest short all
 
 -- bytes after their number, of a width that is wide enough
 counted_takes : (width : Width) (limit : ℕ) (wide : IsWide width limit) (bytes : List ℕ) (x : List ℕ × List ℕ)
-    → IsBytes bytes → counted_at width bytes ≡ Ok x
+    → IsBytes bytes
+    → counted_at width bytes ≡ Ok x
     → Takes bytes (to_le_bytes width (length x.0) ++ x.0) x.1 × (length x.0 < limit) × IsBytes x.0
 counted_takes width limit wide bytes x fits read =
     let count = bind-ok (item_uint_at width bytes) (λ count. ok_or (front_bytes count.0 count.1) Unspelled) x read in
@@ -295,7 +327,8 @@ counted_takes width limit wide bytes x fits read =
     )
 
 -- bytes that are spelled after their number are read again
-counted_again : (width : Width) (limit : ℕ) (wide : IsWide width limit) (text rest : List ℕ) → length text < limit
+counted_again : (width : Width) (limit : ℕ) (wide : IsWide width limit) (text rest : List ℕ)
+    → length text < limit
     → counted_at width ((to_le_bytes width (length text) ++ text) ++ rest) ≡ Ok (text, rest)
 counted_again width limit wide text rest below =
     let then_bytes : Result (ℕ × List ℕ) NoItem → Result (List ℕ × List ℕ) NoItem = λ read.
@@ -309,7 +342,9 @@ abbrev pub IsItem : Item → Type 0
 IsItem item = IsSavable item × IsItemInRange item
 
 -- an item that was read is spelled so and can be spelled
-pub item_takes : (bytes : List ℕ) (x : Item × List ℕ) → IsBytes bytes → item_at bytes ≡ Ok x
+pub item_takes : (bytes : List ℕ) (x : Item × List ℕ)
+    → IsBytes bytes
+    → item_at bytes ≡ Ok x
     → Takes bytes (spelled_item x.0) x.1 × IsItem x.0
 unfolding item_at
 item_takes [] x fits read = absurd cc

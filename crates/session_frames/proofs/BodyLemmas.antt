@@ -17,7 +17,10 @@ same_id id own e = grind (arith, nat_tests)
 
 -- a payload that isn't too long and isn't of another atom begins with this id
 is_own : (id : ℕ) (long : Bool) (read : Result (ℕ × List ℕ) ℕ) (own : ℕ × List ℕ)
-    → long ≡ false → read ≡ Ok own → (not long && is_other id read) ≡ false → own.0 ≡ id
+    → long ≡ false
+    → read ≡ Ok own
+    → (not long && is_other id read) ≡ false
+    → own.0 ≡ id
 is_own id true read own short e other = absurd (cc)
 is_own id false (Err reason) own short e other = absurd (cc)
 is_own id false (Ok found) own short e other =
@@ -39,8 +42,10 @@ payload_good (Ok found) atom e = cc
 payload_good (Err reason) atom e = absurd (cc)
 
 -- what is read of it is an atom that the pull may hold
-pub pulled_sound : (id : ℕ) (bytes : List ℕ) (answer : Result Atom BodyError) → is_of_other id bytes ≡ false
-    → GivesBy fault_in (λ atom. atom) answer (of_payload (atom_at bytes)) → IfOk answer HasNoFault
+pub pulled_sound : (id : ℕ) (bytes : List ℕ) (answer : Result Atom BodyError)
+    → is_of_other id bytes ≡ false
+    → GivesBy fault_in (λ atom. atom) answer (of_payload (atom_at bytes))
+    → IfOk answer HasNoFault
     → IfOk answer (IsPulledAtom id)
 pulled_sound id bytes (Ok atom) other gives sound =
     (has_id id bytes atom other (payload_good (atom_at bytes) atom gives), sound)
