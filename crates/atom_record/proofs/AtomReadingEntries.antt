@@ -16,7 +16,8 @@ use Rattle.atom_record.specs.Flags.{is_exclusive}
 use Rattle.atom_record.specs.AtomReading.{kind_at, value_at, is_in_range, is_after_last, may_have, place_of, entry_at}
 use Rattle.atom_record.specs.AtomSpelling.{type_of, value_bytes, entry_bytes}
 use Rattle.atom_record.specs.AtomSound.{IsInRange, IsEntry, IsBelow, AreEntries}
-use Rattle.atom_record.proofs.AtomReadingParts.{IsBytes, bind_ok, passed, ok_is, Takes}
+use Rattle.sd_base.proofs.ReadsLemmas.{bind-ok, choice-passed, ok-same}
+use Rattle.sd_base.proofs.NumbersLemmas.{IsBytes, Takes}
 use Rattle.atom_record.proofs.AtomReadingValues.{kind_of, value_takes, value_again, type_is, kind_takes, kind_again}
 use Rattle.atom_record.proofs.AtomReadingPlaces.{in_range_is, in_range_again, after_all, after_last_again}
 use Rattle.atom_record.proofs.AtomReadingFlags.{may_have_is, may_have_again, one_state-push}
@@ -48,8 +49,9 @@ spelled_entry : (entry : AtomField) (number : ℕ) (bytes rest : List ℕ)
     → Takes (entry.field ∷ entry.index ∷ entry.sub ∷ entry.flags ∷ number ∷ bytes) (entry_bytes entry) rest
 spelled_entry entry number bytes rest is took = record { parts = rw (is, took.parts) refl; fits = took.fits }
 
--- an entry that passed all tests
-passes_all : (before : List AtomField) (entry : AtomField) (number : ℕ) (bytes rest : List ℕ) → AreEntries before
+-- an entry that choice-passed all tests
+passes_all : (before : List AtomField) (entry : AtomField) (number : ℕ) (bytes rest : List ℕ)
+    → AreEntries before
     → is_in_range (place_of entry) ≡ true
     → is_after_last before (place_of entry) ≡ true
     → kind_at number ≡ Ok (kind_of entry.value)
@@ -89,15 +91,15 @@ unfolding entry_at
 entry_takes before (field ∷ index ∷ sub ∷ flags ∷ number ∷ bytes) x fits are read =
     let place : Place = record { field = field; index = index; sub = sub } in
     let rest_fits : IsBytes bytes = λ i. fits (suc (suc (suc (suc (suc i))))) in
-    let in_range = passed (not (is_in_range place)) reason_bad_place
+    let in_range = choice-passed (not (is_in_range place)) reason_bad_place
     (if not (is_after_last before place) then Err reason_not_above else after_place before place flags number
     bytes) x read in
-    let after = passed (not (is_after_last before place)) reason_not_above
+    let after = choice-passed (not (is_after_last before place)) reason_not_above
     (after_place before place flags number bytes) x in_range.1 in
-    let kind = bind_ok (kind_at number) (after_flags before place flags bytes) x after.1 in
-    let may = passed (not (may_have (list_any is_exclusive before) place kind.0 flags)) reason_bad_flags
+    let kind = bind-ok (kind_at number) (after_flags before place flags bytes) x after.1 in
+    let may = choice-passed (not (may_have (list_any is_exclusive before) place kind.0 flags)) reason_bad_flags
     (value_at kind.0 bytes >>= with_value place flags) x kind.2 in
-    let value = bind_ok (value_at kind.0 bytes) (with_value place flags) x may.1 in
+    let value = bind-ok (value_at kind.0 bytes) (with_value place flags) x may.1 in
     let took = value_takes kind.0 bytes value.0 rest_fits value.1 in
     let entry : AtomField = record { field = field; index = index; sub = sub; flags = flags; value = value.0.0 } in
     let named : kind_at number ≡ Ok (kind_of entry.value) = kind.1 ∙ ap (λ (k : Kind). Ok k) (sym took.same) in
@@ -106,7 +108,7 @@ entry_takes before (field ∷ index ∷ sub ∷ flags ∷ number ∷ bytes) x fi
     let whole = passes_all before entry number bytes value.0.1 are (not-false (is_in_range place) in_range.0)
     (not-false (is_after_last before place) after.0) named may_be took.took took.fits in
     subst (λ (y : AtomField × List ℕ). TakesEntry before (field ∷ index ∷ sub ∷ flags ∷ number ∷ bytes) y.0 y.1)
-    (ok_is (entry, value.0.1) x value.2) whole
+    (ok-same (entry, value.0.1) x value.2) whole
 entry_takes before _ x fits are read = absurd cc
 
 -- an entry without fault is read from its spelling

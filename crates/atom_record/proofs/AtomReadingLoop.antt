@@ -1,11 +1,15 @@
 -- Entries are read one after the other, for the loop of `entries_of`: each takes a byte at least,
 -- so turns that are left over change nothing.
-use Rattle.std.proofs.Common.{◌≡◌, ℕ, zero, suc, ◌≤◌, ◌<◌, Bool, true, false, not, ◌||◌, List, [], ◌∷◌, ◌++◌, length, Result, Ok, Err, refl, ap, ◌∙◌, arith, length-drop}
+use Rattle.std.proofs.Common.{◌≡◌, ℕ, zero, suc, ◌≤◌, ◌<◌, Bool, true, false, not, ◌||◌, List, [], ◌∷◌, ◌++◌, length, take, drop, Option, Result, Ok, Err, refl, ap, ◌∙◌, arith, length-drop}
 use Rattle.std.proofs.lemmas.List.Folds.{list_any-append}
-use Rattle.std.specs.Prelude.{if◌then◌else◌, nat_lt, ◌==◌}
-use Rattle.std.specs.Int.{Width, w16, w32, w64, byte_len}
+use Rattle.std.specs.Prelude.{nat_lt, ◌==◌}
+use Rattle.std.specs.Int.{Width, w16, w32, w64, byte_len, from_le_bytes}
 use Rattle.std.specs.List.{list_any}
+use Rattle.std.specs.Option.{ok_or, option_and_then}
+use Rattle.std.specs.Result.{IfOk}
 use Rattle.sd_base.specs.Reads.{◌>>=◌, FailsBy}
+use Rattle.sd_base.specs.Numbers.{front_bytes}
+use Rattle.sd_base.proofs.ReadsLemmas.{IfOk-bind, bind-agree, choice-holds}
 use Rattle.atom_record.specs.declared.atom.AtomField.{AtomField}
 use Rattle.atom_record.specs.declared.fault.AtomFault.{AtomFault}
 use Rattle.atom_record.specs.declared.fault.AtomFault.TheVariants.{Bad, Memory}
@@ -13,47 +17,49 @@ use Rattle.atom_record.specs.declared.parse.Place.{Place}
 use Rattle.atom_record.specs.declared.parse.Kind.{Kind}
 use Rattle.atom_record.specs.declared.parse.Kind.TheVariants as kinds
 use Rattle.atom_record.specs.Flags.{is_exclusive}
+use Rattle.atom_record.specs.AtomReasons.{reason_cut}
 use Rattle.atom_record.specs.AtomReading.{reason_of, number_at, text_at, bool_at, kind_at, value_at, is_in_range, is_after_last, may_have, entry_at, entries_in, entries_at}
 
 -- what was read leaves so many bytes at most
 abbrev pub Leaves : {X F : Type 0} → ℕ → Result (X × List ℕ) F → Type 0
-Leaves most (Ok x) = length x.1 ≤ most
-Leaves most (Err fault) = Unit {0}
-
--- a choice leaves no more than both of its sides
-Leaves-if : {X F : Type 0} (most : ℕ) (test : Bool) (x y : Result (X × List ℕ) F)
-    → Leaves most x
-    → Leaves most y
-    → Leaves most (if test then x else y)
-Leaves-if most true x y p q = p
-Leaves-if most false x y p q = q
+Leaves most read = IfOk read (λ x. length x.1 ≤ most)
 
 -- a reading after another leaves no more than it, if it leaves no more than what it is given
 Leaves-then : {X Y F : Type 0} (most : ℕ) (read : Result (X × List ℕ) F) (next : X × List ℕ → Result (Y × List ℕ) F)
     → Leaves most read
     → ((x : X × List ℕ) → length x.1 ≤ most → Leaves most (next x))
     → Leaves most (read >>= next)
-Leaves-then most (Ok x) next p q = q x p
-Leaves-then most (Err fault) next p q = tt
+Leaves-then most read next p q = IfOk-bind read next (λ x. length x.1 ≤ most) (λ y. length y.1 ≤ most) p q
 
 -- a number leaves no more bytes than there were
 number_leaves : (width : Width) (bytes : List ℕ) → Leaves (length bytes) (number_at width bytes)
 number_leaves width bytes =
-    Leaves-if (length bytes) (nat_lt (length bytes) (byte_len width)) _ _ tt
-    (omega (arith, length-drop (byte_len width) bytes))
+    choice-holds (λ (found : Option (ℕ × List ℕ)). Leaves (length bytes) (ok_or found reason_cut))
+    (nat_lt (length bytes) (byte_len width)) _ _ (λ _. tt) (λ _. omega (arith, length-drop (byte_len width) bytes))
 
 -- a truth leaves no more bytes than there were
 bool_leaves : (bytes : List ℕ) → Leaves (length bytes) (bool_at bytes)
 bool_leaves [] = tt
 bool_leaves (byte ∷ bytes) =
-    Leaves-if (suc (length bytes)) (byte == 0) _ _ (omega arith)
-    (Leaves-if (suc (length bytes)) (byte == 1) _ _ (omega arith) tt)
+    let leaves : Result (Bool × List ℕ) ℕ → Type 0 = Leaves (suc (length bytes)) in
+    choice-holds leaves (byte == 0) _ _ (λ _. omega arith)
+    (λ _. choice-holds leaves (byte == 1) _ _ (λ _. omega arith) (λ _. tt))
 
 -- a text leaves no more bytes than there were
 text_leaves : (bytes : List ℕ) → Leaves (length bytes) (text_at bytes)
 unfolding text_at
-text_leaves bytes = Leaves-then (length bytes) (number_at w16 bytes) _ (number_leaves w16 bytes)
-    (λ len le. Leaves-if (length bytes) (nat_lt (length len.1) len.0) _ _ tt (omega (arith, length-drop len.0 len.1)))
+text_leaves bytes =
+    let size = byte_len w16 in
+    let leaves : Option (ℕ × List ℕ) → Type 0 = λ count. Leaves (length bytes)
+    (ok_or (option_and_then (λ c. front_bytes c.0 c.1) count) reason_cut) in
+    choice-holds leaves (nat_lt (length bytes) size) _ _ (λ _. tt)
+    (λ _. choice-holds (λ (found : Option (List ℕ × List ℕ)). Leaves (length bytes) (ok_or found reason_cut))
+    (nat_lt (length (drop size bytes)) (from_le_bytes w16 (take size bytes))) _ _ (λ _. tt)
+    (λ _. omega (
+      arith,
+      length-drop size bytes,
+      length-drop (from_le_bytes w16 (take size bytes)) (drop size bytes),
+    )))
 
 -- a value leaves no more bytes than there were
 value_leaves : (kind : Kind) (bytes : List ℕ) → Leaves (length bytes) (value_at kind bytes)
@@ -74,46 +80,32 @@ Leaves-after : {A Y F : Type 0} (most : ℕ) (read : Result A F) (next : A → R
 Leaves-after most (Ok x) next p = p x
 Leaves-after most (Err fault) next p = tt
 
--- what a reading that succeeded leaves
-Leaves-ok : {X F : Type 0} (most : ℕ) (read : Result (X × List ℕ) F) (x : X × List ℕ)
-    → Leaves most read
-    → read ≡ Ok x
-    → length x.1 ≤ most
-Leaves-ok most (Ok y) x p e = let same : y ≡ x = cc in rw (← same) p
-Leaves-ok most (Err fault) x p e = absurd cc
-
--- an entry leaves no more bytes than stand after its five leading ones
-entry_leaves : (before : List AtomField) (field index sub flags number : ℕ) (bytes : List ℕ)
-    → Leaves (length bytes) (entry_at before (field ∷ index ∷ sub ∷ flags ∷ number ∷ bytes))
+-- an entry takes a byte at least
+entry_leaves : (before : List AtomField) (byte : ℕ) (bytes : List ℕ)
+    → Leaves (length bytes) (entry_at before (byte ∷ bytes))
 unfolding entry_at
-entry_leaves before field index sub flags number bytes =
+entry_leaves before field (index ∷ sub ∷ flags ∷ number ∷ bytes) =
     let place : Place = record { field = field; index = index; sub = sub } in
-    Leaves-if (length bytes) (not (is_in_range place)) _ _ tt
-    (Leaves-if (length bytes) (not (is_after_last before place)) _ _ tt
-    (Leaves-after (length bytes) (kind_at number) _ (λ kind.
-    Leaves-if (length bytes) (not (may_have (list_any is_exclusive before) place kind flags)) _ _ tt
-    (Leaves-then (length bytes) (value_at kind bytes) _ (value_leaves kind bytes) (λ value le. le)))))
+    let leaves : Result (AtomField × List ℕ) ℕ → Type 0 = Leaves (suc (suc (suc (suc (length bytes))))) in
+    choice-holds leaves (not (is_in_range place)) _ _ (λ _. tt)
+    (λ _. choice-holds leaves (not (is_after_last before place)) _ _ (λ _. tt)
+    (λ _. Leaves-after (suc (suc (suc (suc (length bytes))))) (kind_at number) _
+    (λ kind. choice-holds leaves (not (may_have (list_any is_exclusive before) place kind flags)) _ _ (λ _. tt)
+    (λ _. IfOk-bind (value_at kind bytes) _ (λ value. length value.1 ≤ length bytes)
+    (λ x. length x.1 ≤ suc (suc (suc (suc (length bytes))))) (value_leaves kind bytes) (λ value le. omega arith)))))
+entry_leaves before field _ = tt
 
 -- no entry is read where there is no byte
 none_in_nothing : (before : List AtomField) (x : AtomField × List ℕ) → entry_at before [] ≡ Ok x → ⊥
 unfolding entry_at
 none_in_nothing before x read = cc
 
--- an entry takes a byte at least
+-- what is left after an entry is shorter
 pub entry_shortens : (before : List AtomField) (bytes : List ℕ) (x : AtomField × List ℕ)
     → entry_at before bytes ≡ Ok x
     → length x.1 < length bytes
-unfolding entry_at
-entry_shortens before (field ∷ index ∷ sub ∷ flags ∷ number ∷ bytes) x read =
-    let le = Leaves-ok (length bytes) _ x (entry_leaves before field index sub flags number bytes) read in omega arith
-entry_shortens before _ x read = absurd cc
-
--- two ways to go on are the same where they agree on all that may be read
-same_next : {A B F : Type 0} (read : Result A F) (f g : A → Result B F)
-    → ((x : A) → read ≡ Ok x → f x ≡ g x)
-    → (read >>= f) ≡ (read >>= g)
-same_next (Ok x) f g same = same x refl
-same_next (Err fault) f g same = refl
+entry_shortens before [] x read = absurd (none_in_nothing before x read)
+entry_shortens before (byte ∷ bytes) x read = let le = rw read at (entry_leaves before byte bytes) in omega arith
 
 -- turns that aren't wanted change nothing
 more_turns : (few many : ℕ) (before : List AtomField) (bytes : List ℕ)
@@ -128,9 +120,8 @@ more_turns (suc few) zero before [] p q = refl
 more_turns (suc few) zero before (byte ∷ bytes) p q = absurd (omega arith)
 more_turns (suc few) (suc many) before [] p q = refl
 more_turns (suc few) (suc many) before (byte ∷ bytes) p q =
-    same_next (entry_at before (byte ∷ bytes)) _ _ (λ x read.
-    let shorter = entry_shortens before (byte ∷ bytes) x read in
-    more_turns few many (before ++ x.0 ∷ []) x.1 (omega arith) (omega arith))
+    bind-agree (entry_at before (byte ∷ bytes)) _ _ (λ x. length x.1 ≤ length bytes) (entry_leaves before byte bytes)
+    (λ x le. more_turns few many (before ++ x.0 ∷ []) x.1 (omega arith) (omega arith))
 
 -- one more entry is read
 pub goes_on : (before : List AtomField) (bytes : List ℕ) (entry : AtomField) (after : List ℕ)

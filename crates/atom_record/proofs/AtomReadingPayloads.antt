@@ -1,13 +1,15 @@
 -- The two laws of payloads, for `parse_atom`: what is read has no fault and is spelled so,
 -- and what has no fault and is spelled so is read.
-use Rattle.std.proofs.Common.{◌≡◌, ℕ, zero, suc, ◌+◌, ◌^◌, ◌≤◌, false, not, List, [], ◌∷◌, ◌++◌, length, take, drop, Result, Ok, Err, refl, sym, ap, subst, ◌∙◌, append_assoc, arith}
+use Rattle.std.proofs.Common.{◌≡◌, ℕ, zero, suc, ◌+◌, ◌^◌, ◌≤◌, false, not, List, [], ◌∷◌, ◌++◌, length, Result, Ok, Err, refl, sym, ap, subst, ◌∙◌, append_assoc, arith}
 use Rattle.std.specs.Prelude.{if◌then◌else◌, nat_lt, All, IfOk}
-use Rattle.std.specs.Int.{w32, from_le_bytes, to_le_bytes}
+use Rattle.std.specs.Int.{w32, to_le_bytes}
 use Rattle.std.specs.List.{flat_map}
+use Rattle.std.specs.Option.{ok_or}
 use Rattle.std.proofs.lemmas.Bool.{and_parts, and_from, ltb-true, ltb-false, lt-ltb, le-ltb, not-false, not_from_true}
-use Rattle.std.proofs.lemmas.List.{length-append, append-nil, drop_at, get_or-append-add}
+use Rattle.std.proofs.lemmas.List.{length-append, append-nil, get_or-append-add}
 use Rattle.std.proofs.lemmas.List.Elements.{All-nil}
 use Rattle.sd_base.specs.Reads.{◌>>=◌, GivesBy}
+use Rattle.sd_base.specs.Numbers.{front_number}
 use Rattle.atom_record.specs.declared.atom.Atom.{Atom}
 use Rattle.atom_record.specs.declared.atom.AtomField.{AtomField}
 use Rattle.atom_record.specs.declared.fault.AtomFault.{AtomFault}
@@ -16,7 +18,8 @@ use Rattle.atom_record.specs.Id.{end_of_ids, IsAtomId, is_atom_id}
 use Rattle.atom_record.specs.AtomReading.{reason_of, entry_at, entries_in, entries_at, id_at, atom_at}
 use Rattle.atom_record.specs.AtomSpelling.{entry_bytes, payload_of}
 use Rattle.atom_record.specs.AtomSound.{IsEntry, AreEntries, HasNoFault}
-use Rattle.atom_record.proofs.AtomReadingParts.{IsBytes, bind_ok, passed, ok_is, Takes, wide32, front_takes}
+use Rattle.sd_base.proofs.ReadsLemmas.{bind-ok, choice-passed, ok-same, ok_or-ok}
+use Rattle.sd_base.proofs.NumbersLemmas.{IsBytes, Takes, wide32, front_number-takes, front_number-again}
 use Rattle.atom_record.proofs.AtomReadingEntries.{entry_takes, entry_again}
 
 -- what was read as all entries, after these
@@ -38,11 +41,11 @@ entries_take : (turns : ℕ) (before : List AtomField) (bytes : List ℕ) (all :
     → entries_in turns before bytes ≡ Ok all
     → TakesAll before bytes all
 unfolding entries_in
-entries_take zero before [] all fits are read = nothing_more before all are (ok_is before all read)
+entries_take zero before [] all fits are read = nothing_more before all are (ok-same before all read)
 entries_take zero before (byte ∷ bytes) all fits are read = absurd cc
-entries_take (suc turns) before [] all fits are read = nothing_more before all are (ok_is before all read)
+entries_take (suc turns) before [] all fits are read = nothing_more before all are (ok-same before all read)
 entries_take (suc turns) before (byte ∷ bytes) all fits are read =
-    let entry = bind_ok (entry_at before (byte ∷ bytes)) (λ entry. entries_in turns (before ++ entry.0 ∷ []) entry.1)
+    let entry = bind-ok (entry_at before (byte ∷ bytes)) (λ entry. entries_in turns (before ++ entry.0 ∷ []) entry.1)
     all read in
     let first = entry_takes before (byte ∷ bytes) entry.0 fits are entry.1 in
     let others = entries_take turns (before ++ entry.0.0 ∷ []) entry.0.1 all first.took.fits first.are entry.2 in
@@ -86,24 +89,22 @@ id_takes : (bytes : List ℕ) (x : ℕ × List ℕ)
     → Takes bytes (to_le_bytes w32 x.0) x.1 × IsAtomId x.0
 unfolding id_at
 id_takes bytes x fits read =
-    let id = from_le_bytes w32 (take 4 bytes) in
-    let there = passed (nat_lt (length bytes) 4) reason_bad_id
-    (if not (is_atom_id id) then Err reason_bad_id else Ok (id, drop 4 bytes)) x read in
-    let may = passed (not (is_atom_id id)) reason_bad_id (Ok (id, drop 4 bytes)) x there.1 in
-    let parts = and_parts (nat_lt 0 id) (nat_lt id end_of_ids) (not-false (is_atom_id id) may.0) in
-    let took = front_takes w32 (2 ^ 32) wide32 bytes (ltb-false (length bytes) 4 there.0) fits in
-    subst (λ (y : ℕ × List ℕ). Takes bytes (to_le_bytes w32 y.0) y.1 × IsAtomId y.0)
-    (ok_is (id, drop 4 bytes) x may.1) (took.0, (ltb-true 0 id parts.0, ltb-true id end_of_ids parts.1))
+    let id = bind-ok (ok_or (front_number w32 bytes) reason_bad_id)
+    (λ id. if not (is_atom_id id.0) then Err reason_bad_id else Ok id) x read in
+    let may = choice-passed (not (is_atom_id id.0.0)) reason_bad_id (Ok id.0) x id.2 in
+    let parts = and_parts (nat_lt 0 id.0.0) (nat_lt id.0.0 end_of_ids) (not-false (is_atom_id id.0.0) may.0) in
+    let took = front_number-takes w32 (2 ^ 32) wide32 bytes id.0 fits
+    (ok_or-ok (front_number w32 bytes) reason_bad_id id.0 id.1) in
+    subst (λ (y : ℕ × List ℕ). Takes bytes (to_le_bytes w32 y.0) y.1 × IsAtomId y.0) (ok-same id.0 x may.1)
+    (took.0, (ltb-true 0 id.0.0 parts.0, ltb-true id.0.0 end_of_ids parts.1))
 
 -- an id that an atom may have is read from its spelling
 id_again : (id : ℕ) (rest : List ℕ) → IsAtomId id → id_at (to_le_bytes w32 id ++ rest) ≡ Ok (id, rest)
 unfolding id_at
 id_again id rest is =
-    let long : nat_lt (length (to_le_bytes w32 id ++ rest)) 4 ≡ false =
-    le-ltb _ _ (omega (arith, length-append (to_le_bytes w32 id) rest)) in
-    let again : from_le_bytes w32 (take 4 (to_le_bytes w32 id ++ rest)) ≡ id = wide32.again id (omega (arith, is.1)) in
+    let again = front_number-again w32 (2 ^ 32) wide32 id rest (omega (arith, is.1)) in
     let may : not (is_atom_id id) ≡ false = not_from_true _ (and_from _ _ (lt-ltb _ _ is.0) (lt-ltb _ _ is.1)) in
-    rw (long, again, may, drop_at (to_le_bytes w32 id) rest 4 refl) refl
+    rw (again, may) refl
 
 -- no entries have no fault
 no_entries : AreEntries []
@@ -120,12 +121,12 @@ pub atom_takes : (bytes : List ℕ) (atom : Atom)
     → HasNoFault atom × (bytes ≡ payload_of atom)
 unfolding atom_at
 atom_takes bytes atom fits read =
-    let short = passed (nat_lt most_payload (length bytes)) reason_too_long
+    let short = choice-passed (nat_lt most_payload (length bytes)) reason_too_long
     (id_at bytes >>= λ id. entries_at [] id.1 >>= λ fields. Ok (record { id = id.0; fields = fields })) atom
     read in
-    let id = bind_ok (id_at bytes) (λ id. entries_at [] id.1 >>= λ fields. Ok (record { id = id.0; fields = fields }))
+    let id = bind-ok (id_at bytes) (λ id. entries_at [] id.1 >>= λ fields. Ok (record { id = id.0; fields = fields }))
     atom short.1 in
-    let fields = bind_ok (entries_at [] id.0.1) (λ fields. Ok (record { id = id.0.0; fields = fields })) atom id.2 in
+    let fields = bind-ok (entries_at [] id.0.1) (λ fields. Ok (record { id = id.0.0; fields = fields })) atom id.2 in
     let front = id_takes bytes id.0 fits id.1 in
     let all = entries_take (length id.0.1) [] id.0.1 fields.0 front.0.fits no_entries fields.1 in
     let made : Atom = record { id = id.0.0; fields = fields.0 } in
@@ -139,7 +140,7 @@ atom_takes bytes atom fits read =
       fits = subst (λ (t : List ℕ). length t ≤ most_payload) spelled
           (ltb-false most_payload (length bytes) short.0);
     } in
-    subst (λ (a : Atom). HasNoFault a × (bytes ≡ payload_of a)) (ok_is made atom fields.2) (sound, spelled)
+    subst (λ (a : Atom). HasNoFault a × (bytes ≡ payload_of a)) (ok-same made atom fields.2) (sound, spelled)
 
 -- an atom without fault is read from its payload
 pub atom_again : (atom : Atom) → HasNoFault atom → atom_at (payload_of atom) ≡ Ok atom

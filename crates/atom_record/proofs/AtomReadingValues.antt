@@ -12,7 +12,9 @@ use Rattle.atom_record.specs.declared.parse.Kind.TheVariants as kinds
 use Rattle.atom_record.specs.AtomReading.{number_at, text_at, bool_at, kind_at, value_at}
 use Rattle.atom_record.specs.AtomSpelling.{type_of, value_bytes}
 use Rattle.atom_record.specs.AtomSound.{IsInRange}
-use Rattle.atom_record.proofs.AtomReadingParts.{IsBytes, bind_ok, ok_is, chosen, Takes, wide32, wide64, number_takes, number_again, bool_takes, bool_again, text_takes, text_again}
+use Rattle.sd_base.proofs.ReadsLemmas.{bind-ok, ok-same, choice-side}
+use Rattle.sd_base.proofs.NumbersLemmas.{IsBytes, Takes, wide32, wide64}
+use Rattle.atom_record.proofs.AtomReadingParts.{number_takes, number_again, bool_takes, bool_again, text_takes, text_again}
 
 -- the kind of a value
 abbrev pub kind_of : Value → Kind
@@ -66,44 +68,44 @@ pub value_takes : (kind : Kind) (bytes : List ℕ) (x : Value × List ℕ)
     → TakesValue kind bytes x.0 x.1
 unfolding value_at
 value_takes kinds.Int bytes x fits read =
-    let n = bind_ok (number_at w32 bytes) (λ n. Ok (values.Int (cast_signed w32 n.0), n.1)) x read in
+    let n = bind-ok (number_at w32 bytes) (λ n. Ok (values.Int (cast_signed w32 n.0), n.1)) x read in
     let took = number_takes w32 (2 ^ 32) wide32 bytes n.0 fits n.1 in
     let is_value : Value × List ℕ → Type 0 = λ y. TakesValue kinds.Int bytes y.0 y.1 in
-    subst is_value (ok_is _ x n.2) (record {
+    subst is_value (ok-same _ x n.2) (record {
       took = rw (of_z-to_z w32 n.0.0 took.1) took.0;
       fits = signed32 n.0.0
           took.1;
       same = refl;
     })
 value_takes kinds.Long bytes x fits read =
-    let n = bind_ok (number_at w64 bytes) (λ n. Ok (values.Long (cast_signed w64 n.0), n.1)) x read in
+    let n = bind-ok (number_at w64 bytes) (λ n. Ok (values.Long (cast_signed w64 n.0), n.1)) x read in
     let took = number_takes w64 (2 ^ 64) wide64 bytes n.0 fits n.1 in
     let is_value : Value × List ℕ → Type 0 = λ y. TakesValue kinds.Long bytes y.0 y.1 in
-    subst is_value (ok_is _ x n.2) (record {
+    subst is_value (ok-same _ x n.2) (record {
       took = rw (of_z-to_z w64 n.0.0 took.1) took.0;
       fits = signed64 n.0.0
           took.1;
       same = refl;
     })
 value_takes kinds.Bool bytes x fits read =
-    let b = bind_ok (bool_at bytes) (λ b. Ok (values.Bool b.0, b.1)) x read in
+    let b = bind-ok (bool_at bytes) (λ b. Ok (values.Bool b.0, b.1)) x read in
     let is_value : Value × List ℕ → Type 0 = λ y. TakesValue kinds.Bool bytes y.0 y.1 in
-    subst is_value (ok_is _ x b.2) (record { took = bool_takes bytes b.0 fits b.1; fits = tt; same = refl })
+    subst is_value (ok-same _ x b.2) (record { took = bool_takes bytes b.0 fits b.1; fits = tt; same = refl })
 value_takes kinds.Str bytes x fits read =
-    let text = bind_ok (text_at bytes) (λ text. Ok (values.Str text.0, text.1)) x read in
+    let text = bind-ok (text_at bytes) (λ text. Ok (values.Str text.0, text.1)) x read in
     let took = text_takes bytes text.0 fits text.1 in
     let is_value : Value × List ℕ → Type 0 = λ y. TakesValue kinds.Str bytes y.0 y.1 in
-    subst is_value (ok_is _ x text.2) (record { took = took.0; fits = took.1; same = refl })
+    subst is_value (ok-same _ x text.2) (record { took = took.0; fits = took.1; same = refl })
 value_takes kinds.Raw bytes x fits read =
-    let text = bind_ok (text_at bytes) (λ text. Ok (values.Raw text.0, text.1)) x read in
+    let text = bind-ok (text_at bytes) (λ text. Ok (values.Raw text.0, text.1)) x read in
     let took = text_takes bytes text.0 fits text.1 in
     let is_value : Value × List ℕ → Type 0 = λ y. TakesValue kinds.Raw bytes y.0 y.1 in
-    subst is_value (ok_is _ x text.2) (record { took = took.0; fits = took.1; same = refl })
+    subst is_value (ok-same _ x text.2) (record { took = took.0; fits = took.1; same = refl })
 value_takes kinds.Bits32 bytes x fits read =
-    let n = bind_ok (number_at w32 bytes) (λ n. Ok (values.Bits32 n.0, n.1)) x read in
+    let n = bind-ok (number_at w32 bytes) (λ n. Ok (values.Bits32 n.0, n.1)) x read in
     let took = number_takes w32 (2 ^ 32) wide32 bytes n.0 fits n.1 in
     let is_value : Value × List ℕ → Type 0 = λ y. TakesValue kinds.Bits32 bytes y.0 y.1 in
-    subst is_value (ok_is _ x n.2) (record { took = took.0; fits = took.1; same = refl })
+    subst is_value (ok-same _ x n.2) (record { took = took.0; fits = took.1; same = refl })
 
 -- the number of a kind
 abbrev pub number_of : Kind → ℕ
@@ -139,7 +141,7 @@ named : (number at : ℕ) (it : Kind) (others : Result Kind ℕ) (kind : Kind)
     → (others ≡ Ok kind → number ≡ number_of kind)
     → number ≡ number_of kind
 named number at it others kind is read next =
-    elim (chosen (number == at) (Ok it) others (Ok kind) read) [
+    elim (choice-side (number == at) (Ok it) others (Ok kind) read) [
       | inl this ↦ let same : it ≡ kind = let e = this.1 in cc in eqb-true number at this.0 ∙ sym is ∙ ap number_of same
       | inr other ↦ next other.1
     ]

@@ -1,9 +1,11 @@
 -- The reading of a payload: the atom that it spells, or the reason that is met first.
 -- The reasons stand in the order in which they are judged.
-use Rattle.std.specs.Prelude.{ℕ, zero, suc, ◌-◌, Bool, true, false, not, ◌&&◌, ◌||◌, ◌==◌, nat_lt, nat_le, List, [], ◌∷◌, ◌++◌, length, take, drop, Option, Some, None, Result, Ok, Err, slice_get, if◌then◌else◌}
-use Rattle.std.specs.Int.{Width, w16, w32, w64, byte_len, from_le_bytes, cast_signed}
+use Rattle.std.specs.Prelude.{ℕ, zero, suc, ◌-◌, Bool, true, false, not, ◌&&◌, ◌||◌, ◌==◌, nat_lt, nat_le, List, [], ◌∷◌, ◌++◌, length, Option, Some, None, Result, Ok, Err, slice_get, if◌then◌else◌}
+use Rattle.std.specs.Int.{Width, w32, w64, cast_signed}
 use Rattle.std.specs.List.{list_any}
+use Rattle.std.specs.Option.{ok_or}
 use Rattle.sd_base.specs.Reads.{◌>>=◌}
+use Rattle.sd_base.specs.Numbers.{front_number, front_counted}
 use Rattle.atom_record.specs.declared.atom.Atom.{Atom}
 use Rattle.atom_record.specs.declared.atom.AtomField.{AtomField}
 use Rattle.atom_record.specs.declared.value.Value.{Value}
@@ -65,9 +67,7 @@ may_have exclusive_before place kind flags =
 
 -- a number of so many bytes, low byte first
 abbrev pub number_at : Width → List ℕ → Result (ℕ × List ℕ) ℕ
-number_at width bytes =
-    if nat_lt (length bytes) (byte_len width) then Err reason_cut
-    else Ok (from_le_bytes width (take (byte_len width) bytes), drop (byte_len width) bytes)
+number_at width bytes = ok_or (front_number width bytes) reason_cut
 
 -- one byte, 0 or 1
 abbrev pub bool_at : List ℕ → Result (Bool × List ℕ) ℕ
@@ -77,9 +77,7 @@ bool_at (byte ∷ bytes) =
 
 -- a length in two bytes, and so many bytes
 unfoldable pub text_at : List ℕ → Result (List ℕ × List ℕ) ℕ
-text_at bytes =
-    number_at w16 bytes >>= λ len.
-    if nat_lt (length len.1) len.0 then Err reason_cut else Ok (take len.0 len.1, drop len.0 len.1)
+text_at bytes = ok_or (front_counted bytes) reason_cut
 
 -- the kind that a type byte names
 abbrev pub kind_at : ℕ → Result Kind ℕ
@@ -128,9 +126,8 @@ entries_at before bytes = entries_in (length bytes) before bytes
 -- the id of an atom
 unfoldable pub id_at : List ℕ → Result (ℕ × List ℕ) ℕ
 id_at bytes =
-    if nat_lt (length bytes) 4 then Err reason_bad_id
-    else let id = from_le_bytes w32 (take 4 bytes) in
-    if not (is_atom_id id) then Err reason_bad_id else Ok (id, drop 4 bytes)
+    ok_or (front_number w32 bytes) reason_bad_id >>= λ id.
+    if not (is_atom_id id.0) then Err reason_bad_id else Ok id
 
 -- a whole payload
 unfoldable pub atom_at : List ℕ → Result Atom ℕ

@@ -1,6 +1,6 @@
 //! From the bytes of a payload to an atom.
 ghost use Rattle.std.specs.Prelude.{◌≡◌, [], Ok, IfOk};
-ghost use Rattle.std.specs.Int.{w16, w32, w64};
+ghost use Rattle.std.specs.Int.{w32, w64};
 ghost use Rattle.std.specs.List.{list_any};
 ghost use Rattle.sd_base.specs.Reads.{GivesBy};
 ghost use Rattle.atom_record.specs.Flags.{is_exclusive};
@@ -13,7 +13,7 @@ ghost use Rattle.atom_record.specs.AtomReading.{place_of, is_in_range, is_above,
 use crate::atom::{EXCLUSIVE, PRIMARY, RESET, has_flag, is_atom_id};
 use crate::fault::{BAD_FLAGS, BAD_ID, BAD_PLACE, BAD_TYPE, CUT, NOT_ABOVE, TOO_LONG};
 use crate::{Atom, AtomFault, AtomField, Bytes, Value};
-use sd_base::Seq;
+use sd_base::{Seq, split_counted, split_u32, split_u64};
 use std::alloc::Global;
 
 /// The most bytes of a payload.
@@ -122,34 +122,18 @@ fn may_have(exclusive_before: bool, place: Place, kind: Kind, flags: u8) -> bool
     }
 }
 
-// A number of two bytes.
-pub(crate) fn u16_of(bytes: &[u8]) -> Result<(u16, &[u8]), AtomFault>
-    ensures { GivesBy reason_of (λ x. (x.0, x.1.now)) result (number_at w16 bytes.now) }
-{
-    let Some((front, rest)) = bytes.split_first_chunk::<2>() else {
-        return Err(AtomFault::Bad(CUT));
-    };
-    Ok((u16::from_le_bytes(*front), rest))
-}
-
 // A number of four bytes.
-pub(crate) fn u32_of(bytes: &[u8]) -> Result<(u32, &[u8]), AtomFault>
+fn u32_of(bytes: &[u8]) -> Result<(u32, &[u8]), AtomFault>
     ensures { GivesBy reason_of (λ x. (x.0, x.1.now)) result (number_at w32 bytes.now) }
 {
-    let Some((front, rest)) = bytes.split_first_chunk::<4>() else {
-        return Err(AtomFault::Bad(CUT));
-    };
-    Ok((u32::from_le_bytes(*front), rest))
+    split_u32(bytes).ok_or(AtomFault::Bad(CUT))
 }
 
 // A number of eight bytes.
-pub(crate) fn u64_of(bytes: &[u8]) -> Result<(u64, &[u8]), AtomFault>
+fn u64_of(bytes: &[u8]) -> Result<(u64, &[u8]), AtomFault>
     ensures { GivesBy reason_of (λ x. (x.0, x.1.now)) result (number_at w64 bytes.now) }
 {
-    let Some((front, rest)) = bytes.split_first_chunk::<8>() else {
-        return Err(AtomFault::Bad(CUT));
-    };
-    Ok((u64::from_le_bytes(*front), rest))
+    split_u64(bytes).ok_or(AtomFault::Bad(CUT))
 }
 
 // One byte, which is 0 or 1.
@@ -166,15 +150,10 @@ fn bool_of(bytes: &[u8]) -> Result<(bool, &[u8]), AtomFault>
 
 // A length in two bytes, and so many bytes.
 #[tactic(auto, unfolding(crate::specs::AtomReading::text_at))]
-pub(crate) fn text_of(alloc: Global, bytes: &[u8]) -> Result<(Bytes, &[u8]), AtomFault>
+fn text_of(alloc: Global, bytes: &[u8]) -> Result<(Bytes, &[u8]), AtomFault>
     ensures { GivesBy reason_of (λ x. (x.0, x.1.now)) result (text_at bytes.now) }
 {
-    let (len, rest) = u16_of(bytes)?;
-    let len = usize::from(len);
-    if rest.len() < len {
-        return Err(AtomFault::Bad(CUT));
-    }
-    let (text, rest) = rest.split_at(len);
+    let (text, rest) = split_counted(bytes).ok_or(AtomFault::Bad(CUT))?;
     Ok((Seq::from_slice(alloc, text)?, rest))
 }
 
@@ -272,10 +251,7 @@ fn entries_of(alloc: Global, bytes: &[u8]) -> Result<Seq<AtomField>, AtomFault>
 fn id_of(bytes: &[u8]) -> Result<(u32, &[u8]), AtomFault>
     ensures { GivesBy reason_of (λ x. (x.0, x.1.now)) result (id_at bytes.now) }
 {
-    let Some((front, rest)) = bytes.split_first_chunk::<4>() else {
-        return Err(AtomFault::Bad(BAD_ID));
-    };
-    let id = u32::from_le_bytes(*front);
+    let (id, rest) = split_u32(bytes).ok_or(AtomFault::Bad(BAD_ID))?;
     if !is_atom_id(id) {
         return Err(AtomFault::Bad(BAD_ID));
     }

@@ -15,7 +15,8 @@ use Rattle.flat_form.specs.declared.flat_error.FlatError.TheVariants.{Bad, Memor
 use Rattle.flat_form.specs.Flat.{Anything, IsValidPair, StandsAt, IsBuilt, Builds, Holds, AreBuilt, BuildsAll, number_items, pair_items, key_items, list_items}
 
 -- where two parts stand, the first does
-pub StandsAt-front : (items : List Item) (place : ℕ) (x y : List Item) → StandsAt items place (x ++ y)
+pub StandsAt-front : (items : List Item) (place : ℕ) (x y : List Item)
+    → StandsAt items place (x ++ y)
     → StandsAt items place x
 StandsAt-front items place x y whole = record {
   after = y ++ whole.after;
@@ -24,7 +25,8 @@ StandsAt-front items place x y whole = record {
 }
 
 -- where two parts stand, the second stands after the first
-pub StandsAt-back : (items : List Item) (place : ℕ) (x y : List Item) → StandsAt items place (x ++ y)
+pub StandsAt-back : (items : List Item) (place : ℕ) (x y : List Item)
+    → StandsAt items place (x ++ y)
     → StandsAt items (place + length x) y
 StandsAt-back items place x y whole = record {
   after = whole.after;
@@ -33,8 +35,10 @@ StandsAt-back items place x y whole = record {
 }
 
 -- two parts of which the second stands after the first stand there together
-pub StandsAt-join : (items : List Item) (place : ℕ) (x y : List Item) → StandsAt items place x
-    → StandsAt items (place + length x) y → StandsAt items place (x ++ y)
+pub StandsAt-join : (items : List Item) (place : ℕ) (x y : List Item)
+    → StandsAt items place x
+    → StandsAt items (place + length x) y
+    → StandsAt items place (x ++ y)
 StandsAt-join items place x y front back =
     let rest : front.after ≡ y ++ back.after = sym (drop_at x front.after (length x) refl)
     ∙ ap (drop (length x)) (sym front.here) ∙ drop-drop (length x) place items ∙ back.here in
@@ -49,7 +53,8 @@ pub StandsAt-nothing : (items : List Item) (place : ℕ) → StandsAt items plac
 StandsAt-nothing items place = record { after = drop place items; here = refl }
 
 -- the item at a place stands there
-pub item_here : (items : List Item) (place : ℕ) (item : Item) → slice_get items place ≡ Some item
+pub item_here : (items : List Item) (place : ℕ) (item : Item)
+    → slice_get items place ≡ Some item
     → StandsAt items place (item ∷ [])
 item_here [] place item found = absurd cc
 item_here (x ∷ xs) zero item found = record {
@@ -61,7 +66,8 @@ item_here (x ∷ xs) (suc place) item found = let rest = item_here xs place item
     record { after = rest.after; here = rest.here }
 
 -- an item that stands at a place is the item there
-pub item_is : (items : List Item) (place : ℕ) (item : Item) → StandsAt items place (item ∷ [])
+pub item_is : (items : List Item) (place : ℕ) (item : Item)
+    → StandsAt items place (item ∷ [])
     → slice_get items place ≡ Some item
 item_is [] zero item stands = let never = stands.here in absurd cc
 item_is [] (suc place) item stands = let never = stands.here in absurd cc
@@ -70,8 +76,11 @@ item_is (x ∷ xs) (suc place) item stands = item_is xs place item (record { aft
 
 module _ {X : Type 0} (wrap : X → Item) (items : List Item) (place : ℕ) where
   -- the value of the item that stands there
-  pub one_built : ((x y : X) → wrap x ≡ wrap y → x ≡ y) → (item : Item) (value : X) (next : ℕ)
-      → slice_get items place ≡ Some item → next ≡ place + 1 → item ≡ wrap value
+  pub one_built : ((x y : X) → wrap x ≡ wrap y → x ≡ y)
+      → (item : Item) (value : X) (next : ℕ)
+      → slice_get items place ≡ Some item
+      → next ≡ place + 1
+      → item ≡ wrap value
       → IsBuilt Anything (λ x. wrap x ∷ []) items place value next
   one_built distinct item value next found is_next is = record {
     is_valid = tt;
@@ -82,13 +91,19 @@ module _ {X : Type 0} (wrap : X → Item) (items : List Item) (place : ℕ) wher
   }
 
   -- no item stands there
-  pub past_end : slice_get items place ≡ None → (value : X) → Anything value
+  pub past_end : slice_get items place ≡ None
+      → (value : X)
+      → Anything value
       → ¬ (StandsAt items place (wrap value ∷ []))
   past_end none value valid there = let some = item_is items place (wrap value) there in cc
 
   -- an item of another kind stands there
-  pub other_kind : (item : Item) → slice_get items place ≡ Some item → ((value : X) → ¬ (item ≡ wrap value))
-      → (value : X) → Anything value → ¬ (StandsAt items place (wrap value ∷ []))
+  pub other_kind : (item : Item)
+      → slice_get items place ≡ Some item
+      → ((value : X) → ¬ (item ≡ wrap value))
+      → (value : X)
+      → Anything value
+      → ¬ (StandsAt items place (wrap value ∷ []))
   other_kind item found never value valid there =
       never value (let same = item_is items place (wrap value) there in let is : item ≡ wrap value = cc in is)
 
@@ -99,7 +114,8 @@ same_pair pair x y first second = ap (λ z. (z, pair.1)) first ∙ ap (λ w. (x,
 module _ {X Y : Type 0} (one_valid : X → Type 0) (other_valid : Y → Type 0) (first : X → List Item)
     (second : Y → List Item) (items : List Item) (place : ℕ) where
   -- a pair, built from its parts
-  pub pair_built : (x : X) (y : Y) (middle next : ℕ) → IsBuilt one_valid first items place x middle
+  pub pair_built : (x : X) (y : Y) (middle next : ℕ)
+      → IsBuilt one_valid first items place x middle
       → IsBuilt other_valid second items middle y next
       → IsBuilt (IsValidPair one_valid other_valid) (pair_items first second) items place (x, y) next
   pair_built x y middle next one other = record {
@@ -118,15 +134,20 @@ module _ {X Y : Type 0} (one_valid : X → Type 0) (other_valid : Y → Type 0) 
   }
 
   -- no first part
-  pub no_first : ((x : X) → one_valid x → ¬ (StandsAt items place (first x))) → (pair : X × Y)
-      → IsValidPair one_valid other_valid pair → ¬ (StandsAt items place (pair_items first second pair))
+  pub no_first : ((x : X) → one_valid x → ¬ (StandsAt items place (first x)))
+      → (pair : X × Y)
+      → IsValidPair one_valid other_valid pair
+      → ¬ (StandsAt items place (pair_items first second pair))
   no_first never pair valid there = never pair.0 valid.0 (StandsAt-front items place (first pair.0)
       (second pair.1) there)
 
   -- no second part after the first
-  pub no_second : (x : X) (middle : ℕ) → IsBuilt one_valid first items place x middle
-      → ((y : Y) → other_valid y → ¬ (StandsAt items middle (second y))) → (pair : X × Y)
-      → IsValidPair one_valid other_valid pair → ¬ (StandsAt items place (pair_items first second pair))
+  pub no_second : (x : X) (middle : ℕ)
+      → IsBuilt one_valid first items place x middle
+      → ((y : Y) → other_valid y → ¬ (StandsAt items middle (second y)))
+      → (pair : X × Y)
+      → IsValidPair one_valid other_valid pair
+      → ¬ (StandsAt items place (pair_items first second pair))
   no_second x middle one never pair valid there =
       let same : pair.0 ≡ x = one.only pair.0 valid.0 (StandsAt-front items place (first pair.0)
       (second pair.1) there) in
@@ -136,13 +157,16 @@ module _ {X Y : Type 0} (one_valid : X → Type 0) (other_valid : Y → Type 0) 
       (StandsAt-back items place (first pair.0) (second pair.1) there))
 
   -- the first part has a fault
-  pub first_fails : (e : FlatError) → Builds one_valid first items place (Err e)
+  pub first_fails : (e : FlatError)
+      → Builds one_valid first items place (Err e)
       → Builds (IsValidPair one_valid other_valid) (pair_items first second) items place (Err e)
   first_fails Bad never = no_first never
   first_fails Memory none = tt
 
   -- the second part has a fault
-  pub second_fails : (x : X) (middle : ℕ) → IsBuilt one_valid first items place x middle → (e : FlatError)
+  pub second_fails : (x : X) (middle : ℕ)
+      → IsBuilt one_valid first items place x middle
+      → (e : FlatError)
       → Builds other_valid second items middle (Err e)
       → Builds (IsValidPair one_valid other_valid) (pair_items first second) items place (Err e)
   second_fails x middle one Bad never = no_second x middle one never
@@ -150,7 +174,9 @@ module _ {X Y : Type 0} (one_valid : X → Type 0) (other_valid : Y → Type 0) 
 
 -- an item that holds no such value
 pub one_fails : {X : Type 0} (wrap : X → Item) (items : List Item) (place : ℕ) (item : Item)
-    → slice_get items place ≡ Some item → (e : FlatError) → Holds wrap item (Err e)
+    → slice_get items place ≡ Some item
+    → (e : FlatError)
+    → Holds wrap item (Err e)
     → Builds Anything (λ x. wrap x ∷ []) items place (Err e)
 one_fails wrap items place item found Bad never = other_kind wrap items place item found never
 one_fails wrap items place item found Memory none = tt
@@ -161,7 +187,8 @@ module _ {X Y : Type 0} (inner_valid : X → Type 0) (inner : X → List Item) (
     (as_form : (y : Y) → outer y ≡ inner (form y)) (form_valid : (y : Y) → outer_valid y → inner_valid (form y))
     (items : List Item) (place : ℕ) where
   -- no form stands there
-  pub form_fails : (e : FlatError) → Builds inner_valid inner items place (Err e)
+  pub form_fails : (e : FlatError)
+      → Builds inner_valid inner items place (Err e)
       → Builds outer_valid outer items place (Err e)
   form_fails Bad never = λ y valid there. never (form y) (form_valid y valid)
       (subst (StandsAt items place) (as_form y) there)
@@ -195,15 +222,18 @@ key_built items place middle next dims slices one other =
 
 -- where no dimensions stand, no key does
 pub key_dims_fails : (items : List Item) (place : ℕ) (e : FlatError)
-    → Builds Anything (λ x. Dims x ∷ []) items place (Err e) → Builds Anything key_items items place (Err e)
+    → Builds Anything (λ x. Dims x ∷ []) items place (Err e)
+    → Builds Anything key_items items place (Err e)
 key_dims_fails items place Bad never = λ key valid there. no_first Anything Anything dims_item slices_item items
     place never (key.dims, key.slices) (tt, tt) there
 key_dims_fails items place Memory none = tt
 
 -- where no slices stand after the dimensions, no key stands
 pub key_slices_fails : (items : List Item) (place middle : ℕ) (dims : List Leaf)
-    → IsBuilt Anything (λ x. Dims x ∷ []) items place dims middle → (e : FlatError)
-    → Builds Anything (λ x. Slices x ∷ []) items middle (Err e) → Builds Anything key_items items place (Err e)
+    → IsBuilt Anything (λ x. Dims x ∷ []) items place dims middle
+    → (e : FlatError)
+    → Builds Anything (λ x. Slices x ∷ []) items middle (Err e)
+    → Builds Anything key_items items place (Err e)
 key_slices_fails items place middle dims one Bad never =
     λ key valid there. no_second Anything Anything dims_item slices_item items place dims middle one never
     (key.dims, key.slices) (tt, tt) there
@@ -256,8 +286,12 @@ module _ {X : Type 0} (valid : X → Type 0) (flat : X → List Item) (items : L
   }
 
   -- the elements before one of a list that stands there are those that were built, and its own items stand after them
-  pub next_stands : (n : ℕ) (values : List X) (next : ℕ) → AreBuilt valid flat items place n values next
-      → (others : List X) → All valid others → (at : IsSplit others n) → StandsAt items place (flat_map flat others)
+  pub next_stands : (n : ℕ) (values : List X) (next : ℕ)
+      → AreBuilt valid flat items place n values next
+      → (others : List X)
+      → All valid others
+      → (at : IsSplit others n)
+      → StandsAt items place (flat_map flat others)
       → (at.front ≡ values) × (valid at.here × StandsAt items next (flat at.here))
   next_stands n values next are others all at there =
       let parts : All valid (at.front ++ (at.here ∷ at.back)) = subst (All valid) at.parts all in
@@ -287,7 +321,8 @@ module _ {X : Type 0} (valid : X → Type 0) (flat : X → List Item) (items : L
 
   -- one more is built
   pub are_more : (n : ℕ) (values : List X) (next : ℕ) (value : X) (after : ℕ)
-      → AreBuilt valid flat items place n values next → IsBuilt valid flat items next value after
+      → AreBuilt valid flat items place n values next
+      → IsBuilt valid flat items next value after
       → AreBuilt valid flat items place (n + 1) (values ++ value ∷ []) after
   are_more n values next value after are one = record {
     are_valid = All-push valid values value are.are_valid one.is_valid;
@@ -313,8 +348,12 @@ module _ {X : Type 0} (valid : X → Type 0) (flat : X → List Item) (items : L
 
   -- in a longer list that stands there, the next one after those that were built is this
   pub next_is : (n : ℕ) (values : List X) (next : ℕ) (value : X) (after : ℕ)
-      → AreBuilt valid flat items place n values next → IsBuilt valid flat items next value after
-      → (others : List X) → All valid others → (at : IsSplit others n) → StandsAt items place (flat_map flat others)
+      → AreBuilt valid flat items place n values next
+      → IsBuilt valid flat items next value after
+      → (others : List X)
+      → All valid others
+      → (at : IsSplit others n)
+      → StandsAt items place (flat_map flat others)
       → others ≡ values ++ (value ∷ at.back)
   next_is n values next value after are one others all at there =
       let is = next_stands n values next are others all at there in
@@ -322,8 +361,11 @@ module _ {X : Type 0} (valid : X → Type 0) (flat : X → List Item) (items : L
       at.parts ∙ ap (λ l. l ++ (at.here ∷ at.back)) is.0 ∙ ap (λ x. values ++ (x ∷ at.back)) same
 
   -- the next has a fault
-  pub next_fails : (n count : ℕ) (values : List X) (next : ℕ) → AreBuilt valid flat items place n values next
-      → n < count → (e : FlatError) → Builds valid flat items next (Err e)
+  pub next_fails : (n count : ℕ) (values : List X) (next : ℕ)
+      → AreBuilt valid flat items place n values next
+      → n < count
+      → (e : FlatError)
+      → Builds valid flat items next (Err e)
       → BuildsAll valid flat items place count (Err e)
   next_fails n count values next are less Bad never = λ others all counted there.
       let at = split others n (omega arith) in
@@ -332,8 +374,10 @@ module _ {X : Type 0} (valid : X → Type 0) (flat : X → List Item) (items : L
   next_fails n count values next are less Memory none = tt
 
   -- a list after its number
-  pub list_built : (count middle : ℕ) → IsBuilt Anything number_items items place count middle
-      → (built : Result (List X × ℕ) FlatError) → BuildsAll valid flat items middle count built
+  pub list_built : (count middle : ℕ)
+      → IsBuilt Anything number_items items place count middle
+      → (built : Result (List X × ℕ) FlatError)
+      → BuildsAll valid flat items middle count built
       → Builds (All valid) (list_items flat) items place built
   list_built count middle one (Ok built) are = record {
     is_valid = are.are_valid;
@@ -359,7 +403,8 @@ module _ {X : Type 0} (valid : X → Type 0) (flat : X → List Item) (items : L
   list_built count middle one (Err Memory) none = tt
 
   -- no number stands there
-  pub count_fails : (e : FlatError) → Builds Anything number_items items place (Err e)
+  pub count_fails : (e : FlatError)
+      → Builds Anything number_items items place (Err e)
       → Builds (All valid) (list_items flat) items place (Err e)
   count_fails Bad never = λ others all there. never (length others) tt
       (StandsAt-front items place (number_items (length others)) (flat_map flat others) there)

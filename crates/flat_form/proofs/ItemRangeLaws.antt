@@ -12,8 +12,9 @@ use Rattle.sd_base.specs.Reads.{FailsBy}
 use Rattle.flat_form.specs.ItemReading.{no_item_of, item_at}
 use Rattle.flat_form.specs.ItemSpelling.{spelled_item, spelled_items}
 use Rattle.flat_form.specs.ItemRange.{CanBeSpelled, AreRead, ReadsItems}
-use Rattle.atom_record.proofs.AtomReadingParts.{IsBytes}
-use Rattle.flat_form.proofs.ItemReadingLaws.{ok_is, IsItem, item_takes, item_again}
+use Rattle.sd_base.proofs.ReadsLemmas.{ok-same}
+use Rattle.sd_base.proofs.NumbersLemmas.{IsBytes}
+use Rattle.flat_form.proofs.ItemReadingLaws.{IsItem, item_takes, item_again}
 
 -- the items are the front of the others
 pub record IsFrontOf (items others : List Item) : Type 0 where
@@ -50,15 +51,23 @@ starts bytes fits = record {
 }
 
 -- what others have after the items is spelled by the rest
-left_of : (bytes : List ℕ) (items : List Item) (rest : List ℕ) → HasRead bytes items rest → (others : List Item)
-    → bytes ≡ spelled_items others → (at : IsFrontOf items others) → rest ≡ spelled_items at.more
+left_of : (bytes : List ℕ) (items : List Item) (rest : List ℕ)
+    → HasRead bytes items rest
+    → (others : List Item)
+    → bytes ≡ spelled_items others
+    → (at : IsFrontOf items others)
+    → rest ≡ spelled_items at.more
 left_of bytes items rest has others spelled at =
     append_cancel_left (spelled_items items) rest (spelled_items at.more)
     (sym has.parts ∙ spelled ∙ ap spelled_items at.parts ∙ flat_map-append spelled_item items at.more)
 
 -- what holds of the whole holds of its end
-each_left : (items others more : List Item) → others ≡ items ++ more → All IsItem others → (k : ℕ) (d : Item)
-    → k < length more → IsItem (get_or more k d)
+each_left : (items others more : List Item)
+    → others ≡ items ++ more
+    → All IsItem others
+    → (k : ℕ) (d : Item)
+    → k < length more
+    → IsItem (get_or more k d)
 each_left items others more is each k d less =
     let all : All IsItem (items ++ more) = subst (λ (l : List Item). All IsItem l) is each in
     let sum = length-append items more in
@@ -72,8 +81,11 @@ record StartsWith (rest : List ℕ) (more : List Item) : Type 0 where
   read : item_at rest ≡ Ok (first, spelled_items others)
 
 -- what is left, if it is anything, begins with the first of the items that spell it
-first_of_rest : (rest : List ℕ) (more : List Item) → 0 < length rest → rest ≡ spelled_items more
-    → ((k : ℕ) (d : Item) → k < length more → IsItem (get_or more k d)) → StartsWith rest more
+first_of_rest : (rest : List ℕ) (more : List Item)
+    → 0 < length rest
+    → rest ≡ spelled_items more
+    → ((k : ℕ) (d : Item) → k < length more → IsItem (get_or more k d))
+    → StartsWith rest more
 first_of_rest rest [] some spelled each = let none : length rest ≡ 0 = ap length spelled in absurd (omega arith)
 first_of_rest rest (item ∷ others) some spelled each = record {
   first = item;
@@ -89,7 +101,9 @@ spelled_push xs x = flat_map-append spelled_item xs (x ∷ [])
 
 -- one more item is read
 pub goes_on : (bytes : List ℕ) (items : List Item) (rest : List ℕ) (item : Item) (after : List ℕ)
-    → HasRead bytes items rest → 0 < length rest → item_at rest ≡ Ok (item, after)
+    → HasRead bytes items rest
+    → 0 < length rest
+    → item_at rest ≡ Ok (item, after)
     → HasRead bytes (items ++ item ∷ []) after
 goes_on bytes items rest item after has some read =
     let took = item_takes rest (item, after) has.fits read in
@@ -104,7 +118,7 @@ goes_on bytes items rest item after has some read =
           let start = first_of_rest rest at.more some (left_of bytes items rest has others spelled at)
           (each_left items others at.more at.parts each) in
           let same : start.first ≡ item = ap (λ (z : Item × List ℕ). z.0)
-          (ok_is (start.first, spelled_items start.others) (item, after) (sym start.read ∙ read)) in
+          (ok-same (start.first, spelled_items start.others) (item, after) (sym start.read ∙ read)) in
           record {
             more = start.others;
             parts = at.parts ∙ ap (λ (l : List Item). items ++ l) start.is
@@ -114,8 +128,12 @@ goes_on bytes items rest item after has some read =
     }
 
 -- the next item has a fault
-pub fails : (bytes : List ℕ) (items : List Item) (rest : List ℕ) → HasRead bytes items rest → 0 < length rest
-    → (e : FlatError) → FailsBy (no_item_of e) (item_at rest) → ReadsItems bytes (Err e)
+pub fails : (bytes : List ℕ) (items : List Item) (rest : List ℕ)
+    → HasRead bytes items rest
+    → 0 < length rest
+    → (e : FlatError)
+    → FailsBy (no_item_of e) (item_at rest)
+    → ReadsItems bytes (Err e)
 fails bytes items rest has some Bad failed = λ others can spelled.
     let at = has.only others (both others can) spelled in
     let start = first_of_rest rest at.more some (left_of bytes items rest has others spelled at)
@@ -133,7 +151,9 @@ nothing_more (item ∷ others) none =
     absurd (omega arith)
 
 -- all bytes are read
-pub is_done : (bytes : List ℕ) (items : List Item) (rest : List ℕ) → HasRead bytes items rest → length rest ≡ 0
+pub is_done : (bytes : List ℕ) (items : List Item) (rest : List ℕ)
+    → HasRead bytes items rest
+    → length rest ≡ 0
     → AreRead bytes items
 is_done bytes items rest has none =
     let nothing : rest ≡ [] = nil_from_length rest none in
@@ -148,7 +168,9 @@ is_done bytes items rest has none =
     }
 
 -- reading an item leaves fewer bytes
-pub shortens : (rest : List ℕ) (item : Item) (after : List ℕ) → IsBytes rest → item_at rest ≡ Ok (item, after)
+pub shortens : (rest : List ℕ) (item : Item) (after : List ℕ)
+    → IsBytes rest
+    → item_at rest ≡ Ok (item, after)
     → length after < length rest
 shortens rest item after fits read =
     let took = item_takes rest (item, after) fits read in

@@ -1,5 +1,4 @@
 pub mod FlatLaws
 pub mod ItemReadingLaws
 pub mod ItemRangeLaws
-pub mod ManyLaws
 pub mod WeightLaws

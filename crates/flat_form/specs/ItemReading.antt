@@ -1,7 +1,9 @@
 -- The reading of items: the item that bytes begin with and the bytes after it, or that they begin with none.
-use Rattle.std.specs.Prelude.{ℕ, List, [], ◌∷◌, length, take, drop, Option, Some, None, Result, Ok, Err, ◌==◌, nat_lt, if◌then◌else◌}
-use Rattle.std.specs.Int.{Width, w16, w32, w64, byte_len, from_le_bytes, cast_signed}
+use Rattle.std.specs.Prelude.{ℕ, List, [], ◌∷◌, Option, Some, None, Result, Ok, Err, ◌==◌, if◌then◌else◌}
+use Rattle.std.specs.Int.{Width, w16, w32, w64, cast_signed}
+use Rattle.std.specs.Option.{ok_or}
 use Rattle.sd_base.specs.Reads.{◌>>=◌, many}
+use Rattle.sd_base.specs.Numbers.{front_bytes, front_number}
 use Rattle.atom_record.specs.declared.value.Value.{Value}
 use Rattle.atom_record.specs.declared.value.Leaf.{Leaf}
 use Rattle.atom_record.specs.declared.value.Leaf.TheVariants.{Missing, One, Many}
@@ -30,15 +32,12 @@ without_reason (Err reason) = Err Unspelled
 
 -- a number of so many bytes, low byte first
 abbrev pub item_uint_at : Width → List ℕ → Result (ℕ × List ℕ) NoItem
-item_uint_at width bytes =
-    if nat_lt (length bytes) (byte_len width) then Err Unspelled
-    else Ok (from_le_bytes width (take (byte_len width) bytes), drop (byte_len width) bytes)
+item_uint_at width bytes = ok_or (front_number width bytes) Unspelled
 
 -- a number of so many bytes, and as many bytes as it says
 abbrev pub counted_at : Width → List ℕ → Result (List ℕ × List ℕ) NoItem
 counted_at width bytes =
-    item_uint_at width bytes >>= λ len.
-    if nat_lt (length len.1) len.0 then Err Unspelled else Ok (take len.0 len.1, drop len.0 len.1)
+    item_uint_at width bytes >>= λ count. ok_or (front_bytes count.0 count.1) Unspelled
 
 -- a value after the byte of its kind
 abbrev pub value_in : List ℕ → Result (Value × List ℕ) NoItem

@@ -7,34 +7,25 @@ ghost use Rattle.flat_form.specs.ItemRange.{ReadsItems};
 
 use crate::{FlatError, Item, Items};
 use atom_record::{AtomFault, Leaf, Slice, Value, decode_value, parse_atom};
-use sd_base::Seq;
+use sd_base::{Seq, split_bytes, split_counted, split_u16, split_u32, split_u64};
 use std::alloc::Global;
 
 fn u16_of(bytes: &[u8]) -> Result<(u16, &[u8]), FlatError>
     ensures { GivesBy no_item_of (λ x. (x.0, x.1.now)) result (item_uint_at w16 bytes.now) }
 {
-    let Some((front, rest)) = bytes.split_first_chunk::<2>() else {
-        return Err(FlatError::Bad);
-    };
-    Ok((u16::from_le_bytes(*front), rest))
+    split_u16(bytes).ok_or(FlatError::Bad)
 }
 
 fn u32_of(bytes: &[u8]) -> Result<(u32, &[u8]), FlatError>
     ensures { GivesBy no_item_of (λ x. (x.0, x.1.now)) result (item_uint_at w32 bytes.now) }
 {
-    let Some((front, rest)) = bytes.split_first_chunk::<4>() else {
-        return Err(FlatError::Bad);
-    };
-    Ok((u32::from_le_bytes(*front), rest))
+    split_u32(bytes).ok_or(FlatError::Bad)
 }
 
 fn u64_of(bytes: &[u8]) -> Result<(u64, &[u8]), FlatError>
     ensures { GivesBy no_item_of (λ x. (x.0, x.1.now)) result (item_uint_at w64 bytes.now) }
 {
-    let Some((front, rest)) = bytes.split_first_chunk::<8>() else {
-        return Err(FlatError::Bad);
-    };
-    Ok((u64::from_le_bytes(*front), rest))
+    split_u64(bytes).ok_or(FlatError::Bad)
 }
 
 /// What can be read from the front of bytes.
@@ -140,24 +131,15 @@ impl Decode for Slice {
 fn short_text_of(bytes: &[u8]) -> Result<(&[u8], &[u8]), FlatError>
     ensures { GivesBy no_item_of (λ x. (x.0.now, x.1.now)) result (counted_at w16 bytes.now) }
 {
-    let (len, rest) = u16_of(bytes)?;
-    let len = usize::from(len);
-    if rest.len() < len {
-        return Err(FlatError::Bad);
-    }
-    Ok(rest.split_at(len))
+    split_counted(bytes).ok_or(FlatError::Bad)
 }
 
 // The bytes after their number, which is one of four bytes.
 fn long_text_of(bytes: &[u8]) -> Result<(&[u8], &[u8]), FlatError>
     ensures { GivesBy no_item_of (λ x. (x.0.now, x.1.now)) result (counted_at w32 bytes.now) }
 {
-    let (len, rest) = u32_of(bytes)?;
-    let len = len as usize;
-    if rest.len() < len {
-        return Err(FlatError::Bad);
-    }
-    Ok(rest.split_at(len))
+    let (count, rest) = u32_of(bytes)?;
+    split_bytes(rest, u64::from(count)).ok_or(FlatError::Bad)
 }
 
 // What stands after the tag 1: a number.

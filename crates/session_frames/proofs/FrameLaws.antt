@@ -1,9 +1,10 @@
 -- Laws of the frames of a byte string, for statsd_cli too: any bytes are read in one way, and more bytes after whole
 -- frames change none of them.
-use Rattle.std.proofs.Common.{◌≡◌, IsTrue, ℕ, zero, suc, ◌+◌, ◌-◌, ◌≤◌, Bool, true, false, ◌==◌, nat_lt, if◌then◌else◌, MatchBool, fold, List, [], ◌∷◌, ◌++◌, length, take, drop, Result, Ok, Err, refl, sym, ap, ap₂, ◌∙◌, subst, subst₂, arith}
+use Rattle.std.proofs.Common.{◌≡◌, IsTrue, ℕ, zero, suc, ◌+◌, ◌-◌, ◌≤◌, Bool, true, false, ◌==◌, nat_lt, if◌then◌else◌, MatchBool, fold, List, [], ◌∷◌, ◌++◌, length, take, drop, Result, Ok, Err, refl, sym, ap, ap₂, ◌∙◌, subst, subst₂, arith, inl, inr}
 use Rattle.std.proofs.lemmas.Bool.Decides.{nat_tests}
 use Rattle.std.proofs.lemmas.List.{take-append-le, drop-append-le, length-append, length-drop}
 use Rattle.std.specs.Int.{w32, from_le_bytes}
+use Rattle.sd_base.proofs.ReadsLemmas.{choice-holds, choice-side}
 use Rattle.session_frames.specs.declared.frame.Frame.{Frame}
 use Rattle.session_frames.specs.declared.frame.FrameFault.{FrameFault}
 use Rattle.session_frames.specs.declared.frame.FrameFault.TheVariants.{Cut, TooLong, BadLength, UnknownKind, BadBody, BadAtom, TimeBackwards}
@@ -72,13 +73,20 @@ judged_so empty short none long cut size read after frame rest h =
 
 -- the tests, as facts on numbers
 tests_tell : (len size most rest : ℕ)
-    → (len == 0) ≡ false → nat_lt len 4 ≡ false → (size == 0) ≡ false → nat_lt most size ≡ false
+    → (len == 0) ≡ false
+    → nat_lt len 4 ≡ false
+    → (size == 0) ≡ false
+    → nat_lt most size ≡ false
     → nat_lt rest size ≡ false
     → (4 ≤ len) × (1 ≤ size) × (size ≤ most) × (size ≤ rest)
 tests_tell len size most rest e1 e2 e3 e4 e5 =
     (grind (arith, nat_tests), grind (arith, nat_tests), grind (arith, nat_tests), grind (arith, nat_tests))
 
-told_by_tests : (len size most rest : ℕ) → 4 ≤ len → 1 ≤ size → size ≤ most → size ≤ rest
+told_by_tests : (len size most rest : ℕ)
+    → 4 ≤ len
+    → 1 ≤ size
+    → size ≤ most
+    → size ≤ rest
     → ((len == 0) ≡ false) × (nat_lt len 4 ≡ false) × ((size == 0) ≡ false) × (nat_lt most size ≡ false)
     × (nat_lt rest size ≡ false)
 told_by_tests len size most rest h1 h2 h3 h4 = (
@@ -91,7 +99,8 @@ told_by_tests len size most rest h1 h2 h3 h4 = (
 
 -- what is judged a frame stands whole in front
 pub StandsWhole-from_next : (clock : ℕ) (left : List ℕ) (frame : Frame) (rest : List ℕ)
-    → next_frame clock left ≡ Whole frame rest → StandsWhole clock left frame rest
+    → next_frame clock left ≡ Whole frame rest
+    → StandsWhole clock left frame rest
 unfolding next_frame
 StandsWhole-from_next clock left frame rest e =
     let size = size_at left in
@@ -105,7 +114,8 @@ StandsWhole-from_next clock left frame rest e =
 
 -- what stands whole in front is judged a frame
 pub next-from_StandsWhole : (clock : ℕ) (left : List ℕ) (frame : Frame) (rest : List ℕ)
-    → StandsWhole clock left frame rest → next_frame clock left ≡ Whole frame rest
+    → StandsWhole clock left frame rest
+    → next_frame clock left ≡ Whole frame rest
 unfolding next_frame
 next-from_StandsWhole clock left frame rest h =
     let size = size_at left in
@@ -125,7 +135,8 @@ next-from_StandsWhole clock left frame rest h =
 
 -- a frame takes its length and one byte at least
 pub whole_takes : (clock : ℕ) (left : List ℕ) (frame : Frame) (rest : List ℕ)
-    → next_frame clock left ≡ Whole frame rest → length rest + 5 ≤ length left
+    → next_frame clock left ≡ Whole frame rest
+    → length rest + 5 ≤ length left
 whole_takes clock left frame rest e =
     let h = StandsWhole-from_next clock left frame rest e in
     let long : 4 ≤ length left = h.long in
@@ -135,7 +146,8 @@ whole_takes clock left frame rest e =
 
 -- more bytes after a whole frame stay after it
 pub whole_more : (clock : ℕ) (left : List ℕ) (frame : Frame) (rest more : List ℕ)
-    → next_frame clock left ≡ Whole frame rest → next_frame clock (left ++ more) ≡ Whole frame (rest ++ more)
+    → next_frame clock left ≡ Whole frame rest
+    → next_frame clock (left ++ more) ≡ Whole frame (rest ++ more)
 whole_more clock left frame rest more e =
     let h = StandsWhole-from_next clock left frame rest e in
     let long : 4 ≤ length left = h.long in
@@ -172,7 +184,8 @@ past-more place left frame rest more =
 
 -- more bytes after frames stay after them
 pub Begins-more : (place : Place) (left : List ℕ) (frames : List Frame) (new : Place) (rest more : List ℕ)
-    → Begins place left frames new rest → Begins place (left ++ more) frames new (rest ++ more)
+    → Begins place left frames new rest
+    → Begins place (left ++ more) frames new (rest ++ more)
 Begins-more place left [] new rest more h = (ap (λ l. l ++ more) h.0, h.1)
 Begins-more place left (frame ∷ frames) new rest more h = (
   h.0 ++ more,
@@ -182,9 +195,10 @@ Begins-more place left (frame ∷ frames) new rest more h = (
 )
 
 -- one more frame after frames
-pub Begins-push : (place : Place) (left : List ℕ) (frames : List Frame) (new : Place) (rest : List ℕ)
-    (frame : Frame) (after : List ℕ)
-    → Begins place left frames new rest → next_frame new.clock rest ≡ Whole frame after
+pub Begins-push : (place : Place) (left : List ℕ) (frames : List Frame) (new : Place) (rest : List ℕ) (frame : Frame)
+    (after : List ℕ)
+    → Begins place left frames new rest
+    → next_frame new.clock rest ≡ Whole frame after
     → Begins place left (frames ++ frame ∷ []) (past new rest frame after) after
 Begins-push place left [] new rest frame after h whole = (
   after,
@@ -197,7 +211,9 @@ Begins-push place left (first ∷ frames) new rest frame after h whole =
 -- what is read at the place after frames is read after them
 pub Reads-from_Begins : (place : Place) (left : List ℕ) (frames : List Frame) (new : Place) (rest : List ℕ)
     (others : List Frame) (end : End)
-    → Begins place left frames new rest → Reads new rest others end → Reads place left (frames ++ others) end
+    → Begins place left frames new rest
+    → Reads new rest others end
+    → Reads place left (frames ++ others) end
 Reads-from_Begins place left [] new rest others end h reads =
     subst₂ (λ p l. Reads p l others end) (sym h.1) (sym h.0) reads
 Reads-from_Begins place left (frame ∷ frames) new rest others end h reads =
@@ -205,20 +221,23 @@ Reads-from_Begins place left (frame ∷ frames) new rest others end h reads =
 
 -- the clock after frames
 pub Begins_clock : (place : Place) (left : List ℕ) (frames : List Frame) (new : Place) (rest : List ℕ)
-    → Begins place left frames new rest → new.clock ≡ fold clock_after place.clock frames
+    → Begins place left frames new rest
+    → new.clock ≡ fold clock_after place.clock frames
 Begins_clock place left [] new rest h = ap (λ (p : Place). p.clock) (sym h.1)
 Begins_clock place left (frame ∷ frames) new rest h = Begins_clock (past place left frame h.0) h.0 frames new rest h.2
 
 -- what was read and what is left are all the bytes
 pub Begins_bytes : (place : Place) (left : List ℕ) (frames : List Frame) (new : Place) (rest : List ℕ)
-    → Begins place left frames new rest → new.bytes + length rest ≡ place.bytes + length left
+    → Begins place left frames new rest
+    → new.bytes + length rest ≡ place.bytes + length left
 Begins_bytes place left [] new rest h = ap₂ (λ (p : Place) l. p.bytes + length l) (sym h.1) (sym h.0)
 Begins_bytes place left (frame ∷ frames) new rest h =
     let takes : length h.0 + 5 ≤ length left = whole_takes place.clock left frame h.0 h.1 in
     Begins_bytes (past place left frame h.0) h.0 frames new rest h.2 ∙ omega arith
 
 -- frames with an end are frames in front, and the end after them
-pub Begins-from_Reads : (place : Place) (left : List ℕ) (frames : List Frame) (end : End) → Reads place left frames end
+pub Begins-from_Reads : (place : Place) (left : List ℕ) (frames : List Frame) (end : End)
+    → Reads place left frames end
     → (new : Place) × (rest : List ℕ) × Begins place left frames new rest × Reads new rest [] end
 Begins-from_Reads place left [] end h = (place, left, (refl, refl), h)
 Begins-from_Reads place left (frame ∷ frames) end h =
@@ -227,7 +246,9 @@ Begins-from_Reads place left (frame ∷ frames) end h =
 
 -- Bytes are read in one way.
 pub one_reading : (place : Place) (left : List ℕ) (frames others : List Frame) (end other : End)
-    → Reads place left frames end → Reads place left others other → (frames ≡ others) × (end ≡ other)
+    → Reads place left frames end
+    → Reads place left others other
+    → (frames ≡ others) × (end ≡ other)
 one_reading place left [] [] Clean Clean h k = (refl, refl)
 one_reading place left [] [] Clean (Bad at fault) h k = absurd (cc (h, k.1.1))
 one_reading place left [] [] (Bad at fault) Clean h k = absurd (cc (h.1.1, k))
@@ -248,7 +269,9 @@ one_reading place left (frame ∷ frames) (other ∷ others) end last h k =
 
 -- Any bytes are read: by what stands next, and a number that bounds their length.
 read_on : (most : ℕ) (place : Place) (left : List ℕ)
-    → length left ≤ most → (next : Next) → next_frame place.clock left ≡ next
+    → length left ≤ most
+    → (next : Next)
+    → next_frame place.clock left ≡ next
     → (frames : List Frame) × (end : End) × Reads place left frames end
 read_on most place left bound Ended e = ([], Clean, e)
 read_on most place left bound (Broken fault) e =
@@ -282,11 +305,14 @@ one_by false bytes frames others end other h k = one_reading start bytes frames 
 
 -- Bytes have their frames and their end in one way.
 pub one_frames : (bytes : List ℕ) (frames others : List Frame) (end other : End)
-    → frames_of bytes frames end → frames_of bytes others other → (frames ≡ others) × (end ≡ other)
+    → frames_of bytes frames end
+    → frames_of bytes others other
+    → (frames ≡ others) × (end ≡ other)
 one_frames bytes frames others end other h k = one_by (is_too_much bytes) bytes frames others end other h k
 
 -- what is read of a session that isn't too long are its frames and its end
-read_within : (too_much : Bool) (bytes : List ℕ) (frames : List Frame) (end : End) → too_much ≡ false
+read_within : (too_much : Bool) (bytes : List ℕ) (frames : List Frame) (end : End)
+    → too_much ≡ false
     → Reads start bytes frames end
     → MatchBool too_much ((frames ≡ []) × (end ≡ Bad most_input TooManyFrames)) (Reads start bytes frames end)
 read_within true bytes frames end e reads = absurd (cc)
@@ -296,19 +322,24 @@ is_within : (bytes : List ℕ) → length bytes ≤ most_input → is_too_much b
 is_within bytes within = grind (arith, nat_tests)
 
 pub frames_of-Reads : (bytes : List ℕ) (frames : List Frame) (end : End)
-    → length bytes ≤ most_input → Reads start bytes frames end → frames_of bytes frames end
+    → length bytes ≤ most_input
+    → Reads start bytes frames end
+    → frames_of bytes frames end
 frames_of-Reads bytes frames end within reads =
     read_within (is_too_much bytes) bytes frames end (is_within bytes within) reads
 
 -- a session that is too long has no frames
 none_of_too_much : (too_much : Bool) (bytes : List ℕ) (frames : List Frame) (end : End)
-    → IsTrue too_much → frames ≡ [] → end ≡ Bad most_input TooManyFrames
+    → IsTrue too_much
+    → frames ≡ []
+    → end ≡ Bad most_input TooManyFrames
     → MatchBool too_much ((frames ≡ []) × (end ≡ Bad most_input TooManyFrames)) (Reads start bytes frames end)
 none_of_too_much true bytes frames end h none last = (none, last)
 none_of_too_much false bytes frames end h none last = absurd (cc)
 
 pub frames_of-too_much : (bytes : List ℕ)
-    → IsTrue (is_too_much bytes) → frames_of bytes [] (Bad most_input TooManyFrames)
+    → IsTrue (is_too_much bytes)
+    → frames_of bytes [] (Bad most_input TooManyFrames)
 frames_of-too_much bytes h = none_of_too_much (is_too_much bytes) bytes [] (Bad most_input TooManyFrames) h refl refl
 
 -- no frame has the fault that is the session's own
@@ -320,16 +351,6 @@ session_fault-other (UnknownKind kind) e = cc
 session_fault-other (BadBody reason) e = cc
 session_fault-other (BadAtom reason) e = cc
 session_fault-other (TimeBackwards last now) e = cc
-
--- what holds of both branches holds of the choice
-of_choice : {A : Type 0} (P : A → Type 0) (test : Bool) (x y : A) → P x → P y → P (if test then x else y)
-of_choice P true x y p q = p
-of_choice P false x y p q = q
-
--- A choice that is its first branch, and not its second, was decided for it.
-first_branch : (test : Bool) (x y z : Next) → (y ≡ z → ⊥) → (if test then x else y) ≡ z → test ≡ true
-first_branch true x y z differs e = refl
-first_branch false x y z differs e = absurd (differs e)
 
 followed_not_ended : (rest : List ℕ) (read : Result Frame FrameFault) → followed_by rest read ≡ Ended → ⊥
 followed_not_ended rest (Ok frame) e = cc
@@ -344,10 +365,12 @@ pub next_ended : (clock : ℕ) (left : List ℕ) → next_frame clock left ≡ E
 unfolding next_frame
 next_ended clock left e =
     let P : Next → Type 0 = λ next. next ≡ Ended → ⊥ in
-    none_of_no_length left (first_branch (length left == 0) Ended _ Ended
-    (of_choice P (nat_lt (length left) 4) (Broken Cut) _ (λ f. cc)
-    (of_choice P (size_at left == 0) (Broken BadLength) _ (λ f. cc)
-    (of_choice P (nat_lt most_body (size_at left)) (Broken (TooLong (size_at left))) _ (λ f. cc)
-    (of_choice P (nat_lt (length (drop 4 left)) (size_at left)) (Broken Cut) _ (λ f. cc)
-    (followed_not_ended (drop (size_at left) (drop 4 left)) (frame_of clock (take (size_at left) (drop 4 left))))))))
-    e)
+    elim (choice-side (length left == 0) Ended _ Ended e) [
+      | inl none ↦ none_of_no_length left none.0
+      | inr some ↦ absurd (choice-holds P (nat_lt (length left) 4) (Broken Cut) _ (λ _ f. cc)
+          (λ _. choice-holds P (size_at left == 0) (Broken BadLength) _ (λ _ f. cc)
+          (λ _. choice-holds P (nat_lt most_body (size_at left)) (Broken (TooLong (size_at left))) _ (λ _ f. cc)
+          (λ _. choice-holds P (nat_lt (length (drop 4 left)) (size_at left)) (Broken Cut) _ (λ _ f. cc)
+          (λ _. followed_not_ended (drop (size_at left) (drop 4 left))
+          (frame_of clock (take (size_at left) (drop 4 left))))))) some.1)
+    ]

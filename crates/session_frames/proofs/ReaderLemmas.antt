@@ -27,12 +27,15 @@ Refuses-Read old new taken consumes = record { taken = taken; consumes = consume
 
 -- memory was wanting
 pub Refuses-Memory : (old new : Option (List ℕ)) (taken : List ℕ)
-    → Consumes old new taken → Refuses old new unread Memory
+    → Consumes old new taken
+    → Refuses old new unread Memory
 Refuses-Memory old new taken consumes = record { taken = taken; consumes = consumes; cause = inr refl }
 
 -- too much was read
 pub Refuses-too_much : (old new : Option (List ℕ)) (taken : List ℕ)
-    → Consumes old new taken → most_input < length taken → Refuses old new unread (Session most_input TooManyFrames)
+    → Consumes old new taken
+    → most_input < length taken
+    → Refuses old new unread (Session most_input TooManyFrames)
 Refuses-too_much old new taken consumes more =
     let too_much : IsTrue (nat_lt most_input (length taken)) = grind (arith, nat_tests) in
     record {
@@ -44,7 +47,8 @@ Refuses-too_much old new taken consumes more =
 
 -- what comes after a frame is the end of what was left
 pub after_is_end : (clock : ℕ) (left : List ℕ) (frame : Frame) (rest : List ℕ)
-    → next_frame clock left ≡ Whole frame rest → drop (length left - length rest) left ≡ rest
+    → next_frame clock left ≡ Whole frame rest
+    → drop (length left - length rest) left ≡ rest
 after_is_end clock left frame rest e =
     let h = StandsWhole-from_next clock left frame rest e in
     let long : 4 ≤ length left = h.long in
@@ -56,7 +60,8 @@ after_is_end clock left frame rest e =
 
 -- what stands next in a slice from a place on
 pub on_rest : (bytes whole : List ℕ) (at clock : ℕ) (next : Next)
-    → whole ≡ bytes → next_frame clock (take (length whole - at) (drop at whole)) ≡ next
+    → whole ≡ bytes
+    → next_frame clock (take (length whole - at) (drop at whole)) ≡ next
     → next_frame clock (drop at bytes) ≡ next
 on_rest bytes whole at clock next same e =
     ap (λ l. next_frame clock (drop at l)) (sym same) ∙ ap (next_frame clock) (sym (take_rest whole at)) ∙ e
@@ -116,7 +121,8 @@ module _ (old new : Option (List ℕ)) (before filled : Reading) (fills : Fills 
   all_next = ap₂ (λ (p : Place) l. next_frame p.clock l) fills.place fills.pending
 
   GivesFrame-judged : (after : Reading) (frame : Option Frame)
-      → Judges filled (Ok (after, frame)) → GivesFrame old new before after frame
+      → Judges filled (Ok (after, frame))
+      → GivesFrame old new before after frame
   GivesFrame-judged after None judges =
       record {
         taken = fills.taken;
@@ -154,17 +160,21 @@ module _ (old new : Option (List ℕ)) (before filled : Reading) (fills : Fills 
   Refuses-judged Memory judges = record { taken = fills.taken; consumes = fills.consumes; cause = inl within_all }
 
   pub gives : (answer : Result (Reading × Option Frame) FrameError)
-      → Judges filled answer → IfOk answer (λ r. GivesFrame old new before r.0 r.1)
+      → Judges filled answer
+      → IfOk answer (λ r. GivesFrame old new before r.0 r.1)
   gives (Ok answer) judges = GivesFrame-judged answer.0 answer.1 judges
   gives (Err e) judges = tt
 
   pub refuses : (answer : Result (Reading × Option Frame) FrameError)
-      → Judges filled answer → IfErr answer (λ e. Refuses old new before e)
+      → Judges filled answer
+      → IfErr answer (λ e. Refuses old new before e)
   refuses (Ok answer) judges = tt
   refuses (Err e) judges = Refuses-judged e judges
 
 found_end : (before filled after : Reading) (frame : Option Frame)
-    → filled.place ≡ before.place → IsTrue filled.ended → Judges filled (Ok (after, frame))
+    → filled.place ≡ before.place
+    → IsTrue filled.ended
+    → Judges filled (Ok (after, frame))
     → IfNone frame (StaysAtEnd before after)
 found_end before filled after None same ended judges =
     record {
@@ -176,7 +186,9 @@ found_end before filled after (Some frame) same ended judges = tt
 
 -- where the end is found, a reader stays
 pub judged_end : (before filled : Reading) (answer : Result (Reading × Option Frame) FrameError)
-    → filled.place ≡ before.place → IsTrue filled.ended → Judges filled answer
+    → filled.place ≡ before.place
+    → IsTrue filled.ended
+    → Judges filled answer
     → IfOk answer (λ r. IfNone r.1 (StaysAtEnd before r.0))
 judged_end before filled (Ok answer) same ended judges = found_end before filled answer.0 answer.1 same ended judges
 judged_end before filled (Err e) same ended judges = tt

@@ -1,7 +1,9 @@
 -- A frame by its bytes: what its kind byte and its body say, or the first fault that they have.
-use Rattle.std.specs.Prelude.{ℕ, Bool, true, false, not, ◌&&◌, ◌==◌, nat_lt, List, [], ◌∷◌, length, take, drop, Result, Ok, Err, if◌then◌else◌}
-use Rattle.std.specs.Int.{Width, w16, w32, w64, byte_len, from_le_bytes, cast_signed}
+use Rattle.std.specs.Prelude.{ℕ, Bool, true, false, not, ◌&&◌, ◌==◌, nat_lt, List, [], ◌∷◌, length, Result, Ok, Err, if◌then◌else◌}
+use Rattle.std.specs.Int.{Width, w16, w32, w64, cast_signed}
+use Rattle.std.specs.Option.{ok_or}
 use Rattle.sd_base.specs.Reads.{◌>>=◌, many}
+use Rattle.sd_base.specs.Numbers.{front_number, front_counted}
 use Rattle.atom_record.specs.declared.atom.Atom.{Atom}
 use Rattle.atom_record.specs.declared.log.LogFrame.{LogFrame}
 use Rattle.atom_record.specs.declared.log.LogFrame.TheVariants.{Tick, AtomAt, Pull}
@@ -28,9 +30,7 @@ log_time (Pull at id outcome) = at
 
 -- a number, low byte first
 abbrev pub uint_at : Width → List ℕ → Result (ℕ × List ℕ) FrameFault
-uint_at width bytes =
-    if nat_lt (length bytes) (byte_len width) then Err (BadBody body_too_short)
-    else Ok (from_le_bytes width (take (byte_len width) bytes), drop (byte_len width) bytes)
+uint_at width bytes = ok_or (front_number width bytes) (BadBody body_too_short)
 
 -- a time, below 2^63
 unfoldable pub time_at : List ℕ → Result (ℕ × List ℕ) FrameFault
@@ -76,10 +76,7 @@ pulled_atom id bytes = if is_of_other id bytes then Err reason_other_id else ato
 
 -- a payload, after its length
 unfoldable pub payload_at : List ℕ → Result (List ℕ × List ℕ) FrameFault
-payload_at bytes =
-    uint_at w16 bytes >>= λ len.
-    if nat_lt (length len.1) len.0 then Err (BadBody body_too_short)
-    else Ok (take len.0 len.1, drop len.0 len.1)
+payload_at bytes = ok_or (front_counted bytes) (BadBody body_too_short)
 
 -- an atom in a pull of this id
 unfoldable pub pulled_at : ℕ → List ℕ → Result (Atom × List ℕ) FrameFault

@@ -17,7 +17,7 @@ use crate::{Frame, FrameFault};
 use atom_record::{
     Atom, AtomFault, BAD_ID, LogFrame, MAX_BYTES, OTHER_ID, PullOutcome, is_atom_id, parse_atom,
 };
-use sd_base::Seq;
+use sd_base::{Seq, split_counted, split_u16, split_u32, split_u64};
 use std::alloc::{AllocError, Global};
 
 // Log times stay below an hour.
@@ -65,30 +65,21 @@ fn bad_atom(reason: u8) -> BodyError
 fn read_u16(bytes: &[u8]) -> Result<(u16, &[u8]), BodyError>
     ensures { GivesBy fault_in (λ x. (x.0, x.1.now)) result (frames.uint_at w16 bytes.now) }
 {
-    let Some((front, rest)) = bytes.split_first_chunk::<2>() else {
-        return Err(bad_body(TOO_SHORT));
-    };
-    Ok((u16::from_le_bytes(*front), rest))
+    split_u16(bytes).ok_or(bad_body(TOO_SHORT))
 }
 
 // A number of four bytes, low byte first.
 fn read_u32(bytes: &[u8]) -> Result<(u32, &[u8]), BodyError>
     ensures { GivesBy fault_in (λ x. (x.0, x.1.now)) result (frames.uint_at w32 bytes.now) }
 {
-    let Some((front, rest)) = bytes.split_first_chunk::<4>() else {
-        return Err(bad_body(TOO_SHORT));
-    };
-    Ok((u32::from_le_bytes(*front), rest))
+    split_u32(bytes).ok_or(bad_body(TOO_SHORT))
 }
 
 // A number of eight bytes, low byte first.
 fn read_u64(bytes: &[u8]) -> Result<(u64, &[u8]), BodyError>
     ensures { GivesBy fault_in (λ x. (x.0, x.1.now)) result (frames.uint_at w64 bytes.now) }
 {
-    let Some((front, rest)) = bytes.split_first_chunk::<8>() else {
-        return Err(bad_body(TOO_SHORT));
-    };
-    Ok((u64::from_le_bytes(*front), rest))
+    split_u64(bytes).ok_or(bad_body(TOO_SHORT))
 }
 
 // A time in nanoseconds.
@@ -164,11 +155,8 @@ fn read_atom(alloc: Global, body: &[u8]) -> Result<Frame, BodyError>
 fn has_other_id(id: u32, payload: &[u8]) -> bool
     ensures { result ≡ frames.is_of_other id payload.now }
 {
-    match payload.split_first_chunk::<4>() {
-        Some((front, _)) if payload.len() <= MAX_BYTES => {
-            let own = u32::from_le_bytes(*front);
-            is_atom_id(own) && own != id
-        }
+    match split_u32(payload) {
+        Some((own, _)) if payload.len() <= MAX_BYTES => is_atom_id(own) && own != id,
         _ => false,
     }
 }
@@ -190,12 +178,7 @@ fn pulled_atom_of(alloc: Global, id: u32, payload: &[u8]) -> Result<Atom, BodyEr
 fn read_payload(bytes: &[u8]) -> Result<(&[u8], &[u8]), BodyError>
     ensures { GivesBy fault_in (λ x. (x.0.now, x.1.now)) result (frames.payload_at bytes.now) }
 {
-    let (len, rest) = read_u16(bytes)?;
-    let len = usize::from(len);
-    if rest.len() < len {
-        return Err(bad_body(TOO_SHORT));
-    }
-    Ok(rest.split_at(len))
+    split_counted(bytes).ok_or(bad_body(TOO_SHORT))
 }
 
 // The next atom of a pull of this id.
