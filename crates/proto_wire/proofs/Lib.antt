@@ -1,4 +1,4 @@
-pub mod Words
+pub mod Worked
 pub mod VarintLemmas
 pub mod VarintReading
 pub mod TagReading

@@ -113,13 +113,15 @@ all_reported uid id cut frames (held ∷ lives) (config ∷ configs) placed dist
       by_case true e rest =
           let is : config.id ≡ id = sym h.0.id ∙ (signed_Decides held.id id).0 e in
           let asked : int_eq id config.id ≡ true = (signed_Decides id config.id).1 (sym is) in
-          let step : step_at config.id config.linked frames (Report uid id cut) ≡ asked_step cut (clock_of frames) ∷ [] =
+          let step : step_at config.id config.linked frames (Report uid id cut)
+          ≡ asked_step cut (clock_of frames) ∷ [] =
           rw asked refl in
-          let history : history_of uid (frames ++ Report uid id cut ∷ []) config ≡ with_steps (history_of uid frames config)
-          (asked_step cut (clock_of frames) ∷ []) =
+          let history : history_of uid (frames ++ Report uid id cut ∷ []) config
+          ≡ with_steps (history_of uid frames config) (asked_step cut (clock_of frames) ∷ []) =
           history_of-push uid frames (Report uid id cut) config placed.0
           ∙ ap (with_steps (history_of uid frames config)) step in
-          let one : LiveStandsFor uid (frames ++ Report uid id cut ∷ []) (reported_live cut (clock_of frames) held) config =
+          let one : LiveStandsFor uid (frames ++ Report uid id cut ∷ [])
+          (reported_live cut (clock_of frames) held) config =
           record {
             id = h.0.id;
             instance = subst (InstanceStandsFor (reported cut (clock_of frames) held.instance)) (sym history)

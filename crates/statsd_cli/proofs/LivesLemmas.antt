@@ -95,7 +95,8 @@ module _ (mine test : Live → Bool) (change : Live → Live) (kept : (held : Li
   filter_at_first_other other apart [] = refl
   filter_at_first_other other apart (first ∷ others) =
       by_case (other first) refl (filter_at_first_other other apart others) where
-        by_case : (passes : Bool) → other first ≡ passes → filter mine (at_first other change others) ≡ filter mine others
+        by_case : (passes : Bool) → other first ≡ passes
+            → filter mine (at_first other change others) ≡ filter mine others
             → filter mine (at_first other change (first ∷ others)) ≡ filter mine (first ∷ others)
         by_case true e rest = let none : mine first ≡ false = apart first e in rw (e, kept first, none) refl
         by_case false e rest = rw (e, rest) refl

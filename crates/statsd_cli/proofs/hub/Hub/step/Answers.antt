@@ -41,8 +41,8 @@ returns-in-Remove c =
     simp to_z-of_z (record {
       serves = λ frames h fine in_time.
           serves_as c.remove-body.new.self frames c.args.frame _ _ c.in-Remove.is
-          (serves_remove c.args.self c.remove-body.new.self frames c.in-Remove.uid c.in-Remove.id c.remove-body.ensures.clock
-          h c.remove-body.result removes);
+          (serves_remove c.args.self c.remove-body.new.self frames c.in-Remove.uid c.in-Remove.id
+          c.remove-body.ensures.clock h c.remove-body.result removes);
     })
 
 pub returns-in_ok-body-in-Report : goal.returns-in_ok-body-in-Report
