@@ -1,10 +1,9 @@
 -- Worked leaves, slices, buckets, atoms, and reports of each kind of metric, by computing.
-use Rattle.std.proofs.Common.{◌≡◌, ℕ, ℤ, pos, negsuc, Bool, true, false, List, [], ◌∷◌, Option, Some, None, refl}
+use Rattle.std.proofs.Common.{◌≡◌, ℕ, ℤ, pos, negsuc, true, false, List, [], ◌∷◌, Option, Some, None, refl}
 use Rattle.atom_record.specs.declared.value.Value.{Value}
 use Rattle.atom_record.specs.declared.value.Value.TheVariants as held
 use Rattle.atom_record.specs.declared.value.Slice.{Slice}
 use Rattle.atom_record.specs.declared.value.Slice.TheVariants.{Plain, Group}
-use Rattle.atom_record.specs.declared.atom.Atom.{Atom}
 use Rattle.atom_record.specs.declared.atom.AtomField.{AtomField}
 use Rattle.proto_wire.specs.Spelling.{varint}
 use Rattle.report_writer.specs.declared.tree.LeafTree.{LeafTree}
@@ -63,7 +62,7 @@ gauges_tree =
 
 abbrev counts_tree : ReportTree
 counts_tree =
-    let row : NumTree = record { leaves = leaf 0 None ∷ []; slices = []; buckets = bucket 0 5 (pos 1) ∷ [] } in
+    let row : NumTree = record { leaves = []; slices = []; buckets = bucket 0 5 (pos 1) ∷ [] } in
     report 0 5 (metric 0 3600000000000 (Counts (row ∷ []))) (record { id = pos 11; number = 1 } ∷ [])
 
 abbrev sliced : Slice → ℤ → NumTree
@@ -187,14 +186,14 @@ drop = refl
 events_report : report_message (events_tree 5) ≡
     10 ∷ 4 ∷ 8 ∷ 10 ∷ 16 ∷ 7 ∷ 18 ∷ 22 ∷ 10 ∷ 16 ∷ 8 ∷ 100 ∷ 34 ∷ 10 ∷ 10 ∷ 8 ∷ 8 ∷ 4 ∷ 18 ∷ 4 ∷ 42 ∷ 2 ∷ 8 ∷ 7 ∷
     72 ∷ 0 ∷ 24 ∷ 0 ∷ 32 ∷ 4 ∷ []
-unfolding report_message key_message config_message metric_message drop_message varint event_message atom_message
+unfolding report_message key_message config_message metric_message varint event_message atom_message
 events_report = refl
 
 -- the greatest field number
 great_id_report : report_message (events_tree 536870911) ≡
     10 ∷ 4 ∷ 8 ∷ 10 ∷ 16 ∷ 7 ∷ 18 ∷ 26 ∷ 10 ∷ 20 ∷ 8 ∷ 100 ∷ 34 ∷ 14 ∷ 10 ∷ 12 ∷ 8 ∷ 4 ∷ 18 ∷ 8 ∷ 250 ∷ 255 ∷ 255 ∷
     255 ∷ 15 ∷ 2 ∷ 8 ∷ 7 ∷ 72 ∷ 0 ∷ 24 ∷ 0 ∷ 32 ∷ 4 ∷ []
-unfolding report_message key_message config_message metric_message drop_message varint event_message atom_message
+unfolding report_message key_message config_message metric_message varint event_message atom_message
 great_id_report = refl
 
 -- two samples in a bucket
@@ -202,14 +201,14 @@ gauges_report : report_message gauges_tree ≡
     10 ∷ 4 ∷ 8 ∷ 10 ∷ 16 ∷ 7 ∷ 18 ∷ 46 ∷ 10 ∷ 36 ∷ 8 ∷ 100 ∷ 66 ∷ 24 ∷ 10 ∷ 22 ∷ 26 ∷ 20 ∷ 8 ∷ 0 ∷ 16 ∷ 128 ∷ 148 ∷
     235 ∷ 220 ∷ 3 ∷ 26 ∷ 4 ∷ 42 ∷ 2 ∷ 8 ∷ 7 ∷ 26 ∷ 4 ∷ 42 ∷ 2 ∷ 8 ∷ 8 ∷ 72 ∷ 0 ∷ 80 ∷ 128 ∷ 148 ∷ 235 ∷ 220 ∷ 3 ∷
     24 ∷ 0 ∷ 32 ∷ 128 ∷ 148 ∷ 235 ∷ 220 ∷ 3 ∷ []
-unfolding report_message key_message config_message metric_message drop_message varint gauge_message samples_message atom_message
+unfolding report_message key_message config_message metric_message varint gauge_message samples_message atom_message
 gauges_report = refl
 
--- a leaf without a value, and a drop of a predicate
+-- a drop of a predicate
 counts_report : report_message counts_tree ≡
     10 ∷ 4 ∷ 8 ∷ 10 ∷ 16 ∷ 7 ∷ 18 ∷ 36 ∷ 10 ∷ 23 ∷ 8 ∷ 100 ∷ 42 ∷ 10 ∷ 10 ∷ 8 ∷ 26 ∷ 6 ∷ 8 ∷ 0 ∷ 16 ∷ 5 ∷ 24 ∷ 1 ∷
     72 ∷ 0 ∷ 80 ∷ 128 ∷ 192 ∷ 226 ∷ 133 ∷ 227 ∷ 104 ∷ 24 ∷ 0 ∷ 32 ∷ 5 ∷ 202 ∷ 62 ∷ 4 ∷ 8 ∷ 11 ∷ 16 ∷ 1 ∷ []
-unfolding report_message key_message config_message metric_message drop_message varint row_message leaf_message bucket_message
+unfolding report_message key_message config_message metric_message varint drop_message row_message bucket_message
 counts_report = refl
 
 -- two rows by their slices
@@ -219,7 +218,7 @@ durations_report : report_message durations_tree ≡
     8 ∷ 128 ∷ 194 ∷ 215 ∷ 47 ∷ 16 ∷ 128 ∷ 210 ∷ 147 ∷ 173 ∷ 3 ∷ 24 ∷ 128 ∷ 136 ∷ 222 ∷ 190 ∷ 1 ∷ 50 ∷ 13 ∷ 8 ∷ 27 ∷
     24 ∷ 255 ∷ 255 ∷ 255 ∷ 255 ∷ 255 ∷ 255 ∷ 255 ∷ 255 ∷ 255 ∷ 1 ∷ 72 ∷ 128 ∷ 194 ∷ 215 ∷ 47 ∷ 80 ∷ 128 ∷ 148 ∷ 235 ∷
     220 ∷ 3 ∷ 24 ∷ 128 ∷ 194 ∷ 215 ∷ 47 ∷ 32 ∷ 128 ∷ 210 ∷ 147 ∷ 173 ∷ 3 ∷ []
-unfolding report_message key_message config_message metric_message drop_message varint row_message slice_message bucket_message
+unfolding report_message key_message config_message metric_message varint row_message slice_message bucket_message
 durations_report = refl
 
 -- a metric without a row is written too, and each count only where it is above 0
@@ -227,7 +226,7 @@ values_report : report_message values_tree ≡
     10 ∷ 13 ∷ 8 ∷ 255 ∷ 255 ∷ 255 ∷ 255 ∷ 255 ∷ 255 ∷ 255 ∷ 255 ∷ 255 ∷ 1 ∷ 16 ∷ 7 ∷ 18 ∷ 39 ∷ 10 ∷ 23 ∷ 8 ∷ 253 ∷
     255 ∷ 255 ∷ 255 ∷ 255 ∷ 255 ∷ 255 ∷ 255 ∷ 255 ∷ 1 ∷ 58 ∷ 0 ∷ 72 ∷ 0 ∷ 80 ∷ 60 ∷ 200 ∷ 62 ∷ 1 ∷ 216 ∷ 62 ∷ 2 ∷
     24 ∷ 0 ∷ 32 ∷ 9 ∷ 210 ∷ 62 ∷ 4 ∷ 8 ∷ 27 ∷ 16 ∷ 5 ∷ 216 ∷ 62 ∷ 4 ∷ []
-unfolding report_message key_message config_message metric_message drop_message varint
+unfolding report_message key_message config_message metric_message varint drop_message
 values_report = refl
 
 -- an id above every field number is shown as the greatest
@@ -241,8 +240,8 @@ kinds : message_of (record { id = 5; fields = each_kind }) ≡
     record {
       id = 5;
       parts =
-          part 1 (Num 18446744073709551615) ∷ part 2 (Num 3) ∷ part 3 (Num 1) ∷ part 4 (Chunk (97 ∷ [])) ∷ part 5 (Chunk (9 ∷ []))
-          ∷ part 6 (Bits 7) ∷ [];
+          part 1 (Num 18446744073709551615) ∷ part 2 (Num 3) ∷ part 3 (Num 1) ∷ part 4 (Chunk (97 ∷ []))
+          ∷ part 5 (Chunk (9 ∷ [])) ∷ part 6 (Bits 7) ∷ [];
     }
 unfolding message_of
 kinds = refl
@@ -251,7 +250,8 @@ kinds = refl
 neighbours : message_of (record { id = 5; fields = two_indexes }) ≡
     record {
       id = 5;
-      parts = part 1 (Chunk (8 ∷ 7 ∷ 18 ∷ 1 ∷ 97 ∷ [])) ∷ part 1 (Num 4) ∷ part 1 (Chunk (8 ∷ 9 ∷ [])) ∷ part 2 (Chunk (8 ∷ 1 ∷ [])) ∷ [];
+      parts =
+          part 1 (Chunk (8 ∷ 7 ∷ 18 ∷ 1 ∷ 97 ∷ [])) ∷ part 1 (Num 4) ∷ part 1 (Chunk (8 ∷ 9 ∷ [])) ∷ part 2 (Chunk (8 ∷ 1 ∷ [])) ∷ [];
     }
 unfolding message_of varint
 neighbours = refl
