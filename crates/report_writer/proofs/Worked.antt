@@ -251,7 +251,8 @@ neighbours : message_of (record { id = 5; fields = two_indexes }) ≡
     record {
       id = 5;
       parts =
-          part 1 (Chunk (8 ∷ 7 ∷ 18 ∷ 1 ∷ 97 ∷ [])) ∷ part 1 (Num 4) ∷ part 1 (Chunk (8 ∷ 9 ∷ [])) ∷ part 2 (Chunk (8 ∷ 1 ∷ [])) ∷ [];
+          part 1 (Chunk (8 ∷ 7 ∷ 18 ∷ 1 ∷ 97 ∷ [])) ∷ part 1 (Num 4) ∷ part 1 (Chunk (8 ∷ 9 ∷ []))
+          ∷ part 2 (Chunk (8 ∷ 1 ∷ [])) ∷ [];
     }
 unfolding message_of varint
 neighbours = refl
