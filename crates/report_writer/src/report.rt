@@ -1,4 +1,6 @@
 //! A whole report: whose it is, its metrics, and what full tables dropped.
+//!
+//! A tree has a field `now`, so an `ensures` writes `tree.entry.now` for what the reference `tree` points to.
 ghost use Rattle.std.specs.Prelude.{◌≡◌, ◌++◌, IfOk, OnOk};
 ghost use Rattle.report_writer.specs.ReportSpelling as spelled;
 ghost use Rattle.report_writer.specs.Writable.{IsWritableReport};

@@ -49,16 +49,18 @@ fn size_of(alloc: Global, tree: &ReportTree) -> Result<usize, AllocError> {
     Ok(bytes_of(alloc, tree)?.map_or(0, |bytes| bytes.len()))
 }
 
-// A row has a bucket of 8 bytes, leaves of 6 and 22, a slice of 6 and 2 of its own.
+// Without a row there are 22 bytes. A row has a bucket of 8 bytes, leaves of 6 and 22, a slice of 6, and 2 of its own; three
+// lengths around them take two bytes more each.
 #[test]
 fn writes_16384_rows(rt: HostRuntime) -> Result<(), Fail> {
     let alloc = rt.alloc();
-    let none = size_of(alloc, &many_rows(alloc, 0)?)?;
-    for count in [4_096, 16_384] {
+    for (count, want) in [
+        (0, 22),
+        (4_096, 28 + 4_096 * 44),
+        (16_384, 28 + 16_384 * 44),
+    ] {
         let size = size_of(alloc, &many_rows(alloc, count)?)?;
-        // Three counts of bytes grow with the report.
-        assert!(rt; size >= none + 44 * count as usize);
-        assert!(rt; size < none + 44 * count as usize + 10, "{size}");
+        assert!(rt; size == want, "{size}");
     }
     Ok(())
 }

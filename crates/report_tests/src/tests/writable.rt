@@ -1,71 +1,59 @@
 //! Which trees may be written, as a test that the calls in tests need.
 ghost use Rattle.std.specs.Prelude.{◌≡◌, ◌↔◌, ◌≤◌, ◌<◌, All, IsTrue};
-ghost use Rattle.report_writer.specs.Writable.{IsFieldNumber, IsWritableAtom, IsWritableBucket, IsWritableRow, IsWritableEvent, IsWritableMetric, IsWritableReport};
+ghost use Rattle.report_writer.specs.Writable.{IsFieldNumber, AreNumbered, IsWritableAtom, IsWritableBucket, IsWritableRow, IsWritableEvent, IsWritableMetric};
 
 use report_writer::{
-    AtomBucket, AtomMsg, EventTree, GaugeTree, MetricBody, MetricTree, ReportTree, write,
+    AtomBucket, AtomMsg, EventTree, GaugeTree, MetricBody, MetricTree, Part, ReportTree, write,
 };
 use std::alloc::{AllocError, Global};
 
 fn is_field_number(number: u32) -> bool
-    ensures { IsTrue result → IsFieldNumber number }
+    ensures { IsTrue result ↔ IsFieldNumber number }
 {
     0 < number && number < 1 << 29
+}
+
+fn are_numbered(parts: &[Part]) -> bool
+    ensures { IsTrue result → AreNumbered parts.now }
+{
+    parts.iter().all(|part| is_field_number(part.number))
 }
 
 fn is_writable_atom(atom: &AtomMsg) -> bool
     ensures { IsTrue result → IsWritableAtom atom.now }
 {
-    for part in atom.parts.as_slice() {
-        if !is_field_number(part.number) {
-            return false;
-        }
-    }
-    is_field_number(atom.id)
+    is_field_number(atom.id) && are_numbered(atom.parts.as_slice())
 }
 
 fn is_writable_bucket(bucket: &AtomBucket) -> bool
     ensures { IsTrue result → IsWritableBucket bucket.now }
 {
-    for atom in bucket.atoms.as_slice() {
-        if !is_writable_atom(atom) {
-            return false;
-        }
-    }
-    true
+    bucket
+        .atoms
+        .as_slice()
+        .iter()
+        .all(|atom| is_writable_atom(atom))
 }
 
 fn is_writable_row(row: &GaugeTree) -> bool
     ensures { IsTrue result → IsWritableRow row.now }
 {
-    for bucket in row.buckets.as_slice() {
-        if !is_writable_bucket(bucket) {
-            return false;
-        }
-    }
-    true
+    row.buckets
+        .as_slice()
+        .iter()
+        .all(|bucket| is_writable_bucket(bucket))
 }
 
 fn are_writable_rows(rows: &[GaugeTree]) -> bool
     ensures { IsTrue result → All IsWritableRow rows.now }
 {
-    for row in rows {
-        if !is_writable_row(row) {
-            return false;
-        }
-    }
-    true
+    rows.iter().all(|row| is_writable_row(row))
 }
 
 fn are_writable_events(rows: &[EventTree]) -> bool
     ensures { IsTrue result → All IsWritableEvent rows.now }
 {
-    for row in rows {
-        if !is_writable_atom(&row.atom) {
-            return false;
-        }
-    }
-    true
+    rows.iter().all(|row| is_writable_atom(&row.atom))
 }
 
 fn is_writable_metric(metric: &MetricTree) -> bool
@@ -81,12 +69,7 @@ fn is_writable_metric(metric: &MetricTree) -> bool
 fn is_writable(metrics: &[MetricTree]) -> bool
     ensures { IsTrue result → All IsWritableMetric metrics.now }
 {
-    for metric in metrics {
-        if !is_writable_metric(metric) {
-            return false;
-        }
-    }
-    true
+    metrics.iter().all(|metric| is_writable_metric(metric))
 }
 
 /// The bytes of a tree, none where it may not be written.

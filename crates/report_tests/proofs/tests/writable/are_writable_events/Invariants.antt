@@ -1,8 +1,0 @@
--- All that were seen may be written.
-use Rattle.std.proofs.Common.{take}
-use Rattle.std.specs.Prelude.{All}
-use Rattle.report_writer.specs.Writable.{IsWritableEvent}
-use Rattle.report_tests.proofs.tests.writable.are_writable_events.Given as goal
-
-abbrev pub invariant-loop-row : goal.invariant-loop-row
-invariant-loop-row l = All (λ row. IsWritableEvent row) (take l.row-index l.rows)
