@@ -1,0 +1,2 @@
+pub mod AtomMessageLemmas
+pub mod Worked

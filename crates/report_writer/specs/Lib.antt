@@ -1,0 +1,4 @@
+pub mod ReportNumbers
+pub mod ReportSpelling
+pub mod AtomMessage
+pub mod Writable
