@@ -1,4 +1,5 @@
-//! The bytes of configurations. `tools/checks` writes those that have a file in `proto/samples` anew by protoc, and compares.
+//! The bytes of configurations. `tools/checks` writes those that have a file in `proto/samples` anew by protoc, and
+//! compares.
 
 /// `proto/samples/ordinary_use.txtpb`.
 pub const ORDINARY_USE: &[u8] = b"\
@@ -53,7 +54,7 @@ pub const STATES_BY_HAND: &[u8] = b"\
     \x04\x08\x01\x28\x00\x42\x08\x08\x0b\x12\x04\x08\x01\x10\x02\xaa\x01\x0c\x08\x1f\x10\x1b\x1a\
     \x06\x0a\x04\x08\x01\x10\x02\x32\x09\x08\x64\x10\x0b\x38\xe8\x07\x48\x1f";
 
-/// A duration by key, under a condition that has keys, too; the links stand behind the bucket.
+/// A duration by key, under a condition that has keys, too; the links stand after the bucket.
 pub const SPARSE_WITH_LINKS: &[u8] = b"\
     \x3a\x0c\x08\x01\x12\x08\x08\x05\x12\x04\x08\x01\x28\x01\x3a\x0c\x08\x02\x12\x08\x08\x05\x12\
     \x04\x08\x01\x28\x00\x3a\x0c\x08\x03\x12\x08\x08\x06\x12\x04\x08\x01\x28\x01\x3a\x0c\x08\x04\

@@ -1,0 +1,70 @@
+//! Long inputs, and the texts of their trees.
+ghost use Rattle.std.specs.Prelude.{◌≤◌, ◌<◌, ◌^◌};
+
+use proto_wire::Writer;
+use std::alloc::{AllocError, Global};
+
+/// These bytes, so many times.
+pub fn repeated(alloc: Global, piece: &[u8], times: usize) -> Result<Vec<u8>, AllocError> {
+    let mut bytes = Vec::new(alloc);
+    for _ in 0..times {
+        bytes.extend_from_slice(piece)?;
+    }
+    Ok(bytes)
+}
+
+/// These bytes in a field.
+fn in_field(alloc: Global, number: u32, inner: &[u8]) -> Result<Vec<u8>, AllocError>
+    requires named { 1 ≤ number }
+    requires fits { number < 2 ^ 29 }
+{
+    let mut writer = Writer::new(alloc);
+    writer.bytes_field(number, inner)?;
+    Ok(writer.into_bytes())
+}
+
+/// These bytes in a field, that in another, and so on: the innermost number comes first.
+pub fn in_fields(alloc: Global, inner: Vec<u8>, numbers: &[u8]) -> Result<Vec<u8>, AllocError> {
+    let mut bytes = inner;
+    for number in numbers {
+        // No field has the number 0.
+        let number = (*number as u32).max(1);
+        bytes = in_field(alloc, number, bytes.as_slice())?;
+    }
+    Ok(bytes)
+}
+
+/// These bytes, so many times in fields of these numbers, one in another.
+pub fn nested(
+    alloc: Global,
+    inner: Vec<u8>,
+    numbers: &[u8],
+    times: usize,
+) -> Result<Vec<u8>, AllocError> {
+    let mut bytes = inner;
+    for _ in 0..times {
+        bytes = in_fields(alloc, bytes, numbers)?;
+    }
+    Ok(bytes)
+}
+
+/// Adds a text so many times.
+pub fn add_times(text: &mut String, piece: &str, times: usize) -> Result<(), AllocError> {
+    for _ in 0..times {
+        text.push_str(piece)?;
+    }
+    Ok(())
+}
+
+/// Adds so many items, with commas between them.
+pub fn add_items(text: &mut String, item: &str, count: usize) -> Result<(), AllocError> {
+    if count == 0 {
+        return Ok(());
+    }
+    text.push_str(item)?;
+    for _ in 1..count {
+        text.push_str(", ")?;
+        text.push_str(item)?;
+    }
+    Ok(())
+}

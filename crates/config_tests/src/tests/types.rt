@@ -1,0 +1,75 @@
+//! How long buckets are, and copies of matchers.
+
+use super::builds::{in_fields, nested, repeated};
+use super::compared::{copies_as, copies_as_it_is};
+use super::samples::TESTS_OF_FIELDS;
+use config_types::{TimeUnit, bucket_nanos};
+use std::test::*;
+
+/// Units, clients, and the seconds of their buckets.
+const BUCKETS: [(Option<TimeUnit>, i32, u64); 15] = [
+    (None, 0, 3_600),
+    (None, 10, 3_600),
+    (Some(TimeUnit::OneMinute), 0, 60),
+    (Some(TimeUnit::OneMinute), 2000, 60),
+    (Some(TimeUnit::OneMinute), 10, 300),
+    (Some(TimeUnit::OneMinute), -2000, 300),
+    (Some(TimeUnit::FiveMinutes), 0, 300),
+    (Some(TimeUnit::TenMinutes), 10, 600),
+    (Some(TimeUnit::ThirtyMinutes), 10, 1_800),
+    (Some(TimeUnit::OneHour), 10, 3_600),
+    (Some(TimeUnit::ThreeHours), 10, 10_800),
+    (Some(TimeUnit::SixHours), 10, 21_600),
+    (Some(TimeUnit::TwelveHours), 10, 43_200),
+    (Some(TimeUnit::OneDay), 2000, 86_400),
+    (Some(TimeUnit::Cts), 10, 1),
+];
+
+#[test]
+fn knows_how_long_buckets_are(rt: HostRuntime) {
+    for (unit, uid, seconds) in BUCKETS {
+        let nanos = seconds.saturating_mul(1_000_000_000);
+        assert!(rt; bucket_nanos(unit, uid) == nanos, "at {seconds} {uid}");
+    }
+}
+
+/// A matcher with each kind of test, and a tuple in a tuple.
+const EACH_KIND: &[u8] = b"\
+    \x3a\x7a\x12\x78\x08\x05\x12\x06\x08\x03\x10\x03\x18\x00\x12\x07\x08\x04\x10\x03\x22\x01\x62\x12\x0f\x08\x05\x10\
+    \x03\x28\xfb\xff\xff\xff\xff\xff\xff\xff\xff\x01\x12\x06\x08\x06\x10\x03\x30\x06\x12\x06\x08\x07\x10\x03\x38\x07\
+    \x12\x06\x08\x0a\x10\x03\x50\x08\x12\x06\x08\x0b\x10\x03\x58\x09\x12\x18\x08\x0c\x10\x03\x62\x12\x0a\x0e\x08\x02\
+    \x10\x03\x62\x08\x0a\x06\x08\x01\x10\x03\x18\x01\x0a\x00\x12\x0b\x08\x0d\x10\x03\x6a\x05\x0a\x01\x61\x0a\x00\x12\
+    \x0b\x08\x0e\x10\x03\x72\x05\x0a\x01\x61\x0a\x00";
+
+/// What that matcher is.
+const EACH_KIND_TREE: &str = "\
+    SimpleMatcher { atom_id: Some(5), tests: [FieldTest { field: Some(3), position: Some(Any), test: \
+    Some(EqBool(false)) }, FieldTest { field: Some(4), position: Some(Any), test: Some(EqStr([98])) }, FieldTest { \
+    field: Some(5), position: Some(Any), test: Some(EqInt(-5)) }, FieldTest { field: Some(6), position: Some(Any), \
+    test: Some(LtInt(6)) }, FieldTest { field: Some(7), position: Some(Any), test: Some(GtInt(7)) }, FieldTest { \
+    field: Some(10), position: Some(Any), test: Some(LteInt(8)) }, FieldTest { field: Some(11), position: \
+    Some(Any), test: Some(GteInt(9)) }, FieldTest { field: Some(12), position: Some(Any), test: \
+    Some(Tuple([FieldTest { field: Some(2), position: Some(Any), test: Some(Tuple([FieldTest { field: Some(1), \
+    position: Some(Any), test: Some(EqBool(true)) }])) }, FieldTest { field: None, position: None, test: None }])) \
+    }, FieldTest { field: Some(13), position: Some(Any), test: Some(AnyOf([[97], []])) }, FieldTest { field: \
+    Some(14), position: Some(Any), test: Some(NoneOf([[97], []])) }] }";
+
+#[test]
+fn copies_equal_their_sources(rt: HostRuntime) -> Result<(), Fail> {
+    let alloc = rt.alloc();
+    assert!(rt; copies_as(alloc, EACH_KIND, EACH_KIND_TREE), "each kind");
+    assert!(rt; copies_as_it_is(alloc, TESTS_OF_FIELDS), "tests of fields");
+    let text = in_fields(alloc, repeated(alloc, b"a", 20_000)?, &[4, 2, 2, 7])?;
+    assert!(rt; copies_as_it_is(alloc, text.as_slice()), "a long text");
+    let texts = in_fields(alloc, repeated(alloc, b"\x0a\x01b", 4_000)?, &[13, 2, 2, 7])?;
+    assert!(rt; copies_as_it_is(alloc, texts.as_slice()), "texts");
+    let tests = in_fields(alloc, repeated(alloc, b"\x0a\0", 3_000)?, &[12, 2, 2, 7])?;
+    assert!(rt;
+        copies_as_it_is(alloc, tests.as_slice()),
+        "tests of a tuple"
+    );
+    let tuples = nested(alloc, repeated(alloc, b"\x18\x01", 1)?, &[1, 12], 48)?;
+    let deep = in_fields(alloc, tuples, &[2, 2, 7])?;
+    assert!(rt; copies_as_it_is(alloc, deep.as_slice()), "tuples in tuples");
+    Ok(())
+}
