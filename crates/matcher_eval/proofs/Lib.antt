@@ -1,2 +1,3 @@
 mod EntriesLemmas
 mod IndexesLemmas
+mod Worked

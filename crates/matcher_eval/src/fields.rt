@@ -70,7 +70,7 @@ fn holds_on_field(condition: &Test, position: Option<Position>, entries: &[AtomF
         None => holds(condition, at_index(entries, 0)),
         Some(Position::First) => holds_at(condition, entries, repeated(entries).first()),
         Some(Position::Last) => holds_at(condition, entries, repeated(entries).last()),
-        Some(Position::Any) => !is_so_at_each_index(condition, entries, false),
+        Some(Position::Any) => holds_at_some_index(condition, entries),
         Some(Position::All) => {
             !repeated(entries).is_empty() && is_so_at_each_index(condition, entries, true)
         }
@@ -88,6 +88,16 @@ fn holds_at(condition: &Test, entries: &[AtomField], found: Option<&AtomField>) 
         Some(entry) => holds(condition, at_index(entries, entry.index)),
         None => false,
     }
+}
+
+// Whether the condition holds at some index of the field.
+fn holds_at_some_index(condition: &Test, entries: &[AtomField]) -> bool
+    requires { IsNonDecreasingBy (λ (entry : AtomField). entry.index) entries.now }
+    ensures { result ≡ list_any
+        (holds_at_index entries.now (out-Test condition.now))
+        (field_indexes entries.now) }
+{
+    !is_so_at_each_index(condition, entries, false)
 }
 
 // Whether the condition has this truth at each index of the field.

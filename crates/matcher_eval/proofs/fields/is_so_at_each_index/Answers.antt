@@ -58,4 +58,4 @@ pub returns : goal.returns
 returns c =
     sym (each_index (out-Test c.args.condition.now) c.args.truth c.args.entries.now
     ∙ c.loop-first.invariant.same
-    ∙ none_left (out-Test c.args.condition.now) c.args.truth c.loop-first.rest.now ?)
+    ∙ none_left (out-Test c.args.condition.now) c.args.truth c.loop-first.rest.now (sym c.in_default.ensures.value))
