@@ -59,7 +59,8 @@ on_field_1 position condition = record {
 
 -- without a position index 0 is asked, where an entry of a message is none of the field itself
 value_at_0 :
-    matcher_holds (on_field_1 None (tests.EqInt (pos 7))) (atom_of (entry 1 0 0 (pos 7) ∷ entry 1 1 0 (pos 8) ∷ [])) ≡ true
+    matcher_holds (on_field_1 None (tests.EqInt (pos 7))) (atom_of (entry 1 0 0 (pos 7) ∷ entry 1 1 0 (pos 8) ∷ []))
+    ≡ true
 unfolding out-Test out shown-the_row-FieldTest-0 shown hidden
 value_at_0 = refl
 
@@ -75,20 +76,23 @@ unfolding out-Test out shown-the_row-FieldTest-0 shown hidden
 all_without_an_index = refl
 
 all_with_a_message_beside :
-    matcher_holds (on_field_1 (Some All) (tests.EqInt (pos 7))) (atom_of (entry 1 1 0 (pos 7) ∷ entry 1 2 3 (pos 7) ∷ []))
+    matcher_holds (on_field_1 (Some All) (tests.EqInt (pos 7)))
+    (atom_of (entry 1 1 0 (pos 7) ∷ entry 1 2 3 (pos 7) ∷ []))
     ≡ false
 unfolding out-Test out shown-the_row-FieldTest-0 shown hidden
 all_with_a_message_beside = refl
 
 -- FIRST and LAST pick an index, and then look for the entry
 last_is_a_message :
-    matcher_holds (on_field_1 (Some Last) (tests.EqInt (pos 7))) (atom_of (entry 1 1 0 (pos 7) ∷ entry 1 2 3 (pos 7) ∷ []))
+    matcher_holds (on_field_1 (Some Last) (tests.EqInt (pos 7)))
+    (atom_of (entry 1 1 0 (pos 7) ∷ entry 1 2 3 (pos 7) ∷ []))
     ≡ false
 unfolding out-Test out shown-the_row-FieldTest-0 shown hidden
 last_is_a_message = refl
 
 first_of_two :
-    matcher_holds (on_field_1 (Some First) (tests.EqInt (pos 7))) (atom_of (entry 1 1 0 (pos 7) ∷ entry 1 2 0 (pos 8) ∷ []))
+    matcher_holds (on_field_1 (Some First) (tests.EqInt (pos 7)))
+    (atom_of (entry 1 1 0 (pos 7) ∷ entry 1 2 0 (pos 8) ∷ []))
     ≡ true
 unfolding out-Test out shown-the_row-FieldTest-0 shown hidden
 first_of_two = refl

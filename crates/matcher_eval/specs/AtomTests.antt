@@ -55,8 +55,8 @@ holds_at_index entries condition index = condition_holds (filter (is_at_index in
 
 -- the indexes of a field: those of at least 1 at which it has an entry, whatever the sub. They stand in rising order as
 -- the entries do, and one with several entries stands there several times.
-abbrev pub field_indexes : List AtomField → List ℕ
-field_indexes entries = map (λ entry. entry.index) (filter is_repeated entries)
+abbrev pub tested_indexes : List AtomField → List ℕ
+tested_indexes entries = map (λ entry. entry.index) (filter is_repeated entries)
 
 -- the indexes that a position picks: none of them index 0, FIRST the least of the field's, LAST the greatest, and ANY
 -- and ALL each
@@ -75,7 +75,7 @@ holds_as_picked position picked holds = list_any holds picked
 -- a condition holds on a field's entries at the indexes that a position picks
 abbrev pub holds_on_field : List AtomField → Option Position → Test-F Test FieldTest → Bool
 holds_on_field entries position condition =
-    holds_as_picked position (picked_indexes position (field_indexes entries)) (holds_at_index entries condition)
+    holds_as_picked position (picked_indexes position (tested_indexes entries)) (holds_at_index entries condition)
 
 -- the same of a condition that may be missing, and then nothing holds
 abbrev pub holds_if_set : List AtomField → Option Position → Option Test → Bool

@@ -4,12 +4,12 @@ use Rattle.atom_record.specs.declared.value.Value.{Value}
 use Rattle.atom_record.specs.declared.value.Value.TheVariants as values
 
 -- the number that the value is
-abbrev pub number_in : Value → Option ℤ
-number_in (values.Int number) = Some number
-number_in (values.Long number) = Some number
-number_in _ = None
+abbrev pub number_held : Value → Option ℤ
+number_held (values.Int number) = Some number
+number_held (values.Long number) = Some number
+number_held _ = None
 
 -- the text that the value is
-abbrev pub text_in : Value → Option (List ℕ)
-text_in (values.Str text) = Some text
-text_in _ = None
+abbrev pub text_held : Value → Option (List ℕ)
+text_held (values.Str text) = Some text
+text_held _ = None

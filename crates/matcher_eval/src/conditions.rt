@@ -3,7 +3,7 @@ ghost use Rattle.std.specs.Prelude.{◌≡◌, Option, Some, None};
 ghost use Rattle.std.specs.Option.{option_copied};
 ghost use Rattle.config_types.specs.declared.matcher.Test.TheViews.{out-Test};
 ghost use Rattle.matcher_eval.specs.ValueTests.{is_truth_wanted, is_same_text, is_listed, value_passes};
-ghost use Rattle.matcher_eval.specs.Contents.{number_in, text_in};
+ghost use Rattle.matcher_eval.specs.Contents.{number_held, text_held};
 
 use atom_record::{Bytes, Value};
 use config_types::Test;
@@ -15,15 +15,15 @@ pub(crate) fn passes(condition: &Test, value: &Value) -> bool
 {
     match condition {
         Test::EqBool(wanted) => is_truth(value, *wanted),
-        Test::EqStr(wanted) => text_in(value).is_some_and(|text| text == wanted),
-        Test::EqInt(bound) => number_in(value).is_some_and(|number| number == *bound),
-        Test::LtInt(bound) => number_in(value).is_some_and(|number| number < *bound),
-        Test::GtInt(bound) => number_in(value).is_some_and(|number| number > *bound),
-        Test::LteInt(bound) => number_in(value).is_some_and(|number| number <= *bound),
-        Test::GteInt(bound) => number_in(value).is_some_and(|number| number >= *bound),
+        Test::EqStr(wanted) => text_held(value).is_some_and(|text| text == wanted),
+        Test::EqInt(bound) => number_held(value).is_some_and(|number| number == *bound),
+        Test::LtInt(bound) => number_held(value).is_some_and(|number| number < *bound),
+        Test::GtInt(bound) => number_held(value).is_some_and(|number| number > *bound),
+        Test::LteInt(bound) => number_held(value).is_some_and(|number| number <= *bound),
+        Test::GteInt(bound) => number_held(value).is_some_and(|number| number >= *bound),
         Test::Tuple(_) => false,
-        Test::AnyOf(texts) => text_in(value).is_some_and(|text| is_listed(texts, text)),
-        Test::NoneOf(texts) => text_in(value).is_some_and(|text| !is_listed(texts, text)),
+        Test::AnyOf(texts) => text_held(value).is_some_and(|text| is_listed(texts, text)),
+        Test::NoneOf(texts) => text_held(value).is_some_and(|text| !is_listed(texts, text)),
     }
 }
 
@@ -40,8 +40,8 @@ fn is_truth(value: &Value, wanted: bool) -> bool
 }
 
 // The number that the value is, if it is one.
-fn number_in(value: &Value) -> Option<i64>
-    ensures { result ≡ number_in value.now }
+fn number_held(value: &Value) -> Option<i64>
+    ensures { result ≡ number_held value.now }
 {
     match value {
         Value::Int(number) => Some(i64::from(*number)),
@@ -51,8 +51,8 @@ fn number_in(value: &Value) -> Option<i64>
 }
 
 // The text that the value is, if it is one. A string of raw bytes is no text.
-fn text_in(value: &Value) -> Option<&Bytes>
-    ensures { option_copied result ≡ text_in value.now }
+fn text_held(value: &Value) -> Option<&Bytes>
+    ensures { option_copied result ≡ text_held value.now }
 {
     match value {
         Value::Str(text) => Some(text),

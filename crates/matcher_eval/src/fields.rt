@@ -7,7 +7,7 @@ ghost use Rattle.atom_record.specs.declared.atom.AtomField.{AtomField};
 ghost use Rattle.atom_record.specs.AtomSound.{HasNoFault, IsBelow};
 ghost use Rattle.config_types.specs.declared.matcher.Test.TheViews.{out-Test};
 ghost use Rattle.matcher_eval.specs.ValueTests.{is_same_truth};
-ghost use Rattle.matcher_eval.specs.AtomTests.{number_set, passes_at_sub, inner_test_holds, condition_holds, holds_at_index, field_indexes, holds_on_field, field_test_holds, matcher_holds};
+ghost use Rattle.matcher_eval.specs.AtomTests.{number_set, passes_at_sub, inner_test_holds, condition_holds, holds_at_index, tested_indexes, holds_on_field, field_test_holds, matcher_holds};
 
 use crate::conditions::passes;
 use crate::entries::{at_index, of_field, repeated, split_after};
@@ -95,7 +95,7 @@ fn holds_at_some_index(condition: &Test, entries: &[AtomField]) -> bool
     requires { IsNonDecreasingBy (λ (entry : AtomField). entry.index) entries.now }
     ensures { result ≡ list_any
         (holds_at_index entries.now (out-Test condition.now))
-        (field_indexes entries.now) }
+        (tested_indexes entries.now) }
 {
     !is_so_at_each_index(condition, entries, false)
 }
@@ -105,7 +105,7 @@ fn is_so_at_each_index(condition: &Test, entries: &[AtomField], truth: bool) -> 
     requires { IsNonDecreasingBy (λ (entry : AtomField). entry.index) entries.now }
     ensures { result ≡ list_all
         (λ index. is_same_truth (holds_at_index entries.now (out-Test condition.now) index) truth)
-        (field_indexes entries.now) }
+        (tested_indexes entries.now) }
 {
     let mut rest = repeated(entries);
     while let Some(first) = rest.first() {

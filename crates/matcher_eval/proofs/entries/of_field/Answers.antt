@@ -11,7 +11,8 @@ pub returns-clause-entries : goal.returns-clause-entries
 returns-clause-entries c =
     let field = c.from-field.result in
     middle (is_below_field field) (is_below_field (field + 1)) (is_of_field c.args.field)
-    (λ entry. is_between entry.field field (field + 1) c.args.field c.from-field.ensures (ap (λ (n : ℕ). n + 1) c.from-field.ensures))
+    (λ entry. is_between entry.field field (field + 1) c.args.field c.from-field.ensures
+    (ap (λ (n : ℕ). n + 1) c.from-field.ensures))
     c.args.entries.now _ _ c.count_below_field-start.ensures c.count_below_field-count.ensures.front
 
 -- along them the index doesn't fall

@@ -12,7 +12,9 @@ use Rattle.matcher_eval.proofs.fields.is_so_at_each_index.Goals as goal
 -- at first the rest is all of the entries of the repeated field
 pub loop-first-init : goal.loop-first-init
 loop-first-init c = record {
-  rising = subst (λ (xs : List AtomField). IsNonDecreasingBy (λ (entry : AtomField). entry.index) xs) (sym c.repeated-rest.ensures) (IsNonDecreasingBy-filter (λ entry. entry.index) is_repeated c.args.entries.now c.requires);
+  rising = subst (λ (xs : List AtomField). IsNonDecreasingBy (λ (entry : AtomField). entry.index) xs)
+      (sym c.repeated-rest.ensures) (IsNonDecreasingBy-filter (λ entry. entry.index) is_repeated c.args.entries.now
+      c.requires);
   same = ap (is_so_on (out-Test c.args.condition.now) c.args.truth) (sym c.repeated-rest.ensures);
 }
 
@@ -27,7 +29,8 @@ returns-then-holds-truth c =
     sym (ap (λ (b : Bool). is_same_truth b truth) c.holds.ensures) ∙ differing _ _ c.if-holds-truth.true in
     sym (each_index condition truth c.args.entries.now
     ∙ c.loop-first.invariant.same
-    ∙ first_index condition truth c.loop-first.rest.now here next c.in-Some.first.now (sym c.in-Some.ensures.value) c.loop-first.invariant.rising c.split_after.ensures
+    ∙ first_index condition truth c.loop-first.rest.now here next c.in-Some.first.now (sym c.in-Some.ensures.value)
+    c.loop-first.invariant.rising c.split_after.ensures
     ∙ ap (λ (b : Bool). b && is_so_on condition truth next) unlike)
 
 -- where the first index has this truth, it goes by those after it
@@ -42,7 +45,8 @@ loop-first-preserved c =
     record {
       rising = others_rise _ c.loop-first.rest.now here next c.loop-first.invariant.rising c.split_after.ensures;
       same = c.loop-first.invariant.same
-          ∙ first_index condition truth c.loop-first.rest.now here next c.in-Some.first.now (sym c.in-Some.ensures.value) c.loop-first.invariant.rising c.split_after.ensures
+          ∙ first_index condition truth c.loop-first.rest.now here next c.in-Some.first.now
+          (sym c.in-Some.ensures.value) c.loop-first.invariant.rising c.split_after.ensures
           ∙ ap (λ (b : Bool). b && is_so_on condition truth next) like;
     }
 
@@ -51,7 +55,13 @@ pub loop-first-smaller : goal.loop-first-smaller
 loop-first-smaller c =
     let here = c.split_after.result.0.now in
     let next = c.split_after.result.1.now in
-    omega (arith, ap length c.split_after.ensures.whole, length-append here next, some_here c.loop-first.rest.now here next c.in-Some.first.now (sym c.in-Some.ensures.value) c.split_after.ensures)
+    omega (
+      arith,
+      ap length c.split_after.ensures.whole,
+      length-append here next,
+      some_here c.loop-first.rest.now here next c.in-Some.first.now (sym c.in-Some.ensures.value)
+          c.split_after.ensures,
+    )
 
 -- where no index is left, none has another truth
 pub returns : goal.returns

@@ -11,7 +11,8 @@ use Rattle.matcher_eval.proofs.fields.is_so_at_each_index.Given as goal
 abbrev pub invariant-loop-first : goal.invariant-loop-first
 invariant-loop-first l = record {
   rising : IsNonDecreasingBy (λ (entry : AtomField). entry.index) l.rest;
-  same : is_so_on (out-Test l.condition) l.truth (filter is_repeated l.fn.entries) ≡ is_so_on (out-Test l.condition) l.truth l.rest;
+  same : is_so_on (out-Test l.condition) l.truth (filter is_repeated l.fn.entries) ≡ is_so_on (out-Test l.condition)
+      l.truth l.rest;
 }
 
 -- each turn takes entries from the rest
