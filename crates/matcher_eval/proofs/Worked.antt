@@ -1,6 +1,5 @@
 -- Worked rows of `specs/AtomTests.antt`, `specs/ValueTests.antt` and `specs/Combined.antt`, for their readers.
-use Rattle.std.proofs.Common.{◌≡◌, ℕ, ℤ, pos, negsuc, Bool, true, false, List, [], ◌∷◌, Option, Some, None, refl}
-use Rattle.atom_record.specs.declared.value.Value.{Value}
+use Rattle.std.proofs.Common.{◌≡◌, ℕ, ℤ, pos, negsuc, true, false, List, [], ◌∷◌, Option, Some, None, refl}
 use Rattle.atom_record.specs.declared.value.Value.TheVariants as values
 use Rattle.atom_record.specs.declared.atom.AtomField.{AtomField}
 use Rattle.atom_record.specs.declared.atom.Atom.{Atom}
@@ -8,10 +7,10 @@ use Rattle.config_types.specs.declared.fields.Position.{Position}
 use Rattle.config_types.specs.declared.fields.Position.TheVariants.{First, Last, Any, All}
 use Rattle.config_types.specs.declared.matcher.SimpleMatcher.{SimpleMatcher}
 use Rattle.config_types.specs.declared.matcher.FieldTest.{FieldTest}
-use Rattle.config_types.specs.declared.matcher.Operation.TheVariants.{And, Or, Not, Nand, Nor}
+use Rattle.config_types.specs.declared.matcher.Operation.TheVariants.{Nand, Nor}
 use Rattle.config_types.specs.declared.matcher.Test.{Test}
 use Rattle.config_types.specs.declared.matcher.Test.TheVariants as tests
-use Rattle.config_types.specs.declared.matcher.Test.TheOpen.{Test-F, EqBool, EqStr, GtInt, AnyOf, NoneOf}
+use Rattle.config_types.specs.declared.matcher.Test.TheOpen.{EqBool, EqStr, GtInt, NoneOf}
 use Rattle.config_types.specs.declared.matcher.Test.TheViews.{out-Test}
 use Rattle.config_types.specs.declared.matcher.Test.TheBlock.{shown-the_row-FieldTest-0}
 use Rattle.matcher_eval.specs.ValueTests.{value_passes}

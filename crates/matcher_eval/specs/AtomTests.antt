@@ -1,5 +1,5 @@
 -- Whether a simple matcher holds on an atom: its id is the matcher's, and each test of a field holds.
-use Rattle.std.specs.Prelude.{ℕ, ℤ, zero, suc, pos, nat_le, Bool, false, not, ◌&&◌, ◌==◌, List, [], ◌∷◌, map, length, take, drop, ◌-◌, filter, Option, Some, None}
+use Rattle.std.specs.Prelude.{ℕ, ℤ, pos, nat_le, Bool, false, not, ◌&&◌, ◌==◌, List, [], ◌∷◌, map, length, take, drop, ◌-◌, filter, Option, Some, None}
 use Rattle.std.specs.List.{list_any, list_all}
 use Rattle.atom_record.specs.declared.atom.AtomField.{AtomField}
 use Rattle.atom_record.specs.declared.atom.Atom.{Atom}

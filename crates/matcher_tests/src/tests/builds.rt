@@ -50,30 +50,33 @@ fn add_sized(payload: &mut Vec<u8>, text: &[u8]) -> Result<(), AllocError> {
     payload.extend_from_slice(text)
 }
 
+/// The byte that names the type of a value.
+fn type_of(value: Holds) -> u8 {
+    match value {
+        Holds::Int(_) => 1,
+        Holds::Long(_) => 2,
+        Holds::Bool(_) => 3,
+        Holds::Str(_) => 4,
+        Holds::Raw(_) => 5,
+        Holds::Bits32(_) => 6,
+    }
+}
+
 fn add_value(payload: &mut Vec<u8>, value: Holds) -> Result<(), AllocError> {
     match value {
-        Holds::Int(number) => {
-            payload.push(1)?;
-            payload.extend_from_slice(&number.to_le_bytes())
-        }
-        Holds::Long(number) => {
-            payload.push(2)?;
-            payload.extend_from_slice(&number.to_le_bytes())
-        }
-        Holds::Bool(truth) => Ok(payload.extend_from_slice(&[3, u8::from(truth)])?),
-        Holds::Str(text) => {
-            payload.push(4)?;
-            add_sized(payload, text)
-        }
-        Holds::Raw(text) => {
-            payload.push(5)?;
-            add_sized(payload, text)
-        }
-        Holds::Bits32(bits) => {
-            payload.push(6)?;
-            payload.extend_from_slice(&bits.to_le_bytes())
-        }
+        Holds::Int(number) => payload.extend_from_slice(&number.to_le_bytes()),
+        Holds::Long(number) => payload.extend_from_slice(&number.to_le_bytes()),
+        Holds::Bool(truth) => payload.extend_from_slice(&[u8::from(truth)]),
+        Holds::Str(text) => add_sized(payload, text),
+        Holds::Raw(text) => add_sized(payload, text),
+        Holds::Bits32(bits) => payload.extend_from_slice(&bits.to_le_bytes()),
     }
+}
+
+fn add_entry(payload: &mut Vec<u8>, entry: Entry) -> Result<(), AllocError> {
+    let (field, index, sub, value) = entry;
+    payload.extend_from_slice(&[field, index, sub, 0, type_of(value)])?;
+    add_value(payload, value)
 }
 
 /// The atom with this id and these entries, which stand in rising order.
@@ -82,9 +85,8 @@ pub fn atom_of(alloc: Global, id: u32, entries: &[Entry]) -> Result<Atom, AtomFa
 {
     let mut payload = Vec::new(alloc);
     payload.extend_from_slice(&id.to_le_bytes())?;
-    for (field, index, sub, value) in entries {
-        payload.extend_from_slice(&[*field, *index, *sub, 0])?;
-        add_value(&mut payload, *value)?;
+    for entry in entries {
+        add_entry(&mut payload, *entry)?;
     }
     parse_atom(alloc, payload.as_slice())
 }
@@ -97,45 +99,67 @@ fn texts_of(alloc: Global, texts: &[&'static [u8]]) -> Result<Seq<Bytes>, AllocE
     Ok(list)
 }
 
-fn tuple_of(alloc: Global, numbers: &[(i32, i64)]) -> Result<Seq<FieldTest>, AllocError> {
+fn inner_test(field: i32, number: i64) -> FieldTest {
+    FieldTest {
+        field: Some(field),
+        position: None,
+        test: Some(Test::EqInt(number)),
+    }
+}
+
+fn tuple_of(alloc: Global, numbers: &[(i32, i64)]) -> Result<Test, AllocError> {
     let mut tests = Seq::new(alloc);
     for (field, number) in numbers {
-        let test = FieldTest {
-            field: Some(*field),
-            position: None,
-            test: Some(Test::EqInt(*number)),
-        };
-        tests.push(test)?;
+        tests.push(inner_test(*field, *number))?;
     }
-    Ok(tests)
+    Ok(Test::Tuple(tests))
+}
+
+fn text_condition(alloc: Global, text: &[u8]) -> Result<Test, AllocError> {
+    let text = Seq::from_slice(alloc, text)?;
+    Ok(Test::EqStr(text))
+}
+
+fn any_of(alloc: Global, texts: &[&'static [u8]]) -> Result<Test, AllocError> {
+    let list = texts_of(alloc, texts)?;
+    Ok(Test::AnyOf(list))
+}
+
+fn none_of(alloc: Global, texts: &[&'static [u8]]) -> Result<Test, AllocError> {
+    let list = texts_of(alloc, texts)?;
+    Ok(Test::NoneOf(list))
 }
 
 fn condition_of(alloc: Global, asks: Asks) -> Result<Test, AllocError> {
     match asks {
         Asks::EqBool(truth) => Ok(Test::EqBool(truth)),
-        Asks::EqStr(text) => Ok(Test::EqStr(Seq::from_slice(alloc, text)?)),
+        Asks::EqStr(text) => text_condition(alloc, text),
         Asks::EqInt(number) => Ok(Test::EqInt(number)),
         Asks::LtInt(number) => Ok(Test::LtInt(number)),
         Asks::GtInt(number) => Ok(Test::GtInt(number)),
         Asks::LteInt(number) => Ok(Test::LteInt(number)),
         Asks::GteInt(number) => Ok(Test::GteInt(number)),
-        Asks::AnyOf(texts) => Ok(Test::AnyOf(texts_of(alloc, texts)?)),
-        Asks::NoneOf(texts) => Ok(Test::NoneOf(texts_of(alloc, texts)?)),
-        Asks::Tuple(numbers) => Ok(Test::Tuple(tuple_of(alloc, numbers)?)),
+        Asks::AnyOf(texts) => any_of(alloc, texts),
+        Asks::NoneOf(texts) => none_of(alloc, texts),
+        Asks::Tuple(numbers) => tuple_of(alloc, numbers),
     }
+}
+
+fn test_of(alloc: Global, asked: Asked) -> Result<FieldTest, AllocError> {
+    let (field, position, asks) = asked;
+    let condition = condition_of(alloc, asks)?;
+    Ok(FieldTest {
+        field: Some(field),
+        position,
+        test: Some(condition),
+    })
 }
 
 /// The matcher of atoms of this id with these tests.
 pub fn matcher_of(alloc: Global, id: i32, asked: &[Asked]) -> Result<SimpleMatcher, AllocError> {
     let mut tests = Seq::new(alloc);
-    for (field, position, asks) in asked {
-        let condition = condition_of(alloc, *asks)?;
-        let test = FieldTest {
-            field: Some(*field),
-            position: *position,
-            test: Some(condition),
-        };
-        tests.push(test)?;
+    for test in asked {
+        tests.push(test_of(alloc, *test)?)?;
     }
     Ok(SimpleMatcher {
         atom_id: Some(id),

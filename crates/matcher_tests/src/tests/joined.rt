@@ -56,8 +56,8 @@ fn joins_truths_of_more_children(rt: HostRuntime) {
 /// The field 1 is 3.
 const IS_3: &[Asked] = &[(1, None, Asks::EqInt(3))];
 
-/// Ids and entries of atoms, and whether they are of the id 5 with a field that is 3. Where they aren't, NOT holds, also
-/// for an atom of another id.
+/// Ids and entries of atoms, and whether they are of the id 5 with a field 1 that is 3. Where they aren't, NOT holds,
+/// also for an atom of another id.
 const ATOMS: [(u32, &[Entry], bool); 3] = [
     (5, &[(1, 0, 0, Holds::Int(3))], true),
     (5, &[(1, 0, 0, Holds::Int(4))], false),

@@ -1,4 +1,4 @@
-use Rattle.std.proofs.Common.{◌≡◌, ℕ, ◌+◌, subst, sym, ap, List}
+use Rattle.std.proofs.Common.{ℕ, ◌+◌, subst, sym, ap, List}
 use Rattle.std.specs.List.Sorted.{IsNonDecreasingBy}
 use Rattle.atom_record.specs.declared.atom.AtomField.{AtomField}
 use Rattle.matcher_eval.specs.AtomTests.{is_of_field}
