@@ -65,25 +65,11 @@ is_between n at next wanted same after = grind (arith, same, after)
 is_it_from : (n m : ℕ) → (n == m) ≡ true → n ≡ m
 is_it_from n m same = grind arith
 
--- of two entries in rising order the first has no greater field
-field_of_below : (a b : AtomField) → IsBelow a b → a.field ≤ b.field
-field_of_below a b (inl lower) = omega (arith, lower)
-field_of_below a b (inr (same, _)) = omega (arith, same)
-
 -- of two entries of one field in rising order the first has no greater index
 index_of_below : (a b : AtomField) → a.field ≡ b.field → IsBelow a b → a.index ≤ b.index
 index_of_below a b one (inl lower) = absurd (omega (arith, lower, one))
 index_of_below a b one (inr (_, inl lower)) = omega (arith, lower)
 index_of_below a b one (inr (_, inr (same, _))) = omega (arith, same)
-
--- along entries in rising order the field doesn't fall
-pub fields_rise : (entries : List AtomField) → AllPairs IsBelow entries
-    → IsNonDecreasingBy (λ (entry : AtomField). entry.field) entries
-fields_rise entries rising i j d ordered inside =
-    elim (cases_eq i j) [
-      | inl same ↦ rw same (omega arith)
-      | inr other ↦ field_of_below (get_or entries i d) (get_or entries j d) (rising i j d (omega arith) inside)
-    ]
 
 -- along the entries of one field the index doesn't fall
 pub indexes_rise : (entries : List AtomField) (field : ℕ) → AllPairs IsBelow entries

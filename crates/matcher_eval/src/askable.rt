@@ -15,23 +15,23 @@ const MAX_FIELD: u32 = 127;
 pub fn is_askable(matcher: &SimpleMatcher) -> bool
     ensures { result ≡ is_askable matcher.now }
 {
-    is_set_up_to(matcher.atom_id, MAX_ATOM_ID) && are_askable_tests(matcher.tests.as_slice())
+    is_from_1_to(matcher.atom_id, MAX_ATOM_ID) && are_askable_tests(matcher.tests.as_slice())
 }
 
 fn are_askable_tests(tests: &[FieldTest]) -> bool
     ensures { result ≡ list_all is_askable_test tests.now }
 {
-    tests.iter().all(|test| is_askable_test(test))
+    tests.iter().all(|test| may_ask_test(test))
 }
 
-fn is_askable_test(test: &FieldTest) -> bool
+fn may_ask_test(test: &FieldTest) -> bool
     ensures { result ≡ is_askable_test test.now }
 {
-    is_set_up_to(test.field, MAX_FIELD) && has_askable_condition(&test.test)
+    is_from_1_to(test.field, MAX_FIELD) && may_ask(&test.test)
 }
 
 // Whether a condition is set, and each test of a tuple may be asked.
-fn has_askable_condition(condition: &Option<Test>) -> bool
+fn may_ask(condition: &Option<Test>) -> bool
     ensures { result ≡ has_askable_condition condition.now }
 {
     match condition {
@@ -44,18 +44,18 @@ fn has_askable_condition(condition: &Option<Test>) -> bool
 fn are_askable_inside(tests: &[FieldTest]) -> bool
     ensures { result ≡ list_all is_askable_inside tests.now }
 {
-    tests.iter().all(|test| is_askable_inside(test))
+    tests.iter().all(|test| may_ask_inside(test))
 }
 
 // Whether a test may stand inside a tuple.
-fn is_askable_inside(test: &FieldTest) -> bool
+fn may_ask_inside(test: &FieldTest) -> bool
     ensures { result ≡ is_askable_inside test.now }
 {
-    is_set_up_to(test.field, MAX_FIELD) && test.position.is_none() && asks_a_value(&test.test)
+    is_from_1_to(test.field, MAX_FIELD) && test.position.is_none() && is_for_a_value(&test.test)
 }
 
 // Whether a condition is set, and asks for no message.
-fn asks_a_value(condition: &Option<Test>) -> bool
+fn is_for_a_value(condition: &Option<Test>) -> bool
     ensures { result ≡ asks_a_value condition.now }
 {
     match condition {
@@ -65,7 +65,7 @@ fn asks_a_value(condition: &Option<Test>) -> bool
 }
 
 // Whether a number is set, and is from 1 to this.
-fn is_set_up_to(number: Option<i32>, greatest: u32) -> bool
+fn is_from_1_to(number: Option<i32>, greatest: u32) -> bool
     ensures { result ≡ is_set_up_to greatest number }
 {
     match number {

@@ -15,15 +15,15 @@ pub(crate) fn passes(condition: &Test, value: &Value) -> bool
 {
     match condition {
         Test::EqBool(wanted) => is_truth(value, *wanted),
-        Test::EqStr(wanted) => text_held(value).is_some_and(|text| text == wanted),
-        Test::EqInt(bound) => number_held(value).is_some_and(|number| number == *bound),
-        Test::LtInt(bound) => number_held(value).is_some_and(|number| number < *bound),
-        Test::GtInt(bound) => number_held(value).is_some_and(|number| number > *bound),
-        Test::LteInt(bound) => number_held(value).is_some_and(|number| number <= *bound),
-        Test::GteInt(bound) => number_held(value).is_some_and(|number| number >= *bound),
+        Test::EqStr(wanted) => text_of(value).is_some_and(|text| text == wanted),
+        Test::EqInt(bound) => number_of(value).is_some_and(|number| number == *bound),
+        Test::LtInt(bound) => number_of(value).is_some_and(|number| number < *bound),
+        Test::GtInt(bound) => number_of(value).is_some_and(|number| number > *bound),
+        Test::LteInt(bound) => number_of(value).is_some_and(|number| number <= *bound),
+        Test::GteInt(bound) => number_of(value).is_some_and(|number| number >= *bound),
         Test::Tuple(_) => false,
-        Test::AnyOf(texts) => text_held(value).is_some_and(|text| is_listed(texts, text)),
-        Test::NoneOf(texts) => text_held(value).is_some_and(|text| !is_listed(texts, text)),
+        Test::AnyOf(texts) => text_of(value).is_some_and(|text| is_among(texts, text)),
+        Test::NoneOf(texts) => text_of(value).is_some_and(|text| !is_among(texts, text)),
     }
 }
 
@@ -40,7 +40,7 @@ fn is_truth(value: &Value, wanted: bool) -> bool
 }
 
 // The number that the value is, if it is one.
-fn number_held(value: &Value) -> Option<i64>
+fn number_of(value: &Value) -> Option<i64>
     ensures { result ≡ number_held value.now }
 {
     match value {
@@ -51,7 +51,7 @@ fn number_held(value: &Value) -> Option<i64>
 }
 
 // The text that the value is, if it is one. A string of raw bytes is no text.
-fn text_held(value: &Value) -> Option<&Bytes>
+fn text_of(value: &Value) -> Option<&Bytes>
     ensures { option_copied result ≡ text_held value.now }
 {
     match value {
@@ -61,7 +61,7 @@ fn text_held(value: &Value) -> Option<&Bytes>
 }
 
 // Whether some text of the list is this one.
-fn is_listed(texts: &Seq<Bytes>, text: &Bytes) -> bool
+fn is_among(texts: &Seq<Bytes>, text: &Bytes) -> bool
     ensures { result ≡ is_listed texts.now text.now }
 {
     texts.as_slice().contains(text)

@@ -19,7 +19,7 @@ pub(crate) fn matches(matcher: &SimpleMatcher, atom: &Atom) -> bool
     requires { HasNoFault atom.now }
     ensures { result ≡ matcher_holds matcher.now atom.now }
 {
-    atom.id == number_set(matcher.atom_id)
+    atom.id == number_or_zero(matcher.atom_id)
         && tests_hold(matcher.tests.as_slice(), atom.fields.as_slice())
 }
 
@@ -37,7 +37,7 @@ fn tests_hold(tests: &[FieldTest], entries: &[AtomField]) -> bool
 }
 
 // The number that is set, and 0 where none is.
-fn number_set(number: Option<i32>) -> u32
+fn number_or_zero(number: Option<i32>) -> u32
     ensures { result ≡ number_set number }
 {
     match number {
@@ -54,15 +54,15 @@ fn test_holds(test: &FieldTest, entries: &[AtomField]) -> bool
     let Some(condition) = &test.test else {
         return false;
     };
-    holds_on_field(
+    holds_where_picked(
         condition,
         test.position,
-        of_field(entries, number_set(test.field)),
+        of_field(entries, number_or_zero(test.field)),
     )
 }
 
 // Whether the condition holds on the entries of a field, at the indexes that the position picks.
-fn holds_on_field(condition: &Test, position: Option<Position>, entries: &[AtomField]) -> bool
+fn holds_where_picked(condition: &Test, position: Option<Position>, entries: &[AtomField]) -> bool
     requires { IsNonDecreasingBy (λ (entry : AtomField). entry.index) entries.now }
     ensures { result ≡ holds_on_field entries.now position (out-Test condition.now) }
 {
@@ -124,7 +124,7 @@ fn holds(condition: &Test, entries: &[AtomField]) -> bool
 {
     match condition {
         Test::Tuple(tests) => inner_tests_hold(tests.as_slice(), entries),
-        _ => passes_at_sub(condition, 0, entries),
+        _ => some_entry_passes(condition, 0, entries),
     }
 }
 
@@ -132,21 +132,21 @@ fn holds(condition: &Test, entries: &[AtomField]) -> bool
 fn inner_tests_hold(tests: &[FieldTest], entries: &[AtomField]) -> bool
     ensures { result ≡ list_all (inner_test_holds entries.now) tests.now }
 {
-    tests.iter().all(|test| inner_test_holds(test, entries))
+    tests.iter().all(|test| holds_inside(test, entries))
 }
 
 // Whether the test of a tuple holds on the entries of one index.
-fn inner_test_holds(test: &FieldTest, entries: &[AtomField]) -> bool
+fn holds_inside(test: &FieldTest, entries: &[AtomField]) -> bool
     ensures { result ≡ inner_test_holds entries.now test.now }
 {
     match &test.test {
-        Some(condition) => passes_at_sub(condition, number_set(test.field), entries),
+        Some(condition) => some_entry_passes(condition, number_or_zero(test.field), entries),
         None => false,
     }
 }
 
 // Whether one of these entries has the sub, and a value that passes the condition.
-fn passes_at_sub(condition: &Test, sub: u32, entries: &[AtomField]) -> bool
+fn some_entry_passes(condition: &Test, sub: u32, entries: &[AtomField]) -> bool
     ensures { result ≡ passes_at_sub entries.now sub (out-Test condition.now) }
 {
     entries.iter().any(|entry| u32::from(entry.sub) == sub && passes(condition, &entry.value))
