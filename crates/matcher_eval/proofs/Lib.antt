@@ -1,0 +1,3 @@
+mod EntriesLemmas
+mod IndexesLemmas
+mod Worked
