@@ -4,16 +4,17 @@ use Rattle.std.proofs.Math.Facts.{Fits-of_z, sfits_to_z}
 use Rattle.std.proofs.lemmas.Bool.{eqb-true}
 use Rattle.std.proofs.lemmas.Int.{to_z-of_z, of_z-to_z}
 use Rattle.std.specs.Prelude.{if◌then◌else◌, ◌==◌, FitsSigned}
-use Rattle.std.specs.Int.{w32, w64, cast_signed, cast_unsigned}
+use Rattle.std.specs.Int.{Width, w32, w64, to_le_bytes, cast_signed, cast_unsigned}
 use Rattle.atom_record.specs.declared.value.Value.{Value}
 use Rattle.atom_record.specs.declared.value.Value.TheVariants as values
 use Rattle.atom_record.specs.declared.parse.Kind.{Kind}
 use Rattle.atom_record.specs.declared.parse.Kind.TheVariants as kinds
 use Rattle.atom_record.specs.AtomReading.{number_at, text_at, bool_at, kind_at, value_at}
-use Rattle.atom_record.specs.AtomSpelling.{type_of, value_bytes}
-use Rattle.atom_record.specs.AtomSound.{IsInRange}
+use Rattle.atom_record.specs.AtomSpelling.{type_of, sized_bytes, value_bytes}
+use Rattle.atom_record.specs.AtomSound.{IsText, IsInRange}
+use Rattle.sd_base.specs.Reads.{◌>>=◌}
 use Rattle.sd_base.proofs.ReadsLemmas.{bind-ok, ok-same, choice-side}
-use Rattle.sd_base.proofs.NumbersLemmas.{IsBytes, Takes, wide32, wide64}
+use Rattle.sd_base.proofs.NumbersLemmas.{IsBytes, IsWide, Takes, wide32, wide64}
 use Rattle.atom_record.proofs.AtomReadingParts.{number_takes, number_again, bool_takes, bool_again, text_takes, text_again}
 
 -- the kind of a value
@@ -61,6 +62,37 @@ pub record TakesValue (kind : Kind) (bytes : List ℕ) (value : Value) (rest : L
   pub fits : IsInRange value
   pub same : kind_of value ≡ kind
 
+-- a value that is made of a number of this width
+of_number : (kind : Kind) (width : Width) (limit : ℕ) (wide : IsWide width limit) (make : ℕ → Value) (bytes : List ℕ)
+    (x : Value × List ℕ)
+    → IsBytes bytes
+    → (number_at width bytes >>= λ n. Ok (make n.0, n.1)) ≡ Ok x
+    → ((n : ℕ) → n < limit → (value_bytes (make n) ≡ to_le_bytes width n) × IsInRange (make n))
+    → ((n : ℕ) → kind_of (make n) ≡ kind)
+    → TakesValue kind bytes x.0 x.1
+of_number kind width limit wide make bytes x fits read made same =
+    let n = bind-ok (number_at width bytes) (λ n. Ok (make n.0, n.1)) x read in
+    let took = number_takes width limit wide bytes n.0 fits n.1 in
+    let is = made n.0.0 took.1 in
+    let is_value : Value × List ℕ → Type 0 = λ y. TakesValue kind bytes y.0 y.1 in
+    subst is_value (ok-same (make n.0.0, n.0.1) x n.2)
+    (record { took = rw is.0 took.0; fits = is.1; same = same n.0.0 })
+
+-- a value that is made of a text
+of_text : (kind : Kind) (make : List ℕ → Value) (bytes : List ℕ) (x : Value × List ℕ)
+    → IsBytes bytes
+    → (text_at bytes >>= λ text. Ok (make text.0, text.1)) ≡ Ok x
+    → ((text : List ℕ) → IsText text → (value_bytes (make text) ≡ sized_bytes text) × IsInRange (make text))
+    → ((text : List ℕ) → kind_of (make text) ≡ kind)
+    → TakesValue kind bytes x.0 x.1
+of_text kind make bytes x fits read made same =
+    let text = bind-ok (text_at bytes) (λ text. Ok (make text.0, text.1)) x read in
+    let took = text_takes bytes text.0 fits text.1 in
+    let is = made text.0.0 took.1 in
+    let is_value : Value × List ℕ → Type 0 = λ y. TakesValue kind bytes y.0 y.1 in
+    subst is_value (ok-same (make text.0.0, text.0.1) x text.2)
+    (record { took = rw is.0 took.0; fits = is.1; same = same text.0.0 })
+
 -- a value that is read is spelled so, fits its bytes, and is of the kind
 pub value_takes : (kind : Kind) (bytes : List ℕ) (x : Value × List ℕ)
     → IsBytes bytes
@@ -68,44 +100,21 @@ pub value_takes : (kind : Kind) (bytes : List ℕ) (x : Value × List ℕ)
     → TakesValue kind bytes x.0 x.1
 unfolding value_at
 value_takes kinds.Int bytes x fits read =
-    let n = bind-ok (number_at w32 bytes) (λ n. Ok (values.Int (cast_signed w32 n.0), n.1)) x read in
-    let took = number_takes w32 (2 ^ 32) wide32 bytes n.0 fits n.1 in
-    let is_value : Value × List ℕ → Type 0 = λ y. TakesValue kinds.Int bytes y.0 y.1 in
-    subst is_value (ok-same _ x n.2) (record {
-      took = rw (of_z-to_z w32 n.0.0 took.1) took.0;
-      fits = signed32 n.0.0
-          took.1;
-      same = refl;
-    })
+    of_number kinds.Int w32 (2 ^ 32) wide32 (λ n. values.Int (cast_signed w32 n)) bytes x fits read
+    (λ n below. (ap (to_le_bytes w32) (of_z-to_z w32 n below), signed32 n below)) (λ n. refl)
 value_takes kinds.Long bytes x fits read =
-    let n = bind-ok (number_at w64 bytes) (λ n. Ok (values.Long (cast_signed w64 n.0), n.1)) x read in
-    let took = number_takes w64 (2 ^ 64) wide64 bytes n.0 fits n.1 in
-    let is_value : Value × List ℕ → Type 0 = λ y. TakesValue kinds.Long bytes y.0 y.1 in
-    subst is_value (ok-same _ x n.2) (record {
-      took = rw (of_z-to_z w64 n.0.0 took.1) took.0;
-      fits = signed64 n.0.0
-          took.1;
-      same = refl;
-    })
+    of_number kinds.Long w64 (2 ^ 64) wide64 (λ n. values.Long (cast_signed w64 n)) bytes x fits read
+    (λ n below. (ap (to_le_bytes w64) (of_z-to_z w64 n below), signed64 n below)) (λ n. refl)
 value_takes kinds.Bool bytes x fits read =
     let b = bind-ok (bool_at bytes) (λ b. Ok (values.Bool b.0, b.1)) x read in
     let is_value : Value × List ℕ → Type 0 = λ y. TakesValue kinds.Bool bytes y.0 y.1 in
     subst is_value (ok-same _ x b.2) (record { took = bool_takes bytes b.0 fits b.1; fits = tt; same = refl })
 value_takes kinds.Str bytes x fits read =
-    let text = bind-ok (text_at bytes) (λ text. Ok (values.Str text.0, text.1)) x read in
-    let took = text_takes bytes text.0 fits text.1 in
-    let is_value : Value × List ℕ → Type 0 = λ y. TakesValue kinds.Str bytes y.0 y.1 in
-    subst is_value (ok-same _ x text.2) (record { took = took.0; fits = took.1; same = refl })
+    of_text kinds.Str values.Str bytes x fits read (λ text is. (refl, is)) (λ text. refl)
 value_takes kinds.Raw bytes x fits read =
-    let text = bind-ok (text_at bytes) (λ text. Ok (values.Raw text.0, text.1)) x read in
-    let took = text_takes bytes text.0 fits text.1 in
-    let is_value : Value × List ℕ → Type 0 = λ y. TakesValue kinds.Raw bytes y.0 y.1 in
-    subst is_value (ok-same _ x text.2) (record { took = took.0; fits = took.1; same = refl })
+    of_text kinds.Raw values.Raw bytes x fits read (λ text is. (refl, is)) (λ text. refl)
 value_takes kinds.Bits32 bytes x fits read =
-    let n = bind-ok (number_at w32 bytes) (λ n. Ok (values.Bits32 n.0, n.1)) x read in
-    let took = number_takes w32 (2 ^ 32) wide32 bytes n.0 fits n.1 in
-    let is_value : Value × List ℕ → Type 0 = λ y. TakesValue kinds.Bits32 bytes y.0 y.1 in
-    subst is_value (ok-same _ x n.2) (record { took = took.0; fits = took.1; same = refl })
+    of_number kinds.Bits32 w32 (2 ^ 32) wide32 values.Bits32 bytes x fits read (λ n below. (refl, below)) (λ n. refl)
 
 -- the number of a kind
 abbrev pub number_of : Kind → ℕ

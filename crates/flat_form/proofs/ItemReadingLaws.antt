@@ -209,6 +209,38 @@ leaf_again Missing rest is = refl
 leaf_again (One value) rest is = rw (value_again value rest is.1) refl
 leaf_again (Many all) rest is = rw (values_again all rest is.0.0 is.1) refl
 
+-- an id and a number after it that were read, and the slice that is made of them
+record TakesTwo (width : Width) (limit : ℕ) (make : ℕ → ℕ → Slice) (bytes : List ℕ) (slice : Slice) (rest : List ℕ) :
+    Type 0 where
+  id : ℕ
+  number : ℕ
+  same : slice ≡ make id number
+  took : Takes bytes (to_le_bytes w32 id ++ to_le_bytes width number) rest
+  id_fits : id < 2 ^ 32
+  fits : number < limit
+
+-- a slice that is made of an id and a number is read with both
+two_take : (width : Width) (limit : ℕ) (wide : IsWide width limit) (make : ℕ → ℕ → Slice) (bytes : List ℕ)
+    (x : Slice × List ℕ)
+    → IsBytes bytes
+    → (item_uint_at w32 bytes >>= λ id. item_uint_at width id.1 >>= λ n. Ok (make id.0 n.0, n.1)) ≡ Ok x
+    → TakesTwo width limit make bytes x.0 x.1
+two_take width limit wide make bytes x fits read =
+    let id = bind-ok (item_uint_at w32 bytes) (λ id. item_uint_at width id.1 >>= λ n. Ok (make id.0 n.0, n.1)) x read in
+    let number = bind-ok (item_uint_at width id.0.1) (λ n. Ok (make id.0.0 n.0, n.1)) x id.2 in
+    let first = uint_takes w32 (2 ^ 32) wide32 bytes id.0 fits id.1 in
+    let second = uint_takes width limit wide id.0.1 number.0 first.0.fits number.1 in
+    let is_read : Slice × List ℕ → Type 0 = λ y. TakesTwo width limit make bytes y.0 y.1 in
+    subst is_read (ok-same (make id.0.0 number.0.0, number.0.1) x number.2) (record {
+      id = id.0.0;
+      number = number.0.0;
+      same = refl;
+      took = Takes-then bytes (to_le_bytes w32 id.0.0) id.0.1 (to_le_bytes width number.0.0) number.0.1 first.0
+          second.0;
+      id_fits = first.1;
+      fits = second.1;
+    })
+
 -- a slice that was read is spelled so
 slice_takes : (bytes : List ℕ) (x : Slice × List ℕ)
     → IsBytes bytes
@@ -218,37 +250,18 @@ unfolding slice_at
 slice_takes [] x fits read = absurd cc
 slice_takes (tag ∷ bytes) x fits read =
     let rest : IsBytes bytes = IsBytes-rest tag bytes fits in
-    let is_read : Slice × List ℕ → Type 0 = λ y. Takes (tag ∷ bytes) (spelled_slice y.0) y.1 × IsSliceInRange y.0 in
     elim (choice-side (tag == 1) _ _ (Ok x) read) [
       | inl this ↦
-          let id = bind-ok (item_uint_at w32 bytes) (λ id. item_uint_at w32 id.1 >>= λ value. Ok
-          (Plain id.0 (cast_signed w32 value.0), value.1)) x this.1 in
-          let value = bind-ok (item_uint_at w32 id.0.1)
-          (λ value. Ok (Plain id.0.0 (cast_signed w32 value.0), value.1)) x id.2 in
-          let first = uint_takes w32 (2 ^ 32) wide32 bytes id.0 rest id.1 in
-          let second = uint_takes w32 (2 ^ 32) wide32 id.0.1 value.0 first.0.fits value.1 in
-          let spelled : Takes id.0.1 (to_le_bytes w32 (cast_unsigned w32 (cast_signed w32 value.0.0))) value.0.1 =
-          rw (of_z-to_z w32 value.0.0 second.1) second.0 in
-          subst is_read (ok-same (Plain id.0.0 (cast_signed w32 value.0.0), value.0.1) x value.2) (
-            tagged tag 1 bytes _ value.0.1 this.0 (Takes-then bytes (to_le_bytes w32 id.0.0) id.0.1
-                (to_le_bytes w32 (cast_unsigned w32 (cast_signed w32 value.0.0))) value.0.1 first.0 spelled),
-            (first.1, signed32 value.0.0 second.1),
-          )
+          let two = two_take w32 (2 ^ 32) wide32 (λ id n. Plain id (cast_signed w32 n)) bytes x rest this.1 in
+          let spelled : Takes bytes (to_le_bytes w32 two.id ++ to_le_bytes w32 (cast_unsigned w32
+          (cast_signed w32 two.number))) x.1 = rw (of_z-to_z w32 two.number two.fits) two.took in
+          rw two.same (tagged tag 1 bytes _ x.1 this.0 spelled, (two.id_fits, signed32 two.number two.fits))
       | inr other ↦ elim (choice-side (tag == 2) _ _ (Ok x) other.1) [
         | inl this ↦
-            let id = bind-ok (item_uint_at w32 bytes) (λ id. item_uint_at w64 id.1 >>= λ group. Ok
-            (Group id.0 (cast_signed w64 group.0), group.1)) x this.1 in
-            let group = bind-ok (item_uint_at w64 id.0.1)
-            (λ group. Ok (Group id.0.0 (cast_signed w64 group.0), group.1)) x id.2 in
-            let first = uint_takes w32 (2 ^ 32) wide32 bytes id.0 rest id.1 in
-            let second = uint_takes w64 (2 ^ 64) wide64 id.0.1 group.0 first.0.fits group.1 in
-            let spelled : Takes id.0.1 (to_le_bytes w64 (cast_unsigned w64 (cast_signed w64 group.0.0))) group.0.1 =
-            rw (of_z-to_z w64 group.0.0 second.1) second.0 in
-            subst is_read (ok-same (Group id.0.0 (cast_signed w64 group.0.0), group.0.1) x group.2) (
-              tagged tag 2 bytes _ group.0.1 this.0 (Takes-then bytes (to_le_bytes w32 id.0.0) id.0.1
-                  (to_le_bytes w64 (cast_unsigned w64 (cast_signed w64 group.0.0))) group.0.1 first.0 spelled),
-              (first.1, signed64 group.0.0 second.1),
-            )
+            let two = two_take w64 (2 ^ 64) wide64 (λ id n. Group id (cast_signed w64 n)) bytes x rest this.1 in
+            let spelled : Takes bytes (to_le_bytes w32 two.id ++ to_le_bytes w64 (cast_unsigned w64
+            (cast_signed w64 two.number))) x.1 = rw (of_z-to_z w64 two.number two.fits) two.took in
+            rw two.same (tagged tag 2 bytes _ x.1 this.0 spelled, (two.id_fits, signed64 two.number two.fits))
         | inr never ↦ let bad = never.1 in absurd cc
       ]
     ]
@@ -261,15 +274,13 @@ unfolding slice_at
 slice_again (Plain id value) rest is =
     rw (
       uint_again w32 (2 ^ 32) wide32 id (to_le_bytes w32 (cast_unsigned w32 value) ++ rest) is.0,
-      uint_again w32
-          (2 ^ 32) wide32 (cast_unsigned w32 value) rest (unsigned32 value is.1),
+      uint_again w32 (2 ^ 32) wide32 (cast_unsigned w32 value) rest (unsigned32 value is.1),
       to_z-of_z w32 value is.1,
     ) refl
 slice_again (Group id group) rest is =
     rw (
       uint_again w32 (2 ^ 32) wide32 id (to_le_bytes w64 (cast_unsigned w64 group) ++ rest) is.0,
-      uint_again w64
-          (2 ^ 64) wide64 (cast_unsigned w64 group) rest (unsigned64 group is.1),
+      uint_again w64 (2 ^ 64) wide64 (cast_unsigned w64 group) rest (unsigned64 group is.1),
       to_z-of_z w64 group is.1,
     ) refl
 
