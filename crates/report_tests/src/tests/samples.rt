@@ -1,5 +1,5 @@
-//! The bytes of reports: of sessions that were worked by hand, and two that protoc 3.21.12 wrote. `tools/checks` has protoc
-//! decode those that have a text in `proto/reports`, and compares.
+//! The bytes of reports: of sessions that were worked by hand, and two that protoc 3.21.12 wrote. `tools/checks` has
+//! protoc decode those that have a text in `proto/reports`, and compares.
 
 /// Counts and durations by their keys.
 pub const ORDINARY_USE: &[u8] = b"\

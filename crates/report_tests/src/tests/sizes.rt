@@ -49,8 +49,8 @@ fn size_of(alloc: Global, tree: &ReportTree) -> Result<usize, AllocError> {
     Ok(bytes_of(alloc, tree)?.map_or(0, |bytes| bytes.len()))
 }
 
-// Without a row there are 22 bytes. A row has a bucket of 8 bytes, leaves of 6 and 22, a slice of 6, and 2 of its own; three
-// lengths around them take two bytes more each.
+// Without a row there are 22 bytes. A row has a bucket of 8 bytes, leaves of 6 and 22, a slice of 6, and 2 of its own;
+// three lengths around them take two bytes more each.
 #[test]
 fn writes_16384_rows(rt: HostRuntime) -> Result<(), Fail> {
     let alloc = rt.alloc();
