@@ -35,14 +35,14 @@ struct Place {
 
 impl Place {
     // Whether an entry may stand here.
-    fn is_in_range(self) -> bool
+    fn fits_limits(self) -> bool
         ensures { result ≡ is_in_range self }
     {
         1 <= self.field && self.field <= MAX_PART && self.index <= MAX_PART && self.sub <= MAX_PART
     }
 
     // Whether the place is above another: by field, then by index, then by sub.
-    fn is_above(self, below: Place) -> bool
+    fn stands_above(self, below: Place) -> bool
         ensures { result ≡ is_above self below }
     {
         below.field < self.field
@@ -56,7 +56,7 @@ impl Place {
     {
         match before.last() {
             None => true,
-            Some(last) => self.is_above(last.place()),
+            Some(last) => self.stands_above(last.place()),
         }
     }
 
@@ -209,7 +209,7 @@ fn entry_of<'a>(
         index: *index,
         sub: *sub,
     };
-    if !place.is_in_range() {
+    if !place.fits_limits() {
         return Err(AtomFault::Bad(BAD_PLACE));
     }
     if !place.is_after_last(before) {
