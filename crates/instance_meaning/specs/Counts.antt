@@ -1,13 +1,13 @@
 -- What happens to a metric that counts, by its history, and the rows that its keys give.
 use Rattle.std.specs.Prelude.{ℕ, Bool, true, false, List, [], ◌∷◌, ◌++◌, map, length, if◌then◌else◌}
 use Rattle.std.specs.List.{flat_map}
-use Rattle.sd_base.specs.Given.{given}
+use Rattle.sd_base.specs.Outputs.{outputs}
 use Rattle.atom_record.specs.declared.atom.Atom.{Atom}
 use Rattle.atom_record.specs.declared.log.LogFrame.TheVariants.{AtomAt}
 use Rattle.atom_record.specs.declared.value.MetricKey.{MetricKey}
 use Rattle.bucket_meaning.specs.Ends.{Moment, ends_at}
 use Rattle.bucket_meaning.specs.Marks.{Mark, Ends, Came, Asked}
-use Rattle.bucket_meaning.specs.Kept.{Taken, counted}
+use Rattle.bucket_meaning.specs.Kept.{Taken, count_in_u64}
 use Rattle.bucket_meaning.specs.Rows.{Kind, report}
 use Rattle.instance_meaning.specs.Linked.{Metric}
 use Rattle.instance_meaning.specs.Keys.{picked_key, same_key}
@@ -25,7 +25,7 @@ abbrev pub counting : Kind (MetricKey × ℕ) MetricKey ℕ (Row ℕ)
 counting = record {
   same = same_key;
   arrivals = λ came end. came;
-  row = λ start end key ones. record { key = key; start = start; end = end; value = counted (length ones) } ∷ [];
+  row = λ start end key ones. record { key = key; start = start; end = end; value = count_in_u64 (length ones) } ∷ [];
   weight = λ row. 1;
 }
 
@@ -67,7 +67,7 @@ marks_at base metric before step =
 
 -- all that happened to a metric
 abbrev pub marks_of : ℕ → Metric → List Step → List (Mark (MetricKey × ℕ))
-marks_of base metric steps = given (marks_at base metric) steps
+marks_of base metric steps = outputs (marks_at base metric) steps
 
 -- what a report after these steps shows of a metric
 abbrev pub shown_of : ℕ → Metric → List Step → Bool → ℕ → Taken (Row ℕ)

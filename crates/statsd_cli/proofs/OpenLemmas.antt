@@ -5,7 +5,7 @@ use Rattle.std.specs.List.{flat_map}
 use Rattle.atom_record.specs.declared.value.MetricKey.{MetricKey}
 use Rattle.bucket_meaning.specs.Marks.{Part}
 use Rattle.bucket_meaning.specs.Guard.{is_among, firsts, admitted, dropped, of_key}
-use Rattle.bucket_meaning.specs.Kept.{counted}
+use Rattle.bucket_meaning.specs.Kept.{count_in_u64}
 use Rattle.bucket_meaning.specs.Rows.{keys_of, drops, row_of, rows_of}
 use Rattle.instance_meaning.specs.Counts.{counting}
 use Rattle.instance_meaning.specs.Keys.{same_key}
@@ -58,9 +58,9 @@ ones (suc n) = ap suc (ones n)
 
 -- a part in which something came has one row, with the number of what came
 pub one_row : (start end n : ℕ) → rows_of counting 800 (record { start = start; end = end; came = arrivals (suc n) })
-    ≡ record { key = no_key; start = start; end = end; value = counted (suc n) } ∷ []
+    ≡ record { key = no_key; start = start; end = end; value = count_in_u64 (suc n) } ∷ []
 one_row start end n =
     let part : Part (MetricKey × ℕ) = record { start = start; end = end; came = arrivals (suc n) } in
     ap (λ all. flat_map (row_of counting 800 part) (admitted same_key 800 all)) (keys_are (suc n))
     ∙ ap (flat_map (row_of counting 800 part)) (admitted_one n)
-    ∙ ap (λ count. record { key = no_key; start = start; end = end; value = counted count } ∷ []) (ones (suc n))
+    ∙ ap (λ count. record { key = no_key; start = start; end = end; value = count_in_u64 count } ∷ []) (ones (suc n))
