@@ -30,7 +30,7 @@ module _ {A B : Type 0} (gives : List A → A → List B) where
 
 module _ {A B C : Type 0} (calls : List A → A → List B) (marks : List B → B → List C) (gives : List A → A → List C)
     (one : (before : List A) (x : A)
-        → outputs_after marks (outputs calls before) (calls before x) ≡ gives before x) where
+    → outputs_after marks (outputs calls before) (calls before x) ≡ gives before x) where
   -- What all steps give through their calls is what they give themselves, where it is so of each single step.
   through : (before xs : List A)
       → outputs_after marks (outputs calls before) (outputs_after calls before xs) ≡ outputs_after gives before xs
