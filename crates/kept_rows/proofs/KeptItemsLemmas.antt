@@ -1,5 +1,5 @@
 -- For the build of kept rows: they are saved as a pair of numbers and a list.
-use Rattle.std.proofs.Common.{◌≡◌, ℕ, List, All, Err, refl, ap, subst, ◌∙◌}
+use Rattle.std.proofs.Common.{◌≡◌, ℕ, List, All, Err, refl, ap, subst}
 use Rattle.flat_form.specs.declared.item.Item.{Item}
 use Rattle.flat_form.specs.declared.flat_error.FlatError.{FlatError}
 use Rattle.flat_form.specs.declared.flat_error.FlatError.TheVariants.{Bad}

@@ -1,10 +1,10 @@
 -- The kept rows after some rows more.
-use Rattle.std.proofs.Common.{◌≡◌, ℕ, ◌+◌, ◌-◌, ◌^◌, ◌<◌, ◌≤◌, min, Bool, true, false, if◌then◌else◌, List, [], ◌∷◌, ◌++◌, length, nat_le, refl, sym, ap, subst, ◌∙◌, arith, append_assoc, ⊎_elim}
+use Rattle.std.proofs.Common.{◌≡◌, ℕ, ◌+◌, ◌-◌, ◌^◌, ◌<◌, ◌≤◌, min, if◌then◌else◌, List, [], ◌∷◌, ◌++◌, length, refl, sym, ap, subst, ◌∙◌, arith, ⊎_elim}
 use Rattle.std.specs.List.{sum_by}
 use Rattle.std.proofs.lemmas.Bool.{le-leb, lt-leb, cases_lt}
 use Rattle.std.proofs.lemmas.List.{length-append}
 use Rattle.std.proofs.lemmas.List.Sums.{sum_by-cons, sum_by_push}
-use Rattle.bucket_meaning.specs.Kept.{kept, counted, most_weight}
+use Rattle.bucket_meaning.specs.Kept.{kept, count_in_u64, most_weight}
 use Rattle.kept_rows.specs.KeptRows.{Keeping, nothing_kept, IsKept, AddsRows}
 
 module _ {R : Type 0} (weight : R → ℕ) where
@@ -79,39 +79,44 @@ module _ {R : Type 0} (weight : R → ℕ) where
       is.rows ∙ kept_whole most_weight all (subst (λ rows. length all ≤ length rows) is.rows long)
 
   -- a row that fits is kept
-  pub keeps : (it : Keeping R) (row : R) → it.others ≡ 0 → it.used + weight row ≤ most_weight
-      → AddsRows weight it (record it { rows = it.rows ++ row ∷ []; used = it.used + weight row }) (row ∷ [])
-  keeps it row none fits all is =
+  pub keeps : (it : Keeping R) (row : R) (used : ℕ) → it.others ≡ 0 → it.used + weight row ≤ most_weight
+      → used ≡ it.used + weight row
+      → AddsRows weight it (record { rows = it.rows ++ row ∷ []; used = used; others = it.others }) (row ∷ [])
+  keeps it row used none fits used_is all is =
       let whole : it.rows ≡ all = all_kept all it is none in
-      let used : sum_by weight all ≡ it.used = ap (sum_by weight) (sym whole) ∙ sym is.used in
+      let weighs : sum_by weight all ≡ it.used = ap (sum_by weight) (sym whole) ∙ sym is.used in
       let sum = sum_by_push weight all row in
       let here = sum_by_push weight it.rows row in
       let size = length-append all (row ∷ []) in
       let kept_size = length-append it.rows (row ∷ []) in
       record {
-        rows = ap (λ l. l ++ row ∷ []) whole ∙ sym (kept_all most_weight (all ++ row ∷ []) (omega (arith, sum, used, fits)));
-        used = omega (arith, here, is.used);
+        rows = ap (λ l. l ++ row ∷ []) whole
+            ∙ sym (kept_all most_weight (all ++ row ∷ []) (omega (arith, sum, weighs, fits)));
+        used = omega (arith, here, used_is, is.used);
         others = omega (arith, is.others, none, size, kept_size);
       }
 
   -- the first row that doesn't fit is counted
-  pub fills : (it : Keeping R) (row : R) → it.others ≡ 0 → it.used ≤ most_weight → most_weight < it.used + weight row
-      → AddsRows weight it (record it { others = min (it.others + 1) (2 ^ 64 - 1) }) (row ∷ [])
-  fills it row none bounded past all is =
+  pub fills : (it : Keeping R) (row : R) (others : ℕ) → it.others ≡ 0 → it.used ≤ most_weight
+      → most_weight < it.used + weight row → others ≡ min (it.others + 1) (2 ^ 64 - 1)
+      → AddsRows weight it (record { rows = it.rows; used = it.used; others = others }) (row ∷ [])
+  fills it row others none bounded past others_are all is =
       let whole : it.rows ≡ all = all_kept all it is none in
-      let used : sum_by weight all ≡ it.used = ap (sum_by weight) (sym whole) ∙ sym is.used in
+      let weighs : sum_by weight all ≡ it.used = ap (sum_by weight) (sym whole) ∙ sym is.used in
       let same : length it.rows ≡ length all = ap length whole in
       let size = length-append all (row ∷ []) in
       record {
-        rows = whole ∙ sym (kept_stop most_weight all [] row (omega (arith, used, bounded)) (omega (arith, used, past)));
+        rows = whole ∙ sym
+            (kept_stop most_weight all [] row (omega (arith, weighs, bounded)) (omega (arith, weighs, past)));
         used = is.used;
-        others = omega (arith, none, same, size);
+        others = omega (arith, others_are, none, same, size);
       }
 
   -- once a row wasn't kept, later ones are counted alone, many at a time
-  pub passes : (it : Keeping R) (more : List R) (number : ℕ) → 0 < it.others → counted (length more) ≡ number
-      → AddsRows weight it (record it { others = min (it.others + number) (2 ^ 64 - 1) }) more
-  passes it more number some number_is all is =
+  pub passes : (it : Keeping R) (more : List R) (number others : ℕ) → 0 < it.others
+      → count_in_u64 (length more) ≡ number → others ≡ min (it.others + number) (2 ^ 64 - 1)
+      → AddsRows weight it (record { rows = it.rows; used = it.used; others = others }) more
+  passes it more number others some number_is others_are all is =
       let less : length it.rows < length all = omega (arith, is.others, some) in
       let short : length (kept weight most_weight all) < length all =
       subst (λ rows. length rows < length all) is.rows less in
@@ -119,5 +124,5 @@ module _ {R : Type 0} (weight : R → ℕ) where
       record {
         rows = is.rows ∙ sym (kept_stays most_weight all more short);
         used = is.used;
-        others = omega (arith, is.others, less, size, number_is);
+        others = omega (arith, is.others, others_are, less, size, number_is);
       }

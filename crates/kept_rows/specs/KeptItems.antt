@@ -1,6 +1,5 @@
 -- The items of kept rows, and which kept rows there are.
 use Rattle.std.specs.Prelude.{ℕ, ◌≤◌, List, ◌∷◌, length, All}
-use Rattle.std.specs.List.{flat_map}
 use Rattle.std.proofs.Common.{arith}
 use Rattle.flat_form.specs.declared.item.Item.{Item}
 use Rattle.flat_form.specs.declared.item.Item.TheVariants.{Num}

@@ -1,7 +1,7 @@
 -- What is kept of the rows that a metric closed since its last report.
 use Rattle.std.specs.Prelude.{◌≡◌, ℕ, ◌+◌, ◌-◌, ◌≤◌, List, [], ◌++◌, length}
 use Rattle.std.specs.List.{sum_by}
-use Rattle.bucket_meaning.specs.Kept.{kept, counted, most_weight}
+use Rattle.bucket_meaning.specs.Kept.{kept, count_in_u64, most_weight}
 
 -- What a contract sees: the kept rows, what they weigh in all, and how many other rows there were.
 pub record Keeping (R : Type 0) : Type 0 where
@@ -28,7 +28,7 @@ module _ {R : Type 0} (weight : R → ℕ) where
   pub record IsKept (all : List R) (it : Keeping R) : Type 0 where
     pub rows : it.rows ≡ kept weight most_weight all
     pub used : it.used ≡ sum_by weight it.rows
-    pub others : it.others ≡ counted (length all - length it.rows)
+    pub others : it.others ≡ count_in_u64 (length all - length it.rows)
 
   -- whatever rows the old one was of, the new one is of those and these
   abbrev pub AddsRows : Keeping R → Keeping R → List R → Type 0

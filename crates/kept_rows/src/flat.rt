@@ -34,7 +34,11 @@ impl<R: Flat + Drop> Flat for KeptRows<R> {
         self.rows().flatten(alloc, out)
     }
 
-    fn build(alloc: Global, items: &Items, place: usize) -> Result<(KeptRows<R>, usize), FlatError> {
+    fn build(
+        alloc: Global,
+        items: &Items,
+        place: usize,
+    ) -> Result<(KeptRows<R>, usize), FlatError> {
         let (form, next) = <((u64, u64), Seq<R>)>::build(alloc, items, place)?;
         let ((used, others), rows) = form;
         let Some(kept) = KeptRows::restore(alloc, rows, used, others) else {

@@ -1,6 +1,6 @@
 //! The kept rows of one metric.
 ghost use Rattle.std.specs.Prelude.{◌≡◌, ◌+◌, ◌<◌, ◌≤◌, ◌↔◌, ℕ, List, [], ◌∷◌, length, OnOk, OnErr, IfSome, IsSome, IsTrue};
-ghost use Rattle.bucket_meaning.specs.Kept.{counted, most_weight};
+ghost use Rattle.bucket_meaning.specs.Kept.{count_in_u64, most_weight};
 ghost use Rattle.kept_rows.specs.KeptRows.{nothing_kept, IsKept, AddsRows, HasRoom, IsWithinWeight};
 
 use sd_base::Seq;
@@ -91,7 +91,7 @@ impl<R: Drop> KeptRows<R> {
     /// Counts so many further rows, which can't be kept.
     pub fn pass(&mut self, number: u64)
         requires full { 0 < self.old.others }
-        ensures { (weigh : R → ℕ) (more : List R) → counted (length more) ≡ number
+        ensures { (weigh : R → ℕ) (more : List R) → count_in_u64 (length more) ≡ number
             → AddsRows weigh self.old self.new more }
     {
         self.others = self.others.saturating_add(number);
