@@ -10,7 +10,7 @@ use Rattle.atom_record.specs.declared.log.LogFrame.{LogFrame}
 use Rattle.atom_record.specs.declared.log.LogFrame.TheVariants.{Tick, AtomAt, Pull}
 use Rattle.atom_record.specs.declared.value.MetricKey.{MetricKey}
 use Rattle.bucket_meaning.specs.Ends.{Moment, crosses, ends_from, full_ends, ends_at}
-use Rattle.bucket_meaning.specs.Marks.{Ends, Came, Asked, Part, Books, after, books_from, books_of}
+use Rattle.bucket_meaning.specs.Marks.{Ends, Came, Asked, no_edges, boundary_marks, Part, Books, after, books_from, books_of}
 use Rattle.bucket_meaning.specs.Kept.{count_in_u64, taken_of}
 use Rattle.bucket_meaning.specs.Rows.{drops, closed_rows}
 use Rattle.bucket_meaning.proofs.MarksLemmas.{books-append}
@@ -159,7 +159,7 @@ books_logged : (config : CountConfig) (base : ℕ) (steps : List Step) (frame : 
 books_logged config base steps frame truths early =
     books_at-push config base steps (step_of frame truths)
     ∙ ap (λ ends. books_from dropping (books_at config base steps)
-    (map (λ end. Ends end) ends ++ (arrivals_at (metric_of config) (step_of frame truths) ++ [])))
+    (boundary_marks no_edges ends ++ (arrivals_at (metric_of config) (step_of frame truths) ++ [])))
     (none_crossed base steps frame truths early)
 
 same_open : (it : Instance) (books books' : Books (MetricKey × ℕ)) → OpenStandsFor it books → books' ≡ books

@@ -6,7 +6,7 @@ use Rattle.atom_record.specs.declared.value.MetricKey.{MetricKey}
 use Rattle.bucket_meaning.specs.Marks.{Part}
 use Rattle.bucket_meaning.specs.Guard.{is_among, firsts, admitted, dropped, of_key}
 use Rattle.bucket_meaning.specs.Kept.{count_in_u64}
-use Rattle.bucket_meaning.specs.Rows.{keys_of, drops, row_of, rows_of}
+use Rattle.bucket_meaning.specs.Rows.{drops, row_of, rows_of}
 use Rattle.instance_meaning.specs.Counts.{counting}
 use Rattle.instance_meaning.specs.Keys.{same_key}
 use Rattle.statsd_cli.specs.Instance.{no_key}
@@ -35,7 +35,7 @@ none_dropped zero = refl
 none_dropped (suc n) = ap (λ first. count_by (λ key. not (is_among same_key key first)) (keys (suc n))) (admitted_one n)
     ∙ none_other (suc n)
 
-keys_are : (n : ℕ) → keys_of counting 800 (arrivals n) ≡ keys n
+keys_are : (n : ℕ) → counting.keys (arrivals n) ≡ keys n
 keys_are zero = refl
 keys_are (suc n) = ap (λ more. no_key ∷ more) (keys_are n)
 
@@ -46,10 +46,10 @@ one_more (suc n) = ap (λ more. (no_key, 1) ∷ more) (one_more n)
 -- nothing is dropped when one more comes
 pub drops_none : (n : ℕ) → drops counting 800 (arrivals n) (no_key, 1) ≡ 0
 drops_none n =
-    ap (λ came. dropped same_key 800 (keys_of counting 800 came) - dropped same_key 800
-    (keys_of counting 800 (arrivals n))) (one_more n)
-    ∙ ap (λ all. dropped same_key 800 all - dropped same_key 800 (keys_of counting 800 (arrivals n))) (keys_are (suc n))
-    ∙ ap (λ count. count - dropped same_key 800 (keys_of counting 800 (arrivals n))) (none_dropped (suc n))
+    ap (λ came. dropped same_key 800 (counting.keys came) - dropped same_key 800
+    (counting.keys (arrivals n))) (one_more n)
+    ∙ ap (λ all. dropped same_key 800 all - dropped same_key 800 (counting.keys (arrivals n))) (keys_are (suc n))
+    ∙ ap (λ count. count - dropped same_key 800 (counting.keys (arrivals n))) (none_dropped (suc n))
     ∙ omega arith
 
 ones : (n : ℕ) → length (of_key same_key no_key (arrivals n)) ≡ n
