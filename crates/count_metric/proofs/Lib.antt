@@ -1,0 +1,3 @@
+pub mod CollectingLemmas
+pub mod TallyLemmas
+pub mod CountLemmas
