@@ -82,12 +82,10 @@ pub fn run(
     lane: &mut Lane<CountProducer>,
     steps: &[Step],
 ) -> Result<usize, AllocError> {
-    let mut done = 0;
-    for step in steps {
+    for (place, step) in steps.iter().enumerate() {
         if !goes(alloc, lane, step)? {
-            return Ok(done);
+            return Ok(place);
         }
-        done += 1;
     }
-    Ok(done)
+    Ok(steps.len())
 }
