@@ -1,5 +1,5 @@
 -- From books to calls, for every kind of producer: each call owes only what it makes of the books.
-use Rattle.std.proofs.Common.{List, [], ◌∷◌, ◌++◌, sym, subst}
+use Rattle.std.proofs.Common.{List, sym, subst}
 use Rattle.bucket_meaning.specs.Marks.{Books}
 use Rattle.bucket_meaning.specs.Meaning.{marks_on, books_by}
 use Rattle.bucket_meaning.proofs.MeaningLemmas.{books_by-push}
@@ -17,9 +17,9 @@ module _ {P Params Event After X K C R : Type 0} (demands : Params → Demands E
   -- where an object holds the books after the marks of a call, it stands for the calls with this one
   pub moves : (old new : P) (call : Call Event After)
       → ((params : Params) (calls : List (Call Event After)) (books : Books X) → HasBooks old params books
-        → IsAdmitted (demands params) calls call
-        → HasBooks new params (marks_on (calls_mean demands collecting) params books
-        (call_marks demands collecting params calls call)))
+      → IsAdmitted (demands params) calls call
+      → HasBooks new params (marks_on (calls_mean demands collecting) params books
+      (call_marks demands collecting params calls call)))
       → Moves Stands demands old new call
   moves old new call step params calls has may =
       subst (HasBooks new params) (sym (books_by-push (calls_mean demands collecting) params calls call))

@@ -1,5 +1,5 @@
 -- A producer of counts holds its books through every call.
-use Rattle.std.proofs.Common.{◌≡◌, ℕ, zero, suc, ◌+◌, ◌*◌, ◌^◌, ◌<◌, ◌≤◌, min, List, [], ◌∷◌, ◌++◌, map, length, take, refl, sym, ap, subst, ◌∙◌, arith, append_assoc, append-nil}
+use Rattle.std.proofs.Common.{◌≡◌, ℕ, zero, suc, ◌+◌, ◌*◌, ◌^◌, ◌<◌, List, [], ◌∷◌, ◌++◌, map, refl, sym, ap, subst, ◌∙◌, arith, append_assoc, append-nil}
 use Rattle.std.specs.List.{flat_map}
 use Rattle.std.proofs.lemmas.List.{map-append}
 use Rattle.std.proofs.lemmas.Grind.{flat_map-append}
@@ -8,19 +8,16 @@ use Rattle.atom_record.specs.declared.value.MetricKey.{MetricKey}
 use Rattle.bucket_clock.specs.declared.crossings.Crossings.{Crossings}
 use Rattle.bucket_clock.specs.Clock.{last_end}
 use Rattle.bucket_meaning.specs.Ends.{ends_from}
-use Rattle.bucket_meaning.specs.Marks.{Mark, Ends, Came, Asked, Part, Books, after, no_edges, boundary_marks, books_from}
+use Rattle.bucket_meaning.specs.Marks.{Mark, Ends, Part, Books, after, no_edges, boundary_marks, books_from}
 use Rattle.bucket_meaning.specs.Guard.{admitted, arrival_key}
 use Rattle.bucket_meaning.specs.Rows.{drops, row_of, rows_of, closed_rows}
-use Rattle.bucket_meaning.specs.Meaning.{mark_on, marks_on}
 use Rattle.dim_table.specs.Table.{Table}
 use Rattle.kept_rows.specs.KeptRows.{Keeping, IsKept, AddsRows}
 use Rattle.count_metric.specs.declared.row.Row.{Row}
 use Rattle.count_metric.specs.declared.count.CountProducer.{CountProducer}
-use Rattle.count_metric.specs.Collecting.{calls_mean, call_marks}
 use Rattle.call_rules.specs.Calls.{Got, Learned, Crossed, CutAt, Took}
 use Rattle.call_rules.specs.Moves.{Moves}
 use Rattle.call_rules.proofs.RuleLemmas.{answer_fits}
-use Rattle.kept_rows.proofs.KeptRowsLemmas.{none_yet}
 use Rattle.count_metric.proofs.CollectingLemmas.{moves}
 use Rattle.count_metric.specs.Counting.{is_same_key, row_weight, count_kind, CountParams, count_demands, count_collecting}
 use Rattle.count_metric.specs.CountStands.{tally_of, tally, tally_row, IsTally, TakesKey, HasBooks, CountStandsFor, ClosesPart}

@@ -1,5 +1,5 @@
 -- The tally of a part, one more arrival at a time.
-use Rattle.std.proofs.Common.{◌≡◌, ℕ, zero, suc, ◌+◌, ◌-◌, ◌^◌, ◌<◌, ◌≤◌, min, Bool, true, false, not, if◌then◌else◌, List, [], ◌∷◌, ◌++◌, map, length, slice_get, Some, None, Contains, refl, sym, ap, subst, ◌∙◌, arith, ⊎_elim}
+use Rattle.std.proofs.Common.{◌≡◌, ℕ, zero, suc, ◌+◌, ◌-◌, ◌^◌, ◌<◌, ◌≤◌, min, true, false, not, if◌then◌else◌, List, [], ◌∷◌, ◌++◌, map, length, slice_get, Some, refl, sym, ap, subst, ◌∙◌, arith, ⊎_elim}
 use Rattle.std.specs.List.{AllByRecursion, IsDistinct}
 use Rattle.std.specs.Map.{keys_of, values_of}
 use Rattle.std.proofs.lemmas.Bool.{cases_Bool}
@@ -169,7 +169,7 @@ lost_more lost more none = omega (arith, none)
 takes_present : (old : Table MetricKey ℕ) (key : MetricKey) (place : ℕ) (new : Table MetricKey ℕ)
     → slice_get (keys old) place ≡ Some key
     → ((count : ℕ) → slice_get (values_of old.rows) place ≡ Some count
-      → new ≡ with_value_at old place (raised_from count))
+    → new ≡ with_value_at old place (raised_from count))
     → (came : List (MetricKey × ℕ)) (lost : ℕ) → IsTally old came lost
     → IsTally new (came ++ (key, 1) ∷ []) (lost + drops count_kind old.bound came (key, 1))
 takes_present old key place new at raised came lost is =
@@ -204,7 +204,7 @@ takes_present old key place new at raised came lost is =
 takes_new : (old mid : Table MetricKey ℕ) (key : MetricKey) (place : ℕ) (new : Table MetricKey ℕ)
     → IsNew old mid key 0 place
     → ((count : ℕ) → slice_get (values_of mid.rows) place ≡ Some count
-      → new ≡ with_value_at mid place (raised_from count))
+    → new ≡ with_value_at mid place (raised_from count))
     → TakesKey old new key
 takes_new old mid key place new added raised =
     let mid_rows : mid.rows ≡ old.rows ++ (key, 0) ∷ [] = ap (λ (table : Table MetricKey ℕ). table.rows) added.added in
@@ -227,35 +227,35 @@ takes_new old mid key place new added raised =
     record {
       bound = same_bound;
       tally_is = λ came lost is.
-      let bound = old.bound in
-      let arrived = map arrival_key came in
-      let ks = admitted is_same_key bound arrived in
-      let own : keys old ≡ ks = ap keys_of is.rows ∙ keys_of_tally came ks in
-      let absent : is_among is_same_key key ks ≡ false =
-      subst (λ l. is_among is_same_key key l ≡ false) own
-      (not_among is_same_key metric_key_exact (keys old) key added.absent) in
-      let size : length old.rows ≡ length ks = ap length is.rows ∙ length-map ks (tally_of came) in
-      let room : length ks < bound = omega (arith, size, added.room) in
-      let grows : admitted is_same_key bound (arrived ++ key ∷ []) ≡ ks ++ key ∷ [] =
-      admitted_new is_same_key bound arrived key absent room in
-      let none : drops count_kind bound came (key, 1) ≡ 0 =
-      drops_are bound came key 0 (dropped_new is_same_key metric_key_exact bound arrived key absent room ∙ omega arith) in
-      let not_come : of_key is_same_key key came ≡ [] =
-      of_key_none is_same_key key came (not_yet_come is_same_key metric_key_exact bound arrived key room absent) in
-      let first : tally_of (with_key_in came key) key ≡ (key, 1) =
-      entry_own came key ∙ ap (λ ones. (key, raised_from (count_in_u64 (length ones)))) not_come in
-      let one : List MetricKey = key ∷ [] in
-      let rows : new.rows ≡ tally bound (with_key_in came key) =
-      new_rows ∙ ap (λ rows. rows ++ (key, 1) ∷ []) is.rows
-      ∙ ap (λ rows. rows ++ (key, 1) ∷ []) (sym (entries_other came key ks absent))
-      ∙ ap (λ entry. map (tally_of (with_key_in came key)) ks ++ entry ∷ []) (sym first)
-      ∙ sym (map-append (tally_of (with_key_in came key)) ks one)
-      ∙ ap (map (tally_of (with_key_in came key))) (sym grows)
-      ∙ ap (λ l. map (tally_of (with_key_in came key)) (admitted is_same_key bound l)) (sym (keys_push came key)) in
-      record {
-        rows = subst (λ n. new.rows ≡ tally n (with_key_in came key)) (sym same_bound) rows;
-        dropped_are = same_dropped ∙ is.dropped_are ∙ lost_more lost _ none;
-      };
+          let bound = old.bound in
+          let arrived = map arrival_key came in
+          let ks = admitted is_same_key bound arrived in
+          let own : keys old ≡ ks = ap keys_of is.rows ∙ keys_of_tally came ks in
+          let absent : is_among is_same_key key ks ≡ false =
+          subst (λ l. is_among is_same_key key l ≡ false) own
+          (not_among is_same_key metric_key_exact (keys old) key added.absent) in
+          let size : length old.rows ≡ length ks = ap length is.rows ∙ length-map ks (tally_of came) in
+          let room : length ks < bound = omega (arith, size, added.room) in
+          let grows : admitted is_same_key bound (arrived ++ key ∷ []) ≡ ks ++ key ∷ [] =
+          admitted_new is_same_key bound arrived key absent room in
+          let none : drops count_kind bound came (key, 1) ≡ 0 =
+          drops_are bound came key 0 (dropped_new is_same_key metric_key_exact bound arrived key absent room ∙ omega arith) in
+          let not_come : of_key is_same_key key came ≡ [] =
+          of_key_none is_same_key key came (not_yet_come is_same_key metric_key_exact bound arrived key room absent) in
+          let first : tally_of (with_key_in came key) key ≡ (key, 1) =
+          entry_own came key ∙ ap (λ ones. (key, raised_from (count_in_u64 (length ones)))) not_come in
+          let one : List MetricKey = key ∷ [] in
+          let rows : new.rows ≡ tally bound (with_key_in came key) =
+          new_rows ∙ ap (λ rows. rows ++ (key, 1) ∷ []) is.rows
+          ∙ ap (λ rows. rows ++ (key, 1) ∷ []) (sym (entries_other came key ks absent))
+          ∙ ap (λ entry. map (tally_of (with_key_in came key)) ks ++ entry ∷ []) (sym first)
+          ∙ sym (map-append (tally_of (with_key_in came key)) ks one)
+          ∙ ap (map (tally_of (with_key_in came key))) (sym grows)
+          ∙ ap (λ l. map (tally_of (with_key_in came key)) (admitted is_same_key bound l)) (sym (keys_push came key)) in
+          record {
+            rows = subst (λ n. new.rows ≡ tally n (with_key_in came key)) (sym same_bound) rows;
+            dropped_are = same_dropped ∙ is.dropped_are ∙ lost_more lost _ none;
+          };
     }
 
 -- a new key for which there is no room
@@ -265,37 +265,37 @@ takes_none old new key away =
     record {
       bound = same_bound;
       tally_is = λ came lost is.
-      let bound = old.bound in
-      let arrived = map arrival_key came in
-      let ks = admitted is_same_key bound arrived in
-      let own : keys old ≡ ks = ap keys_of is.rows ∙ keys_of_tally came ks in
-      let absent : is_among is_same_key key ks ≡ false =
-      subst (λ l. is_among is_same_key key l ≡ false) own
-      (not_among is_same_key metric_key_exact (keys old) key away.absent) in
-      let size : length old.rows ≡ length ks = ap length is.rows ∙ length-map ks (tally_of came) in
-      let full : bound ≤ length ks = omega (arith, size, away.full) in
-      let stays : admitted is_same_key bound (arrived ++ key ∷ []) ≡ ks = admitted_full is_same_key bound arrived key full in
-      let one : drops count_kind bound came (key, 1) ≡ 1 =
-      drops_are bound came key 1
-      (dropped_same is_same_key bound arrived key stays
-      ∙ ap (λ b. dropped is_same_key bound arrived + (if not b then 1 else 0)) absent) in
-      let rows : new.rows ≡ tally bound (with_key_in came key) =
-      ap (λ (table : Table MetricKey ℕ). table.rows) away.added ∙ is.rows ∙ sym (entries_other came key ks absent)
-      ∙ sym (tally_stays bound came key stays) in
-      let counts : count_in_u64 (count_in_u64 lost + 1) ≡ count_in_u64 (lost + 1) = omega arith in
-      record {
-        rows = subst (λ n. new.rows ≡ tally n (with_key_in came key)) (sym same_bound) rows;
-        dropped_are = ap (λ (table : Table MetricKey ℕ). table.dropped) away.added
-            ∙ ap (λ n. count_in_u64 (n + 1)) is.dropped_are ∙ counts
-            ∙ ap (λ n. count_in_u64 (lost + n)) (sym one);
-      };
+          let bound = old.bound in
+          let arrived = map arrival_key came in
+          let ks = admitted is_same_key bound arrived in
+          let own : keys old ≡ ks = ap keys_of is.rows ∙ keys_of_tally came ks in
+          let absent : is_among is_same_key key ks ≡ false =
+          subst (λ l. is_among is_same_key key l ≡ false) own
+          (not_among is_same_key metric_key_exact (keys old) key away.absent) in
+          let size : length old.rows ≡ length ks = ap length is.rows ∙ length-map ks (tally_of came) in
+          let full : bound ≤ length ks = omega (arith, size, away.full) in
+          let stays : admitted is_same_key bound (arrived ++ key ∷ []) ≡ ks = admitted_full is_same_key bound arrived key full in
+          let one : drops count_kind bound came (key, 1) ≡ 1 =
+          drops_are bound came key 1
+          (dropped_same is_same_key bound arrived key stays
+          ∙ ap (λ b. dropped is_same_key bound arrived + (if not b then 1 else 0)) absent) in
+          let rows : new.rows ≡ tally bound (with_key_in came key) =
+          ap (λ (table : Table MetricKey ℕ). table.rows) away.added ∙ is.rows ∙ sym (entries_other came key ks absent)
+          ∙ sym (tally_stays bound came key stays) in
+          let counts : count_in_u64 (count_in_u64 lost + 1) ≡ count_in_u64 (lost + 1) = omega arith in
+          record {
+            rows = subst (λ n. new.rows ≡ tally n (with_key_in came key)) (sym same_bound) rows;
+            dropped_are = ap (λ (table : Table MetricKey ℕ). table.dropped) away.added
+                ∙ ap (λ n. count_in_u64 (n + 1)) is.dropped_are ∙ counts
+                ∙ ap (λ n. count_in_u64 (lost + n)) (sym one);
+          };
     }
 
 -- a key at a place, whose number was raised
 pub takes_at : (old mid : Table MetricKey ℕ) (key : MetricKey) (place : ℕ) (new : Table MetricKey ℕ)
     → Admits old mid key 0 (At place) → new.bound ≡ mid.bound
     → ((count : ℕ) → slice_get (values_of mid.rows) place ≡ Some count
-      → new ≡ with_value_at mid place (raised_from count))
+    → new ≡ with_value_at mid place (raised_from count))
     → TakesKey old new key
 takes_at old mid key place new admits bound raised = ⊎_elim
     (λ (there : IsThere old mid key place). record {

@@ -2,13 +2,12 @@
 use Rattle.std.specs.Prelude.{◌≡◌, ℕ, ◌+◌, List, [], ◌∷◌, ◌++◌, map, length}
 use Rattle.atom_record.specs.declared.value.MetricKey.{MetricKey}
 use Rattle.dim_table.specs.Table.{Table}
-use Rattle.kept_rows.specs.KeptRows.{Keeping, IsKept}
-use Rattle.bucket_meaning.specs.Marks.{Mark, Ends, Books}
+use Rattle.kept_rows.specs.KeptRows.{IsKept}
+use Rattle.bucket_meaning.specs.Marks.{Ends, Books}
 use Rattle.bucket_meaning.specs.Guard.{admitted, of_key, arrival_key}
 use Rattle.bucket_meaning.specs.Kept.{count_in_u64}
 use Rattle.bucket_meaning.specs.Rows.{drops, closed_rows}
 use Rattle.bucket_meaning.specs.Meaning.{mark_on, books_by}
-use Rattle.call_rules.specs.Calls.{Call}
 use Rattle.count_metric.specs.declared.row.Row.{Row}
 use Rattle.count_metric.specs.declared.count.CountProducer.{CountProducer}
 use Rattle.count_metric.specs.Collecting.{calls_mean}

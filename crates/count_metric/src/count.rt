@@ -19,9 +19,9 @@ use std::alloc::{AllocError, Global};
 /// Counts of the events of one metric, by key.
 #[derive(Drop)]
 pub struct CountProducer {
-    start: u64,
-    table: Guarded<MetricKey, u64>,
-    kept: KeptRows<Row<u64>>,
+    pub(crate) start: u64,
+    pub(crate) table: Guarded<MetricKey, u64>,
+    pub(crate) kept: KeptRows<Row<u64>>,
 }
 
 impl CountProducer {

@@ -2,6 +2,7 @@
 #![tactic(auto)]
 
 mod count;
+mod flat;
 mod producer;
 mod row;
 

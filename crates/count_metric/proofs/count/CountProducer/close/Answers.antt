@@ -1,5 +1,5 @@
 -- The rows of the tally were kept or counted, and the table is empty.
-use Rattle.std.proofs.Common.{refl, ap, subst}
+use Rattle.std.proofs.Common.{refl, subst}
 use Rattle.std.proofs.lemmas.Result.{on_ok_weaker}
 use Rattle.std.specs.Prelude.{map}
 use Rattle.kept_rows.specs.KeptRows.{AddsRows}
