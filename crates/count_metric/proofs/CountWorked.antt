@@ -39,6 +39,7 @@ after_calls calls =
 abbrev first_bucket : List CountCall
 first_bucket = of 1 1 ∷ of 2 2 ∷ of 3 3 ∷ of 4 1 ∷ of 5 3 ∷ cross 10 0 ∷ []
 
+-- which shows the two keys' rows
 guardrail : after_calls first_bucket ≡ shown (row 1 0 10 2 ∷ row 2 0 10 1 ∷ []) 2
 guardrail = refl
 

@@ -29,6 +29,7 @@ count_at came key = count_in_u64 (length (of_key is_same_key key came))
 abbrev raised_from : ℕ → ℕ
 raised_from count = min (count + 1) (2 ^ 64 - 1)
 
+-- a key that differs from another, the other way round
 other_way : (one other : MetricKey) → is_same_key one other ≡ false → is_same_key other one ≡ false
 other_way one other differ = ⊎_elim
     (λ (alike : is_same_key other one ≡ true).
@@ -132,12 +133,13 @@ keys_of_tally : (came : List (MetricKey × ℕ)) (ks : List MetricKey) → keys_
 keys_of_tally came [] = refl
 keys_of_tally came (key ∷ ks) = ap (λ others. key ∷ others) (keys_of_tally came ks)
 
--- the row at the end
+-- the number at the end
 last_number : (rows : List (MetricKey × ℕ)) (key : MetricKey) (number : ℕ)
     → slice_get (values_of (rows ++ (key, number) ∷ [])) (length rows) ≡ Some number
 last_number [] key number = refl
 last_number (row ∷ rows) key number = last_number rows key number
 
+-- the number at the end is replaced
 set_last : (rows : List (MetricKey × ℕ)) (key : MetricKey) (number other : ℕ)
     → set_value_at (rows ++ (key, number) ∷ []) (length rows) other ≡ rows ++ (key, other) ∷ []
 set_last [] key number other = refl
