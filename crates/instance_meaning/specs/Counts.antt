@@ -1,13 +1,15 @@
 -- What happens to a metric that counts, by its history, and the rows that its keys give.
 use Rattle.std.specs.Prelude.{ℕ, Bool, true, false, List, [], ◌∷◌, ◌++◌, map, length, if◌then◌else◌}
 use Rattle.std.specs.List.{flat_map}
-use Rattle.sd_base.specs.Given.{given}
+use Rattle.std.proofs.Common.{refl}
+use Rattle.sd_base.specs.Outputs.{outputs}
 use Rattle.atom_record.specs.declared.atom.Atom.{Atom}
 use Rattle.atom_record.specs.declared.log.LogFrame.TheVariants.{AtomAt}
 use Rattle.atom_record.specs.declared.value.MetricKey.{MetricKey}
 use Rattle.bucket_meaning.specs.Ends.{Moment, ends_at}
-use Rattle.bucket_meaning.specs.Marks.{Mark, Ends, Came, Asked}
-use Rattle.bucket_meaning.specs.Kept.{Taken, counted}
+use Rattle.bucket_meaning.specs.Marks.{Mark, Came, Asked, no_edges, boundary, boundary_marks}
+use Rattle.bucket_meaning.specs.Guard.{arrival_key}
+use Rattle.bucket_meaning.specs.Kept.{Taken, count_in_u64}
 use Rattle.bucket_meaning.specs.Rows.{Kind, report}
 use Rattle.instance_meaning.specs.Linked.{Metric}
 use Rattle.instance_meaning.specs.Keys.{picked_key, same_key}
@@ -25,7 +27,9 @@ abbrev pub counting : Kind (MetricKey × ℕ) MetricKey ℕ (Row ℕ)
 counting = record {
   same = same_key;
   arrivals = λ came end. came;
-  row = λ start end key ones. record { key = key; start = start; end = end; value = counted (length ones) } ∷ [];
+  keys = λ came. map arrival_key came;
+  keys_are = λ came end. refl;
+  row = λ start end key ones. record { key = key; start = start; end = end; value = count_in_u64 (length ones) } ∷ [];
   weight = λ row. 1;
 }
 
@@ -51,7 +55,7 @@ crossed_at base size before step = flat_map (ends_at base size (moments before))
 
 -- a report cuts the open part at the clock, if it asks for it
 abbrev pub cut_at : Bool → ℕ → List (Mark (MetricKey × ℕ))
-cut_at true at = Ends at ∷ []
+cut_at true at = boundary no_edges at
 cut_at false at = []
 
 -- what a report does to a metric
@@ -62,12 +66,12 @@ asked_at (Reported include_current) at = cut_at include_current at ++ (Asked ∷
 -- what happens to a metric at a step: first the ends that it crosses, then what arrives, or the report
 abbrev pub marks_at : ℕ → Metric → List Step → Step → List (Mark (MetricKey × ℕ))
 marks_at base metric before step =
-    map (λ end. Ends end) (crossed_at base metric.size before step)
+    boundary_marks no_edges (crossed_at base metric.size before step)
     ++ (arrivals_at metric step ++ asked_at step.what step.at)
 
 -- all that happened to a metric
 abbrev pub marks_of : ℕ → Metric → List Step → List (Mark (MetricKey × ℕ))
-marks_of base metric steps = given (marks_at base metric) steps
+marks_of base metric steps = outputs (marks_at base metric) steps
 
 -- what a report after these steps shows of a metric
 abbrev pub shown_of : ℕ → Metric → List Step → Bool → ℕ → Taken (Row ℕ)

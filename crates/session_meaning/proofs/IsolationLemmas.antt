@@ -4,7 +4,7 @@ use Rattle.std.specs.Prelude.{option_to_list}
 use Rattle.std.specs.Ordering.{int_eq}
 use Rattle.std.specs.Cmp.{signed_Decides}
 use Rattle.std.proofs.lemmas.List.Elements.{filter-append}
-use Rattle.sd_base.specs.Given.{given_after}
+use Rattle.sd_base.specs.Outputs.{outputs_after}
 use Rattle.session_frames.specs.declared.frame.Frame.{Frame}
 use Rattle.session_frames.specs.declared.frame.Frame.TheVariants.{Log, Install, Remove, Report}
 use Rattle.session_frames.specs.declared.reply.Reply.{Reply}
@@ -79,26 +79,26 @@ other_reply client before (Report uid id include_current) is =
 -- one frame more in front: it is answered as among the client's own frames, or not to the client
 own_step : (client : ℤ) (before frames : List Frame) (frame : Frame) (later : List Reply) (mine : Bool)
     → is_own client frame ≡ mine
-    → later ≡ given_after replies_at (own client (before ++ frame ∷ [])) (own client frames)
+    → later ≡ outputs_after replies_at (own client (before ++ frame ∷ [])) (own client frames)
     → filter (is_to client) (replies_at before frame) ++ later
-    ≡ given_after replies_at (own client before) (cond mine (frame ∷ own client frames) (own client frames))
+    ≡ outputs_after replies_at (own client before) (cond mine (frame ∷ own client frames) (own client frames))
 own_step client before frames frame later true is rest =
     ap (λ l. l ++ later) (own_reply client before frame is)
     ∙ ap (λ l. replies_at (own client before) frame ++ l)
-    (rest ∙ ap (λ b. given_after replies_at b (own client frames)) (own-push_own client before frame is))
+    (rest ∙ ap (λ b. outputs_after replies_at b (own client frames)) (own-push_own client before frame is))
 own_step client before frames frame later false is rest =
     ap (λ l. l ++ later) (other_reply client before frame is)
-    ∙ (rest ∙ ap (λ b. given_after replies_at b (own client frames)) (own-push_other client before frame is))
+    ∙ (rest ∙ ap (λ b. outputs_after replies_at b (own client frames)) (own-push_other client before frame is))
 
 -- the replies to the client among those to some frames after others
 own_replies : (client : ℤ) (before frames : List Frame)
-    → filter (is_to client) (given_after replies_at before frames)
-    ≡ given_after replies_at (own client before) (own client frames)
+    → filter (is_to client) (outputs_after replies_at before frames)
+    ≡ outputs_after replies_at (own client before) (own client frames)
 own_replies client before [] = refl
 own_replies client before (frame ∷ frames) =
-    filter-append (is_to client) (replies_at before frame) (given_after replies_at (before ++ frame ∷ []) frames)
+    filter-append (is_to client) (replies_at before frame) (outputs_after replies_at (before ++ frame ∷ []) frames)
     ∙ own_step client before frames frame
-    (filter (is_to client) (given_after replies_at (before ++ frame ∷ []) frames))
+    (filter (is_to client) (outputs_after replies_at (before ++ frame ∷ []) frames))
     (is_own client frame) refl (own_replies client (before ++ frame ∷ []) frames)
 
 -- the replies to a client are those of the session of its own frames

@@ -5,8 +5,8 @@ use Rattle.std.specs.List.{list_any}
 use Rattle.std.specs.Ordering.{int_eq}
 use Rattle.std.specs.Cmp.{signed_Decides}
 use Rattle.std.proofs.lemmas.List.{append-nil, take-append-drop, take-append-le, drop-append-le, take_at, drop_all, length-append}
-use Rattle.sd_base.specs.Given.{given_after}
-use Rattle.sd_base.proofs.GivenLemmas.{given_after-push}
+use Rattle.sd_base.specs.Outputs.{outputs_after}
+use Rattle.sd_base.proofs.OutputsLemmas.{outputs_after-push}
 use Rattle.session_frames.specs.declared.frame.Frame.{Frame}
 use Rattle.session_frames.specs.declared.frame.Frame.TheVariants.{Log, Install, Remove, Report}
 use Rattle.session_frames.specs.declared.reply.Refusal.{Refusal}
@@ -111,11 +111,11 @@ history_of-push client frames frame config placed =
     take-append-le (suc config.place) frames (frame ∷ []) (omega (arith, placed)) in
     let back : drop (suc config.place) (frames ++ frame ∷ []) ≡ drop (suc config.place) frames ++ frame ∷ [] =
     drop-append-le (suc config.place) frames (frame ∷ []) (omega (arith, placed)) in
-    let steps : given_after step (take (suc config.place) (frames ++ frame ∷ []))
+    let steps : outputs_after step (take (suc config.place) (frames ++ frame ∷ []))
     (drop (suc config.place) (frames ++ frame ∷ []))
-    ≡ given_after step (take (suc config.place) frames) (drop (suc config.place) frames) ++ step frames frame =
-    rw (front, back) (given_after-push step (take (suc config.place) frames) (drop (suc config.place) frames) frame
-    ∙ ap (λ all. given_after step (take (suc config.place) frames) (drop (suc config.place) frames) ++ step all frame)
+    ≡ outputs_after step (take (suc config.place) frames) (drop (suc config.place) frames) ++ step frames frame =
+    rw (front, back) (outputs_after-push step (take (suc config.place) frames) (drop (suc config.place) frames) frame
+    ∙ ap (λ all. outputs_after step (take (suc config.place) frames) (drop (suc config.place) frames) ++ step all frame)
     (take-append-drop (suc config.place) frames)) in
     let base : clock_of (take config.place (frames ++ frame ∷ [])) ≡ clock_of (take config.place frames) =
     ap clock_of before in
@@ -132,7 +132,7 @@ history_of-new client frames frame config here =
     take_at frames (frame ∷ []) config.place (sym here) in
     let none : drop (suc config.place) (frames ++ frame ∷ []) ≡ [] =
     drop_all (suc config.place) (frames ++ frame ∷ []) (omega (arith, here, length-append frames (frame ∷ []))) in
-    let steps : given_after step (take (suc config.place) (frames ++ frame ∷ []))
+    let steps : outputs_after step (take (suc config.place) (frames ++ frame ∷ []))
     (drop (suc config.place) (frames ++ frame ∷ [])) ≡ [] = rw none refl in
     let base : clock_of (take config.place (frames ++ frame ∷ [])) ≡ clock_of frames = ap clock_of before in
     cc

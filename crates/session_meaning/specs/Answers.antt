@@ -2,7 +2,7 @@
 use Rattle.std.specs.Prelude.{ℕ, ℤ, pos, Bool, List, Option, Some, None, Result, Ok, Err, filter, option_to_list}
 use Rattle.std.specs.List.{flat_map}
 use Rattle.std.specs.Ordering.{int_eq}
-use Rattle.sd_base.specs.Given.{given}
+use Rattle.sd_base.specs.Outputs.{outputs}
 use Rattle.session_frames.specs.declared.frame.Frame.{Frame}
 use Rattle.session_frames.specs.declared.frame.Frame.TheVariants.{Log, Install, Remove, Report}
 use Rattle.session_frames.specs.declared.reply.Reply.{Reply}
@@ -60,7 +60,7 @@ reply_to before frame = answer (own (client_of frame) before) frame
 
 -- all replies of a session
 abbrev pub replies : List Frame → List Reply
-replies frames = given (λ before frame. option_to_list (reply_to before frame)) frames
+replies frames = outputs (λ before frame. option_to_list (reply_to before frame)) frames
 
 -- the bytes of all replies
 unfoldable pub text : List Frame → List ℕ

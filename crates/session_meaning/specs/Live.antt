@@ -1,7 +1,7 @@
 -- The live configurations of a client, and their histories, by the client's own frames.
 use Rattle.std.specs.Prelude.{ℕ, suc, ℤ, not, List, [], ◌∷◌, ◌++◌, length, take, drop, filter, Option, Some, None, Result, Ok, Err, if◌then◌else◌}
 use Rattle.std.specs.Ordering.{int_eq}
-use Rattle.sd_base.specs.Given.{given_after}
+use Rattle.sd_base.specs.Outputs.{outputs_after}
 use Rattle.session_frames.specs.declared.frame.Frame.{Frame}
 use Rattle.session_frames.specs.declared.frame.Frame.TheVariants.{Log, Install, Remove, Report}
 use Rattle.session_frames.specs.declared.reply.Refusal.{Refusal}
@@ -68,5 +68,5 @@ history_of client frames config = record {
   base = clock_of (take config.place frames);
   linked = config.linked;
   steps =
-      given_after (step_at config.id config.linked) (take (suc config.place) frames) (drop (suc config.place) frames);
+      outputs_after (step_at config.id config.linked) (take (suc config.place) frames) (drop (suc config.place) frames);
 }

@@ -5,13 +5,13 @@ use Rattle.std.specs.Prelude.{not, ◌&&◌}
 use Rattle.std.proofs.Math.Nat.{div-eq_of_lt}
 use Rattle.std.proofs.lemmas.Bool.Decides.{nat_tests}
 use Rattle.std.proofs.lemmas.List.{append-nil, length-replicate}
-use Rattle.sd_base.proofs.GivenLemmas.{given-push}
+use Rattle.sd_base.proofs.OutputsLemmas.{outputs-push}
 use Rattle.atom_record.specs.declared.log.LogFrame.{LogFrame}
 use Rattle.atom_record.specs.declared.log.LogFrame.TheVariants.{Tick, AtomAt, Pull}
 use Rattle.atom_record.specs.declared.value.MetricKey.{MetricKey}
 use Rattle.bucket_meaning.specs.Ends.{Moment, crosses, ends_from, full_ends, ends_at}
-use Rattle.bucket_meaning.specs.Marks.{Ends, Came, Asked, Part, Books, after, books_from, books_of}
-use Rattle.bucket_meaning.specs.Kept.{counted, taken}
+use Rattle.bucket_meaning.specs.Marks.{Ends, Came, Asked, no_edges, boundary_marks, Part, Books, after, books_from, books_of}
+use Rattle.bucket_meaning.specs.Kept.{count_in_u64, taken_of}
 use Rattle.bucket_meaning.specs.Rows.{drops, closed_rows}
 use Rattle.bucket_meaning.proofs.MarksLemmas.{books-append}
 use Rattle.session_frames.specs.Frames.{log_time, IsFaultlessLog}
@@ -56,7 +56,7 @@ books_at-push : (config : CountConfig) (base : ℕ) (steps : List Step) (step : 
     → books_at config base (steps ++ step ∷ []) ≡ books_from dropping (books_at config base steps)
     (marks_at base (metric_of config) steps step)
 books_at-push config base steps step =
-    ap (books_of dropping base) (given-push (marks_at base (metric_of config)) steps step)
+    ap (books_of dropping base) (outputs-push (marks_at base (metric_of config)) steps step)
     ∙ books-append dropping (record { start = base; came = []; closed = []; dropped = 0; missing = 0 })
     (marks_of base (metric_of config) steps) (marks_at base (metric_of config) steps step)
 
@@ -89,12 +89,13 @@ open_books it books h =
     alike books.start it.start books.dropped 0 books.missing 0 books.came (arrivals (length books.came)) books.closed []
     (sym h.start) h.came h.closed h.dropped h.missing
 
-is_open : (it : Instance) (start n : ℕ) → it.start ≡ start → it.count ≡ counted n → OpenStandsFor it (opened start n)
+is_open : (it : Instance) (start n : ℕ) → it.start ≡ start → it.count ≡ count_in_u64 n
+    → OpenStandsFor it (opened start n)
 is_open it start n at count =
     let len : length (arrivals n) ≡ n = length-replicate n (no_key, 1) in
     record {
       start = at;
-      count = count ∙ ap counted (sym len);
+      count = count ∙ ap count_in_u64 (sym len);
       came = ap arrivals (sym len);
       closed = refl;
       dropped =
@@ -158,7 +159,7 @@ books_logged : (config : CountConfig) (base : ℕ) (steps : List Step) (frame : 
 books_logged config base steps frame truths early =
     books_at-push config base steps (step_of frame truths)
     ∙ ap (λ ends. books_from dropping (books_at config base steps)
-    (map (λ end. Ends end) ends ++ (arrivals_at (metric_of config) (step_of frame truths) ++ [])))
+    (boundary_marks no_edges ends ++ (arrivals_at (metric_of config) (step_of frame truths) ++ [])))
     (none_crossed base steps frame truths early)
 
 same_open : (it : Instance) (books books' : Books (MetricKey × ℕ)) → OpenStandsFor it books → books' ≡ books
@@ -257,7 +258,7 @@ stands_reported it history cut now h =
 -- what a report shows of the metric, by the open part
 abbrev tree_of : CountConfig → ℕ → Books (MetricKey × ℕ) → MetricTree
 tree_of config base books = metric_tree base (metric_of config)
-    (taken counting.weight (closed_rows counting 800 books) books.dropped books.missing)
+    (taken_of counting.weight (closed_rows counting 800 books) books.dropped books.missing)
 
 -- what is shown of the metric, where its open part has so many arrivals and is closed at a time
 abbrev shown_with : Instance → ℕ → ℕ → Option Bucket → MetricTree
@@ -271,18 +272,18 @@ not_none : (count : ℕ) → 0 < count → (count == 0) ≡ false
 not_none count some = grind (arith, nat_tests)
 
 -- the metric's tree, where its open part is closed at a time
-closed_tree : (it : Instance) (base n now : ℕ) → it.count ≡ counted n
+closed_tree : (it : Instance) (base n now : ℕ) → it.count ≡ count_in_u64 n
     → tree_of it.config base (after dropping (opened it.start n) (Ends now)) ≡ shown_with it base now (closed_at now it)
 closed_tree it base zero now count = sym (ap (λ c. shown_with it base now (bucket_if it now c (c == 0))) count)
 closed_tree it base (suc n) now count =
-    let some : (counted (suc n) == 0) ≡ false = not_none (counted (suc n)) (omega arith) in
-    ap (λ rows. metric_tree base (metric_of it.config) (taken counting.weight (rows ++ []) 0 0))
+    let some : (count_in_u64 (suc n) == 0) ≡ false = not_none (count_in_u64 (suc n)) (omega arith) in
+    ap (λ rows. metric_tree base (metric_of it.config) (taken_of counting.weight (rows ++ []) 0 0))
     (one_row it.start now n)
-    ∙ sym (ap (λ none. shown_with it base now (bucket_if it now (counted (suc n)) none)) some)
+    ∙ sym (ap (λ none. shown_with it base now (bucket_if it now (count_in_u64 (suc n)) none)) some)
     ∙ sym (ap (λ c. shown_with it base now (bucket_if it now c (c == 0))) count)
 
 -- the metric's tree after a report, with or without a cut
-cut_tree : (it : Instance) (base n : ℕ) (cut : Bool) (now : ℕ) → it.count ≡ counted n
+cut_tree : (it : Instance) (base n : ℕ) (cut : Bool) (now : ℕ) → it.count ≡ count_in_u64 n
     → tree_of it.config base (books_from dropping (opened it.start n) (cut_at cut now)) ≡ shown_with it base now
     (cond cut (closed_at now it) None)
 cut_tree it base n true now count = closed_tree it base n now count

@@ -4,7 +4,7 @@ use Rattle.atom_record.specs.declared.log.LogFrame.{LogFrame}
 use Rattle.atom_record.specs.declared.log.LogFrame.TheVariants.{AtomAt}
 use Rattle.atom_record.specs.declared.value.MetricKey.{MetricKey}
 use Rattle.bucket_meaning.specs.Marks.{Books, books_of}
-use Rattle.bucket_meaning.specs.Kept.{counted}
+use Rattle.bucket_meaning.specs.Kept.{count_in_u64}
 use Rattle.bucket_meaning.specs.Rows.{drops}
 use Rattle.instance_meaning.specs.Linked.{Metric}
 use Rattle.instance_meaning.specs.History.{Step, History}
@@ -67,7 +67,7 @@ no_key = record { dims = []; slices = [] }
 -- dropped or missed.
 pub record OpenStandsFor (it : Instance) (books : Books (MetricKey × ℕ)) : Type 0 where
   pub start : it.start ≡ books.start
-  pub count : it.count ≡ counted (length books.came)
+  pub count : it.count ≡ count_in_u64 (length books.came)
   pub came : books.came ≡ replicate (length books.came) (no_key, 1)
   pub closed : books.closed ≡ []
   pub dropped : books.dropped ≡ 0

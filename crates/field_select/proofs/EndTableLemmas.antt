@@ -1,4 +1,4 @@
--- Lemmas on specs/Ends.antt: tables of ends, and which entries they say are picked.
+-- Lemmas on specs/FieldEnds.antt: tables of ends, and which entries they say are picked.
 use Rattle.std.proofs.Common.{◌≡◌, ◌≢◌, ℕ, ◌+◌, ◌<◌, ◌≤◌, ◌==◌, nat_lt, cond, Bool, true, false, ◌&&◌, ◌||◌, List, [], ◌∷◌, map, filter, length, drop, get_or, replicate, slice_index, slice_set, Option, Some, None, refl, sym, ap, ◌∙◌, subst}
 use Rattle.std.specs.List.{list_any}
 use Rattle.std.proofs.lemmas.Bool.{eqb-false, eqb-true}
@@ -10,7 +10,7 @@ use Rattle.field_select.specs.declared.ends.End.{End}
 use Rattle.field_select.specs.declared.ends.End.TheVariants.{First, Last}
 use Rattle.field_select.specs.declared.leaf.LeafPath.{LeafPath}
 use Rattle.field_select.specs.LeafValues.{is_repeated_at, field_indexes, picks_index, picks_entry, some_leaf_picks}
-use Rattle.field_select.specs.Ends.{nearer_index, end_index, ends_after, picks_index_by, picks_by_ends}
+use Rattle.field_select.specs.FieldEnds.{nearer_index, end_index, ends_after, picks_index_by, picks_by_ends}
 use Rattle.field_select.proofs.EndLemmas.{none_nearer, nearer_none, end_of_none, end_moves_on}
 
 -- the ends of a field say which indexes a position picks

@@ -1,4 +1,4 @@
--- Lemmas on specs/Ends.antt: the walk to an end finds the first value that the leaf picks.
+-- Lemmas on specs/FieldEnds.antt: the walk to an end finds the first value that the leaf picks.
 use Rattle.std.proofs.Common.{◌≡◌, ◌≢◌, ℕ, ◌≤◌, ◌==◌, nat_lt, cond, Bool, true, false, ◌&&◌, List, [], ◌∷◌, map, filter, drop, length, Option, Some, None, is_none, refl, sym, ap, ◌∙◌}
 use Rattle.std.proofs.lemmas.Bool.{eqb-false, eqb-true, eq-eqb}
 use Rattle.std.proofs.lemmas.List.{drop_all}
@@ -8,7 +8,7 @@ use Rattle.field_select.specs.declared.ends.End.{End}
 use Rattle.field_select.specs.declared.ends.End.TheVariants.{First, Last}
 use Rattle.field_select.specs.declared.leaf.LeafPath.{LeafPath}
 use Rattle.field_select.specs.LeafValues.{is_repeated_at, field_indexes, first_value, picks_index, picks_entry, picked_values}
-use Rattle.field_select.specs.Ends.{nearer_index, end_index, end_position, found_after, nearest_step, nearest_after}
+use Rattle.field_select.specs.FieldEnds.{nearer_index, end_index, end_position, found_after, nearest_step, nearest_after}
 use Rattle.field_select.proofs.EndLemmas.{nearer_none, none_nearer, nearer_moves, nearer_stays, nearer_leaves, end_of_none, end_moves_on}
 
 -- whether an entry stands at this place

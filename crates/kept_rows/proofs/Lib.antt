@@ -1,0 +1,2 @@
+pub mod KeptRowsLemmas
+pub mod KeptItemsLemmas
