@@ -1,6 +1,7 @@
 //! Whether a configuration is within its limits, and whether its references lead somewhere.
 #![tactic(auto)]
 
+mod cycles;
 mod entities;
 mod entity;
 mod fault;
@@ -10,6 +11,7 @@ mod limits;
 mod names;
 mod rules;
 
+pub use cycles::refuse_cycles;
 pub use entities::{Entities, GaugeParts, Kind, Metric, ValueParts, gather};
 pub use fault::{LinkError, LinkFault};
 pub use known::{Ids, Known};
