@@ -26,3 +26,11 @@ id_fault entities = first_of (limit_fault entities ∷ no_id_fault entities ∷ 
 unfoldable pub name_fault : Entities → Option LinkFault
 name_fault entities = first_of
     (unknown_matcher_fault entities ∷ unknown_predicate_fault entities ∷ unknown_state_fault entities ∷ [])
+
+-- numbers 4 to 8: where names lead, and what is below itself
+unfoldable pub reference_fault : Entities → Option LinkFault
+reference_fault entities = first_of (name_fault entities ∷ [])
+
+-- the first fault, in the order of the numbers from 1 to 8
+unfoldable pub rule_fault : Entities → Option LinkFault
+rule_fault entities = first_of (id_fault entities ∷ reference_fault entities ∷ [])

@@ -17,4 +17,4 @@ pub use fault::{LinkError, LinkFault};
 pub use known::{Ids, Known};
 pub use limits::{number_or, samples_of};
 pub use names::first_unknown_child;
-pub use rules::{known_ids, refuse, refuse_names};
+pub use rules::{checked_ids, refuse};
