@@ -7,3 +7,4 @@ pub mod MetricSlices
 pub mod MetricKinds
 pub mod LinkMetrics
 pub mod Verdict
+pub mod SoundConfig
