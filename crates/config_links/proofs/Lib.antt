@@ -1,3 +1,4 @@
 mod AskedLemmas
 pub mod SoundParts
 mod ReadyLemmas
+mod LinkWorked
