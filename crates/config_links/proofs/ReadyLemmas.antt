@@ -23,6 +23,7 @@ use Rattle.link_rules.specs.EntityLimits.{limit_fault, limits, count_limit, numb
 use Rattle.link_rules.specs.EntityIds.{no_id_fault, duplicate_id_fault, set_ids, id_of_predicate, matcher_ids, predicate_ids, place_in}
 use Rattle.link_rules.specs.EntityNames.{first_unknown, predicates_of_predicate, predicates_of_metric, unknown_in, unknown_predicates, unknown_predicate_fault, unknown_matcher_fault, unknown_state_fault}
 use Rattle.link_rules.specs.LinkFaults.{fault, unknown_predicate, predicate_kind, first_in}
+use Rattle.link_rules.specs.Cycles.{cycle_fault}
 use Rattle.link_rules.specs.Rules.{rule_fault, id_fault, reference_fault, name_fault}
 use Rattle.link_rules.proofs.LinkFaultLemmas.{none_of, none_in}
 use Rattle.config_links.specs.LinkedForm.{linked_predicate}
@@ -157,7 +158,7 @@ no_unknown_predicate : (entities : Entities) → rule_fault entities ≡ None �
 unfolding rule_fault reference_fault name_fault
 no_unknown_predicate entities h =
     let references = (none_of (id_fault entities ∷ reference_fault entities ∷ []) h).1.0 in
-    let names = (none_of (name_fault entities ∷ []) references).0 in
+    let names = (none_of (name_fault entities ∷ cycle_fault entities ∷ []) references).0 in
     (none_of
     (unknown_matcher_fault entities ∷ unknown_predicate_fault entities ∷ unknown_state_fault entities ∷ [])
     names).1.0

@@ -34,17 +34,17 @@ metric_parts scope metric = record {
 }
 
 -- the place of what a metric counts, or of the predicate that a duration times
-abbrev pub what_place : Scope → Kind → ℤ → ℕ
+unfoldable pub what_place : Scope → Kind → ℤ → ℕ
 what_place scope (Duration max_sparse) what = place_in scope.ids.predicates what
 what_place scope _ what = place_in scope.ids.matchers what
 
 -- the length of a bucket in nanoseconds; an event metric has no buckets
-abbrev pub bucket_size : ℤ → Kind → Option TimeUnit → ℕ
+unfoldable pub bucket_size : ℤ → Kind → Option TimeUnit → ℕ
 bucket_size uid Event bucket = 0
 bucket_size uid _ bucket = nanos_of bucket uid
 
 -- how many keys a bucket admits; an event metric has one key
-abbrev pub bucket_bound : Kind → Option ℤ → ℕ
+unfoldable pub bucket_bound : Kind → Option ℤ → ℕ
 bucket_bound Event bound = 1
 bucket_bound _ bound = bound_or_default bound
 

@@ -135,7 +135,7 @@ duration_form true spec = kinds.MaxSparse spec
 duration_form false spec = kinds.SumDuration spec
 
 -- a kind of metric
-abbrev pub linked_kind : Scope → ℤ → ℕ → Kind → LKind
+unfoldable pub linked_kind : Scope → ℤ → ℕ → Kind → LKind
 linked_kind scope what bound Event = kinds.Event
 linked_kind scope what bound Count = kinds.Count
 linked_kind scope what bound (Value value) = value_form (names_pulled scope what) value (set_or_none value.field)

@@ -158,7 +158,7 @@ fn duration_in(max_sparse: bool, spec: PredSpec) -> LKind
 }
 
 /// What is linked of a kind of metric, whose own tree has this set, or the least reason from 14 to 18.
-#[tactic(auto, unfolding(crate::specs::MetricKinds::bad_kind))]
+#[tactic(auto, unfolding(crate::specs::MetricKinds::bad_kind, crate::specs::MetricKinds::linked_kind))]
 pub fn kind_in(
     scope: &Scope,
     id: Option<i64>,

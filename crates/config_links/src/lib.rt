@@ -4,7 +4,6 @@
 mod askable;
 mod asked;
 mod kinds;
-mod laws;
 mod linked;
 mod linker;
 mod links;

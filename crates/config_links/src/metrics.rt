@@ -71,6 +71,7 @@ fn parts_in(
 }
 
 // The place of what a metric counts, or of the predicate that a duration times.
+#[tactic(auto, unfolding(crate::specs::LinkMetrics::what_place))]
 fn what_place(scope: &Scope, kind: &Kind, what: i64) -> u32
     ensures { result ≡ words.what_place scope.now kind.now what }
 {
@@ -81,6 +82,7 @@ fn what_place(scope: &Scope, kind: &Kind, what: i64) -> u32
 }
 
 // The length of a bucket in nanoseconds.
+#[tactic(auto, unfolding(crate::specs::LinkMetrics::bucket_size))]
 fn bucket_size(uid: i32, kind: &Kind, bucket: Option<TimeUnit>) -> u64
     ensures { result ≡ words.bucket_size uid kind.now bucket }
 {
@@ -91,6 +93,7 @@ fn bucket_size(uid: i32, kind: &Kind, bucket: Option<TimeUnit>) -> u64
 }
 
 // How many keys a bucket admits.
+#[tactic(auto, unfolding(crate::specs::LinkMetrics::bucket_bound))]
 fn bucket_bound(kind: &Kind, bound: Option<i32>) -> u32
     ensures { result ≡ words.bucket_bound kind.now bound }
 {

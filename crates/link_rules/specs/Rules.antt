@@ -5,6 +5,7 @@ use Rattle.link_rules.specs.declared.entities.Entities.{Entities}
 use Rattle.link_rules.specs.declared.fault.LinkFault.{LinkFault}
 use Rattle.link_rules.specs.declared.known.Ids.{Ids}
 use Rattle.link_rules.specs.LinkFaults.{first_of}
+use Rattle.link_rules.specs.Cycles.{cycle_fault}
 use Rattle.link_rules.specs.EntityLimits.{limit_fault}
 use Rattle.link_rules.specs.EntityIds.{no_id_fault, duplicate_id_fault, matcher_ids, predicate_ids, state_ids, metric_ids}
 use Rattle.link_rules.specs.EntityNames.{unknown_matcher_fault, unknown_predicate_fault, unknown_state_fault}
@@ -29,7 +30,7 @@ name_fault entities = first_of
 
 -- numbers 4 to 8: where names lead, and what is below itself
 unfoldable pub reference_fault : Entities → Option LinkFault
-reference_fault entities = first_of (name_fault entities ∷ [])
+reference_fault entities = first_of (name_fault entities ∷ cycle_fault entities ∷ [])
 
 -- the first fault, in the order of the numbers from 1 to 8
 unfoldable pub rule_fault : Entities → Option LinkFault

@@ -11,7 +11,6 @@ mod limits;
 mod names;
 mod rules;
 
-pub use cycles::refuse_cycles;
 pub use entities::{Entities, GaugeParts, Kind, Metric, ValueParts, gather};
 pub use fault::{LinkError, LinkFault};
 pub use known::{Ids, Known};
