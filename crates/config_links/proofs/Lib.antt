@@ -3,4 +3,7 @@ pub mod SoundParts
 pub mod SoundNames
 pub mod SoundLinks
 pub mod SoundSlices
+pub mod SoundKinds
+pub mod SoundMetrics
+pub mod SoundLemmas
 mod ReadyLemmas
