@@ -14,7 +14,8 @@ use Rattle.config_links.specs.LinkScopes.{spec_in, predicate_named, named_predic
 use Rattle.config_links.specs.MetricLinks.{leads_from, AreMarked}
 
 module _ (predicates : List LPredicate) (from : ℕ) where
-  links : List (List ℕ)
+  -- the places that each predicate names
+  abbrev pub links : List (List ℕ)
   links = map named_predicates predicates
 
   -- there are as many lists of names as predicates
@@ -46,4 +47,4 @@ module _ (predicates : List LPredicate) (from : ℕ) where
       let beyond : children_at links from ≡ [] = get_or_past links from [] (omega (arith, past, same)) in
       let nowhere : leads_within (length predicates) links from to ≡ false = leads_nowhere (length predicates) to beyond in
       let unmarked : slice_index_or [] to false ≡ false = get_or_past [] to false (omega arith) in
-      rw (unmarked, nowhere) refl
+      unmarked ∙ sym nowhere

@@ -7,3 +7,4 @@ pub mod SoundKinds
 pub mod SoundMetrics
 pub mod SoundLemmas
 mod ReadyLemmas
+mod LinkWorked

@@ -1,6 +1,6 @@
 -- What the rules that were judged before leave for metrics: their gauges take few samples, and predicates name predicates
 -- that are there.
-use Rattle.std.proofs.Common.{◌≡◌, ℕ, zero, suc, ◌<◌, ℤ, pos, negsuc, ◌*◌, ◌≤◌, ◌&&◌, lit≤, nat_lt, nat_le, Bool, true, false, cond, List, [], ◌∷◌, map, length, Option, Some, None, if◌then◌else◌, refl, ap, ◌∙◌, subst, arith}
+use Rattle.std.proofs.Common.{◌≡◌, ℕ, zero, suc, ◌<◌, ℤ, pos, negsuc, ◌*◌, ◌≤◌, ◌&&◌, lit≤, nat_lt, nat_le, Bool, true, false, cond, List, [], ◌∷◌, map, length, Option, Some, None, if◌then◌else◌, refl, sym, ap, ◌∙◌, subst, arith}
 use Rattle.std.proofs.lemmas.Bool.{leb-true, ltb-true}
 use Rattle.std.proofs.lemmas.List.{length-map, get_or_past}
 use Rattle.std.proofs.lemmas.List.Elements.{All-from_recursion, All-contains}
@@ -19,13 +19,15 @@ use Rattle.link_rules.specs.declared.entities.Metric.{Metric}
 use Rattle.link_rules.specs.declared.entities.Kind.{Kind}
 use Rattle.link_rules.specs.declared.entities.Kind.TheVariants.{Gauge}
 use Rattle.link_rules.specs.declared.fault.LinkFault.{LinkFault}
+use Rattle.link_rules.specs.declared.known.Ids.{Ids}
 use Rattle.link_rules.specs.EntityLimits.{limit_fault, limits, count_limit, number_limit, most_bound, most_samples, most_bucket_samples, default_samples, number_or, samples_by, bound_or_default, samples_limit, samples_of, metric_limit}
 use Rattle.link_rules.specs.EntityIds.{no_id_fault, duplicate_id_fault, set_ids, id_of_predicate, matcher_ids, predicate_ids, place_in}
 use Rattle.link_rules.specs.EntityNames.{first_unknown, predicates_of_predicate, predicates_of_metric, unknown_in, unknown_predicates, unknown_predicate_fault, unknown_matcher_fault, unknown_state_fault}
 use Rattle.link_rules.specs.LinkFaults.{fault, unknown_predicate, predicate_kind, first_in}
 use Rattle.link_rules.specs.Cycles.{cycle_fault}
-use Rattle.link_rules.specs.Rules.{rule_fault, id_fault, reference_fault, name_fault}
+use Rattle.link_rules.specs.Rules.{rule_fault, id_fault, reference_fault, name_fault, ids_in}
 use Rattle.link_rules.proofs.LinkFaultLemmas.{none_of, none_in}
+use Rattle.config_links.specs.declared.linked.LPredicate.{LPredicate}
 use Rattle.config_links.specs.LinkedForm.{linked_predicate}
 use Rattle.config_links.specs.LinkScopes.{named_predicates}
 use Rattle.config_links.specs.MetricKinds.{TakesFew}
@@ -195,3 +197,13 @@ pub in_range : (entities : Entities) → rule_fault entities ≡ None
     → AreInRange (map named_predicates (predicates_linked entities))
 in_range entities h =
     links_within entities (few_predicates entities) (predicates_known entities (no_unknown_predicate entities h))
+
+-- so it is of those that were linked by the ids of all kinds
+pub in_range_by : (entities : Entities) (ids : Ids) (given : List LPredicate) → rule_fault entities ≡ None
+    → ids ≡ ids_in entities → given ≡ map (linked_predicate ids.matchers ids.predicates) entities.predicates
+    → AreInRange (map named_predicates given)
+unfolding predicates_linked
+in_range_by entities ids given h is same =
+    subst (λ (predicates : List LPredicate). AreInRange (map named_predicates predicates))
+    (sym (same ∙ ap (λ (all : Ids). map (linked_predicate all.matchers all.predicates) entities.predicates) is))
+    (in_range entities h)

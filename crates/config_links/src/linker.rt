@@ -79,7 +79,7 @@ fn last_in(
 }
 
 // The linked entities, or the first reason.
-#[tactic(auto, using(crate::proofs::ReadyLemmas::in_range, crate::proofs::ReadyLemmas::few_samples), unfolding(crate::specs::Verdict::bad_type_fault, crate::specs::Verdict::matchers_linked, crate::specs::Verdict::predicates_linked, crate::specs::Verdict::states_linked, crate::specs::Verdict::metrics_linked))]
+#[tactic(auto, using(crate::proofs::ReadyLemmas::few_samples), unfolding(crate::specs::Verdict::bad_type_fault, crate::specs::Verdict::matchers_linked, crate::specs::Verdict::predicates_linked, crate::specs::Verdict::states_linked, crate::specs::Verdict::metrics_linked))]
 fn entities_in(alloc: Global, ids: Ids, entities: Entities, uid: i32) -> Result<Linked, LinkError>
     requires ids { ids ≡ ids_in entities }
     requires ready { rule_fault entities ≡ None }
