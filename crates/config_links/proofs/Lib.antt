@@ -1,4 +1,10 @@
 mod AskedLemmas
 pub mod SoundParts
+pub mod SoundNames
+pub mod SoundLinks
+pub mod SoundSlices
+pub mod SoundKinds
+pub mod SoundMetrics
+pub mod SoundLemmas
 mod ReadyLemmas
 mod LinkWorked

@@ -4,6 +4,7 @@
 mod askable;
 mod asked;
 mod kinds;
+mod laws;
 mod linked;
 mod linker;
 mod links;
