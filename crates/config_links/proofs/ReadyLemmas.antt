@@ -185,9 +185,9 @@ unfolding predicates_linked
 links_within entities few known x y named =
     let all = predicates_within (predicate_ids entities) _ few (matcher_ids entities) entities.predicates known in
     let within = ranged (map named_predicates (predicates_linked entities)) (length (predicates_linked entities)) all x y
-        named in
+    named in
     let same : length (map named_predicates (predicates_linked entities)) ≡ length (predicates_linked entities)
-        = length-map (predicates_linked entities) named_predicates in
+    = length-map (predicates_linked entities) named_predicates in
     omega (arith, within, same)
 
 few_predicates : (entities : Entities) → length (predicate_ids entities) ≤ length (predicates_linked entities)

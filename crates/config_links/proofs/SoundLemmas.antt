@@ -109,9 +109,11 @@ module _ (entities : Entities) where
   good_parts h =
       let parts = none_of
       (first_in bad_matcher entities.matchers ∷ first_in bad_predicate entities.predicates
-      ∷ first_in bad_state entities.states ∷ []) h in
-      (none_in bad_matcher entities.matchers parts.0, none_in bad_predicate entities.predicates parts.1.0,
-      none_in bad_state entities.states parts.1.1.0)
+      ∷ first_in bad_state entities.states ∷ []) h in (
+        none_in bad_matcher entities.matchers parts.0,
+        none_in bad_predicate entities.predicates parts.1.0,
+        none_in bad_state entities.states parts.1.1.0,
+      )
 
   good_metrics : bad_metric_fault (scope_of entities) (metric_ids entities) entities.metrics entities.no_report ≡ None
       → AllByRecursion (λ def. bad_metric (scope_of entities) def ≡ None) entities.metrics
@@ -138,13 +140,14 @@ module _ (entities : Entities) where
   unfolding unknown_matcher_fault
   starts h =
       let known = matcher_ids entities in
-      let parts = none_of (unknown_matchers known entities) h in
-      (none_in (λ def. first_unknown known (matchers_of_matcher def)) entities.matchers
-      (nothing_mapped (fault unknown_matcher matcher_kind) _ parts.0),
-      none_in (λ def. first_unknown known (matchers_of_predicate def)) entities.predicates
-      (nothing_mapped (fault unknown_matcher predicate_kind) _ parts.1.0),
-      none_in (λ def. first_unknown known (matchers_of_metric def)) entities.metrics
-      (nothing_mapped (fault unknown_matcher metric_kind) _ parts.1.1.0))
+      let parts = none_of (unknown_matchers known entities) h in (
+        none_in (λ def. first_unknown known (matchers_of_matcher def)) entities.matchers
+            (nothing_mapped (fault unknown_matcher matcher_kind) _ parts.0),
+        none_in (λ def. first_unknown known (matchers_of_predicate def)) entities.predicates
+            (nothing_mapped (fault unknown_matcher predicate_kind) _ parts.1.0),
+        none_in (λ def. first_unknown known (matchers_of_metric def)) entities.metrics
+            (nothing_mapped (fault unknown_matcher metric_kind) _ parts.1.1.0),
+      )
 
   -- and those of predicates
   names : unknown_predicate_fault entities ≡ None
@@ -153,11 +156,12 @@ module _ (entities : Entities) where
   unfolding unknown_predicate_fault
   names h =
       let known = predicate_ids entities in
-      let parts = none_of (unknown_predicates known entities) h in
-      (none_in (λ def. first_unknown known (predicates_of_predicate def)) entities.predicates
-      (nothing_mapped (fault unknown_predicate predicate_kind) _ parts.0),
-      none_in (λ def. first_unknown known (predicates_of_metric def)) entities.metrics
-      (nothing_mapped (fault unknown_predicate metric_kind) _ parts.1.0))
+      let parts = none_of (unknown_predicates known entities) h in (
+        none_in (λ def. first_unknown known (predicates_of_predicate def)) entities.predicates
+            (nothing_mapped (fault unknown_predicate predicate_kind) _ parts.0),
+        none_in (λ def. first_unknown known (predicates_of_metric def)) entities.metrics
+            (nothing_mapped (fault unknown_predicate metric_kind) _ parts.1.0),
+      )
 
   -- and those of states
   slices : unknown_state_fault entities ≡ None

@@ -38,10 +38,11 @@ module _ (scope : Scope) (many : length scope.ids.predicates ≤ length scope.pr
   places_below atom leaves own [] all = tt
   places_below atom leaves own (leaf ∷ found) all =
       let here = left_holds (is_one_of atom leaves own leaf) (list_all (is_one_of atom leaves own) found) all in
-      let is = right_holds (own == atom) (list_any (same_leaf leaf) leaves) here in
-      (place_below (same_leaf leaf) leaves is,
-      places_below atom leaves own found
-      (right_holds (is_one_of atom leaves own leaf) (list_all (is_one_of atom leaves own) found) all))
+      let is = right_holds (own == atom) (list_any (same_leaf leaf) leaves) here in (
+        place_below (same_leaf leaf) leaves is,
+        places_below atom leaves own found
+            (right_holds (is_one_of atom leaves own leaf) (list_all (is_one_of atom leaves own) found) all),
+      )
 
   -- a link whose condition is known, and of which each test holds
   link_sound : (def : LinkDef) (id : Option ℤ) → def.condition ≡ id → MayBeKnown scope.ids.predicates id
@@ -86,15 +87,16 @@ module _ (scope : Scope) (many : length scope.ids.predicates ≤ length scope.pr
       → list_all (is_bound scope) (map sets_of_link defs) ≡ true
       → links_sound_here (map (linked_link scope) (map sets_of_link defs))
   links_sound_by [] known stand even asked bound = tt
-  links_sound_by (def ∷ defs) known stand even asked bound =
-      (link_sound def def.condition refl known.0 (left_holds _ (list_all link_stands defs) stand)
-      (left_holds _ (list_all is_even (map sets_of_link defs)) even)
-      (left_holds _ (list_all (λ (sets : LinkSets). is_asked scope condition sets.condition) (map sets_of_link defs)) asked)
-      (left_holds _ (list_all (is_bound scope) (map sets_of_link defs)) bound),
-      links_sound_by defs known.1 (right_holds (link_stands def) _ stand)
-      (right_holds (is_even (sets_of_link def)) _ even)
-      (right_holds (is_asked scope condition def.condition) _ asked)
-      (right_holds (is_bound scope (sets_of_link def)) _ bound))
+  links_sound_by (def ∷ defs) known stand even asked bound = (
+    link_sound def def.condition refl known.0 (left_holds _ (list_all link_stands defs) stand)
+        (left_holds _ (list_all is_even (map sets_of_link defs)) even)
+        (left_holds _ (list_all (λ (sets : LinkSets). is_asked scope condition sets.condition) (map sets_of_link defs)) asked)
+        (left_holds _ (list_all (is_bound scope) (map sets_of_link defs)) bound),
+    links_sound_by defs known.1 (right_holds (link_stands def) _ stand)
+        (right_holds (is_even (sets_of_link def)) _ even)
+        (right_holds (is_asked scope condition def.condition) _ asked)
+        (right_holds (is_bound scope (sets_of_link def)) _ bound),
+  )
 
   pub links_sound : (defs : List LinkDef) → AllByRecursion (MayBeKnown scope.ids.predicates) (map link_condition defs)
       → list_all link_stands defs ≡ true
@@ -135,11 +137,12 @@ module _ (scope : Scope) (many : length scope.ids.predicates ≤ length scope.pr
       → list_all (λ (sets : LinkSets). is_asked scope condition sets.condition) (map sets_of_link defs) ≡ true
       → AllByRecursion (λ def. Known scope.ids.predicates (condition_id def)) defs
   all_known [] known asked = tt
-  all_known (def ∷ defs) known asked =
-      (one_known def.condition
-      (left_holds (is_asked scope condition def.condition) (list_all (λ (sets : LinkSets). is_asked scope condition sets.condition) (map sets_of_link defs)) asked)
-      known.0,
-      all_known defs known.1 (right_holds (is_asked scope condition def.condition) _ asked))
+  all_known (def ∷ defs) known asked = (
+    one_known def.condition
+        (left_holds (is_asked scope condition def.condition) (list_all (λ (sets : LinkSets). is_asked scope condition sets.condition) (map sets_of_link defs)) asked)
+        known.0,
+    all_known defs known.1 (right_holds (is_asked scope condition def.condition) _ asked),
+  )
 
   -- no two links are to the same predicate
   pub links_apart : (defs : List LinkDef) → AllByRecursion (MayBeKnown scope.ids.predicates) (map link_condition defs)
@@ -155,6 +158,6 @@ module _ (scope : Scope) (many : length scope.ids.predicates ≤ length scope.pr
       pairs_mapped (linked_link scope) (λ (link later : LLink). link.predicate ≢ later.predicate) (map sets_of_link defs)
       (pairs_mapped sets_of_link (λ (one later : LinkSets). (linked_link scope one).predicate ≢ (linked_link scope later).predicate) defs
       (λ i j d before within e.
-          defs_apart i j d before within
-          (same_place scope.ids.predicates (condition_id (get_or defs i d)) (condition_id (get_or defs j d))
-          (each i d (omega (arith, before, within))) (each j d within) e)))
+      defs_apart i j d before within
+      (same_place scope.ids.predicates (condition_id (get_or defs i d)) (condition_id (get_or defs j d))
+      (each i d (omega (arith, before, within))) (each j d within) e)))

@@ -73,10 +73,16 @@ module _ (linked : Linked) (metric : LMetric) where
       → MayBeWithin (length linked.matchers) (trigger_place scope gauge) → may_sample pulled gauge.sampling gauge.trigger ≡ true
       → (pulled ≡ true → metric.links ≡ [])
       → IsSoundKind linked metric (gauge_form scope pulled gauge set)
-  gauge_by scope true gauge set within size at fields samples trigger may no_links =
-      (within, size, at, fields, samples,
-      mode_fits gauge.sampling gauge.trigger (place_in scope.ids.matchers) (may_sample_parts gauge.sampling gauge.trigger may),
-      trigger, no_links refl)
+  gauge_by scope true gauge set within size at fields samples trigger may no_links = (
+    within,
+    size,
+    at,
+    fields,
+    samples,
+    mode_fits gauge.sampling gauge.trigger (place_in scope.ids.matchers) (may_sample_parts gauge.sampling gauge.trigger may),
+    trigger,
+    no_links refl,
+  )
   gauge_by scope false gauge set within size at fields samples trigger may no_links = (within, size, at, fields, samples)
 
   duration_by : (max_sparse : Bool) (spec : _) → IsSize metric.size → IsSoundDuration linked metric spec
@@ -146,7 +152,7 @@ module _ (scope : Scope) (metrics : List LMetric)
       (value_leaf set.leaves (set_is_set value.field own).each (holds _ tests.0))
       (λ is. no_links def (names_pulled scope (what_id def)) tests.1.1.0 is)
       (λ is. no_slices (metric_sets def).state_links def.sliced.slices (not (names_pulled scope (what_id def)))
-          (left_holds ((length def.sliced.slices == 0) || not (names_pulled scope (what_id def))) _ fit) (ap not is))
+      (left_holds ((length def.sliced.slices == 0) || not (names_pulled scope (what_id def))) _ fit) (ap not is))
   kind_sound def (Gauge gauge) starts names has limit own tests times fit =
       let each = names_known scope.ids.matchers (def.common.what ∷ gauge.trigger ∷ []) starts in
       let known = may_known scope.ids.matchers def.common.what each.0 has in
@@ -170,7 +176,7 @@ module _ (scope : Scope) (metrics : List LMetric)
       (metric_sets def).state_links def.sliced.slices known many refl refl refl refl
       (holds _ times.0) (holds _ times.1.0))
       (λ is. no_slices (metric_sets def).state_links def.sliced.slices (not max_sparse)
-          (left_holds ((length def.sliced.slices == 0) || not max_sparse) _ fit) (ap not is))
+      (left_holds ((length def.sliced.slices == 0) || not max_sparse) _ fit) (ap not is))
 
   -- the conditions of a metric and of its links are known
   conditions_known : (def : Metric) (kind : Kind)
@@ -208,11 +214,12 @@ module _ (scope : Scope) (metrics : List LMetric)
       (bad_times scope def.common.id def.kind (what_id def) (metric_sets def).dims (linked_links scope def) (metric_sets def).state_links
       ∷ bad_slices scope def.common.id def.kind (what_id def) def.sliced.slices (metric_sets def).state_links
       ∷ bad_kind def.common.id (is_pulled_kind scope def.kind (what_id def)) (length def.common.links) def.kind
-      ∷ []) none in
-      (no_test def.common.id
-      (time_reasons scope def.kind (what_id def) (metric_sets def).dims (linked_links scope def) (metric_sets def).state_links) parts.0,
-      no_test def.common.id (slice_reasons scope def.kind (what_id def) def.sliced.slices (metric_sets def).state_links) parts.1.0,
-      no_test def.common.id (kind_reasons (is_pulled_kind scope def.kind (what_id def)) (length def.common.links) def.kind) parts.1.1.0)
+      ∷ []) none in (
+        no_test def.common.id
+            (time_reasons scope def.kind (what_id def) (metric_sets def).dims (linked_links scope def) (metric_sets def).state_links) parts.0,
+        no_test def.common.id (slice_reasons scope def.kind (what_id def) def.sliced.slices (metric_sets def).state_links) parts.1.0,
+        no_test def.common.id (kind_reasons (is_pulled_kind scope def.kind (what_id def)) (length def.common.links) def.kind) parts.1.1.0,
+      )
 
   -- a metric whose names are known, whose numbers are within their limits, and of which no reason holds
   pub metric_sound : (def : Metric)

@@ -18,6 +18,7 @@ mod slices;
 mod states;
 mod table;
 
+pub use laws::linked_forms_are_sound;
 pub use link_rules::{LinkError, LinkFault};
 pub use linked::{
     CondTree, LGroup, LKind, LLink, LMatcher, LMetric, LPredBody, LPredicate, LSlice, LState,
