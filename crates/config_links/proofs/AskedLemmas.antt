@@ -45,6 +45,7 @@ module _ (predicates : List LPredicate) (from : ℕ) where
   pub none_marked : length predicates ≤ from → AreMarked predicates (Some from) []
   none_marked past to here =
       let beyond : children_at links from ≡ [] = get_or_past links from [] (omega (arith, past, same)) in
-      let nowhere : leads_within (length predicates) links from to ≡ false = leads_nowhere (length predicates) to beyond in
+      let nowhere : leads_within (length predicates) links from to ≡ false =
+      leads_nowhere (length predicates) to beyond in
       let unmarked : slice_index_or [] to false ≡ false = get_or_past [] to false (omega arith) in
       unmarked ∙ sym nowhere

@@ -49,7 +49,8 @@ atom id number = record { id = Some (pos id); body = of_atom number }
 
 -- a matcher of these matchers
 abbrev joined : Operation → ℕ → List ℤ → MatcherDef
-joined op id children = record { id = Some (pos id); body = Some (matcher.Combo (record { op = Some op; children = children })) }
+joined op id children =
+    record { id = Some (pos id); body = Some (matcher.Combo (record { op = Some op; children = children })) }
 
 -- a predicate that holds where another doesn't
 abbrev not_of_predicate : ℕ → ℕ → PredicateDef
@@ -83,7 +84,8 @@ unfolding verdict rule_fault id_fault reference_fault name_fault cycle_fault bad
 fine = refl
 
 -- a bound of 0
-bound_of_0 : verdict (record nothing { matchers = atom 1 5 ∷ []; counts = count 100 1 (record unsliced { bound = Some (pos 0) }) ∷ [] })
+bound_of_0 : verdict
+    (record nothing { matchers = atom 1 5 ∷ []; counts = count 100 1 (record unsliced { bound = Some (pos 0) }) ∷ [] })
     ≡ Some (fault 1 6 (pos 0))
 unfolding verdict rule_fault id_fault reference_fault name_fault cycle_fault bad_type_fault bad_part_fault
     bad_metric_fault bad_links bad_slices bad_kind matchers_linked predicates_linked states_linked limit_fault
@@ -137,7 +139,11 @@ unfolding verdict rule_fault id_fault reference_fault name_fault cycle_fault bad
 no_predicate = refl
 
 -- a slice by nothing that is there
-no_state : verdict (record nothing { matchers = atom 1 5 ∷ []; counts = count 100 1 (record unsliced { slices = pos 3 ∷ [] }) ∷ [] })
+no_state : verdict (record nothing {
+  matchers = atom 1 5 ∷ [];
+  counts =
+      count 100 1 (record unsliced { slices = pos 3 ∷ [] }) ∷ [];
+})
     ≡ Some (fault 6 4 (pos 3))
 unfolding verdict rule_fault id_fault reference_fault name_fault cycle_fault bad_type_fault bad_part_fault
     bad_metric_fault bad_links bad_slices bad_kind matchers_linked predicates_linked states_linked limit_fault
@@ -155,7 +161,11 @@ unfolding verdict rule_fault id_fault reference_fault name_fault cycle_fault bad
 a_matcher_of_itself = refl
 
 -- two matchers name one another, and the first of three only refers to them: the second is named
-the_cycles_member : verdict (record nothing { matchers = joined And 1 (pos 2 ∷ []) ∷ joined And 2 (pos 3 ∷ []) ∷ joined And 3 (pos 2 ∷ []) ∷ [] })
+the_cycles_member : verdict
+    (record nothing {
+      matchers =
+          joined And 1 (pos 2 ∷ []) ∷ joined And 2 (pos 3 ∷ []) ∷ joined And 3 (pos 2 ∷ []) ∷ [];
+    })
     ≡ Some (fault 7 0 (pos 2))
 unfolding verdict rule_fault id_fault reference_fault name_fault cycle_fault bad_type_fault bad_part_fault
     bad_metric_fault bad_links bad_slices bad_kind matchers_linked predicates_linked states_linked limit_fault

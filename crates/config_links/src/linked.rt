@@ -152,7 +152,11 @@ pub enum LKind {
         trigger: Option<u32>,
     },
     /// The sum of the times for which the predicate holds.
-    SumDuration { spec: PredSpec },
+    SumDuration {
+        spec: PredSpec,
+    },
     /// The longest of these times.
-    MaxSparse { spec: PredSpec },
+    MaxSparse {
+        spec: PredSpec,
+    },
 }

@@ -35,10 +35,11 @@ fn parts_in(
     predicates: Seq<PredicateDef>,
     states: Seq<StateDef>,
 ) -> Result<(Seq<LMatcher>, Seq<LPredicate>, Seq<LState>), LinkError>
-    ensures { Links result (bad_part_fault matchers predicates states)
-        (map (linked_matcher ids.now.matchers) matchers,
-        map (linked_predicate ids.now.matchers ids.now.predicates) predicates,
-        map linked_state states) }
+    ensures { Links result (bad_part_fault matchers predicates states) (
+      map (linked_matcher ids.now.matchers) matchers,
+      map (linked_predicate ids.now.matchers ids.now.predicates) predicates,
+      map linked_state states,
+    ) }
 {
     let matchers = matchers_in(alloc, &ids.matchers, matchers)?;
     let predicates = predicates_in(alloc, &ids.matchers, &ids.predicates, predicates)?;
@@ -99,7 +100,13 @@ fn entities_in(alloc: Global, ids: Ids, entities: Entities, uid: i32) -> Result<
         states,
     };
     let no_report = entities.no_report;
-    let metrics = last_in(alloc, &scope, uid, no_report.as_slice(), entities.metrics.as_slice())?;
+    let metrics = last_in(
+        alloc,
+        &scope,
+        uid,
+        no_report.as_slice(),
+        entities.metrics.as_slice(),
+    )?;
     Ok(Linked {
         matchers: scope.matchers,
         predicates: scope.predicates,
