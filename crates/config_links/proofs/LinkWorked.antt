@@ -20,9 +20,10 @@ use Rattle.link_rules.specs.EntityLimits.{limit_fault}
 use Rattle.link_rules.specs.EntityNames.{unknown_matcher_fault, unknown_predicate_fault, unknown_state_fault}
 use Rattle.link_rules.specs.LinkFaults.{fault}
 use Rattle.link_rules.specs.Rules.{rule_fault, id_fault, reference_fault, name_fault}
+use Rattle.config_links.specs.LinkMetrics.{bad_rest}
 use Rattle.config_links.specs.MetricKinds.{bad_kind}
 use Rattle.config_links.specs.MetricLinks.{bad_links}
-use Rattle.config_links.specs.MetricSlices.{bad_slices}
+use Rattle.config_links.specs.MetricSlices.{bad_times, bad_slices}
 use Rattle.config_links.specs.Verdict.{verdict, bad_type_fault, bad_part_fault, bad_metric_fault, matchers_linked, predicates_linked, states_linked}
 
 -- a configuration of nothing
@@ -49,8 +50,10 @@ atom id number = record { id = Some (pos id); body = of_atom number }
 
 -- a matcher of these matchers
 abbrev joined : Operation → ℕ → List ℤ → MatcherDef
-joined op id children =
-    record { id = Some (pos id); body = Some (matcher.Combo (record { op = Some op; children = children })) }
+joined op id children = record {
+  id = Some (pos id);
+  body = Some (matcher.Combo (record { op = Some op; children = children }));
+}
 
 -- a predicate that holds where another doesn't
 abbrev not_of_predicate : ℕ → ℕ → PredicateDef
@@ -78,17 +81,19 @@ duration id what = record {
 fine : verdict (record nothing { matchers = atom 1 5 ∷ []; counts = count 100 1 unsliced ∷ [] })
     ≡ None
 unfolding verdict rule_fault id_fault reference_fault name_fault cycle_fault bad_type_fault bad_part_fault
-    bad_metric_fault bad_links bad_slices bad_kind matchers_linked predicates_linked states_linked limit_fault
+    bad_metric_fault bad_links bad_rest bad_times bad_slices bad_kind matchers_linked predicates_linked states_linked limit_fault
     no_id_fault duplicate_id_fault matcher_ids predicate_ids state_ids metric_ids unknown_matcher_fault
     unknown_predicate_fault unknown_state_fault matcher_cycle_fault predicate_cycle_fault reaches_by_id first_place
 fine = refl
 
 -- a bound of 0
-bound_of_0 : verdict
-    (record nothing { matchers = atom 1 5 ∷ []; counts = count 100 1 (record unsliced { bound = Some (pos 0) }) ∷ [] })
+bound_of_0 : verdict (record nothing {
+  matchers = atom 1 5 ∷ [];
+  counts = count 100 1 (record unsliced { bound = Some (pos 0) }) ∷ [];
+})
     ≡ Some (fault 1 6 (pos 0))
 unfolding verdict rule_fault id_fault reference_fault name_fault cycle_fault bad_type_fault bad_part_fault
-    bad_metric_fault bad_links bad_slices bad_kind matchers_linked predicates_linked states_linked limit_fault
+    bad_metric_fault bad_links bad_rest bad_times bad_slices bad_kind matchers_linked predicates_linked states_linked limit_fault
     no_id_fault duplicate_id_fault matcher_ids predicate_ids state_ids metric_ids unknown_matcher_fault
     unknown_predicate_fault unknown_state_fault matcher_cycle_fault predicate_cycle_fault reaches_by_id first_place
 bound_of_0 = refl
@@ -97,7 +102,7 @@ bound_of_0 = refl
 no_id : verdict (record nothing { matchers = record { id = None; body = of_atom 5 } ∷ [] })
     ≡ Some (fault 2 1 (pos 0))
 unfolding verdict rule_fault id_fault reference_fault name_fault cycle_fault bad_type_fault bad_part_fault
-    bad_metric_fault bad_links bad_slices bad_kind matchers_linked predicates_linked states_linked limit_fault
+    bad_metric_fault bad_links bad_rest bad_times bad_slices bad_kind matchers_linked predicates_linked states_linked limit_fault
     no_id_fault duplicate_id_fault matcher_ids predicate_ids state_ids metric_ids unknown_matcher_fault
     unknown_predicate_fault unknown_state_fault matcher_cycle_fault predicate_cycle_fault reaches_by_id first_place
 no_id = refl
@@ -106,7 +111,7 @@ no_id = refl
 an_id_twice : verdict (record nothing { matchers = atom 1 5 ∷ atom 1 6 ∷ [] })
     ≡ Some (fault 3 1 (pos 1))
 unfolding verdict rule_fault id_fault reference_fault name_fault cycle_fault bad_type_fault bad_part_fault
-    bad_metric_fault bad_links bad_slices bad_kind matchers_linked predicates_linked states_linked limit_fault
+    bad_metric_fault bad_links bad_rest bad_times bad_slices bad_kind matchers_linked predicates_linked states_linked limit_fault
     no_id_fault duplicate_id_fault matcher_ids predicate_ids state_ids metric_ids unknown_matcher_fault
     unknown_predicate_fault unknown_state_fault matcher_cycle_fault predicate_cycle_fault reaches_by_id first_place
 an_id_twice = refl
@@ -115,7 +120,7 @@ an_id_twice = refl
 the_first_repeat : verdict (record nothing { matchers = atom 1 5 ∷ atom 2 5 ∷ atom 2 6 ∷ atom 1 6 ∷ [] })
     ≡ Some (fault 3 1 (pos 2))
 unfolding verdict rule_fault id_fault reference_fault name_fault cycle_fault bad_type_fault bad_part_fault
-    bad_metric_fault bad_links bad_slices bad_kind matchers_linked predicates_linked states_linked limit_fault
+    bad_metric_fault bad_links bad_rest bad_times bad_slices bad_kind matchers_linked predicates_linked states_linked limit_fault
     no_id_fault duplicate_id_fault matcher_ids predicate_ids state_ids metric_ids unknown_matcher_fault
     unknown_predicate_fault unknown_state_fault matcher_cycle_fault predicate_cycle_fault reaches_by_id first_place
 the_first_repeat = refl
@@ -124,7 +129,7 @@ the_first_repeat = refl
 no_matcher : verdict (record nothing { counts = count 100 9 unsliced ∷ [] })
     ≡ Some (fault 4 4 (pos 9))
 unfolding verdict rule_fault id_fault reference_fault name_fault cycle_fault bad_type_fault bad_part_fault
-    bad_metric_fault bad_links bad_slices bad_kind matchers_linked predicates_linked states_linked limit_fault
+    bad_metric_fault bad_links bad_rest bad_times bad_slices bad_kind matchers_linked predicates_linked states_linked limit_fault
     no_id_fault duplicate_id_fault matcher_ids predicate_ids state_ids metric_ids unknown_matcher_fault
     unknown_predicate_fault unknown_state_fault matcher_cycle_fault predicate_cycle_fault reaches_by_id first_place
 no_matcher = refl
@@ -133,7 +138,7 @@ no_matcher = refl
 no_predicate : verdict (record nothing { durations = duration 100 11 ∷ [] })
     ≡ Some (fault 5 4 (pos 11))
 unfolding verdict rule_fault id_fault reference_fault name_fault cycle_fault bad_type_fault bad_part_fault
-    bad_metric_fault bad_links bad_slices bad_kind matchers_linked predicates_linked states_linked limit_fault
+    bad_metric_fault bad_links bad_rest bad_times bad_slices bad_kind matchers_linked predicates_linked states_linked limit_fault
     no_id_fault duplicate_id_fault matcher_ids predicate_ids state_ids metric_ids unknown_matcher_fault
     unknown_predicate_fault unknown_state_fault matcher_cycle_fault predicate_cycle_fault reaches_by_id first_place
 no_predicate = refl
@@ -141,12 +146,11 @@ no_predicate = refl
 -- a slice by nothing that is there
 no_state : verdict (record nothing {
   matchers = atom 1 5 ∷ [];
-  counts =
-      count 100 1 (record unsliced { slices = pos 3 ∷ [] }) ∷ [];
+  counts = count 100 1 (record unsliced { slices = pos 3 ∷ [] }) ∷ [];
 })
     ≡ Some (fault 6 4 (pos 3))
 unfolding verdict rule_fault id_fault reference_fault name_fault cycle_fault bad_type_fault bad_part_fault
-    bad_metric_fault bad_links bad_slices bad_kind matchers_linked predicates_linked states_linked limit_fault
+    bad_metric_fault bad_links bad_rest bad_times bad_slices bad_kind matchers_linked predicates_linked states_linked limit_fault
     no_id_fault duplicate_id_fault matcher_ids predicate_ids state_ids metric_ids unknown_matcher_fault
     unknown_predicate_fault unknown_state_fault matcher_cycle_fault predicate_cycle_fault reaches_by_id first_place
 no_state = refl
@@ -155,20 +159,19 @@ no_state = refl
 a_matcher_of_itself : verdict (record nothing { matchers = joined Not 1 (pos 1 ∷ []) ∷ [] })
     ≡ Some (fault 7 0 (pos 1))
 unfolding verdict rule_fault id_fault reference_fault name_fault cycle_fault bad_type_fault bad_part_fault
-    bad_metric_fault bad_links bad_slices bad_kind matchers_linked predicates_linked states_linked limit_fault
+    bad_metric_fault bad_links bad_rest bad_times bad_slices bad_kind matchers_linked predicates_linked states_linked limit_fault
     no_id_fault duplicate_id_fault matcher_ids predicate_ids state_ids metric_ids unknown_matcher_fault
     unknown_predicate_fault unknown_state_fault matcher_cycle_fault predicate_cycle_fault reaches_by_id first_place
 a_matcher_of_itself = refl
 
 -- two matchers name one another, and the first of three only refers to them: the second is named
-the_cycles_member : verdict
-    (record nothing {
-      matchers =
-          joined And 1 (pos 2 ∷ []) ∷ joined And 2 (pos 3 ∷ []) ∷ joined And 3 (pos 2 ∷ []) ∷ [];
-    })
+the_cycles_member : verdict (record nothing {
+  matchers = joined And 1 (pos 2 ∷ [])
+      ∷ joined And 2 (pos 3 ∷ []) ∷ joined And 3 (pos 2 ∷ []) ∷ [];
+})
     ≡ Some (fault 7 0 (pos 2))
 unfolding verdict rule_fault id_fault reference_fault name_fault cycle_fault bad_type_fault bad_part_fault
-    bad_metric_fault bad_links bad_slices bad_kind matchers_linked predicates_linked states_linked limit_fault
+    bad_metric_fault bad_links bad_rest bad_times bad_slices bad_kind matchers_linked predicates_linked states_linked limit_fault
     no_id_fault duplicate_id_fault matcher_ids predicate_ids state_ids metric_ids unknown_matcher_fault
     unknown_predicate_fault unknown_state_fault matcher_cycle_fault predicate_cycle_fault reaches_by_id first_place
 the_cycles_member = refl
@@ -177,7 +180,7 @@ the_cycles_member = refl
 a_predicate_of_itself : verdict (record nothing { predicates = not_of_predicate 11 11 ∷ [] })
     ≡ Some (fault 8 0 (pos 11))
 unfolding verdict rule_fault id_fault reference_fault name_fault cycle_fault bad_type_fault bad_part_fault
-    bad_metric_fault bad_links bad_slices bad_kind matchers_linked predicates_linked states_linked limit_fault
+    bad_metric_fault bad_links bad_rest bad_times bad_slices bad_kind matchers_linked predicates_linked states_linked limit_fault
     no_id_fault duplicate_id_fault matcher_ids predicate_ids state_ids metric_ids unknown_matcher_fault
     unknown_predicate_fault unknown_state_fault matcher_cycle_fault predicate_cycle_fault reaches_by_id first_place
 a_predicate_of_itself = refl
@@ -186,7 +189,7 @@ a_predicate_of_itself = refl
 no_body : verdict (record nothing { matchers = record { id = Some (pos 1); body = None } ∷ [] })
     ≡ Some (fault 9 1 (pos 1))
 unfolding verdict rule_fault id_fault reference_fault name_fault cycle_fault bad_type_fault bad_part_fault
-    bad_metric_fault bad_links bad_slices bad_kind matchers_linked predicates_linked states_linked limit_fault
+    bad_metric_fault bad_links bad_rest bad_times bad_slices bad_kind matchers_linked predicates_linked states_linked limit_fault
     no_id_fault duplicate_id_fault matcher_ids predicate_ids state_ids metric_ids unknown_matcher_fault
     unknown_predicate_fault unknown_state_fault matcher_cycle_fault predicate_cycle_fault reaches_by_id first_place
 no_body = refl
@@ -195,7 +198,7 @@ no_body = refl
 hidden_nothing : verdict (record nothing { no_report = pos 5 ∷ [] })
     ≡ Some (fault 9 19 (pos 5))
 unfolding verdict rule_fault id_fault reference_fault name_fault cycle_fault bad_type_fault bad_part_fault
-    bad_metric_fault bad_links bad_slices bad_kind matchers_linked predicates_linked states_linked limit_fault
+    bad_metric_fault bad_links bad_rest bad_times bad_slices bad_kind matchers_linked predicates_linked states_linked limit_fault
     no_id_fault duplicate_id_fault matcher_ids predicate_ids state_ids metric_ids unknown_matcher_fault
     unknown_predicate_fault unknown_state_fault matcher_cycle_fault predicate_cycle_fault reaches_by_id first_place
 hidden_nothing = refl

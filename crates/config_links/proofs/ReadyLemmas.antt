@@ -1,6 +1,5 @@
 -- What the rules that were judged before leave for metrics: their gauges take few samples, and predicates name
-    predicates
--- that are there.
+-- predicates that are there.
 use Rattle.std.proofs.Common.{◌≡◌, ℕ, zero, suc, ◌<◌, ℤ, pos, negsuc, ◌*◌, ◌≤◌, ◌&&◌, lit≤, nat_lt, nat_le, Bool, true, false, cond, List, [], ◌∷◌, map, length, Option, Some, None, if◌then◌else◌, refl, sym, ap, ◌∙◌, subst, arith}
 use Rattle.std.proofs.lemmas.Bool.{leb-true, ltb-true}
 use Rattle.std.proofs.lemmas.List.{length-map, get_or_past}
@@ -124,7 +123,7 @@ module _ (known : List ℤ) (count : ℕ) (few : length known ≤ count) where
   body_within : (matchers : List ℤ) (def : PredicateDef) (body : Option PredicateBody)
       → first_unknown known (predicates_of_predicate (record def { body = body })) ≡ None
       → AllByRecursion (λ place. place < count)
-          (named_predicates (linked_predicate matchers known (record def { body = body })))
+      (named_predicates (linked_predicate matchers known (record def { body = body })))
   body_within matchers def (Some (predicate.Simple simple)) names = tt
   body_within matchers def (Some (predicate.Combo combo)) names = all_within combo.children names
   body_within matchers def None names = tt
@@ -170,8 +169,8 @@ no_unknown_predicate entities h =
     names).1.0
 
 predicates_known : (entities : Entities) → unknown_predicate_fault entities ≡ None
-    → AllByRecursion (λ def. first_unknown (predicate_ids entities) (predicates_of_predicate def)
-        ≡ None) entities.predicates
+    → AllByRecursion (λ def. first_unknown (predicate_ids entities) (predicates_of_predicate def) ≡ None)
+    entities.predicates
 unfolding unknown_predicate_fault
 predicates_known entities h =
     let kinds = none_of (unknown_predicates (predicate_ids entities) entities) h in
@@ -179,16 +178,16 @@ predicates_known entities h =
     (map_none (fault unknown_predicate predicate_kind) _ kinds.0)
 
 links_within : (entities : Entities) → length (predicate_ids entities) ≤ length (predicates_linked entities)
-    → AllByRecursion (λ def. first_unknown (predicate_ids entities) (predicates_of_predicate def)
-        ≡ None) entities.predicates
+    → AllByRecursion (λ def. first_unknown (predicate_ids entities) (predicates_of_predicate def) ≡ None)
+    entities.predicates
     → AreInRange (map named_predicates (predicates_linked entities))
 unfolding predicates_linked
 links_within entities few known x y named =
     let all = predicates_within (predicate_ids entities) _ few (matcher_ids entities) entities.predicates known in
-    let within = ranged (map named_predicates (predicates_linked entities))
-        (length (predicates_linked entities)) all x y named in
+    let within = ranged (map named_predicates (predicates_linked entities)) (length (predicates_linked entities)) all x y
+    named in
     let same : length (map named_predicates (predicates_linked entities)) ≡ length (predicates_linked entities)
-        = length-map (predicates_linked entities) named_predicates in
+    = length-map (predicates_linked entities) named_predicates in
     omega (arith, within, same)
 
 few_predicates : (entities : Entities) → length (predicate_ids entities) ≤ length (predicates_linked entities)

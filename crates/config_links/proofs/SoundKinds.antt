@@ -60,8 +60,7 @@ not_all true h = absurd (cc)
 not_all false h = refl
 
 -- one leaf, which picks one entry
-pub value_leaf : (leaves : List LeafPath) → All IsLeaf leaves → is_value_set leaves ≡ true
-    → IsValueLeaf (first_leaf leaves)
+pub value_leaf : (leaves : List LeafPath) → All IsLeaf leaves → is_value_set leaves ≡ true → IsValueLeaf (first_leaf leaves)
 value_leaf [] each is = absurd (cc)
 value_leaf (leaf ∷ []) each is = (each 0 leaf (omega arith), not_all (is_all leaf.position) is)
 value_leaf (leaf ∷ other ∷ leaves) each is = absurd (cc)
@@ -80,8 +79,7 @@ limit_step : (within : Bool) (found : LinkFault) → (if within then None else S
 limit_step true found h = refl
 limit_step false found h = absurd (cc)
 
-number_fits : (samples : Option ℤ) → number_limit 7 most_samples samples ≡ None
-    → IsFromOne 100 (number_or default_samples samples)
+number_fits : (samples : Option ℤ) → number_limit 7 most_samples samples ≡ None → IsFromOne 100 (number_or default_samples samples)
 number_fits None h = (omega arith, omega arith)
 number_fits (Some (pos n)) h = number_from_one most_samples (Some (pos n)) (limit_step _ _ h)
 number_fits (Some (negsuc n)) h = absurd (cc)
@@ -172,27 +170,21 @@ module _ (scope : Scope) (what : ℤ) where
       → is_some (spec_in (predicate_named scope what)) ≡ true
       → are_within (dims_in (predicate_named scope what)) metric.dims metric.links links ≡ true
       → IsSoundDuration linked metric (timed_spec scope what bound)
-  duration_sound linked metric bound links ids known many same_predicates same_what same_bound same_slices simple
-      within =
+  duration_sound linked metric bound links ids known many same_predicates same_what same_bound same_slices simple within =
       let timed = some_spec (spec_in (predicate_named scope what)) simple in
-      let below : place_in scope.ids.predicates what < length scope.ids.predicates =
-      place_below (int_eq what) scope.ids.predicates known in
+      let below : place_in scope.ids.predicates what < length scope.ids.predicates = place_below (int_eq what) scope.ids.predicates known in
       let at : predicate_named scope what ≡ slice_get linked.predicates metric.what =
       led_to scope.predicates scope.ids.predicates what known
-      ∙ ap (λ (predicates : List LPredicate). slice_get predicates (place_in scope.ids.predicates what))
-      (sym same_predicates)
+      ∙ ap (λ (predicates : List LPredicate). slice_get predicates (place_in scope.ids.predicates what)) (sym same_predicates)
       ∙ ap (slice_get linked.predicates) (sym same_what) in
       let dims = dims_in (predicate_named scope what) in
       let here = left_holds (is_within dims metric.dims) _ within in
       let others = right_holds (is_within dims metric.dims) _ within in
       let of_links = left_holds (list_all (λ (link : LLink). is_within dims link.in_what) metric.links) _ others in
       let of_states = right_holds (list_all (λ (link : LLink). is_within dims link.in_what) metric.links) _ others in
-      let slices : All (λ (slice : LSlice). MayBeFieldsOf (predicate_named scope what) slice.in_what)
-      (linked_slices scope links ids) =
-      All-from_recursion (λ (slice : LSlice). MayBeFieldsOf (predicate_named scope what) slice.in_what)
-      (linked_slices scope links ids)
-      (slices_within (predicate_named scope what) links ids
-      (all_pass (λ (sets : StateLinkSets). is_within dims sets.in_what) links of_states)) in
+      let slices : All (λ (slice : LSlice). MayBeFieldsOf (predicate_named scope what) slice.in_what) (linked_slices scope links ids) =
+      All-from_recursion (λ (slice : LSlice). MayBeFieldsOf (predicate_named scope what) slice.in_what) (linked_slices scope links ids)
+      (slices_within (predicate_named scope what) links ids (all_pass (λ (sets : StateLinkSets). is_within dims sets.in_what) links of_states)) in
       record {
         within = omega (arith, below, many, same_what);
         timed = timed.0;
@@ -200,13 +192,9 @@ module _ (scope : Scope) (what : ℤ) where
         kept = ap (λ (found : Option PredSpec). record (unwrap_or found no_spec) { bound = bound }) timed.1
             ∙ ap (λ (b : ℕ). record timed.0 { bound = b }) (sym same_bound);
         dims = subst (λ (found : Option LPredicate). AreFieldsOf found metric.dims) at here;
-        links = subst (λ (found : Option LPredicate). All
-            (λ (link : LLink). AreFieldsOf found link.in_what) metric.links) at
+        links = subst (λ (found : Option LPredicate). All (λ (link : LLink). AreFieldsOf found link.in_what) metric.links) at
             (All-from_recursion (λ (link : LLink). is_within dims link.in_what ≡ true) metric.links
             (all_pass (λ (link : LLink). is_within dims link.in_what) metric.links of_links));
-        slices = subst (λ (found : Option LPredicate). All
-            (λ (slice : LSlice). MayBeFieldsOf found slice.in_what) metric.slices) at
-            (subst (λ (made : List LSlice). All
-            (λ (slice : LSlice). MayBeFieldsOf (predicate_named scope what) slice.in_what) made)
-            (sym same_slices) slices);
+        slices = subst (λ (found : Option LPredicate). All (λ (slice : LSlice). MayBeFieldsOf found slice.in_what) metric.slices) at
+            (subst (λ (made : List LSlice). All (λ (slice : LSlice). MayBeFieldsOf (predicate_named scope what) slice.in_what) made) (sym same_slices) slices);
       }

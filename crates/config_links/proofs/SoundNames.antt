@@ -90,8 +90,7 @@ module _ {A : Type 0} (test : A → Bool) where
   -- where all pass, each does
   pub all_pass : (xs : List A) → list_all test xs ≡ true → AllByRecursion (λ x. test x ≡ true) xs
   all_pass [] h = tt
-  all_pass (x ∷ xs) h =
-      (first_passes (test x) (list_all test xs) h, all_pass xs (others_pass (test x) (list_all test xs) h))
+  all_pass (x ∷ xs) h = (first_passes (test x) (list_all test xs) h, all_pass xs (others_pass (test x) (list_all test xs) h))
 
 known_step : (is : Bool) (id : ℤ) (more : Option ℤ) → (if is then more else Some id) ≡ None
     → (is ≡ true) × (more ≡ None)

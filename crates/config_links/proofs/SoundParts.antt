@@ -84,16 +84,14 @@ set_from_one greatest None is = absurd (cc)
 -- the leaves of a tree that isn't ill-formed are a set
 pub set_is_set : (tree : Option FieldMatcher) → may_stand tree ≡ true → IsFieldSet (set_or_none tree)
 set_is_set (Some tree) is = answer_is_set (Ok (set_of tree)) tree (is, refl)
-set_is_set None is =
-    record { each = λ k d within. absurd (omega arith); once = λ i j d before within. absurd (omega arith) }
+set_is_set None is = record { each = λ k d within. absurd (omega arith); once = λ i j d before within. absurd (omega arith) }
 
 limit_step : (within : Bool) (found : LinkFault) → (if within then None else Some found) ≡ None → within ≡ true
 limit_step true found h = refl
 limit_step false found h = absurd (cc)
 
 -- a number within its limit, or the one that an absent one stands for
-pub bound_fits : (reason : ℕ) (bound : Option ℤ) → number_limit reason most_bound bound ≡ None
-    → IsBound (bound_or_default bound)
+pub bound_fits : (reason : ℕ) (bound : Option ℤ) → number_limit reason most_bound bound ≡ None → IsBound (bound_or_default bound)
 bound_fits reason None h = (omega arith, omega arith)
 bound_fits reason (Some (pos n)) h =
     let is : is_number_to most_bound (Some (pos n)) ≡ true = limit_step _ _ h in
@@ -101,21 +99,18 @@ bound_fits reason (Some (pos n)) h =
 bound_fits reason (Some (negsuc n)) h = absurd (cc)
 
 -- the operation of a combination takes as many children
-pub combo_takes : (op : Option Operation) (count : ℕ) → is_combo op count ≡ true
-    → takes_children (operation_or_and op) count ≡ true
+pub combo_takes : (op : Option Operation) (count : ℕ) → is_combo op count ≡ true → takes_children (operation_or_and op) count ≡ true
 combo_takes (Some op) count h = h
 combo_takes None count h = absurd (cc)
 
 combo_sound : (known : List ℤ) (op : Option Operation) (children : List ℤ) → is_combo op (length children) ≡ true
     → takes_children (operation_or_and op) (length (map (place_in known) children)) ≡ true
 combo_sound known op children is =
-    ap (takes_children (operation_or_and op)) (length-map children (place_in known))
-    ∙ combo_takes op (length children) is
+    ap (takes_children (operation_or_and op)) (length-map children (place_in known)) ∙ combo_takes op (length children) is
 
 module _ (known : List ℤ) (count : ℕ) (few : length known ≤ count) where
   -- the places of children that are known
-  children_within : (ids : List ℤ) → first_unknown known (map Some ids) ≡ None
-      → AreWithin count (map (place_in known) ids)
+  children_within : (ids : List ℤ) → first_unknown known (map Some ids) ≡ None → AreWithin count (map (place_in known) ids)
   children_within ids names =
       All-from_recursion (λ place. place < count) (map (place_in known) ids) (all_within known count few ids names)
 
@@ -162,8 +157,7 @@ module _ (known : List ℤ) (count : ℕ) (few : length known ≤ count) where
       let lt : place_in known id < length known = place_within known id both.0 in
       (omega (arith, lt, few), both.1)
 
-module _ (matchers predicates : List ℤ) (some many : ℕ) (few : length matchers ≤ some)
-    (few_too : length predicates ≤ many) where
+module _ (matchers predicates : List ℤ) (some many : ℕ) (few : length matchers ≤ some) (few_too : length predicates ≤ many) where
   predicate_body_sound : (def : PredicateDef) (body : Option PredicateBody)
       → first_unknown matchers (matchers_of_predicate (record def { body = body })) ≡ None
       → first_unknown predicates (predicates_of_predicate (record def { body = body })) ≡ None
@@ -245,8 +239,7 @@ predicate_names_again matchers known (Some (predicate.Combo combo)) = refl
 predicate_names_again matchers known None = refl
 
 pub predicate_links_again : (matchers known : List ℤ) (defs : List PredicateDef)
-    → map (places_of known) (map predicate_node defs) ≡ map named_predicates
-    (map (linked_predicate matchers known) defs)
+    → map (places_of known) (map predicate_node defs) ≡ map named_predicates (map (linked_predicate matchers known) defs)
 predicate_links_again matchers known [] = refl
 predicate_links_again matchers known (def ∷ defs) =
     let first = predicate_names_again matchers known def.body in

@@ -39,30 +39,25 @@ fields_step false sets found has others = others
 fields_of : (links : List StateLinkSets) (atom : ℕ) → AllByRecursion HasSet links → HasFields (slice_fields links atom)
 fields_of [] atom all = tt
 fields_of (sets ∷ links) atom all =
-    fields_step (is_atom atom sets.atom_id) sets
-    (find (λ (sets : StateLinkSets). is_atom atom sets.atom_id) links) all.0
+    fields_step (is_atom atom sets.atom_id) sets (find (λ (sets : StateLinkSets). is_atom atom sets.atom_id) links) all.0
     (fields_of links atom all.1)
 
 -- a state link that stands and fits has a set
 sets_of : (defs : List StateLinkDef) (atoms : List ℕ) → list_all state_link_stands defs ≡ true
-    → list_all (fits_state atoms) (map sets_of_state_link defs) ≡ true
-    → AllByRecursion HasSet (map sets_of_state_link defs)
+    → list_all (fits_state atoms) (map sets_of_state_link defs) ≡ true → AllByRecursion HasSet (map sets_of_state_link defs)
 sets_of [] atoms stand fit = tt
 sets_of (def ∷ defs) atoms stand fit =
     let in_what = set_or_none def.in_what in
     let in_state = set_or_none def.in_state in
     let stands = left_holds (state_link_stands def) (list_all state_link_stands defs) stand in
-    let fits = left_holds (fits_state atoms (sets_of_state_link def))
-    (list_all (fits_state atoms) (map sets_of_state_link defs)) fit in
+    let fits = left_holds (fits_state atoms (sets_of_state_link def)) (list_all (fits_state atoms) (map sets_of_state_link defs)) fit in
     let even = left_holds (are_as_many in_what in_state) (is_atom in_state.atom_id def.atom_id && rise in_state.leaves)
     (right_holds (list_any (λ atom. is_atom atom def.atom_id) atoms) _ fits) in (
       (
         set_is_set def.in_what (left_holds (may_stand def.in_what) (may_stand def.in_state) stands),
-        not_zero (length in_what.leaves)
-            (left_holds (not (length in_what.leaves == 0)) (length in_what.leaves == length in_state.leaves) even),
+        not_zero (length in_what.leaves) (left_holds (not (length in_what.leaves == 0)) (length in_what.leaves == length in_state.leaves) even),
       ),
-      sets_of defs atoms (right_holds (state_link_stands def) _ stand)
-          (right_holds (fits_state atoms (sets_of_state_link def)) _ fit),
+      sets_of defs atoms (right_holds (state_link_stands def) _ stand) (right_holds (fits_state atoms (sets_of_state_link def)) _ fit),
     )
 
 module _ (scope : Scope) (many : length scope.ids.states ≤ length scope.states) (links : List StateLinkSets) where
@@ -70,8 +65,7 @@ module _ (scope : Scope) (many : length scope.ids.states ≤ length scope.states
       → AllByRecursion (IsSoundSlice (length scope.states)) (map (linked_slice scope links) ids)
   slices_by [] known all = tt
   slices_by (id ∷ ids) known all =
-      let below : place_in scope.ids.states id < length scope.ids.states =
-      place_below (int_eq id) scope.ids.states known.0 in (
+      let below : place_in scope.ids.states id < length scope.ids.states = place_below (int_eq id) scope.ids.states known.0 in (
         record { within = omega (arith, below, many); fields = fields_of links (state_atom scope id) all },
         slices_by ids known.1 all,
       )
@@ -103,6 +97,5 @@ module _ (scope : Scope) (many : length scope.ids.states ≤ length scope.states
       (apart_without_repeat (λ one other. one == other) Decides-eqb (sliced_atoms scope ids) none))
 
 pub has_sets : (defs : List StateLinkDef) (atoms : List ℕ) → list_all state_link_stands defs ≡ true
-    → list_all (fits_state atoms) (map sets_of_state_link defs) ≡ true
-    → AllByRecursion HasSet (map sets_of_state_link defs)
+    → list_all (fits_state atoms) (map sets_of_state_link defs) ≡ true → AllByRecursion HasSet (map sets_of_state_link defs)
 has_sets defs atoms stand fit = sets_of defs atoms stand fit

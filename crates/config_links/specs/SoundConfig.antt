@@ -78,9 +78,8 @@ IsSoundPredicate matchers predicates predicate = IsSoundBody matchers predicates
 -- a state is told by an atom
 abbrev pub IsSoundState : LState → Type 0
 IsSoundState state = IsFromOne greatest_atom_id state.atom_id
-    -- a link of a metric with this condition: to a simple predicate that the condition is or reaches, with as many
-    leaves on
 
+-- a link of a metric with this condition: to a simple predicate that the condition is or reaches, with as many leaves on
 -- both sides, which are among that predicate's dimensions
 pub record IsSoundLink (predicates : List LPredicate) (condition : Option ℕ) (link : LLink) : Type 0 where
   pub within : link.predicate < length predicates
@@ -147,8 +146,7 @@ pub record IsSoundDuration (linked : Linked) (metric : LMetric) (spec : PredSpec
   pub kept : spec ≡ record timed { bound = metric.bound }
   pub dims : AreFieldsOf (slice_get linked.predicates metric.what) metric.dims
   pub links : All (λ (link : LLink). AreFieldsOf (slice_get linked.predicates metric.what) link.in_what) metric.links
-  pub slices : All (λ (slice : LSlice). MayBeFieldsOf
-      (slice_get linked.predicates metric.what) slice.in_what) metric.slices
+  pub slices : All (λ (slice : LSlice). MayBeFieldsOf (slice_get linked.predicates metric.what) slice.in_what) metric.slices
 
 -- a value's leaf picks one entry
 abbrev pub IsValueLeaf : LeafPath → Type 0
@@ -183,12 +181,10 @@ pub record IsSoundMetric (linked : Linked) (metric : LMetric) : Type 0 where
   pub dims : IsFieldSet metric.dims
   pub bound : IsBound metric.bound
   pub slices : All (IsSoundSlice (length linked.states)) metric.slices
-  pub atoms : AllPairs
-      (λ (slice later : LSlice). slice_atom linked.states slice ≢ slice_atom linked.states later) metric.slices
+  pub atoms : AllPairs (λ (slice later : LSlice). slice_atom linked.states slice ≢ slice_atom linked.states later) metric.slices
   pub kind : IsSoundKind linked metric metric.kind
-      -- a configuration: each entity is sound, there are as few as may be, no combination is below itself, and no two of a
-      kind
 
+-- a configuration: each entity is sound, there are as few as may be, no combination is below itself, and no two of a kind
 -- have the same id
 pub record IsSoundConfig (linked : Linked) : Type 0 where
   pub few_matchers : length linked.matchers ≤ 800

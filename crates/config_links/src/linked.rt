@@ -93,7 +93,7 @@ pub struct LGroup {
 pub struct LSlice {
     /// The place of the state.
     pub state: u32,
-    /// The fields of the atom that is counted that make the state's key; none where the metric has no link to the state.
+    /// The fields of the atom that is counted that make the state's key; none where the metric has no link to it.
     pub in_what: Option<FieldSet>,
 }
 

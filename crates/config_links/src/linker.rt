@@ -1,5 +1,5 @@
 //! A configuration, linked.
-ghost use Rattle.std.specs.Prelude.{◌≡◌, None, map};
+ghost use Rattle.std.specs.Prelude.{◌≡◌, None, map, IfOk};
 ghost use Rattle.std.specs.List.{All};
 ghost use Rattle.link_graph.specs.Links.{AreInRange};
 ghost use Rattle.link_rules.specs.declared.entities.Metric.{Metric};
@@ -9,6 +9,7 @@ ghost use Rattle.config_links.specs.LinkedForm.{linked_matcher, linked_predicate
 ghost use Rattle.config_links.specs.LinkMetrics.{linked_metric};
 ghost use Rattle.config_links.specs.LinkScopes.{named_predicates};
 ghost use Rattle.config_links.specs.MetricKinds.{TakesFew};
+ghost use Rattle.config_links.specs.SoundConfig.{IsSoundConfig};
 ghost use Rattle.config_links.specs.Verdict.{verdict, linked_form, entities_linked, bad_part_fault, bad_metric_fault, bad_type_fault, hidden_fault};
 
 use crate::matchers::matchers_in;
@@ -128,6 +129,7 @@ fn linked_config(alloc: Global, config: Config, uid: i32) -> Result<Linked, Link
 /// Looks up the references of a client's configuration, or names its first fault.
 pub fn link(alloc: Global, config: Config, uid: i32) -> Result<Linked, LinkError>
     ensures linked { Links result (verdict config) (linked_form config uid) }
+    ensures sound { IfOk result IsSoundConfig }
 {
     linked_config(alloc, config, uid)
 }

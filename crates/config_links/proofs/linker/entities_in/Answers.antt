@@ -9,4 +9,4 @@ use Rattle.config_links.proofs.linker.entities_in.Goals as goal
 pub last_in-requires-clause-in_range : goal.last_in-requires-clause-in_range
 last_in-requires-clause-in_range c =
     in_range_by c.args.entities c.args.ids c.in_ok-matchers.predicates c.requires.ready c.requires.ids
-    (ap (λ (parts : List LMatcher × List LPredicate × List LState). parts.1.0) c.in_ok-matchers.ensures.1)
+    (ap (λ (parts : List LMatcher × List LPredicate × List LState). parts.1) c.in_ok-matchers.ensures.1)
