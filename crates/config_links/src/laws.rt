@@ -8,7 +8,8 @@ ghost use Rattle.config_links.specs.SoundLaws.{AreSoundAtPlaces, ReferencesEnd, 
 
 /// A configuration without a fault has a sound linked form, for whatever client.
 pub fn linked_forms_are_sound()
-    ensures { (config : Config) (uid : ℤ) → verdict config ≡ None → IsSoundConfig (linked_form config uid) }
+    ensures { (config : Config) (uid : ℤ) →
+        verdict config ≡ None → IsSoundConfig (linked_form config uid) }
 {}
 
 /// In a sound configuration what stands at a place is sound.
@@ -16,7 +17,8 @@ pub fn each_entity_is_sound()
     ensures { (linked : Linked) → IsSoundConfig linked → AreSoundAtPlaces linked }
 {}
 
-/// In a sound configuration references lead to places that are there, and no list of them is as long as there are places.
+/// In a sound configuration references lead to places that are there, and no list of them is as long as there are
+/// places.
 pub fn references_end()
     ensures { (linked : Linked) → IsSoundConfig linked → ReferencesEnd linked }
 {}

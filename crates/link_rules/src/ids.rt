@@ -40,7 +40,8 @@ pub fn no_id_fault(entities: &Entities) -> Option<LinkFault>
 /// The ids of a kind, in config order, or the first that stood before.
 pub fn ids_of<E: Entity>(alloc: Global, kind: u8, entities: &[E]) -> Result<Known, LinkError>
     requires { length entities.now ≤ 800 }
-    ensures { Links result (duplicate_in kind (map E.id entities.now)) (set_ids (map E.id entities.now)) }
+    ensures { Links result (duplicate_in kind (map E.id entities.now))
+        (set_ids (map E.id entities.now)) }
 {
     let mut ids = Known::new(alloc);
     for entity in entities {

@@ -9,7 +9,7 @@ pub returns-in_err-refuse_references : goal.returns-in_err-refuse_references
 unfolding rule_fault
 returns-in_err-refuse_references c =
     let p = err_from_is_err_and c.from_residual-in_err-refuse_references.result
-        c.from_residual-in_err-refuse_references.ensures.1 in
+    c.from_residual-in_err-refuse_references.ensures.1 in
     let e = c.args.entities.now in
     let none : id_fault e ≡ None = c.in_ok-ids.ensures.0 in
     rw (p.1, p.2)
