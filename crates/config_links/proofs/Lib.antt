@@ -6,5 +6,6 @@ pub mod SoundSlices
 pub mod SoundKinds
 pub mod SoundMetrics
 pub mod SoundLemmas
+pub mod SoundUses
 mod ReadyLemmas
 mod LinkWorked
