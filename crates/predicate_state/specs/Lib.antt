@@ -1,0 +1,3 @@
+pub mod PredicateStates
+pub mod PredicateTruths
+pub mod PredicateTable
