@@ -1,3 +1,4 @@
 pub mod CountLemmas
 pub mod StateLemmas
 pub mod BindLemmas
+pub mod FormLemmas

@@ -3,7 +3,7 @@
 
 mod bind;
 mod event;
-// mod flat;
+mod flat;
 mod table;
 mod truth;
 

@@ -19,9 +19,9 @@ use std::marker::Model;
 /// The keys of a simple predicate that were started or stopped, with the number of starts that were not yet stopped.
 #[derive(Drop)]
 pub struct PredTable {
-    spec: PredSpec,
-    unknown: bool,
-    counts: Guarded<DimKey, u64>,
+    pub(crate) spec: PredSpec,
+    pub(crate) unknown: bool,
+    pub(crate) counts: Guarded<DimKey, u64>,
 }
 
 impl Model for PredTable {
