@@ -2,3 +2,4 @@ pub mod CountLemmas
 pub mod StateLemmas
 pub mod BindLemmas
 pub mod FormLemmas
+mod Worked
