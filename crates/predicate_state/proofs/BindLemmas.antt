@@ -1,12 +1,11 @@
 -- Places that are bound, and the walk over the listed keys that answers a question.
-use Rattle.std.proofs.Common.{◌≡◌, ℕ, zero, suc, ◌+◌, ◌<◌, ◌≤◌, Bool, true, false, cond, ◌&&◌, ◌||◌, if◌then◌else◌, nat_lt, List, [], ◌∷◌, length, map, filter, drop, get_or, slice_get, Some, refl, sym, ap, ◌∙◌, inl, inr, arith}
+use Rattle.std.proofs.Common.{◌≡◌, ℕ, zero, suc, ◌+◌, ◌<◌, ◌≤◌, Bool, true, false, cond, ◌&&◌, ◌||◌, if◌then◌else◌, nat_lt, List, [], ◌∷◌, length, map, filter, drop, slice_get, Some, refl, sym, ap, ◌∙◌, inl, inr, arith}
 use Rattle.std.specs.List.{list_any}
 use Rattle.std.proofs.lemmas.Bool.{cases_eq, true≢false}
 use Rattle.std.proofs.lemmas.List.{at_drop_more, drop_all}
 use Rattle.std.proofs.lemmas.Option.{get_or_from_slice_get, slice_get_within}
 use Rattle.atom_record.specs.declared.value.Leaf.{Leaf}
-use Rattle.predicate_state.specs.declared.truth.Truth.{Truth}
-use Rattle.predicate_state.specs.declared.truth.Truth.TheVariants.{False, Unknown, True}
+use Rattle.predicate_state.specs.declared.truth.Truth.TheVariants.{False, True}
 use Rattle.predicate_state.specs.declared.bind.Bind.{Bind}
 use Rattle.predicate_state.specs.PredicateTruths.{default_truth, count_truth, agrees, is_place_bound, are_leaves_bound, agreeing_counts, truth_of_one, truth_of_some, truth_of_entries}
 
@@ -22,13 +21,14 @@ one_unbound binds (suc leaves) place within unbound = elim (cases_eq place leave
 ]
 
 -- an entry that agrees comes before the others that do
-agreeing-cons : (binds : List Bind) (row : List Leaf × ℕ) (rows : List (List Leaf × ℕ))
+pub agreeing-cons : (binds : List Bind) (row : List Leaf × ℕ) (rows : List (List Leaf × ℕ))
     → agreeing_counts binds (row ∷ rows)
     ≡ cond (agrees binds row.0) (row.1 ∷ agreeing_counts binds rows) (agreeing_counts binds rows)
 agreeing-cons binds row rows = by (agrees binds row.0)
   where
     those : List (List Leaf × ℕ)
     those = filter (λ (entry : List Leaf × ℕ). agrees binds entry.0) rows
+
     by : (b : Bool) → map (λ (entry : List Leaf × ℕ). entry.1) (cond b (row ∷ those) those)
         ≡ cond b (row.1 ∷ map (λ (entry : List Leaf × ℕ). entry.1) those)
         (map (λ (entry : List Leaf × ℕ). entry.1) those)

@@ -1,5 +1,5 @@
 -- For the build of tables: a table is saved as its parts.
-use Rattle.std.proofs.Common.{◌≡◌, ℕ, ◌+◌, length, Bool, true, false, Option, Some, None, Err, Result, Ok, List, refl, sym, ap, subst, ◌∙◌, arith}
+use Rattle.std.proofs.Common.{◌≡◌, ℕ, ◌+◌, length, Bool, true, false, None, Err, List, refl, sym, ap, subst, ◌∙◌, arith}
 use Rattle.flat_form.specs.declared.item.Item.{Item}
 use Rattle.flat_form.specs.declared.flat_error.FlatError.{FlatError}
 use Rattle.flat_form.specs.declared.flat_error.FlatError.TheVariants.{Bad}
@@ -7,7 +7,7 @@ use Rattle.flat_form.specs.Flat.{Anything, IsValidPair, StandsAt, IsBuilt, Build
 use Rattle.flat_form.proofs.FlatLaws as laws
 use Rattle.dim_table.specs.TableItems.{table_items, IsTable}
 use Rattle.predicate_state.specs.PredicateTable.{PredicateTable}
-use Rattle.predicate_state.specs.PredicateItems.{flag_number, key_table, predicate_items, IsPredicateTable}
+use Rattle.predicate_state.specs.PredicateItems.{flag_number, predicate_items, IsPredicateTable}
 use Rattle.predicate_state.specs.PredicateForm.{Form, form_of, HasForm, IsMadeOf}
 
 -- their items

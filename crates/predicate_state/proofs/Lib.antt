@@ -3,3 +3,4 @@ pub mod StateLemmas
 pub mod BindLemmas
 pub mod FormLemmas
 mod Worked
+pub mod OneKeyLemmas

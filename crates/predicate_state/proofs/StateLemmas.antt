@@ -1,5 +1,5 @@
 -- A predicate's state, one event at a time, and the table that has it.
-use Rattle.std.proofs.Common.{◌≡◌, ◌≢◌, ℕ, zero, suc, ◌+◌, ◌<◌, Bool, true, false, not, ◌&&◌, ◌==◌, if◌then◌else◌, nat_lt, List, [], ◌∷◌, ◌++◌, length, position, Contains, Option, Some, Result, Ok, Err, OnOk, refl, sym, ap, subst, ◌∙◌, arith, ⊎_elim}
+use Rattle.std.proofs.Common.{◌≡◌, ◌≢◌, ℕ, ◌+◌, ◌<◌, Bool, true, false, not, ◌&&◌, ◌==◌, if◌then◌else◌, nat_lt, List, [], ◌∷◌, ◌++◌, length, position, Contains, Some, Result, Ok, Err, OnOk, refl, sym, ap, subst, ◌∙◌, arith, ⊎_elim}
 use Rattle.std.specs.Map.{keys_of, lookup}
 use Rattle.std.proofs.lemmas.Bool.{lt-ltb, le-ltb}
 use Rattle.config_types.specs.declared.parameters.PredSpec.{PredSpec}
@@ -10,9 +10,9 @@ use Rattle.dim_table.specs.Table.{Table, keys, set_value_at, IsThere, IsNew, Adm
 use Rattle.dim_table.proofs.KeyLemmas.{Contains-from_place}
 use Rattle.predicate_state.specs.declared.event.PredEvent.{PredEvent}
 use Rattle.predicate_state.specs.declared.event.PredEvent.TheVariants.{Start, Stop}
-use Rattle.predicate_state.specs.PredicateStates.{PredicateState, KeyEvent, count_after_start, count_after_stop, with_new_key, with_key_count, without_key, state_after_start, state_after_stop, state_after, state_from, predicate_after}
+use Rattle.predicate_state.specs.PredicateStates.{PredicateState, KeyEvent, count_after_start, count_after_stop, with_new_key, with_key_count, without_key, state_after_start, state_after_stop, state_after, state_from}
 use Rattle.predicate_state.proofs.CountLemmas.{set_at_position}
-use Rattle.predicate_state.specs.PredicateTable.{PredicateTable, LeafKey, same_leaves, with_state, PredTableStandsFor, AppliesEvent}
+use Rattle.predicate_state.specs.PredicateTable.{PredicateTable, LeafKey, same_leaves, with_state, AppliesEvent}
 
 module _ {K : Type 0} (same : K → K → Bool) (spec : PredSpec) where
   -- one more event acts on what the others left

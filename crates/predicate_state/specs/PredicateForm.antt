@@ -10,9 +10,13 @@ Form = ((ℕ × ℕ) × (ℕ × ℕ)) × Table LeafKey ℕ
 
 -- the parts of a table
 abbrev pub form_of : PredicateTable → Form
-form_of table =
-    (((flag_number table.spec.nesting, flag_number table.spec.unknown),
-    (table.spec.leaves, flag_number table.state.unknown)), key_table table)
+form_of table = (
+  (
+    (flag_number table.spec.nesting, flag_number table.spec.unknown),
+    (table.spec.leaves, flag_number table.state.unknown),
+  ),
+  key_table table,
+)
 
 -- the table has these parts, and its keys have so many leaves
 pub record HasForm (form : Form) (table : PredicateTable) : Type 0 where

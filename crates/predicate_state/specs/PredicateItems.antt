@@ -1,9 +1,9 @@
 -- The items of a predicate's table, and which tables there are.
-use Rattle.std.specs.Prelude.{◌≡◌, ℕ, ◌<◌, ◌≤◌, ◌^◌, Bool, true, false, List, ◌∷◌, length, All}
+use Rattle.std.specs.Prelude.{ℕ, ◌<◌, ◌≤◌, ◌^◌, Bool, true, false, List, ◌∷◌, length, All}
 use Rattle.std.proofs.Common.{arith}
 use Rattle.flat_form.specs.declared.item.Item.{Item}
 use Rattle.flat_form.specs.declared.item.Item.TheVariants.{Num}
-use Rattle.flat_form.specs.Flat.{Anything, number_items, dims_items, pair_items}
+use Rattle.flat_form.specs.Flat.{Anything, number_items, dims_items}
 use Rattle.flat_form.specs.Weight.{most_items}
 use Rattle.flat_form.specs.Savable.{AreSavable, AreShortLeaves}
 use Rattle.flat_form.specs.SavableLaws.{items_savable, number_savable, dims_savable}

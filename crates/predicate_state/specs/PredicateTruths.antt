@@ -1,5 +1,5 @@
 -- What a question to a predicate is answered: of one key, and of all keys that agree with some binds.
-use Rattle.std.specs.Prelude.{ℕ, zero, suc, ◌==◌, Bool, true, false, ◌&&◌, nat_lt, List, [], ◌∷◌, map, filter, slice_get, Option, Some, None, if◌then◌else◌}
+use Rattle.std.specs.Prelude.{◌≡◌, ℕ, zero, suc, ◌==◌, Bool, true, false, ◌&&◌, nat_lt, List, [], ◌∷◌, length, map, filter, slice_get, Option, Some, None, if◌then◌else◌}
 use Rattle.std.specs.List.{list_all, list_any}
 use Rattle.std.specs.Map.{lookup}
 use Rattle.atom_record.specs.declared.value.Leaf.{Leaf}
@@ -67,3 +67,9 @@ truth_of_entries is_one unknown binds counts =
 -- the answer to a question, where keys have so many leaves
 abbrev pub binds_truth : ℕ → PredicateState (List Leaf) → List Bind → Truth
 binds_truth leaves state binds = truth_of_entries (are_leaves_bound binds leaves) state.unknown binds state.counts
+
+-- The binds ask for each leaf of this key.
+pub record NamesKey (leaves : ℕ) (binds : List Bind) (key : List Leaf) : Type 0 where
+  pub size : length key ≡ leaves
+  pub all : are_leaves_bound binds leaves ≡ true
+  pub agree : agrees binds key ≡ true

@@ -23,7 +23,8 @@ fn flag_number(flag: bool) -> u64
 
 // The truth that a number is, or none where it is another number.
 fn flag_of(number: u64) -> Option<bool>
-    ensures { MatchOption result ((flag : Bool) → ¬ (flag_number flag ≡ number)) (λ flag. flag_number flag ≡ number) }
+    ensures { MatchOption result ((flag : Bool) → ¬ (flag_number flag ≡ number))
+        (λ flag. flag_number flag ≡ number) }
 {
     match number {
         0 => Some(false),
@@ -100,17 +101,16 @@ impl Flat for PredTable {
     }
 
     fn flatten(&self, alloc: Global, out: &mut Items) -> Result<(), AllocError> {
-        let kept = (flag_number(self.spec.nesting), flag_number(self.spec.unknown));
+        let kept = (
+            flag_number(self.spec.nesting),
+            flag_number(self.spec.unknown),
+        );
         let known = (self.spec.leaves as u64, flag_number(self.unknown));
         (kept, known).flatten(alloc, out)?;
         self.counts.flatten(alloc, out)
     }
 
-    fn build(
-        alloc: Global,
-        items: &Items,
-        place: usize,
-    ) -> Result<(PredTable, usize), FlatError> {
+    fn build(alloc: Global, items: &Items, place: usize) -> Result<(PredTable, usize), FlatError> {
         let (form, next) = Form::build(alloc, items, place)?;
         let Some(table) = restore(form) else {
             return Err(FlatError::Bad);

@@ -6,8 +6,8 @@ ghost use Rattle.bucket_meaning.specs.Limits.{most_keys};
 ghost use Rattle.dim_table.specs.Table.{set_value_at};
 ghost use Rattle.predicate_state.specs.declared.event.PredEvent.TheVariants.{Start, Stop};
 ghost use Rattle.predicate_state.specs.PredicateStates.{initial_state, with_new_key, without_key, state_after, count_after_start, count_after_stop};
-ghost use Rattle.predicate_state.specs.PredicateTruths.{default_truth, count_truth, key_truth, binds_truth, agrees, is_leaf, are_leaves_bound, is_place_bound};
-ghost use Rattle.predicate_state.specs.PredicateTable.{same_leaves, with_state, PredTableStandsFor, AppliesEvent};
+ghost use Rattle.predicate_state.specs.PredicateTruths.{default_truth, count_truth, key_truth, binds_truth, NamesKey, agrees, is_leaf, are_leaves_bound, is_place_bound};
+ghost use Rattle.predicate_state.specs.PredicateTable.{LeafKey, same_leaves, with_state, PredTableStandsFor, AppliesEvent};
 
 use crate::{Bind, PredEvent, Truth};
 use atom_record::{DimKey, Leaf};
@@ -31,9 +31,13 @@ impl Model for PredTable {
 
     ghost Value = { PredicateTable };
 
-    ghost view = { λ t. record { spec = t.spec; state = record { unknown = t.unknown; counts = t.counts.rows; dropped = t.counts.dropped } } };
+    ghost view = { λ t. record {
+      spec = t.spec;
+      state = record { unknown = t.unknown; counts = t.counts.rows; dropped = t.counts.dropped };
+    } };
 
-    ghost invariant = { λ t. (t.counts.bound ≡ t.spec.bound) × HaveLeaves t.spec.leaves t.counts.rows };
+    ghost invariant = { λ t. (t.counts.bound ≡ t.spec.bound)
+        × HaveLeaves t.spec.leaves t.counts.rows };
 }
 
 impl PredTable {
@@ -169,6 +173,17 @@ impl PredTable {
 
     /// The truth over all keys that agree with the binds. Where every leaf is bound, that is the truth of one key.
     pub fn any(&self, binds: &[Bind]) -> Truth
+        ensures truth { result ≡ binds_truth self.now.spec.leaves self.now.state binds.now }
+        ensures one_key { (key : LeafKey) → NamesKey self.now.spec.leaves binds.now key
+            → result ≡ key_truth same_leaves self.now.state key }
+    {
+        // That each key has as many leaves as the spec is what makes it the one.
+        let _leaves = self.spec.leaves;
+        self.first_that_decides(binds)
+    }
+
+    // The truth that the first deciding entry has, or that of an absent key.
+    fn first_that_decides(&self, binds: &[Bind]) -> Truth
         ensures { result ≡ binds_truth self.now.spec.leaves self.now.state binds.now }
     {
         let is_one = are_leaves_bound(binds, self.spec.leaves);

@@ -15,11 +15,7 @@ use std::test::*;
 type PairEvent = (PredEvent, Short, Short);
 
 // A table of keys of two leaves, after these events.
-fn table_of(
-    alloc: Global,
-    spec: PredSpec,
-    events: &[PairEvent],
-) -> Result<PredTable, AllocError>
+fn table_of(alloc: Global, spec: PredSpec, events: &[PairEvent]) -> Result<PredTable, AllocError>
     requires least { 1 ≤ spec.bound }
     requires most { spec.bound ≤ 3000 }
     requires leaves { spec.leaves ≡ 2 }
@@ -95,8 +91,14 @@ fn answers_by_the_keys_that_agree(rt: HostRuntime) -> Result<(), Fail> {
     let open = table_of(rt.alloc(), spec(true, true, 9, 2), &EVENTS)?;
     let known = table_of(rt.alloc(), spec(true, false, 9, 2), &EVENTS)?;
     for (binds, where_unknown, where_known) in &QUESTIONS {
-        assert!(rt; answers(rt.alloc(), &open, binds, *where_unknown)?, "at {binds:?}");
-        assert!(rt; answers(rt.alloc(), &known, binds, *where_known)?, "at {binds:?}");
+        assert!(rt;
+            answers(rt.alloc(), &open, binds, *where_unknown)?,
+            "at {binds:?}"
+        );
+        assert!(rt;
+            answers(rt.alloc(), &known, binds, *where_known)?,
+            "at {binds:?}"
+        );
     }
     Ok(())
 }
@@ -133,7 +135,10 @@ fn a_predicate_without_dimensions_is_always_bound(rt: HostRuntime) -> Result<(),
     for (events, truth) in rows {
         let table = single(rt.alloc(), events)?;
         assert!(rt; table.any(&[]) == truth, "at {events:?}");
-        assert!(rt; table.truth(&Seq::new(rt.alloc())) == truth, "at {events:?}");
+        assert!(rt;
+            table.truth(&Seq::new(rt.alloc())) == truth,
+            "at {events:?}"
+        );
     }
     Ok(())
 }
@@ -149,8 +154,14 @@ fn locks_are_held_by_uid_and_tag(rt: HostRuntime) -> Result<(), Fail> {
     // held from the first lock to the last one's end
     for (seen, truth) in [(0, False), (1, True), (2, True), (3, True), (4, False)] {
         let table = table_of(rt.alloc(), spec(true, false, 800, 2), &events[..seen])?;
-        assert!(rt; answers(rt.alloc(), &table, &[(0, One(1000))], truth)?, "at {seen}");
-        assert!(rt; answers(rt.alloc(), &table, &[(0, One(1001))], False)?, "at {seen}");
+        assert!(rt;
+            answers(rt.alloc(), &table, &[(0, One(1000))], truth)?,
+            "at {seen}"
+        );
+        assert!(rt;
+            answers(rt.alloc(), &table, &[(0, One(1001))], False)?,
+            "at {seen}"
+        );
     }
     Ok(())
 }

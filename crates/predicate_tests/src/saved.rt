@@ -76,7 +76,10 @@ fn builds_the_tables_that_may_be(rt: HostRuntime) -> Result<(), Fail> {
         let items = numbers(rt.alloc(), &row)?;
         let (table, next) = PredTable::build(rt.alloc(), &items, 0)?;
         assert!(rt; next == 7 && table.len() == 0, "at {row:?}");
-        assert!(rt; table.any(&[]) == truth && table.dropped() == row[5], "at {row:?}");
+        assert!(rt;
+            table.any(&[]) == truth && table.dropped() == row[5],
+            "at {row:?}"
+        );
     }
     Ok(())
 }

@@ -1,4 +1,4 @@
-use Rattle.std.proofs.Common.{sym, ◌∙◌}
+use Rattle.std.proofs.Common.{sym}
 use Rattle.predicate_state.proofs.BindLemmas.{one_unbound}
 use Rattle.predicate_state.proofs.table.are_leaves_bound.Goals as goal
 

@@ -1,8 +1,7 @@
 -- A new key is listed last, or dropped.
-use Rattle.std.proofs.Common.{◌≡◌, Contains, sym, subst}
+use Rattle.std.proofs.Common.{Contains, sym, subst}
 use Rattle.std.specs.Map.{keys_of}
-use Rattle.predicate_state.specs.PredicateTable.{PredicateTable, with_state}
-use Rattle.predicate_state.specs.PredicateStates.{with_new_key}
+use Rattle.predicate_state.specs.PredicateTable.{PredicateTable}
 use Rattle.predicate_state.proofs.StateLemmas.{new_key}
 use Rattle.predicate_state.proofs.table.PredTable.append.Goals as goal
 

@@ -10,6 +10,7 @@ pub returns : goal.returns
 returns c = rw (← c.self.view_is) refl
 
 pub invariant_of-self-2 : goal.invariant_of-self-2
-invariant_of-self-2 c =
-    (c.self.invariant.0,
-    leaves_kept c.self.inside.spec.leaves c.self.inside.counts.rows c.args.place c.args.count c.self.invariant.1)
+invariant_of-self-2 c = (
+  c.self.invariant.0,
+  leaves_kept c.self.inside.spec.leaves c.self.inside.counts.rows c.args.place c.args.count c.self.invariant.1,
+)

@@ -1,6 +1,6 @@
-use Rattle.std.proofs.Common.{◌≡◌, drop, false}
+use Rattle.std.proofs.Common.{◌≡◌, drop}
 use Rattle.predicate_state.specs.PredicateTruths.{truth_of_entries}
-use Rattle.predicate_state.proofs.table.PredTable.any.Given as goal
+use Rattle.predicate_state.proofs.table.PredTable.first_that_decides.Given as goal
 
 -- the entries from here on give the answer
 abbrev pub invariant-loop-place : goal.invariant-loop-place
