@@ -19,7 +19,7 @@ use Rattle.link_rules.specs.EntityIds.{no_id_fault, duplicate_id_fault, matcher_
 use Rattle.link_rules.specs.EntityLimits.{limit_fault}
 use Rattle.link_rules.specs.EntityNames.{unknown_matcher_fault, unknown_predicate_fault, unknown_state_fault}
 use Rattle.link_rules.specs.LinkFaults.{fault}
-use Rattle.link_rules.specs.Rules.{rule_fault, id_fault, reference_fault, name_fault}
+use Rattle.link_rules.specs.LinkRules.{rule_fault, id_fault, reference_fault, name_fault}
 use Rattle.config_links.specs.LinkMetrics.{bad_rest}
 use Rattle.config_links.specs.MetricKinds.{bad_kind}
 use Rattle.config_links.specs.MetricLinks.{bad_links}

@@ -25,7 +25,7 @@ use Rattle.link_rules.specs.EntityIds.{no_id_fault, duplicate_id_fault, set_ids,
 use Rattle.link_rules.specs.EntityNames.{first_unknown, predicates_of_predicate, predicates_of_metric, unknown_in, unknown_predicates, unknown_predicate_fault, unknown_matcher_fault, unknown_state_fault}
 use Rattle.link_rules.specs.LinkFaults.{fault, unknown_predicate, predicate_kind, first_in}
 use Rattle.link_rules.specs.Cycles.{cycle_fault}
-use Rattle.link_rules.specs.Rules.{rule_fault, id_fault, reference_fault, name_fault, ids_in}
+use Rattle.link_rules.specs.LinkRules.{rule_fault, id_fault, reference_fault, name_fault, ids_in}
 use Rattle.link_rules.proofs.LinkFaultLemmas.{none_of, none_in}
 use Rattle.config_links.specs.declared.linked.LPredicate.{LPredicate}
 use Rattle.config_links.specs.LinkedForm.{linked_predicate}

@@ -27,7 +27,7 @@ use Rattle.config_links.specs.declared.linked.LLink.{LLink}
 use Rattle.config_links.specs.declared.scope.Scope.{Scope}
 use Rattle.config_links.specs.declared.sets.StateLinkSets.{StateLinkSets}
 use Rattle.config_links.specs.LinkScopes.{predicate_named, spec_in, dims_in, is_pulled_matcher, names_pulled, state_atom}
-use Rattle.config_links.specs.MetricLinks.{is_among, is_within}
+use Rattle.config_links.specs.MetricLinks.{are_one_of, is_within}
 use Rattle.config_links.specs.MetricSlices.{are_within, slice_fields, linked_slice, linked_slices, is_atom}
 use Rattle.config_links.specs.MetricKinds.{is_value_set, first_leaf, may_sample, no_spec, timed_spec, sampling_mode, sampled_fields}
 use Rattle.config_links.specs.declared.linked.Linked.{Linked}

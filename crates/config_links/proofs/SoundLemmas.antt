@@ -23,7 +23,7 @@ use Rattle.link_rules.specs.EntityLimits.{limit_fault, limits, predicate_limit, 
 use Rattle.link_rules.specs.EntityIds.{no_id_from, set_ids, id_of_matcher, id_of_predicate, id_of_state, id_of_metric, missing_ids, duplicate_ids, no_id_fault, duplicate_id_fault, matcher_ids, predicate_ids, state_ids, metric_ids}
 use Rattle.link_rules.specs.EntityNames.{first_unknown, matchers_of_matcher, matchers_of_predicate, matchers_of_metric, predicates_of_predicate, predicates_of_metric, states_of_metric, unknown_matchers, unknown_predicates, unknown_matcher_fault, unknown_predicate_fault, unknown_state_fault}
 use Rattle.link_rules.specs.Cycles.{predicate_node, cycle_fault}
-use Rattle.link_rules.specs.Rules.{id_fault, name_fault, reference_fault, rule_fault}
+use Rattle.link_rules.specs.LinkRules.{id_fault, name_fault, reference_fault, rule_fault}
 use Rattle.link_rules.proofs.LinkFaultLemmas.{none_of, none_in}
 use Rattle.link_rules.proofs.ResolveLemmas.{few_entities, predicate_ids_are, matchers_have_no_cycle, predicates_have_no_cycle}
 use Rattle.config_links.specs.declared.linked.Linked.{Linked}

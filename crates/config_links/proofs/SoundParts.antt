@@ -22,7 +22,7 @@ use Rattle.field_select.specs.WellFormed.{is_number_to, number_or_zero, set_of}
 use Rattle.field_select.proofs.LeafLemmas.{answer_is_set}
 use Rattle.link_rules.specs.declared.fault.LinkFault.{LinkFault}
 use Rattle.link_rules.specs.LinkFaults.{first_of, first_in, first_reason, fault, past_limit}
-use Rattle.link_rules.specs.EntityLimits.{number_limit, predicate_limit, bound_or_default, most_bound, default_bound, number_or}
+use Rattle.link_rules.specs.EntityLimits.{number_limit, predicate_limit, bound_or_default, most_bound, absent_bound, number_or}
 use Rattle.link_rules.specs.EntityIds.{place_in}
 use Rattle.link_rules.specs.EntityNames.{first_unknown, matchers_of_matcher, matchers_of_predicate, predicates_of_predicate}
 use Rattle.link_rules.specs.Cycles.{child_matchers, child_predicates, matcher_node, predicate_node, places_of}

@@ -70,8 +70,8 @@ abbrev pub is_one_of : ℕ → List LeafPath → ℕ → LeafPath → Bool
 is_one_of atom leaves own leaf = (own == atom) && list_any (same_leaf leaf) leaves
 
 -- each leaf of a set is one of these, and of the same atom
-abbrev pub is_among : ℕ → List LeafPath → FieldSet → Bool
-is_among atom leaves set = list_all (is_one_of atom leaves set.atom_id) set.leaves
+abbrev pub are_one_of : ℕ → List LeafPath → FieldSet → Bool
+are_one_of atom leaves set = list_all (is_one_of atom leaves set.atom_id) set.leaves
 
 -- the dimensions of a predicate, in a table
 abbrev pub table_of : FieldSet → DimsTable
@@ -79,7 +79,7 @@ table_of set = record { atom_id = set.atom_id; leaves = set.leaves }
 
 -- each leaf of a set is one of these dimensions, and of the same atom
 abbrev pub is_within : FieldSet → FieldSet → Bool
-is_within dims set = is_among dims.atom_id dims.leaves set
+is_within dims set = are_one_of dims.atom_id dims.leaves set
 
 -- the dimensions of a link's predicate
 abbrev pub link_dims : Scope → LinkSets → FieldSet

@@ -16,7 +16,7 @@ use Rattle.config_links.specs.declared.scope.Scope.{Scope}
 use Rattle.config_links.specs.declared.sets.StateLinkSets.{StateLinkSets}
 use Rattle.config_links.specs.LinkReasons.{least_reason}
 use Rattle.config_links.specs.LinkScopes.{predicate_named, spec_in, dims_in, names_pulled, state_atom}
-use Rattle.config_links.specs.MetricLinks.{are_as_many, is_among}
+use Rattle.config_links.specs.MetricLinks.{are_as_many, are_one_of}
 
 -- a duration times a simple predicate
 abbrev pub times_simple : Scope → Kind → ℤ → Bool
@@ -26,8 +26,8 @@ times_simple scope _ what = true
 -- the fields of these sets of a metric are among these leaves, and of this atom
 abbrev pub are_among : ℕ → List LeafPath → FieldSet → List LLink → List StateLinkSets → Bool
 are_among atom leaves dims links state_links =
-    is_among atom leaves dims && (list_all (λ (link : LLink). is_among atom leaves link.in_what) links
-    && list_all (λ (sets : StateLinkSets). is_among atom leaves sets.in_what) state_links)
+    are_one_of atom leaves dims && (list_all (λ (link : LLink). are_one_of atom leaves link.in_what) links
+    && list_all (λ (sets : StateLinkSets). are_one_of atom leaves sets.in_what) state_links)
 
 -- the fields of these sets of a metric are among these dimensions
 abbrev pub are_within : FieldSet → FieldSet → List LLink → List StateLinkSets → Bool

@@ -12,7 +12,7 @@ use Rattle.link_rules.specs.Entities.{entities_of}
 use Rattle.link_rules.specs.EntityIds.{matcher_ids, predicate_ids, metric_ids}
 use Rattle.link_rules.specs.EntityNames.{first_unknown}
 use Rattle.link_rules.specs.LinkFaults.{fault, first_of, first_in}
-use Rattle.link_rules.specs.Rules.{ids_in, rule_fault}
+use Rattle.link_rules.specs.LinkRules.{ids_in, rule_fault}
 use Rattle.config_links.specs.declared.linked.LMatcher.{LMatcher}
 use Rattle.config_links.specs.declared.linked.LPredicate.{LPredicate}
 use Rattle.config_links.specs.declared.linked.LState.{LState}

@@ -4,7 +4,7 @@ ghost use Rattle.std.specs.List.{All};
 ghost use Rattle.link_graph.specs.Links.{AreInRange};
 ghost use Rattle.link_rules.specs.declared.entities.Metric.{Metric};
 ghost use Rattle.link_rules.specs.LinkFaults.{Links};
-ghost use Rattle.link_rules.specs.Rules.{ids_in, rule_fault};
+ghost use Rattle.link_rules.specs.LinkRules.{ids_in, rule_fault};
 ghost use Rattle.config_links.specs.LinkedForm.{linked_matcher, linked_predicate, linked_state};
 ghost use Rattle.config_links.specs.LinkMetrics.{linked_metric};
 ghost use Rattle.config_links.specs.LinkScopes.{named_predicates};

@@ -2,7 +2,7 @@
 ghost use Rattle.std.specs.Prelude.{◌≡◌, map, None};
 ghost use Rattle.link_rules.specs.LinkFaults.{Links, PassesTest};
 ghost use Rattle.config_links.specs.LinkReasons.{type_fault};
-ghost use Rattle.config_links.specs.MetricLinks.{is_one_of, is_among, leaf_place};
+ghost use Rattle.config_links.specs.MetricLinks.{is_one_of, are_one_of, leaf_place};
 
 use crate::reasons::type_fault;
 use distinct::Distinct;
@@ -41,7 +41,7 @@ impl DimsTable {
 
     /// Whether each leaf of a set is one of these, and of the same atom.
     pub fn covers(&self, set: &FieldSet) -> bool
-        ensures { result ≡ is_among self.now.atom_id self.now.leaves set.now }
+        ensures { result ≡ are_one_of self.now.atom_id self.now.leaves set.now }
     {
         for leaf in set.leaves.as_slice() {
             if !self.has(set.atom_id, leaf) {
@@ -81,7 +81,7 @@ impl DimsTable {
         id: Option<i64>,
         set: &FieldSet,
     ) -> Result<Seq<u32>, LinkError>
-        ensures { PassesTest result (is_among self.now.atom_id self.now.leaves set.now)
+        ensures { PassesTest result (are_one_of self.now.atom_id self.now.leaves set.now)
             (type_fault id 8) (map (leaf_place self.now.leaves) set.now.leaves) }
     {
         if !self.covers(set) {

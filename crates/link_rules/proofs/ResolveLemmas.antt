@@ -18,7 +18,7 @@ use Rattle.link_rules.specs.LinkFaults.{fault, duplicate_id, matcher_kind, predi
 use Rattle.link_rules.specs.EntityLimits.{limit_fault, AreFew}
 use Rattle.link_rules.specs.EntityIds.{no_id_from, set_ids, matcher_ids, predicate_ids, id_of_matcher, id_of_predicate, missing_ids, duplicate_ids, no_id_fault, duplicate_id_fault}
 use Rattle.link_rules.specs.EntityNames.{first_unknown, matchers_of_matcher, predicates_of_predicate, unknown_matchers, unknown_predicates, unknown_matcher_fault, unknown_predicate_fault, unknown_state_fault}
-use Rattle.link_rules.specs.Rules.{id_fault, name_fault}
+use Rattle.link_rules.specs.LinkRules.{id_fault, name_fault}
 use Rattle.link_rules.specs.Cycles.{child_matchers, child_predicates, matcher_node, predicate_node, matcher_links, predicate_links, matcher_cycle, predicate_cycle, matcher_cycle_fault, predicate_cycle_fault, cycle_fault}
 use Rattle.link_rules.specs.CycleNodes.{ResolvesIn}
 use Rattle.link_rules.proofs.LinkFaultLemmas.{none_of, none_in}

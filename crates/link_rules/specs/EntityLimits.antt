@@ -33,8 +33,8 @@ abbrev pub most_samples : ℕ
 most_samples = 100
 
 -- the bound of a predicate or a metric that names none
-abbrev pub default_bound : ℕ
-default_bound = 800
+abbrev pub absent_bound : ℕ
+absent_bound = 800
 
 -- the samples of a gauge that names no number of them
 abbrev pub default_samples : ℕ
@@ -51,7 +51,7 @@ number_or absent _ = absent
 
 -- a bound, or the one that an absent bound stands for
 abbrev pub bound_or_default : Option ℤ → ℕ
-bound_or_default bound = number_or default_bound bound
+bound_or_default bound = number_or absent_bound bound
 
 -- a simple predicate's bound
 abbrev pub predicate_limit : PredicateDef → Option LinkFault

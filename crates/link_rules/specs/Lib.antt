@@ -3,6 +3,6 @@ pub mod LinkFaults
 pub mod EntityLimits
 pub mod EntityIds
 pub mod EntityNames
-pub mod Rules
+pub mod LinkRules
 pub mod Cycles
 pub mod CycleNodes

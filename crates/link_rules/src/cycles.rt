@@ -1,7 +1,7 @@
 //! Matchers and predicates that reach themselves.
 ghost use Rattle.std.specs.Prelude.{◌≡◌, ◌≤◌, length, map, None, IfOk};
 ghost use Rattle.link_rules.specs.LinkFaults.{Links};
-ghost use Rattle.link_rules.specs.Rules.{ids_in, id_fault, name_fault};
+ghost use Rattle.link_rules.specs.LinkRules.{ids_in, id_fault, name_fault};
 ghost use Rattle.link_rules.specs.Cycles.{matcher_node, predicate_node, cycle_in, cycle_fault};
 ghost use Rattle.link_rules.specs.CycleNodes.{ResolvesIn, ArePlacesOf};
 ghost use Rattle.link_rules.specs.EntityIds.{place_in};

@@ -3,7 +3,7 @@ ghost use Rattle.std.specs.Prelude.{◌≡◌, None};
 ghost use Rattle.link_rules.specs.LinkFaults.{Links};
 ghost use Rattle.link_rules.specs.EntityLimits.{AreFew};
 ghost use Rattle.link_rules.specs.EntityIds.{duplicate_id_fault};
-ghost use Rattle.link_rules.specs.Rules.{ids_in, id_fault, name_fault, reference_fault, rule_fault};
+ghost use Rattle.link_rules.specs.LinkRules.{ids_in, id_fault, name_fault, reference_fault, rule_fault};
 
 use crate::cycles::refuse_cycles;
 use crate::entities::Entities;
@@ -43,7 +43,7 @@ fn all_ids(alloc: Global, entities: &Entities) -> Result<Ids, LinkError>
 }
 
 // The ids of all kinds, or the first fault of limits and ids.
-#[tactic(auto, using(crate::proofs::LimitLemmas::few), unfolding(crate::specs::Rules::id_fault))]
+#[tactic(auto, using(crate::proofs::LimitLemmas::few), unfolding(crate::specs::LinkRules::id_fault))]
 fn known_ids(alloc: Global, entities: &Entities) -> Result<Ids, LinkError>
     ensures { Links result (id_fault entities.now) (ids_in entities.now) }
 {
@@ -53,7 +53,7 @@ fn known_ids(alloc: Global, entities: &Entities) -> Result<Ids, LinkError>
 }
 
 // Refuses by the first name that leads nowhere.
-#[tactic(auto, unfolding(crate::specs::Rules::name_fault))]
+#[tactic(auto, unfolding(crate::specs::LinkRules::name_fault))]
 fn refuse_names(ids: &Ids, entities: &Entities) -> Result<(), LinkError>
     requires { ids.now ≡ ids_in entities.now }
     ensures { Links result (name_fault entities.now) tt }
@@ -64,7 +64,7 @@ fn refuse_names(ids: &Ids, entities: &Entities) -> Result<(), LinkError>
 }
 
 // Refuses by the first name that leads nowhere, or by what is below itself.
-#[tactic(auto, unfolding(crate::specs::Rules::reference_fault))]
+#[tactic(auto, unfolding(crate::specs::LinkRules::reference_fault))]
 fn refuse_references(alloc: Global, ids: &Ids, entities: &Entities) -> Result<(), LinkError>
     requires ids { ids.now ≡ ids_in entities.now }
     requires numbered { id_fault entities.now ≡ None }
@@ -75,7 +75,7 @@ fn refuse_references(alloc: Global, ids: &Ids, entities: &Entities) -> Result<()
 }
 
 /// The ids of all kinds, or the first fault of these rules.
-#[tactic(auto, unfolding(crate::specs::Rules::rule_fault))]
+#[tactic(auto, unfolding(crate::specs::LinkRules::rule_fault))]
 pub fn checked_ids(alloc: Global, entities: &Entities) -> Result<Ids, LinkError>
     ensures { Links result (rule_fault entities.now) (ids_in entities.now) }
 {

@@ -1,6 +1,6 @@
 use Rattle.std.proofs.Common.{◌≡◌, None, Err}
 use Rattle.std.proofs.lemmas.Result.{err_from_is_err_and}
-use Rattle.link_rules.specs.Rules.{rule_fault, id_fault, reference_fault}
+use Rattle.link_rules.specs.LinkRules.{rule_fault, id_fault, reference_fault}
 use Rattle.link_rules.proofs.LinkFaultLemmas.{breaks_second}
 use Rattle.link_rules.proofs.rules.checked_ids.Goals as goal
 
