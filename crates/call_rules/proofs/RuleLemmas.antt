@@ -1,4 +1,4 @@
--- Calls that may come from a standing on are admitted behind the calls that led there.
+-- Calls that may come from a standing on are admitted after the calls that led there.
 use Rattle.std.proofs.Common.{◌≡◌, ◌<◌, List, [], ◌∷◌, ◌++◌, refl, sym, subst, append_assoc, append-nil, arith}
 use Rattle.bucket_meaning.proofs.EndsLemmas.{crosses-le}
 use Rattle.bucket_meaning.specs.Limits.{time_limit}
@@ -14,6 +14,7 @@ module _ {Event : Type 0} (demands : Demands Event) where
   MayComeAll standing (call ∷ calls) = MayCome demands standing call
       × MayComeAll (after_call demands standing call) calls
 
+  -- how far two lists of calls come
   pub standing_from-append : {After : Type 0} (standing : Standing) (calls more : List (Call Event After))
       → standing_from demands standing (calls ++ more)
       ≡ standing_from demands (standing_from demands standing calls) more
@@ -21,6 +22,7 @@ module _ {Event : Type 0} (demands : Demands Event) where
   standing_from-append standing (call ∷ calls) more =
       standing_from-append (after_call demands standing call) calls more
 
+  -- calls that may come, and others that may come after them
   pub may_come-append : {After : Type 0} (standing : Standing) (calls more : List (Call Event After))
       → MayComeAll standing calls → MayComeAll (standing_from demands standing calls) more
       → MayComeAll standing (calls ++ more)
@@ -28,18 +30,20 @@ module _ {Event : Type 0} (demands : Demands Event) where
   may_come-append standing (call ∷ calls) more may others =
       (may.0, may_come-append (after_call demands standing call) calls more may.1 others)
 
-  -- the calls that come first, and those behind them
+  -- the calls that come first may come
   pub may_come-front : {After : Type 0} (standing : Standing) (calls more : List (Call Event After))
       → MayComeAll standing (calls ++ more) → MayComeAll standing calls
   may_come-front standing [] more may = tt
   may_come-front standing (call ∷ calls) more may =
       (may.0, may_come-front (after_call demands standing call) calls more may.1)
 
+  -- those after them may come, too
   pub may_come-back : {After : Type 0} (standing : Standing) (calls more : List (Call Event After))
       → MayComeAll standing (calls ++ more) → MayComeAll (standing_from demands standing calls) more
   may_come-back standing [] more may = may
   may_come-back standing (call ∷ calls) more may = may_come-back (after_call demands standing call) calls more may.1
 
+  -- calls that may come where others led are admitted after these
   pub admitted : {After : Type 0} (before calls : List (Call Event After))
       → MayComeAll (standing_of demands before) calls → AreAdmitted demands before calls
   admitted before [] may = tt
@@ -70,7 +74,7 @@ module _ {Event : Type 0} (demands : Demands Event) where
         (subst (λ b. IsAdmitted demands b call) (sym (append_assoc before (first ∷ []) calls)) may),
   )
 
-  -- what is admitted, by its two halves
+  -- what is admitted, by its two parts
   pub admits-append : {After : Type 0} (before calls more : List (Call Event After))
       → AreAdmitted demands before calls → AreAdmitted demands (before ++ calls) more
       → AreAdmitted demands before (calls ++ more)
@@ -88,12 +92,13 @@ module _ {Event : Type 0} (demands : Demands Event) where
       let reached = crosses-le may.moment (last_end crossings) (may.answer.reached) in
       omega (arith, reached, may.fits)
 
-  -- and the halves of what is admitted
+  -- the first part of what is admitted
   pub admits-front : {After : Type 0} (before calls more : List (Call Event After))
       → AreAdmitted demands before (calls ++ more) → AreAdmitted demands before calls
   admits-front before [] more all = tt
   admits-front before (first ∷ calls) more all = (all.0, admits-front (before ++ first ∷ []) calls more all.1)
 
+  -- and the second one
   pub admits-back : {After : Type 0} (before calls more : List (Call Event After))
       → AreAdmitted demands before (calls ++ more) → AreAdmitted demands (before ++ calls) more
   admits-back before [] more all = subst (λ b. AreAdmitted demands b more) (sym (append-nil before)) all

@@ -20,7 +20,8 @@ pub record Demands (Event : Type 0) : Type 0 where
   pub is_paired : Bool
   pub takes : Event → Bool
 
--- How far the calls have come: where the open part began, its full end, the time before which nothing more may come, and
+-- How far the calls have come: where the open part began, its full end, the time before which nothing more may come,
+-- and
 -- the time of an event whose condition is still to be told.
 pub record Standing : Type 0 where
   pub start : ℕ

@@ -37,7 +37,8 @@ cutting size false at = []
 
 module _ {News Event After : Type 0} (demands : Demands Event)
     (asks : List (LaneStep News) → Moment → News → List (Call Event After)) where
-  -- The calls of one step. A kind of metric says what it asks of its producer at a frame; all else is the same for each.
+  -- The calls of one step. A kind of metric says what it asks of its producer at a frame; all else is the same for
+  -- each.
   abbrev pub calls_at : List (LaneStep News) → LaneStep News → List (Call Event After)
   calls_at before (Logged moment news) =
       crossing demands.base demands.size (told_by before) moment ++ asks before moment news

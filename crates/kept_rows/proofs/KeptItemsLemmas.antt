@@ -47,7 +47,8 @@ module _ {R : Type 0} (valid : R → Type 0) (flat : R → List Item) where
       })
 
       -- the form that stands there is that of none
-      pub no_kept : ¬ (IsWithinWeight form.1 form.0.0) → Builds (IsKeeping valid) (kept_items flat) items place (Err Bad)
+      pub no_kept : ¬ (IsWithinWeight form.1 form.0.0)
+          → Builds (IsKeeping valid) (kept_items flat) items place (Err Bad)
       no_kept beyond = λ other other_valid there.
           let same = one.only (kept_form other) ((tt, tt), other_valid.rows_valid) there in
           beyond (subst (λ (f : KeptForm). IsWithinWeight f.1 f.0.0) same other_valid.within)

@@ -20,7 +20,8 @@ module _ {R : Type 0} (weight : R → ℕ) where
   kept_stop : (room : ℕ) (rows others : List R) (row : R) → sum_by weight rows ≤ room
       → room < sum_by weight rows + weight row → kept weight room (rows ++ row ∷ others) ≡ rows
   kept_stop room [] others row fits past =
-      ap (λ b. if b then row ∷ kept weight (room - weight row) others else []) (lt-leb (weight row) room (omega arith))
+      ap (λ b. if b then row ∷ kept weight (room - weight row) others else [])
+          (lt-leb (weight row) room (omega arith))
   kept_stop room (first ∷ rows) others row fits past =
       let sum = sum_by-cons weight first rows in
       ap (λ b. if b then first ∷ kept weight (room - weight first) (rows ++ row ∷ others) else [])
@@ -39,14 +40,17 @@ module _ {R : Type 0} (weight : R → ℕ) where
       (cases_lt room (weight row))
 
   -- where as many are kept as there are, all are
-  kept_whole : (room : ℕ) (rows : List R) → length rows ≤ length (kept weight room rows) → kept weight room rows ≡ rows
+  kept_whole : (room : ℕ) (rows : List R) → length rows ≤ length (kept weight room rows)
+      → kept weight room rows ≡ rows
   kept_whole room [] long = refl
   kept_whole room (row ∷ rows) long = ⊎_elim
       (λ (past : room < weight row). absurd
-      (let none = subst (λ b. length (row ∷ rows) ≤ length (if b then row ∷ kept weight (room - weight row) rows else []))
+      (let none = subst (λ b. length (row ∷ rows) ≤ length
+          (if b then row ∷ kept weight (room - weight row) rows else []))
       (lt-leb (weight row) room past) long in omega (arith, none)))
       (λ (fits : weight row ≤ room).
-      let some = subst (λ b. length (row ∷ rows) ≤ length (if b then row ∷ kept weight (room - weight row) rows else []))
+      let some = subst (λ b. length (row ∷ rows) ≤ length
+          (if b then row ∷ kept weight (room - weight row) rows else []))
       (le-leb (weight row) room fits) long in
       ap (λ b. if b then row ∷ kept weight (room - weight row) rows else []) (le-leb (weight row) room fits)
       ∙ ap (λ l. row ∷ l) (kept_whole (room - weight row) rows (omega (arith, some))))
@@ -61,7 +65,8 @@ module _ {R : Type 0} (weight : R → ℕ) where
       ap (λ b. if b then row ∷ kept weight (room - weight row) (rows ++ more) else []) (lt-leb (weight row) room past)
       ∙ sym (ap (λ b. if b then row ∷ kept weight (room - weight row) rows else []) (lt-leb (weight row) room past)))
       (λ (fits : weight row ≤ room).
-      let less = subst (λ b. length (if b then row ∷ kept weight (room - weight row) rows else []) < length (row ∷ rows))
+      let less = subst (λ b. length (if b then row ∷ kept weight (room - weight row) rows else []) < length
+          (row ∷ rows))
       (le-leb (weight row) room fits) short in
       ap (λ b. if b then row ∷ kept weight (room - weight row) (rows ++ more) else []) (le-leb (weight row) room fits)
       ∙ ap (λ l. row ∷ l) (kept_stays (room - weight row) rows more (omega (arith, less)))

@@ -7,7 +7,8 @@ use Rattle.kept_rows.proofs.kept.KeptRows.put.Goals.{then-self-gt0-via-then-self
 -- an earlier row wasn't kept, or this one doesn't fit
 pub returns-then-self-gt0-clause-stands : goal.returns-then-self-gt0-clause-stands
 returns-then-self-gt0-clause-stands g c = λ weigh same.
-    let old : Keeping _ = record { rows = c.self.inside.rows; used = c.self.inside.used; others = c.self.inside.others } in
+    let old : Keeping _ = record { rows = c.self.inside.rows; used = c.self.inside.used;
+        others = c.self.inside.others } in
     rw (← c.self.view_is) (elim c.then-self-gt0.branch [
       | then-self-gt0-via-then-self-gt0 w ↦ passes weigh old (c.args.row ∷ []) 1 c.saturating_add-self-inside.result
           (omega (arith, w.if-self-gt0.true)) refl (omega (arith, c.saturating_add-self-inside.ensures))
