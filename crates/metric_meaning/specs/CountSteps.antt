@@ -6,12 +6,11 @@ use Rattle.atom_record.specs.declared.value.MetricKey.{MetricKey}
 use Rattle.bucket_meaning.specs.Marks.{Mark, Came, no_edges}
 use Rattle.bucket_meaning.specs.Kept.{Taken}
 use Rattle.bucket_meaning.specs.Rows.{report}
-use Rattle.call_rules.specs.Calls.{Call}
-use Rattle.call_rules.specs.LaneCalls.{calls_of, event_asks, event_demands}
+use Rattle.call_rules.specs.LaneCalls.{calls_of, event_asks}
 use Rattle.field_select.specs.LeafValues.{key_of}
 use Rattle.config_links.specs.declared.linked.LMetric.{LMetric}
 use Rattle.count_metric.specs.declared.row.Row.{Row}
-use Rattle.count_metric.specs.Counting.{counting}
+use Rattle.count_metric.specs.Counting.{count_kind, CountParams, CountCall, count_demands}
 use Rattle.metric_meaning.specs.Histories.{What, Logged, Step, truth_at, lane_step}
 use Rattle.metric_meaning.specs.StepMarks.{StepNews, marks_to}
 
@@ -38,9 +37,13 @@ count_news metric = record { edges = λ before. no_edges; comes = λ before step
 -- what a report shows of a metric of counts, which is made after these steps
 abbrev pub counts_shown : ℕ → LMetric → List Step → Bool → ℕ → Taken (Row ℕ)
 counts_shown base metric steps include_current now =
-    report counting metric.bound base (marks_to (count_news metric) base metric.size steps include_current now)
+    report count_kind metric.bound base (marks_to (count_news metric) base metric.size steps include_current now)
 
--- the calls that these steps make of a metric's producer of counts
-abbrev pub count_calls : ℕ → LMetric → List Step → List (Call MetricKey (Unit {0}))
+-- what a metric's producer of counts is made with
+abbrev pub count_params : ℕ → LMetric → CountParams
+count_params base metric = record { base = base; size = metric.size; bound = metric.bound }
+
+-- the calls that these steps make of it
+abbrev pub count_calls : ℕ → LMetric → List Step → List CountCall
 count_calls base metric steps =
-    calls_of (event_demands base metric.size) event_asks (map (lane_step (arrival_at metric)) steps)
+    calls_of (count_demands (count_params base metric)) event_asks (map (lane_step (arrival_at metric)) steps)

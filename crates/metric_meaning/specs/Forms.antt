@@ -1,5 +1,5 @@
 -- The form of the configurations that are acted on so far.
-use Rattle.std.specs.Prelude.{Bool, true, false, ◌&&◌, ◌==◌, List, length, is_none}
+use Rattle.std.specs.Prelude.{Bool, true, false, ◌&&◌, ◌==◌, length, is_none}
 use Rattle.std.specs.List.{list_all}
 use Rattle.config_links.specs.declared.linked.Linked.{Linked}
 use Rattle.config_links.specs.declared.linked.LMetric.{LMetric}

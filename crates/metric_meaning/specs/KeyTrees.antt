@@ -7,7 +7,7 @@ use Rattle.atom_record.specs.declared.value.MetricKey.{MetricKey}
 use Rattle.bucket_meaning.specs.Guard.{firsts}
 use Rattle.report_writer.specs.declared.tree.LeafTree.{LeafTree}
 use Rattle.count_metric.specs.declared.row.Row.{Row}
-use Rattle.count_metric.specs.Counting.{same_key}
+use Rattle.count_metric.specs.Counting.{is_same_key}
 
 -- the values of one leaf, at its place in the key: one for each of many, and one without a value where there is none
 abbrev pub leaf_trees : ℕ → Leaf → List LeafTree
@@ -25,8 +25,8 @@ module _ {V B T : Type 0} (tree : List LeafTree → List Slice → List B → T)
   -- the rows of one key
   abbrev pub group_of : List (Row V) → MetricKey → T
   group_of rows key =
-      tree (key_trees 0 key.dims) key.slices (map bucket (filter (λ (row : Row V). same_key row.key key) rows))
+      tree (key_trees 0 key.dims) key.slices (map bucket (filter (λ (row : Row V). is_same_key row.key key) rows))
 
   -- the rows by their keys
   abbrev pub groups_of : List (Row V) → List T
-  groups_of rows = map (group_of rows) (firsts same_key [] (map (λ (row : Row V). row.key) rows))
+  groups_of rows = map (group_of rows) (firsts is_same_key [] (map (λ (row : Row V). row.key) rows))

@@ -1,7 +1,6 @@
 -- The report of a history, as a tree.
 use Rattle.std.specs.Prelude.{ℕ, ℤ, pos, ◌-◌, ◌^◌, min, Bool, List, [], ◌∷◌, map, filter}
 use Rattle.bucket_meaning.specs.Kept.{Taken}
-use Rattle.config_links.specs.declared.linked.Linked.{Linked}
 use Rattle.config_links.specs.declared.linked.LMetric.{LMetric}
 use Rattle.config_links.specs.declared.linked.LKind.{LKind}
 use Rattle.config_links.specs.declared.linked.LKind.TheVariants.{Count}
