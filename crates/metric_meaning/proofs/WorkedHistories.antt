@@ -1,5 +1,5 @@
 -- Worked histories and what reports show of them, by computing.
-use Rattle.std.proofs.Common.{◌≡◌, ℕ, pos, Bool, true, false, List, [], ◌∷◌, None, refl}
+use Rattle.std.proofs.Common.{◌≡◌, ℕ, ℤ, pos, Bool, true, false, List, [], ◌∷◌, Some, None, refl}
 use Rattle.atom_record.specs.declared.value.Value.TheVariants.{Str}
 use Rattle.atom_record.specs.declared.value.Leaf.TheVariants.{Missing, One}
 use Rattle.atom_record.specs.declared.log.LogFrame.{LogFrame}
@@ -10,6 +10,12 @@ use Rattle.config_links.specs.declared.linked.LKind.TheVariants.{Count}
 use Rattle.count_metric.specs.declared.row.Row.{Row}
 use Rattle.metric_meaning.specs.Histories.{Logged, Reported, Step}
 use Rattle.metric_meaning.specs.CountSteps.{counts_shown}
+use Rattle.config_links.specs.declared.linked.Linked.{Linked}
+use Rattle.metric_meaning.specs.Forms.{is_built}
+use Rattle.report_writer.specs.declared.tree.LeafTree.{LeafTree}
+use Rattle.report_writer.specs.declared.tree.NumBucket.{NumBucket}
+use Rattle.report_writer.specs.declared.tree.MetricBody.TheVariants.{Counts}
+use Rattle.metric_meaning.specs.Reports.{report_of}
 
 -- the metric 100 counts what the matcher at 0 means, by field 1 of the atoms of id 5, in buckets of 1,000, two keys each
 abbrev guarded : LMetric
@@ -90,7 +96,8 @@ pull_at_an_end = refl
 
 -- truths are taken as they are handed in, also where the atom says otherwise
 truths_are_handed_in : counts_shown 0 guarded
-    (logged 1 (AtomAt 1 (record { id = 6; fields = [] })) (true ∷ []) ∷ logged 2 (AtomAt 2 (record { id = 5; fields = [] })) (false ∷ []) ∷ []) true 2
+    (logged 1 (AtomAt 1 (record { id = 6; fields = [] })) (true ∷ [])
+    ∷ logged 2 (AtomAt 2 (record { id = 5; fields = [] })) (false ∷ []) ∷ []) true 2
     ≡ record {
       rows = record { key = record { dims = Missing ∷ []; slices = [] }; start = 0; end = 2; value = 1 } ∷ [];
       not_kept = 0;
@@ -98,3 +105,47 @@ truths_are_handed_in : counts_shown 0 guarded
       missing = 0;
     }
 truths_are_handed_in = refl
+
+-- the configuration of this one metric, with any matcher
+abbrev configured : Linked
+configured = record { matchers = []; predicates = []; states = []; metrics = guarded ∷ [] }
+
+-- it has the form that is acted on
+form_is_built : is_built configured ≡ true
+form_is_built = refl
+
+-- a leaf with a text
+abbrev text_leaf : ℕ → LeafTree
+text_leaf letter = record { place = 0; value = Some (Str (letter ∷ [])) }
+
+-- a bucket with a count
+abbrev bucket : ℕ → ℕ → ℤ → NumBucket
+bucket start end count = record { start = start; end = end; value = count }
+
+-- a report groups the rows of two buckets by their keys, and tells the clock at the report before
+two_buckets : report_of
+    (record { base = 0; linked = configured; steps = asked 0 false ∷ texted 1 65 ∷ texted 2 66 ∷ texted 1003 65 ∷ [] })
+    (pos 10) (pos 7) true 1003 ≡ record {
+      uid = pos 10;
+      id = pos 7;
+      last = 0;
+      now = 1003;
+      metrics = record {
+        id = pos 100;
+        base = 0;
+        size = 1000;
+        dropped = 0;
+        not_kept = 0;
+        missing = 0;
+        body = Counts (record {
+          leaves = text_leaf 65 ∷ [];
+          slices = [];
+          buckets = bucket 0 1000 (pos 1) ∷ bucket 1000 1003 (pos 1) ∷ [];
+        } ∷ record { leaves = text_leaf 66 ∷ []; slices = []; buckets = bucket 0 1000 (pos 1) ∷ [] } ∷ []);
+      } ∷ [];
+      predicate_drops = [];
+      state_drops = [];
+      state_atoms_dropped = 0;
+    }
+unfolding report_of
+two_buckets = refl
