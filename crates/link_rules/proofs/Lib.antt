@@ -1,0 +1,2 @@
+pub mod LinkFaultLemmas
+pub mod LimitLemmas
