@@ -24,9 +24,13 @@ pub record History : Type 0 where
   pub linked : Linked
   pub steps : List Step
 
+-- a history with more steps
+abbrev pub with_steps : History → List Step → History
+with_steps history more = record history { steps = history.steps ++ more }
+
 -- a history with one step more
 abbrev pub with_step : History → Step → History
-with_step history step = record history { steps = history.steps ++ step ∷ [] }
+with_step history step = with_steps history (step ∷ [])
 
 -- the truth at a place
 abbrev pub truth_at : ℕ → List Bool → Bool
