@@ -1,4 +1,3 @@
-mod Worked
 pub mod LogLaws
 pub mod LiveLaws
 pub mod AnswerLaws
