@@ -1,5 +1,5 @@
 -- What a kind of metric can't be, and its linked form.
-use Rattle.std.specs.Prelude.{ℕ, ℤ, pos, ◌==◌, Bool, true, false, not, ◌&&◌, ◌||◌, List, [], ◌∷◌, length, Option, Some, None, is_none, is_some, if◌then◌else◌}
+use Rattle.std.specs.Prelude.{ℕ, ℤ, pos, ◌==◌, Bool, true, false, not, ◌&&◌, ◌||◌, ◌≤◌, List, [], ◌∷◌, length, Option, Some, None, is_none, is_some, if◌then◌else◌}
 use Rattle.std.specs.Option.{option_map, unwrap_or}
 use Rattle.config_types.specs.declared.fields.Position.{Position}
 use Rattle.config_types.specs.declared.metric.SamplingType.{SamplingType}
@@ -135,9 +135,14 @@ duration_form true spec = kinds.MaxSparse spec
 duration_form false spec = kinds.SumDuration spec
 
 -- a kind of metric
-abbrev pub linked_kind : Scope → ℤ → ℕ → Kind → LKind
+unfoldable pub linked_kind : Scope → ℤ → ℕ → Kind → LKind
 linked_kind scope what bound Event = kinds.Event
 linked_kind scope what bound Count = kinds.Count
 linked_kind scope what bound (Value value) = value_form (names_pulled scope what) value (set_or_none value.field)
 linked_kind scope what bound (Gauge gauge) = gauge_form scope (names_pulled scope what) gauge (set_or_none gauge.fields)
 linked_kind scope what bound (Duration max_sparse) = duration_form max_sparse (timed_spec scope what bound)
+
+-- a gauge takes few samples of a key
+abbrev pub TakesFew : Kind → Type 0
+TakesFew (Gauge gauge) = samples_of gauge ≤ 100
+TakesFew _ = Unit {0}

@@ -4,10 +4,8 @@ use Rattle.std.specs.Option.{option_map, unwrap_or}
 use Rattle.std.specs.Ordering.{int_eq}
 use Rattle.std.specs.List.{list_all, list_any, find}
 use Rattle.distinct.specs.Repeats.{repeat_in}
-use Rattle.config_types.specs.declared.metric.StateLinkDef.{StateLinkDef}
 use Rattle.field_select.specs.declared.leaf.FieldSet.{FieldSet}
 use Rattle.field_select.specs.declared.leaf.LeafPath.{LeafPath}
-use Rattle.link_rules.specs.declared.entities.Metric.{Metric}
 use Rattle.link_rules.specs.declared.entities.Kind.{Kind}
 use Rattle.link_rules.specs.declared.entities.Kind.TheVariants.{Event, Count, Value, Gauge, Duration}
 use Rattle.link_rules.specs.declared.fault.LinkFault.{LinkFault}
@@ -18,19 +16,22 @@ use Rattle.config_links.specs.declared.scope.Scope.{Scope}
 use Rattle.config_links.specs.declared.sets.StateLinkSets.{StateLinkSets}
 use Rattle.config_links.specs.LinkReasons.{least_reason}
 use Rattle.config_links.specs.LinkScopes.{predicate_named, spec_in, dims_in, names_pulled, state_atom}
-use Rattle.config_links.specs.MetricLinks.{are_as_many, is_within, linked_links}
-use Rattle.config_links.specs.MetricTrees.{metric_sets}
+use Rattle.config_links.specs.MetricLinks.{are_as_many, is_among}
 
 -- a duration times a simple predicate
 abbrev pub times_simple : Scope → Kind → ℤ → Bool
 times_simple scope (Duration max_sparse) what = is_some (spec_in (predicate_named scope what))
 times_simple scope _ what = true
 
+-- the fields of these sets of a metric are among these leaves, and of this atom
+abbrev pub are_among : ℕ → List LeafPath → FieldSet → List LLink → List StateLinkSets → Bool
+are_among atom leaves dims links state_links =
+    is_among atom leaves dims && (list_all (λ (link : LLink). is_among atom leaves link.in_what) links
+    && list_all (λ (sets : StateLinkSets). is_among atom leaves sets.in_what) state_links)
+
 -- the fields of these sets of a metric are among these dimensions
 abbrev pub are_within : FieldSet → FieldSet → List LLink → List StateLinkSets → Bool
-are_within timed dims links state_links =
-    is_within timed dims && (list_all (λ (link : LLink). is_within timed link.in_what) links
-    && list_all (λ (sets : StateLinkSets). is_within timed sets.in_what) state_links)
+are_within timed dims links state_links = are_among timed.atom_id timed.leaves dims links state_links
 
 -- the fields of what a duration times are among that predicate's dimensions
 abbrev pub is_timed_within : Scope → Kind → ℤ → FieldSet → List LLink → List StateLinkSets → Bool
@@ -107,19 +108,29 @@ abbrev pub linked_slice : Scope → List StateLinkSets → ℤ → LSlice
 linked_slice scope links id =
     record { state = place_in scope.ids.states id; in_what = slice_fields links (state_atom scope id) }
 
--- the slices of a metric
-abbrev pub linked_slices : Scope → Metric → List LSlice
-linked_slices scope metric = map (linked_slice scope (metric_sets metric).state_links) metric.sliced.slices
+-- slices by the states of these ids
+abbrev pub linked_slices : Scope → List StateLinkSets → List ℤ → List LSlice
+linked_slices scope links slices = map (linked_slice scope links) slices
 
--- what the times of a duration and the slices of a metric can't be
-abbrev pub slice_reasons : Scope → Metric → ℤ → List (ℕ × Bool)
-slice_reasons scope metric what =
-    (10, not (times_simple scope metric.kind what))
-    ∷ (11, not (is_timed_within scope metric.kind what (metric_sets metric).dims (linked_links scope metric) (metric_sets metric).state_links))
-    ∷ (12, not (fit_states (sliced_atoms scope metric.sliced.slices) (metric_sets metric).state_links))
-    ∷ (13, not (fit_slices scope metric.kind what metric.sliced.slices))
+-- what a duration can't time
+abbrev pub time_reasons : Scope → Kind → ℤ → FieldSet → List LLink → List StateLinkSets → List (ℕ × Bool)
+time_reasons scope kind what dims links state_links =
+    (10, not (times_simple scope kind what))
+    ∷ (11, not (is_timed_within scope kind what dims links state_links))
     ∷ []
 
--- the fault of what a duration times, or of the slices of a metric
-unfoldable pub bad_slices : Scope → Metric → ℤ → Option LinkFault
-bad_slices scope metric what = least_reason metric.common.id (slice_reasons scope metric what)
+-- the fault of what a duration of this id times
+unfoldable pub bad_times : Scope → Option ℤ → Kind → ℤ → FieldSet → List LLink → List StateLinkSets → Option LinkFault
+bad_times scope id kind what dims links state_links =
+    least_reason id (time_reasons scope kind what dims links state_links)
+
+-- what the slices of a metric can't be
+abbrev pub slice_reasons : Scope → Kind → ℤ → List ℤ → List StateLinkSets → List (ℕ × Bool)
+slice_reasons scope kind what slices state_links =
+    (12, not (fit_states (sliced_atoms scope slices) state_links))
+    ∷ (13, not (fit_slices scope kind what slices))
+    ∷ []
+
+-- the fault of the slices of a metric of this id
+unfoldable pub bad_slices : Scope → Option ℤ → Kind → ℤ → List ℤ → List StateLinkSets → Option LinkFault
+bad_slices scope id kind what slices state_links = least_reason id (slice_reasons scope kind what slices state_links)

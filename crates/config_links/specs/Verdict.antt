@@ -2,14 +2,17 @@
 use Rattle.std.specs.Prelude.{ℤ, List, [], ◌∷◌, map, Option, Some}
 use Rattle.std.specs.Option.{option_map}
 use Rattle.config_types.specs.declared.config.Config.{Config}
+use Rattle.config_types.specs.declared.matcher.MatcherDef.{MatcherDef}
+use Rattle.config_types.specs.declared.predicate.PredicateDef.{PredicateDef}
+use Rattle.config_types.specs.declared.state.StateDef.{StateDef}
 use Rattle.link_rules.specs.declared.entities.Entities.{Entities}
+use Rattle.link_rules.specs.declared.entities.Metric.{Metric}
 use Rattle.link_rules.specs.declared.fault.LinkFault.{LinkFault}
-use Rattle.link_rules.specs.Cycles.{cycle_fault}
 use Rattle.link_rules.specs.Entities.{entities_of}
 use Rattle.link_rules.specs.EntityIds.{matcher_ids, predicate_ids, metric_ids}
 use Rattle.link_rules.specs.EntityNames.{first_unknown}
 use Rattle.link_rules.specs.LinkFaults.{fault, first_of, first_in}
-use Rattle.link_rules.specs.Rules.{ids_in, id_fault, name_fault}
+use Rattle.link_rules.specs.Rules.{ids_in, rule_fault}
 use Rattle.config_links.specs.declared.linked.LMatcher.{LMatcher}
 use Rattle.config_links.specs.declared.linked.LPredicate.{LPredicate}
 use Rattle.config_links.specs.declared.linked.LState.{LState}
@@ -42,31 +45,29 @@ scope_of entities = record {
 }
 
 -- number 9 of matchers, predicates and states
-unfoldable pub bad_part_fault : Entities → Option LinkFault
-bad_part_fault entities = first_of
-    (first_in bad_matcher entities.matchers
-    ∷ first_in bad_predicate entities.predicates
-    ∷ first_in bad_state entities.states
-    ∷ [])
+unfoldable pub bad_part_fault : List MatcherDef → List PredicateDef → List StateDef → Option LinkFault
+bad_part_fault matchers predicates states = first_of
+    (first_in bad_matcher matchers ∷ first_in bad_predicate predicates ∷ first_in bad_state states ∷ [])
 
--- the first id without a metric, among those of metrics that no report shows
+-- the first id without a metric, where metrics have these ids, among those of metrics that no report shows
 abbrev pub hidden_fault : List ℤ → List ℤ → Option LinkFault
 hidden_fault known no_report = option_map (fault bad_type 19) (first_unknown known (map Some no_report))
 
--- number 9 of metrics, and last of those that no report shows
-unfoldable pub bad_metric_fault : Scope → Entities → Option LinkFault
-bad_metric_fault scope entities = first_of
-    (first_in (bad_metric scope) entities.metrics ∷ hidden_fault (metric_ids entities) entities.no_report ∷ [])
+-- number 9 of metrics, which have these ids, and last of those that no report shows
+unfoldable pub bad_metric_fault : Scope → List ℤ → List Metric → List ℤ → Option LinkFault
+bad_metric_fault scope known metrics no_report =
+    first_of (first_in (bad_metric scope) metrics ∷ hidden_fault known no_report ∷ [])
 
 -- number 9: the first entity that isn't what it should be
 unfoldable pub bad_type_fault : Entities → Option LinkFault
-bad_type_fault entities =
-    first_of (bad_part_fault entities ∷ bad_metric_fault (scope_of entities) entities ∷ [])
+bad_type_fault entities = first_of
+    (bad_part_fault entities.matchers entities.predicates entities.states
+    ∷ bad_metric_fault (scope_of entities) (metric_ids entities) entities.metrics entities.no_report
+    ∷ [])
 
--- the first fault, in the order of the numbers
+-- the first fault, in the order of the numbers: 1 to 8, and 9
 abbrev pub first_fault : Entities → Option LinkFault
-first_fault entities =
-    first_of (id_fault entities ∷ name_fault entities ∷ cycle_fault entities ∷ bad_type_fault entities ∷ [])
+first_fault entities = first_of (rule_fault entities ∷ bad_type_fault entities ∷ [])
 
 -- all metrics
 unfoldable pub metrics_linked : Scope → ℤ → Entities → List LMetric

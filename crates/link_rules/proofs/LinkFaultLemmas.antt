@@ -18,10 +18,12 @@ module _ {A B : Type 0} (gives : A → Option B) where
   none_in [] h = tt
   none_in (x ∷ xs) h = let both = neither (gives x) (first_in gives xs) h in (both.0, none_in xs both.1)
 
+  -- where none gives anything, none of what is behind the first does
   none_behind : (xs : List A) → first_in gives xs ≡ None → first_in gives (drop 1 xs) ≡ None
   none_behind [] h = refl
   none_behind (x ∷ xs) h = (neither (gives x) (first_in gives xs) h).1
 
+  -- where none of what is left gives anything, none behind its first does
   pub none_after : (xs : List A) (i : ℕ) → first_in gives (drop i xs) ≡ None → first_in gives (drop (i + 1) xs) ≡ None
   none_after xs i h = ap (first_in gives) (sym (drop-drop 1 i xs)) ∙ none_behind (drop i xs) h
 
@@ -37,8 +39,9 @@ no_reason [] h = tt
 no_reason ((reason, false) ∷ rows) h = (refl, no_reason rows h)
 no_reason ((reason, true) ∷ rows) h = absurd (cc)
 
--- a call between others names the fault of all, where those before it found none
-pub breaks : {T : Type 0} (early name late : Option LinkFault) (error : LinkError) (wanted : T)
-    → early ≡ None → Links {T = Unit {0}} (Err error) name tt → Links (Err error) (first_of (early ∷ name ∷ late ∷ [])) wanted
-breaks early name late (Fault found) wanted none is = rw (none, is) refl
-breaks early name late Memory wanted none is = tt
+-- a call names the fault of all, where what was judged before it has none
+pub breaks_second : {T : Type 0} (early second : Option LinkFault) (error : LinkError) (wanted : T)
+    → early ≡ None → Links {T = Unit {0}} (Err error) second tt
+    → Links (Err error) (first_of (early ∷ second ∷ [])) wanted
+breaks_second early second (Fault found) wanted none is = rw (none, is) refl
+breaks_second early second Memory wanted none is = tt

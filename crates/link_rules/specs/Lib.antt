@@ -4,3 +4,5 @@ pub mod EntityLimits
 pub mod EntityIds
 pub mod EntityNames
 pub mod Rules
+pub mod Cycles
+pub mod CycleNodes

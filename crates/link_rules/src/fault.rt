@@ -46,6 +46,10 @@ pub const UNKNOWN_PREDICATE: u8 = 5;
 
 pub const UNKNOWN_STATE: u8 = 6;
 
+pub const MATCHER_CYCLE: u8 = 7;
+
+pub const PREDICATE_CYCLE: u8 = 8;
+
 // The kinds of entities.
 
 pub const MATCHER: u8 = 1;

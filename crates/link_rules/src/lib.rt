@@ -1,6 +1,7 @@
 //! Whether a configuration is within its limits, and whether its references lead somewhere.
 #![tactic(auto)]
 
+mod cycles;
 mod entities;
 mod entity;
 mod fault;
@@ -15,4 +16,4 @@ pub use fault::{LinkError, LinkFault};
 pub use known::{Ids, Known};
 pub use limits::{number_or, samples_of};
 pub use names::first_unknown_child;
-pub use rules::{known_ids, refuse, refuse_names};
+pub use rules::{checked_ids, refuse};

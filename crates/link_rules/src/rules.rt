@@ -1,10 +1,11 @@
 //! The rules that a configuration has to keep before its entities are looked at one by one.
-ghost use Rattle.std.specs.Prelude.{◌≡◌};
+ghost use Rattle.std.specs.Prelude.{◌≡◌, None};
 ghost use Rattle.link_rules.specs.LinkFaults.{Links};
 ghost use Rattle.link_rules.specs.EntityLimits.{AreFew};
 ghost use Rattle.link_rules.specs.EntityIds.{duplicate_id_fault};
-ghost use Rattle.link_rules.specs.Rules.{ids_in, id_fault, name_fault};
+ghost use Rattle.link_rules.specs.Rules.{ids_in, id_fault, name_fault, reference_fault, rule_fault};
 
+use crate::cycles::refuse_cycles;
 use crate::entities::Entities;
 use crate::fault::{LinkError, LinkFault, MATCHER, METRIC, PREDICATE, STATE};
 use crate::ids::{ids_of, no_id_fault};
@@ -41,9 +42,9 @@ fn all_ids(alloc: Global, entities: &Entities) -> Result<Ids, LinkError>
     })
 }
 
-/// The ids of all kinds, or the first fault of limits and ids.
+// The ids of all kinds, or the first fault of limits and ids.
 #[tactic(auto, using(crate::proofs::LimitLemmas::few), unfolding(crate::specs::Rules::id_fault))]
-pub fn known_ids(alloc: Global, entities: &Entities) -> Result<Ids, LinkError>
+fn known_ids(alloc: Global, entities: &Entities) -> Result<Ids, LinkError>
     ensures { Links result (id_fault entities.now) (ids_in entities.now) }
 {
     refuse(limit_fault(entities))?;
@@ -51,13 +52,34 @@ pub fn known_ids(alloc: Global, entities: &Entities) -> Result<Ids, LinkError>
     all_ids(alloc, entities)
 }
 
-/// Refuses by the first name that leads nowhere.
+// Refuses by the first name that leads nowhere.
 #[tactic(auto, unfolding(crate::specs::Rules::name_fault))]
-pub fn refuse_names(ids: &Ids, entities: &Entities) -> Result<(), LinkError>
+fn refuse_names(ids: &Ids, entities: &Entities) -> Result<(), LinkError>
     requires { ids.now ≡ ids_in entities.now }
     ensures { Links result (name_fault entities.now) tt }
 {
     refuse(unknown_matcher_fault(&ids.matchers, entities))?;
     refuse(unknown_predicate_fault(&ids.predicates, entities))?;
     refuse(unknown_state_fault(&ids.states, entities))
+}
+
+// Refuses by the first name that leads nowhere, or by what is below itself.
+#[tactic(auto, unfolding(crate::specs::Rules::reference_fault))]
+fn refuse_references(alloc: Global, ids: &Ids, entities: &Entities) -> Result<(), LinkError>
+    requires ids { ids.now ≡ ids_in entities.now }
+    requires numbered { id_fault entities.now ≡ None }
+    ensures { Links result (reference_fault entities.now) tt }
+{
+    refuse_names(ids, entities)?;
+    refuse_cycles(alloc, ids, entities)
+}
+
+/// The ids of all kinds, or the first fault of these rules.
+#[tactic(auto, unfolding(crate::specs::Rules::rule_fault))]
+pub fn checked_ids(alloc: Global, entities: &Entities) -> Result<Ids, LinkError>
+    ensures { Links result (rule_fault entities.now) (ids_in entities.now) }
+{
+    let ids = known_ids(alloc, entities)?;
+    refuse_references(alloc, &ids, entities)?;
+    Ok(ids)
 }

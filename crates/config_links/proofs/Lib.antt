@@ -1,0 +1,3 @@
+mod AskedLemmas
+pub mod SoundParts
+mod ReadyLemmas
