@@ -1,3 +1,4 @@
+mod Worked
 pub mod LogLaws
 pub mod LiveLaws
 pub mod AnswerLaws

@@ -1,5 +1,5 @@
 pub mod Log
-pub mod Acceptance
+pub mod Config
 pub mod Live
 pub mod Answers
 pub mod Isolation
