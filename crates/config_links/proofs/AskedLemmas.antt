@@ -1,5 +1,5 @@
 -- Marks of what a predicate reaches say what a search from it finds.
-use Rattle.std.proofs.Common.{◌≡◌, ℕ, zero, suc, ℤ, ◌<◌, ◌≤◌, Bool, true, false, List, [], length, map, Option, Some, None, is_some, slice_get, slice_index_or, Result, Ok, Err, IfOk, refl, ap, ◌∙◌, subst, arith}
+use Rattle.std.proofs.Common.{◌≡◌, ℕ, zero, suc, ℤ, ◌<◌, ◌≤◌, Bool, true, false, List, [], length, map, Option, Some, None, is_some, slice_get, slice_index_or, Result, Ok, Err, IfOk, refl, sym, ◌∙◌, subst, arith}
 use Rattle.std.proofs.lemmas.List.{length-map, get_or_past}
 use Rattle.std.specs.List.{list_any}
 use Rattle.std.specs.Option.{option_and_then, unwrap_or}
@@ -14,7 +14,8 @@ use Rattle.config_links.specs.LinkScopes.{spec_in, predicate_named, named_predic
 use Rattle.config_links.specs.MetricLinks.{leads_from, AreMarked}
 
 module _ (predicates : List LPredicate) (from : ℕ) where
-  links : List (List ℕ)
+  -- the places that each predicate names
+  abbrev pub links : List (List ℕ)
   links = map named_predicates predicates
 
   -- there are as many lists of names as predicates
@@ -44,6 +45,7 @@ module _ (predicates : List LPredicate) (from : ℕ) where
   pub none_marked : length predicates ≤ from → AreMarked predicates (Some from) []
   none_marked past to here =
       let beyond : children_at links from ≡ [] = get_or_past links from [] (omega (arith, past, same)) in
-      let nowhere : leads_within (length predicates) links from to ≡ false = leads_nowhere (length predicates) to beyond in
+      let nowhere : leads_within (length predicates) links from to ≡ false =
+      leads_nowhere (length predicates) to beyond in
       let unmarked : slice_index_or [] to false ≡ false = get_or_past [] to false (omega arith) in
-      rw (unmarked, nowhere) refl
+      unmarked ∙ sym nowhere

@@ -1,6 +1,6 @@
--- What the rules that were judged before leave for metrics: their gauges take few samples, and predicates name predicates
--- that are there.
-use Rattle.std.proofs.Common.{◌≡◌, ℕ, zero, suc, ◌<◌, ℤ, pos, negsuc, ◌*◌, ◌≤◌, ◌&&◌, lit≤, nat_lt, nat_le, Bool, true, false, cond, List, [], ◌∷◌, map, length, Option, Some, None, if◌then◌else◌, refl, ap, ◌∙◌, subst, arith}
+-- What the rules that were judged before leave for metrics: their gauges take few samples, and predicates name
+-- predicates that are there.
+use Rattle.std.proofs.Common.{◌≡◌, ℕ, zero, suc, ◌<◌, ℤ, pos, negsuc, ◌*◌, ◌≤◌, ◌&&◌, lit≤, nat_lt, nat_le, Bool, true, false, cond, List, [], ◌∷◌, map, length, Option, Some, None, if◌then◌else◌, refl, sym, ap, ◌∙◌, subst, arith}
 use Rattle.std.proofs.lemmas.Bool.{leb-true, ltb-true}
 use Rattle.std.proofs.lemmas.List.{length-map, get_or_past}
 use Rattle.std.proofs.lemmas.List.Elements.{All-from_recursion, All-contains}
@@ -19,13 +19,15 @@ use Rattle.link_rules.specs.declared.entities.Metric.{Metric}
 use Rattle.link_rules.specs.declared.entities.Kind.{Kind}
 use Rattle.link_rules.specs.declared.entities.Kind.TheVariants.{Gauge}
 use Rattle.link_rules.specs.declared.fault.LinkFault.{LinkFault}
+use Rattle.link_rules.specs.declared.known.Ids.{Ids}
 use Rattle.link_rules.specs.EntityLimits.{limit_fault, limits, count_limit, number_limit, most_bound, most_samples, most_bucket_samples, default_samples, number_or, samples_by, bound_or_default, samples_limit, samples_of, metric_limit}
 use Rattle.link_rules.specs.EntityIds.{no_id_fault, duplicate_id_fault, set_ids, id_of_predicate, matcher_ids, predicate_ids, place_in}
 use Rattle.link_rules.specs.EntityNames.{first_unknown, predicates_of_predicate, predicates_of_metric, unknown_in, unknown_predicates, unknown_predicate_fault, unknown_matcher_fault, unknown_state_fault}
 use Rattle.link_rules.specs.LinkFaults.{fault, unknown_predicate, predicate_kind, first_in}
 use Rattle.link_rules.specs.Cycles.{cycle_fault}
-use Rattle.link_rules.specs.Rules.{rule_fault, id_fault, reference_fault, name_fault}
+use Rattle.link_rules.specs.Rules.{rule_fault, id_fault, reference_fault, name_fault, ids_in}
 use Rattle.link_rules.proofs.LinkFaultLemmas.{none_of, none_in}
+use Rattle.config_links.specs.declared.linked.LPredicate.{LPredicate}
 use Rattle.config_links.specs.LinkedForm.{linked_predicate}
 use Rattle.config_links.specs.LinkScopes.{named_predicates}
 use Rattle.config_links.specs.MetricKinds.{TakesFew}
@@ -38,7 +40,8 @@ fits_by n true true found is h = leb-true n 100 is
 fits_by n false below found is h = absurd (cc)
 fits_by n true false found is h = absurd (cc)
 
-number_fits : (samples : Option ℤ) → number_limit 7 most_samples samples ≡ None → number_or default_samples samples ≤ 100
+number_fits : (samples : Option ℤ) → number_limit 7 most_samples samples ≡ None
+    → number_or default_samples samples ≤ 100
 number_fits None h = lit≤ tt
 number_fits (Some (negsuc n)) h = lit≤ tt
 number_fits (Some (pos n)) h = fits_by n (nat_lt 0 n) (nat_le n 100) _ refl h
@@ -99,7 +102,8 @@ chosen_within place count false is some = some
 -- the place of one that is known
 pub place_within : (known : List ℤ) (id : ℤ) → list_any (int_eq id) known ≡ true → place_in known id < length known
 unfolding first_place
-place_within known id h = chosen_within (position_or_len (int_eq id) known) (length known) _ refl (some_known id known h)
+place_within known id h =
+    chosen_within (position_or_len (int_eq id) known) (length known) _ refl (some_known id known h)
 
 module _ (known : List ℤ) (count : ℕ) (few : length known ≤ count) where
   one_within : (id : ℤ) (ids : List ℤ) (there : Bool) → list_any (int_eq id) known ≡ there
@@ -118,7 +122,8 @@ module _ (known : List ℤ) (count : ℕ) (few : length known ≤ count) where
 
   body_within : (matchers : List ℤ) (def : PredicateDef) (body : Option PredicateBody)
       → first_unknown known (predicates_of_predicate (record def { body = body })) ≡ None
-      → AllByRecursion (λ place. place < count) (named_predicates (linked_predicate matchers known (record def { body = body })))
+      → AllByRecursion (λ place. place < count)
+      (named_predicates (linked_predicate matchers known (record def { body = body })))
   body_within matchers def (Some (predicate.Simple simple)) names = tt
   body_within matchers def (Some (predicate.Combo combo)) names = all_within combo.children names
   body_within matchers def None names = tt
@@ -164,7 +169,8 @@ no_unknown_predicate entities h =
     names).1.0
 
 predicates_known : (entities : Entities) → unknown_predicate_fault entities ≡ None
-    → AllByRecursion (λ def. first_unknown (predicate_ids entities) (predicates_of_predicate def) ≡ None) entities.predicates
+    → AllByRecursion (λ def. first_unknown (predicate_ids entities) (predicates_of_predicate def) ≡ None)
+    entities.predicates
 unfolding unknown_predicate_fault
 predicates_known entities h =
     let kinds = none_of (unknown_predicates (predicate_ids entities) entities) h in
@@ -172,14 +178,16 @@ predicates_known entities h =
     (map_none (fault unknown_predicate predicate_kind) _ kinds.0)
 
 links_within : (entities : Entities) → length (predicate_ids entities) ≤ length (predicates_linked entities)
-    → AllByRecursion (λ def. first_unknown (predicate_ids entities) (predicates_of_predicate def) ≡ None) entities.predicates
+    → AllByRecursion (λ def. first_unknown (predicate_ids entities) (predicates_of_predicate def) ≡ None)
+    entities.predicates
     → AreInRange (map named_predicates (predicates_linked entities))
 unfolding predicates_linked
 links_within entities few known x y named =
     let all = predicates_within (predicate_ids entities) _ few (matcher_ids entities) entities.predicates known in
-    let within = ranged (map named_predicates (predicates_linked entities)) (length (predicates_linked entities)) all x y named in
+    let within = ranged (map named_predicates (predicates_linked entities)) (length (predicates_linked entities)) all x y
+    named in
     let same : length (map named_predicates (predicates_linked entities)) ≡ length (predicates_linked entities)
-        = length-map (predicates_linked entities) named_predicates in
+    = length-map (predicates_linked entities) named_predicates in
     omega (arith, within, same)
 
 few_predicates : (entities : Entities) → length (predicate_ids entities) ≤ length (predicates_linked entities)
@@ -195,3 +203,13 @@ pub in_range : (entities : Entities) → rule_fault entities ≡ None
     → AreInRange (map named_predicates (predicates_linked entities))
 in_range entities h =
     links_within entities (few_predicates entities) (predicates_known entities (no_unknown_predicate entities h))
+
+-- so it is of those that were linked by the ids of all kinds
+pub in_range_by : (entities : Entities) (ids : Ids) (given : List LPredicate) → rule_fault entities ≡ None
+    → ids ≡ ids_in entities → given ≡ map (linked_predicate ids.matchers ids.predicates) entities.predicates
+    → AreInRange (map named_predicates given)
+unfolding predicates_linked
+in_range_by entities ids given h is same =
+    subst (λ (predicates : List LPredicate). AreInRange (map named_predicates predicates))
+    (sym (same ∙ ap (λ (all : Ids). map (linked_predicate all.matchers all.predicates) entities.predicates) is))
+    (in_range entities h)

@@ -74,9 +74,10 @@ number_from_one greatest None is = absurd (cc)
 
 pub set_from_one : (greatest : ℕ) (number : Option ℤ) → is_set_up_to greatest number ≡ true
     → IsFromOne greatest (number_or_zero number)
-set_from_one greatest (Some (pos n)) is =
-    (leb-true 1 n (left_holds (nat_le 1 n) (nat_le n greatest) is),
-    leb-true n greatest (right_holds (nat_le 1 n) (nat_le n greatest) is))
+set_from_one greatest (Some (pos n)) is = (
+  leb-true 1 n (left_holds (nat_le 1 n) (nat_le n greatest) is),
+  leb-true n greatest (right_holds (nat_le 1 n) (nat_le n greatest) is),
+)
 set_from_one greatest (Some (negsuc n)) is = absurd (cc)
 set_from_one greatest None is = absurd (cc)
 
@@ -129,9 +130,10 @@ module _ (known : List ℤ) (count : ℕ) (few : length known ≤ count) where
       → AllByRecursion (λ def. bad_matcher def ≡ None) defs
       → AllByRecursion (IsSoundMatcher count) (map (linked_matcher known) defs)
   matchers_sound_by [] names good = tt
-  matchers_sound_by (def ∷ defs) names good =
-      (matcher_body_sound def def.body names.0 (no_test def.id (matcher_reasons def.body) good.0),
-      matchers_sound_by defs names.1 good.1)
+  matchers_sound_by (def ∷ defs) names good = (
+    matcher_body_sound def def.body names.0 (no_test def.id (matcher_reasons def.body) good.0),
+    matchers_sound_by defs names.1 good.1,
+  )
 
   -- matchers whose children are known and that have no reason
   pub matchers_sound : (defs : List MatcherDef)
@@ -174,9 +176,10 @@ module _ (matchers predicates : List ℤ) (some many : ℕ) (few : length matche
         leaves = refl;
         bound = bound_fits 5 simple.bound within;
       }
-  predicate_body_sound def (Some (predicate.Combo combo)) starts names within tests =
-      (combo_sound predicates combo.op combo.children (holds _ tests.1.0),
-      children_within predicates many few_too combo.children names)
+  predicate_body_sound def (Some (predicate.Combo combo)) starts names within tests = (
+    combo_sound predicates combo.op combo.children (holds _ tests.1.0),
+    children_within predicates many few_too combo.children names,
+  )
   predicate_body_sound def None starts names within tests = absurd (cc (tests.0))
 
   predicates_sound_by : (defs : List PredicateDef)
@@ -186,9 +189,10 @@ module _ (matchers predicates : List ℤ) (some many : ℕ) (few : length matche
       → AllByRecursion (λ def. bad_predicate def ≡ None) defs
       → AllByRecursion (IsSoundPredicate some many) (map (linked_predicate matchers predicates) defs)
   predicates_sound_by [] starts names within good = tt
-  predicates_sound_by (def ∷ defs) starts names within good =
-      (predicate_body_sound def def.body starts.0 names.0 within.0 (no_test def.id (predicate_reasons def.body) good.0),
-      predicates_sound_by defs starts.1 names.1 within.1 good.1)
+  predicates_sound_by (def ∷ defs) starts names within good = (
+    predicate_body_sound def def.body starts.0 names.0 within.0 (no_test def.id (predicate_reasons def.body) good.0),
+    predicates_sound_by defs starts.1 names.1 within.1 good.1,
+  )
 
   -- predicates whose names are known, whose bounds are within the limit and that have no reason
   pub predicates_sound : (defs : List PredicateDef)

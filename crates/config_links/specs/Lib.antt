@@ -8,3 +8,4 @@ pub mod MetricKinds
 pub mod LinkMetrics
 pub mod Verdict
 pub mod SoundConfig
+pub mod SoundLaws

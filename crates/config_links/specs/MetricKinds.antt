@@ -97,12 +97,12 @@ timed_spec scope what bound = record (unwrap_or (spec_in (predicate_named scope 
 -- the values of a field, as they are or as differences
 abbrev pub value_form : Bool → ValueParts → FieldSet → LKind
 value_form true value set = kinds.PulledValue set.atom_id (first_leaf set.leaves) (record {
-    agg = value.agg;
-    direction = value.direction;
-    abs_reset = value.abs_reset;
-    skip_zero = value.skip_zero;
-    zero_base = value.zero_base;
-  })
+  agg = value.agg;
+  direction = value.direction;
+  abs_reset = value.abs_reset;
+  skip_zero = value.skip_zero;
+  zero_base = value.zero_base;
+})
 value_form false value set = kinds.PushedValue set.atom_id (first_leaf set.leaves) value.agg
 
 -- when a pulled gauge takes its samples

@@ -101,7 +101,8 @@ fit_slices scope kind what slices =
 -- the fields for the state of this atom, where there is a link to it
 abbrev pub slice_fields : List StateLinkSets → ℕ → Option FieldSet
 slice_fields links atom =
-    option_map (λ (sets : StateLinkSets). sets.in_what) (find (λ (sets : StateLinkSets). is_atom atom sets.atom_id) links)
+    option_map (λ (sets : StateLinkSets). sets.in_what)
+    (find (λ (sets : StateLinkSets). is_atom atom sets.atom_id) links)
 
 -- a slice by the state of this id
 abbrev pub linked_slice : Scope → List StateLinkSets → ℤ → LSlice

@@ -4,11 +4,13 @@
 mod askable;
 mod asked;
 mod kinds;
+mod laws;
 mod linked;
 mod linker;
 mod links;
 mod matchers;
 mod metrics;
+mod nodes;
 mod predicates;
 mod reasons;
 mod scope;
@@ -17,6 +19,10 @@ mod slices;
 mod states;
 mod table;
 
+pub use laws::{
+    combinations_have_children, each_entity_is_sound, linked_forms_are_sound, references_end,
+    tables_have_their_leaves,
+};
 pub use link_rules::{LinkError, LinkFault};
 pub use linked::{
     CondTree, LGroup, LKind, LLink, LMatcher, LMetric, LPredBody, LPredicate, LSlice, LState,

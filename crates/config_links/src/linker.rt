@@ -1,5 +1,5 @@
 //! A configuration, linked.
-ghost use Rattle.std.specs.Prelude.{◌≡◌, None, map};
+ghost use Rattle.std.specs.Prelude.{◌≡◌, None, map, IfOk};
 ghost use Rattle.std.specs.List.{All};
 ghost use Rattle.link_graph.specs.Links.{AreInRange};
 ghost use Rattle.link_rules.specs.declared.entities.Metric.{Metric};
@@ -9,6 +9,7 @@ ghost use Rattle.config_links.specs.LinkedForm.{linked_matcher, linked_predicate
 ghost use Rattle.config_links.specs.LinkMetrics.{linked_metric};
 ghost use Rattle.config_links.specs.LinkScopes.{named_predicates};
 ghost use Rattle.config_links.specs.MetricKinds.{TakesFew};
+ghost use Rattle.config_links.specs.SoundConfig.{IsSoundConfig};
 ghost use Rattle.config_links.specs.Verdict.{verdict, linked_form, entities_linked, bad_part_fault, bad_metric_fault, bad_type_fault, hidden_fault};
 
 use crate::matchers::matchers_in;
@@ -35,10 +36,11 @@ fn parts_in(
     predicates: Seq<PredicateDef>,
     states: Seq<StateDef>,
 ) -> Result<(Seq<LMatcher>, Seq<LPredicate>, Seq<LState>), LinkError>
-    ensures { Links result (bad_part_fault matchers predicates states)
-        (map (linked_matcher ids.now.matchers) matchers,
-        map (linked_predicate ids.now.matchers ids.now.predicates) predicates,
-        map linked_state states) }
+    ensures { Links result (bad_part_fault matchers predicates states) (
+      map (linked_matcher ids.now.matchers) matchers,
+      map (linked_predicate ids.now.matchers ids.now.predicates) predicates,
+      map linked_state states,
+    ) }
 {
     let matchers = matchers_in(alloc, &ids.matchers, matchers)?;
     let predicates = predicates_in(alloc, &ids.matchers, &ids.predicates, predicates)?;
@@ -79,7 +81,7 @@ fn last_in(
 }
 
 // The linked entities, or the first reason.
-#[tactic(auto, using(crate::proofs::ReadyLemmas::in_range, crate::proofs::ReadyLemmas::few_samples), unfolding(crate::specs::Verdict::bad_type_fault, crate::specs::Verdict::matchers_linked, crate::specs::Verdict::predicates_linked, crate::specs::Verdict::states_linked, crate::specs::Verdict::metrics_linked))]
+#[tactic(auto, using(crate::proofs::ReadyLemmas::few_samples), unfolding(crate::specs::Verdict::bad_type_fault, crate::specs::Verdict::matchers_linked, crate::specs::Verdict::predicates_linked, crate::specs::Verdict::states_linked, crate::specs::Verdict::metrics_linked))]
 fn entities_in(alloc: Global, ids: Ids, entities: Entities, uid: i32) -> Result<Linked, LinkError>
     requires ids { ids ≡ ids_in entities }
     requires ready { rule_fault entities ≡ None }
@@ -99,7 +101,13 @@ fn entities_in(alloc: Global, ids: Ids, entities: Entities, uid: i32) -> Result<
         states,
     };
     let no_report = entities.no_report;
-    let metrics = last_in(alloc, &scope, uid, no_report.as_slice(), entities.metrics.as_slice())?;
+    let metrics = last_in(
+        alloc,
+        &scope,
+        uid,
+        no_report.as_slice(),
+        entities.metrics.as_slice(),
+    )?;
     Ok(Linked {
         matchers: scope.matchers,
         predicates: scope.predicates,
@@ -121,6 +129,7 @@ fn linked_config(alloc: Global, config: Config, uid: i32) -> Result<Linked, Link
 /// Looks up the references of a client's configuration, or names its first fault.
 pub fn link(alloc: Global, config: Config, uid: i32) -> Result<Linked, LinkError>
     ensures linked { Links result (verdict config) (linked_form config uid) }
+    ensures sound { IfOk result IsSoundConfig }
 {
     linked_config(alloc, config, uid)
 }

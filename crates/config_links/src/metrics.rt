@@ -145,16 +145,26 @@ fn rest_of(
 ) -> Result<(Seq<LSlice>, LKind), LinkError>
     requires own { own ≡ set_or_none (own_tree metric.now.kind) }
     requires few { TakesFew metric.now.kind }
-    ensures { Links result (words.bad_rest scope.now metric.now parts.now)
-        (linked_slices scope.now parts.now.state_links metric.now.sliced.slices,
-        linked_kind scope.now parts.now.what (bound_or_default metric.now.sliced.bound)
-            metric.now.kind) }
+    ensures { Links result (words.bad_rest scope.now metric.now parts.now) (
+      linked_slices scope.now parts.now.state_links metric.now.sliced.slices,
+      linked_kind scope.now parts.now.what (bound_or_default metric.now.sliced.bound)
+          metric.now.kind,
+    ) }
 {
     let id = metric.common.id;
     let kind = &metric.kind;
     let what = parts.what;
     let state_links = parts.state_links.as_slice();
-    refuse_times(alloc, scope, id, kind, what, &parts.dims, parts.links.as_slice(), state_links)?;
+    refuse_times(
+        alloc,
+        scope,
+        id,
+        kind,
+        what,
+        &parts.dims,
+        parts.links.as_slice(),
+        state_links,
+    )?;
     let ids = metric.sliced.slices.as_slice();
     let slices = slices_in(alloc, scope, id, kind, what, ids, state_links)?;
     let bound = bound_or_default(metric.sliced.bound);

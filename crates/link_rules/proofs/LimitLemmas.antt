@@ -7,7 +7,8 @@ use Rattle.link_rules.specs.EntityLimits.{limit_fault, limits, count_limit, AreF
 use Rattle.link_rules.proofs.LinkFaultLemmas.{none_of}
 
 -- a count that isn't past its limit
-within : (most count : ℕ) (past : Bool) (found : LinkFault) → nat_lt most count ≡ past → (if past then Some found else None) ≡ None → count ≤ most
+within : (most count : ℕ) (past : Bool) (found : LinkFault) → nat_lt most count ≡ past
+    → (if past then Some found else None) ≡ None → count ≤ most
 within most count false found is h = ltb-false most count is
 within most count true found is h = absurd (cc)
 

@@ -28,7 +28,8 @@ module _ {A B : Type 0} (gives : A → Option B) where
   none_after xs i h = ap (first_in gives) (sym (drop-drop 1 i xs)) ∙ none_behind (drop i xs) h
 
 -- each part of a table has none
-pub none_of : {A : Type 0} (parts : List (Option A)) → first_of parts ≡ None → AllByRecursion (λ part. part ≡ None) parts
+pub none_of : {A : Type 0} (parts : List (Option A)) → first_of parts ≡ None
+    → AllByRecursion (λ part. part ≡ None) parts
 none_of [] h = tt
 none_of (None ∷ parts) h = (refl, none_of parts h)
 none_of (Some x ∷ parts) h = absurd (cc)

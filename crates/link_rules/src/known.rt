@@ -8,7 +8,7 @@ use distinct::Distinct;
 use std::alloc::{AllocError, Global};
 use std::marker::Model;
 
-/// The ids of the entities of a kind, in config order, each once. There are as many as a configuration may have at most.
+/// The ids of the entities of a kind, in config order, each once. There are at most as many as a configuration may have.
 #[derive(Drop)]
 pub struct Known {
     ids: Distinct<i64>,

@@ -7,4 +7,5 @@ use Rattle.config_links.proofs.asked.are_asked.Goals as goal
 -- the predicates of the slice are those of the scope
 pub marks_from-requires : goal.marks_from-requires
 marks_from-requires c =
-    subst (λ (predicates : List LPredicate). AreInRange (map named_predicates predicates)) (sym c.as_slice.ensures) c.requires
+    subst (λ (predicates : List LPredicate). AreInRange (map named_predicates predicates))
+    (sym c.as_slice.ensures) c.requires

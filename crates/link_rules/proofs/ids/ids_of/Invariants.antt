@@ -8,6 +8,8 @@ use Rattle.link_rules.proofs.ids.ids_of.Given as goal
 abbrev pub invariant-loop-entity : goal.invariant-loop-entity
 invariant-loop-entity g l = record {
   few : length l.ids ≤ l.entity-index;
-  first : repeat_after int_eq l.ids (set_ids (map g.E.Entity.id (drop l.entity-index l.entities))) ≡ repeat_in int_eq (set_ids (map g.E.Entity.id l.entities));
-  whole : l.ids ++ set_ids (map g.E.Entity.id (drop l.entity-index l.entities)) ≡ set_ids (map g.E.Entity.id l.entities);
+  first : repeat_after int_eq l.ids (set_ids (map g.E.Entity.id (drop l.entity-index l.entities)))
+      ≡ repeat_in int_eq (set_ids (map g.E.Entity.id l.entities));
+  whole : l.ids ++ set_ids (map g.E.Entity.id (drop l.entity-index l.entities))
+      ≡ set_ids (map g.E.Entity.id l.entities);
 }

@@ -4,4 +4,5 @@ use Rattle.link_rules.proofs.ids.no_id_in.Given as goal
 
 abbrev pub invariant-loop-place : goal.invariant-loop-place
 invariant-loop-place g l =
-    no_id_from l.kind l.place (map g.E.Entity.id (drop l.place l.entities)) ≡ no_id_in l.kind (map g.E.Entity.id l.entities)
+    no_id_from l.kind l.place (map g.E.Entity.id (drop l.place l.entities))
+    ≡ no_id_in l.kind (map g.E.Entity.id l.entities)
