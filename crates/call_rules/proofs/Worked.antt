@@ -126,5 +126,6 @@ made = refl
 abbrev without : Calls
 without = Got 5 7 ∷ Took ∷ []
 
-made_without : calls_of (event_demands 3 0) event_asks (frame 5 (Some 7) ∷ frame 34 None ∷ Reported 34 true ∷ []) ≡ without
+made_without : calls_of (event_demands 3 0) event_asks (frame 5 (Some 7) ∷ frame 34 None ∷ Reported 34 true ∷ [])
+    ≡ without
 made_without = refl

@@ -1,0 +1,4 @@
+pub mod CollectingLemmas
+pub mod TallyLemmas
+pub mod CountLemmas
+pub mod CountItemsLemmas

@@ -1,9 +1,9 @@
 -- Counts by key: what a producer of counts makes of its calls.
-use Rattle.std.specs.Prelude.{ℕ, Bool, List, [], ◌∷◌, map, length}
+use Rattle.std.specs.Prelude.{ℕ, Bool, [], ◌∷◌, map, length}
 use Rattle.std.proofs.Common.{refl}
 use Rattle.atom_record.specs.declared.value.MetricKey.{MetricKey}
 use Rattle.atom_record.specs.contracts.value.MetricKeyPartialEq.TheImpl as key_test
-use Rattle.bucket_meaning.specs.Marks.{Mark, Came, no_edges}
+use Rattle.bucket_meaning.specs.Marks.{Came, no_edges}
 use Rattle.bucket_meaning.specs.Guard.{arrival_key}
 use Rattle.bucket_meaning.specs.Kept.{count_in_u64}
 use Rattle.bucket_meaning.specs.Rows.{Kind}

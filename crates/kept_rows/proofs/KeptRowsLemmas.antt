@@ -5,7 +5,7 @@ use Rattle.std.proofs.lemmas.Bool.{le-leb, lt-leb, cases_lt}
 use Rattle.std.proofs.lemmas.List.{length-append}
 use Rattle.std.proofs.lemmas.List.Sums.{sum_by-cons, sum_by_push}
 use Rattle.bucket_meaning.specs.Kept.{kept, count_in_u64, most_weight}
-use Rattle.kept_rows.specs.KeptRows.{Keeping, nothing_kept, IsKept, AddsRows}
+use Rattle.kept_rows.specs.KeptRows.{Keeping, nothing_kept, HasRoom, IsKept, AddsRows}
 
 module _ {R : Type 0} (weight : R → ℕ) where
   -- rows that fit together are all kept
@@ -21,7 +21,7 @@ module _ {R : Type 0} (weight : R → ℕ) where
       → room < sum_by weight rows + weight row → kept weight room (rows ++ row ∷ others) ≡ rows
   kept_stop room [] others row fits past =
       ap (λ b. if b then row ∷ kept weight (room - weight row) others else [])
-          (lt-leb (weight row) room (omega arith))
+      (lt-leb (weight row) room (omega arith))
   kept_stop room (first ∷ rows) others row fits past =
       let sum = sum_by-cons weight first rows in
       ap (λ b. if b then first ∷ kept weight (room - weight first) (rows ++ row ∷ others) else [])
@@ -46,11 +46,11 @@ module _ {R : Type 0} (weight : R → ℕ) where
   kept_whole room (row ∷ rows) long = ⊎_elim
       (λ (past : room < weight row). absurd
       (let none = subst (λ b. length (row ∷ rows) ≤ length
-          (if b then row ∷ kept weight (room - weight row) rows else []))
+      (if b then row ∷ kept weight (room - weight row) rows else []))
       (lt-leb (weight row) room past) long in omega (arith, none)))
       (λ (fits : weight row ≤ room).
       let some = subst (λ b. length (row ∷ rows) ≤ length
-          (if b then row ∷ kept weight (room - weight row) rows else []))
+      (if b then row ∷ kept weight (room - weight row) rows else []))
       (le-leb (weight row) room fits) long in
       ap (λ b. if b then row ∷ kept weight (room - weight row) rows else []) (le-leb (weight row) room fits)
       ∙ ap (λ l. row ∷ l) (kept_whole (room - weight row) rows (omega (arith, some))))
@@ -66,7 +66,7 @@ module _ {R : Type 0} (weight : R → ℕ) where
       ∙ sym (ap (λ b. if b then row ∷ kept weight (room - weight row) rows else []) (lt-leb (weight row) room past)))
       (λ (fits : weight row ≤ room).
       let less = subst (λ b. length (if b then row ∷ kept weight (room - weight row) rows else []) < length
-          (row ∷ rows))
+      (row ∷ rows))
       (le-leb (weight row) room fits) short in
       ap (λ b. if b then row ∷ kept weight (room - weight row) (rows ++ more) else []) (le-leb (weight row) room fits)
       ∙ ap (λ l. row ∷ l) (kept_stays (room - weight row) rows more (omega (arith, less)))
@@ -131,3 +131,19 @@ module _ {R : Type 0} (weight : R → ℕ) where
         used = is.used;
         others = omega (arith, is.others, others_are, less, size, number_is);
       }
+
+  -- a row that finds no room is counted, whether an earlier one did or not
+  pub turns_away : (it : Keeping R) (row : R) (size others : ℕ) → weight row ≡ size → ¬ HasRoom it size
+      → it.used ≤ most_weight → others ≡ min (it.others + 1) (2 ^ 64 - 1)
+      → AddsRows weight it (record { rows = it.rows; used = it.used; others = others }) (row ∷ [])
+  turns_away it row size others size_is no_room bounded others_are = ⊎_elim
+      (λ (some : 0 < it.others). passes it (row ∷ []) 1 others some refl others_are)
+      (λ (none : it.others ≤ 0).
+      let all_fit : it.others ≡ 0 = omega (arith, none) in
+      ⊎_elim
+      (λ (past : most_weight < it.used + size).
+      fills it row others all_fit bounded (omega (arith, past, size_is)) others_are)
+      (λ (fits : it.used + size ≤ most_weight).
+      absurd (no_room (record { none_turned_away = all_fit; fits = fits })))
+      (cases_lt most_weight (it.used + size)))
+      (cases_lt 0 it.others)

@@ -79,13 +79,20 @@ impl<R: Drop> KeptRows<R> {
         ensures room { OnErr result (HasRoom self.old weight) }
         ensures err { OnErr result (self.new ≡ self.old) }
     {
-        if self.others > 0 || weight > MOST_WEIGHT - self.used {
+        if !self.has_room(weight) {
             self.others = self.others.saturating_add(1);
             return Ok(());
         }
         self.rows.push(row)?;
         self.used += weight;
         Ok(())
+    }
+
+    // Whether a row of this weight would be kept.
+    fn has_room(&self, weight: u64) -> bool
+        ensures { IsTrue result ↔ HasRoom self.now weight }
+    {
+        self.others == 0 && weight <= MOST_WEIGHT - self.used
     }
 
     /// Counts so many further rows, which can't be kept.
