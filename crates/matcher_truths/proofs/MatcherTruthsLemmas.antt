@@ -10,7 +10,8 @@ use Rattle.atom_record.specs.declared.atom.Atom.{Atom}
 use Rattle.config_types.specs.declared.matcher.SimpleMatcher.{SimpleMatcher}
 use Rattle.config_links.specs.declared.linked.LMatcher.{LMatcher}
 use Rattle.config_links.specs.declared.linked.LMatcher.TheVariants.{Simple, Combo}
-use Rattle.matcher_truths.specs.MatcherTruths.{named_matchers, matcher_links}
+use Rattle.config_links.specs.SoundConfig.{named_matchers}
+use Rattle.matcher_truths.specs.MatcherTruths.{matcher_links}
 use Rattle.link_graph.specs.Links.{Refers, AreInRange, HasNoCycle, IsOrder}
 use Rattle.link_graph.specs.Unrolled.{LooksDown}
 use Rattle.link_graph.proofs.DepthLaws.{ends_from_order, ends_from_no_cycle}

@@ -9,11 +9,7 @@ use Rattle.matcher_eval.specs.Combined.{combined_truth}
 use Rattle.link_graph.specs.Unrolled.{unrolled}
 use Rattle.config_links.specs.declared.linked.LMatcher.{LMatcher}
 use Rattle.config_links.specs.declared.linked.LMatcher.TheVariants.{Simple, Combo}
-
--- the places that a matcher names: the children of a combination
-abbrev pub named_matchers : LMatcher → List ℕ
-named_matchers (Simple simple) = []
-named_matchers (Combo op children) = children
+use Rattle.config_links.specs.SoundConfig.{named_matchers}
 
 -- the places that each matcher names, in config order
 abbrev pub matcher_links : List LMatcher → List (List ℕ)

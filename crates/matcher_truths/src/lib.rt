@@ -2,6 +2,8 @@
 #![tactic(auto)]
 
 mod operation;
+mod order;
 mod truths;
 
+pub use order::evaluation_order;
 pub use truths::evaluate;

@@ -5,7 +5,8 @@ ghost use Rattle.atom_record.specs.AtomSound.{HasNoFault};
 ghost use Rattle.config_links.specs.declared.linked.LMatcher.{LMatcher};
 ghost use Rattle.link_graph.specs.Links.{AreInRange, IsOrder};
 ghost use Rattle.matcher_truths.specs.QuestionCounts.{AreTicks};
-ghost use Rattle.matcher_truths.specs.MatcherTruths.{named_matchers, matcher_links, all_truths, own_truth, is_asked, is_of_atom, MayBeAsked};
+ghost use Rattle.config_links.specs.SoundConfig.{named_matchers};
+ghost use Rattle.matcher_truths.specs.MatcherTruths.{matcher_links, all_truths, own_truth, is_asked, is_of_atom, MayBeAsked};
 ghost use Rattle.matcher_truths.specs.JoinedTruths.{joined_truth};
 
 use crate::operation::joined_at;

@@ -2,7 +2,7 @@ use Rattle.std.proofs.Common.{◌≡◌, ◌<◌, Some, length, get_or, refl, ar
 use Rattle.std.specs.List.{slice_get}
 use Rattle.std.proofs.lemmas.List.{length-map}
 use Rattle.std.proofs.lemmas.Option.{slice_get_read}
-use Rattle.matcher_truths.specs.MatcherTruths.{named_matchers}
+use Rattle.config_links.specs.SoundConfig.{named_matchers}
 use Rattle.link_graph.proofs.NodeLemmas.{names_in_range}
 use Rattle.matcher_truths.proofs.MatcherTruthsLemmas.{own_kept, before_more, all_found}
 use Rattle.matcher_truths.proofs.truths.evaluate.Goals as goal
