@@ -1,5 +1,5 @@
 -- The live configurations of a client, and their histories, by the client's own frames.
-use Rattle.std.specs.Prelude.{ℕ, suc, ℤ, List, [], ◌∷◌, ◌++◌, length, take, drop, filter, Option, Some, None, Result, Ok, Err, if◌then◌else◌}
+use Rattle.std.specs.Prelude.{ℕ, suc, ℤ, Bool, List, [], ◌∷◌, ◌++◌, length, take, drop, filter, Option, Some, None, Result, Ok, Err, if◌then◌else◌}
 use Rattle.std.specs.Ordering.{int_eq}
 use Rattle.sd_base.specs.Outputs.{outputs_after}
 use Rattle.atom_record.specs.declared.atom.Atom.{Atom}
