@@ -1,17 +1,12 @@
 -- Marks of what a predicate reaches say what a search from it finds.
-use Rattle.std.proofs.Common.{◌≡◌, ℕ, zero, suc, ℤ, ◌<◌, ◌≤◌, Bool, true, false, List, [], length, map, Option, Some, None, is_some, slice_get, slice_index_or, Result, Ok, Err, IfOk, refl, sym, ◌∙◌, subst, arith}
+use Rattle.std.proofs.Common.{◌≡◌, ℕ, zero, suc, ◌<◌, ◌≤◌, Bool, false, List, [], length, map, Some, slice_index_or, Result, Ok, Err, IfOk, refl, sym, ◌∙◌, subst, arith}
 use Rattle.std.proofs.lemmas.List.{length-map, get_or_past}
-use Rattle.std.specs.List.{list_any}
-use Rattle.std.specs.Option.{option_and_then, unwrap_or}
-use Rattle.std.proofs.lemmas.Option.{slice_get_within}
 use Rattle.link_graph.specs.Links.{children_at, MarksReached}
 use Rattle.link_graph.specs.Within.{leads_within}
 use Rattle.link_graph.proofs.CallerLemmas.{marks_within}
-use Rattle.link_rules.specs.EntityIds.{id_place, place_in}
 use Rattle.config_links.specs.declared.linked.LPredicate.{LPredicate}
-use Rattle.config_links.specs.declared.scope.Scope.{Scope}
-use Rattle.config_links.specs.LinkScopes.{spec_in, predicate_named, named_predicates}
-use Rattle.config_links.specs.MetricLinks.{leads_from, AreMarked}
+use Rattle.config_links.specs.LinkScopes.{named_predicates}
+use Rattle.config_links.specs.MetricLinks.{AreMarked}
 
 module _ (predicates : List LPredicate) (from : ℕ) where
   -- the places that each predicate names

@@ -1,5 +1,5 @@
 -- Worked configurations and their first faults, by computing.
-use Rattle.std.proofs.Common.{◌≡◌, ℕ, ℤ, pos, List, [], ◌∷◌, Option, Some, None, false, true, refl}
+use Rattle.std.proofs.Common.{◌≡◌, ℕ, ℤ, pos, List, [], ◌∷◌, Option, Some, None, false, refl}
 use Rattle.config_types.specs.declared.config.Config.{Config}
 use Rattle.config_types.specs.declared.matcher.MatcherDef.{MatcherDef}
 use Rattle.config_types.specs.declared.matcher.MatcherBody.{MatcherBody}
@@ -81,7 +81,8 @@ duration id what = record {
 fine : verdict (record nothing { matchers = atom 1 5 ∷ []; counts = count 100 1 unsliced ∷ [] })
     ≡ None
 unfolding verdict rule_fault id_fault reference_fault name_fault cycle_fault bad_type_fault bad_part_fault
-    bad_metric_fault bad_links bad_rest bad_times bad_slices bad_kind matchers_linked predicates_linked states_linked limit_fault
+    bad_metric_fault bad_links bad_rest bad_times bad_slices bad_kind matchers_linked predicates_linked states_linked
+    limit_fault
     no_id_fault duplicate_id_fault matcher_ids predicate_ids state_ids metric_ids unknown_matcher_fault
     unknown_predicate_fault unknown_state_fault matcher_cycle_fault predicate_cycle_fault reaches_by_id first_place
 fine = refl
@@ -93,7 +94,8 @@ bound_of_0 : verdict (record nothing {
 })
     ≡ Some (fault 1 6 (pos 0))
 unfolding verdict rule_fault id_fault reference_fault name_fault cycle_fault bad_type_fault bad_part_fault
-    bad_metric_fault bad_links bad_rest bad_times bad_slices bad_kind matchers_linked predicates_linked states_linked limit_fault
+    bad_metric_fault bad_links bad_rest bad_times bad_slices bad_kind matchers_linked predicates_linked states_linked
+    limit_fault
     no_id_fault duplicate_id_fault matcher_ids predicate_ids state_ids metric_ids unknown_matcher_fault
     unknown_predicate_fault unknown_state_fault matcher_cycle_fault predicate_cycle_fault reaches_by_id first_place
 bound_of_0 = refl
@@ -102,7 +104,8 @@ bound_of_0 = refl
 no_id : verdict (record nothing { matchers = record { id = None; body = of_atom 5 } ∷ [] })
     ≡ Some (fault 2 1 (pos 0))
 unfolding verdict rule_fault id_fault reference_fault name_fault cycle_fault bad_type_fault bad_part_fault
-    bad_metric_fault bad_links bad_rest bad_times bad_slices bad_kind matchers_linked predicates_linked states_linked limit_fault
+    bad_metric_fault bad_links bad_rest bad_times bad_slices bad_kind matchers_linked predicates_linked states_linked
+    limit_fault
     no_id_fault duplicate_id_fault matcher_ids predicate_ids state_ids metric_ids unknown_matcher_fault
     unknown_predicate_fault unknown_state_fault matcher_cycle_fault predicate_cycle_fault reaches_by_id first_place
 no_id = refl
@@ -111,7 +114,8 @@ no_id = refl
 an_id_twice : verdict (record nothing { matchers = atom 1 5 ∷ atom 1 6 ∷ [] })
     ≡ Some (fault 3 1 (pos 1))
 unfolding verdict rule_fault id_fault reference_fault name_fault cycle_fault bad_type_fault bad_part_fault
-    bad_metric_fault bad_links bad_rest bad_times bad_slices bad_kind matchers_linked predicates_linked states_linked limit_fault
+    bad_metric_fault bad_links bad_rest bad_times bad_slices bad_kind matchers_linked predicates_linked states_linked
+    limit_fault
     no_id_fault duplicate_id_fault matcher_ids predicate_ids state_ids metric_ids unknown_matcher_fault
     unknown_predicate_fault unknown_state_fault matcher_cycle_fault predicate_cycle_fault reaches_by_id first_place
 an_id_twice = refl
@@ -120,7 +124,8 @@ an_id_twice = refl
 the_first_repeat : verdict (record nothing { matchers = atom 1 5 ∷ atom 2 5 ∷ atom 2 6 ∷ atom 1 6 ∷ [] })
     ≡ Some (fault 3 1 (pos 2))
 unfolding verdict rule_fault id_fault reference_fault name_fault cycle_fault bad_type_fault bad_part_fault
-    bad_metric_fault bad_links bad_rest bad_times bad_slices bad_kind matchers_linked predicates_linked states_linked limit_fault
+    bad_metric_fault bad_links bad_rest bad_times bad_slices bad_kind matchers_linked predicates_linked states_linked
+    limit_fault
     no_id_fault duplicate_id_fault matcher_ids predicate_ids state_ids metric_ids unknown_matcher_fault
     unknown_predicate_fault unknown_state_fault matcher_cycle_fault predicate_cycle_fault reaches_by_id first_place
 the_first_repeat = refl
@@ -129,7 +134,8 @@ the_first_repeat = refl
 no_matcher : verdict (record nothing { counts = count 100 9 unsliced ∷ [] })
     ≡ Some (fault 4 4 (pos 9))
 unfolding verdict rule_fault id_fault reference_fault name_fault cycle_fault bad_type_fault bad_part_fault
-    bad_metric_fault bad_links bad_rest bad_times bad_slices bad_kind matchers_linked predicates_linked states_linked limit_fault
+    bad_metric_fault bad_links bad_rest bad_times bad_slices bad_kind matchers_linked predicates_linked states_linked
+    limit_fault
     no_id_fault duplicate_id_fault matcher_ids predicate_ids state_ids metric_ids unknown_matcher_fault
     unknown_predicate_fault unknown_state_fault matcher_cycle_fault predicate_cycle_fault reaches_by_id first_place
 no_matcher = refl
@@ -138,7 +144,8 @@ no_matcher = refl
 no_predicate : verdict (record nothing { durations = duration 100 11 ∷ [] })
     ≡ Some (fault 5 4 (pos 11))
 unfolding verdict rule_fault id_fault reference_fault name_fault cycle_fault bad_type_fault bad_part_fault
-    bad_metric_fault bad_links bad_rest bad_times bad_slices bad_kind matchers_linked predicates_linked states_linked limit_fault
+    bad_metric_fault bad_links bad_rest bad_times bad_slices bad_kind matchers_linked predicates_linked states_linked
+    limit_fault
     no_id_fault duplicate_id_fault matcher_ids predicate_ids state_ids metric_ids unknown_matcher_fault
     unknown_predicate_fault unknown_state_fault matcher_cycle_fault predicate_cycle_fault reaches_by_id first_place
 no_predicate = refl
@@ -150,7 +157,8 @@ no_state : verdict (record nothing {
 })
     ≡ Some (fault 6 4 (pos 3))
 unfolding verdict rule_fault id_fault reference_fault name_fault cycle_fault bad_type_fault bad_part_fault
-    bad_metric_fault bad_links bad_rest bad_times bad_slices bad_kind matchers_linked predicates_linked states_linked limit_fault
+    bad_metric_fault bad_links bad_rest bad_times bad_slices bad_kind matchers_linked predicates_linked states_linked
+    limit_fault
     no_id_fault duplicate_id_fault matcher_ids predicate_ids state_ids metric_ids unknown_matcher_fault
     unknown_predicate_fault unknown_state_fault matcher_cycle_fault predicate_cycle_fault reaches_by_id first_place
 no_state = refl
@@ -159,7 +167,8 @@ no_state = refl
 a_matcher_of_itself : verdict (record nothing { matchers = joined Not 1 (pos 1 ∷ []) ∷ [] })
     ≡ Some (fault 7 0 (pos 1))
 unfolding verdict rule_fault id_fault reference_fault name_fault cycle_fault bad_type_fault bad_part_fault
-    bad_metric_fault bad_links bad_rest bad_times bad_slices bad_kind matchers_linked predicates_linked states_linked limit_fault
+    bad_metric_fault bad_links bad_rest bad_times bad_slices bad_kind matchers_linked predicates_linked states_linked
+    limit_fault
     no_id_fault duplicate_id_fault matcher_ids predicate_ids state_ids metric_ids unknown_matcher_fault
     unknown_predicate_fault unknown_state_fault matcher_cycle_fault predicate_cycle_fault reaches_by_id first_place
 a_matcher_of_itself = refl
@@ -171,7 +180,8 @@ the_cycles_member : verdict (record nothing {
 })
     ≡ Some (fault 7 0 (pos 2))
 unfolding verdict rule_fault id_fault reference_fault name_fault cycle_fault bad_type_fault bad_part_fault
-    bad_metric_fault bad_links bad_rest bad_times bad_slices bad_kind matchers_linked predicates_linked states_linked limit_fault
+    bad_metric_fault bad_links bad_rest bad_times bad_slices bad_kind matchers_linked predicates_linked states_linked
+    limit_fault
     no_id_fault duplicate_id_fault matcher_ids predicate_ids state_ids metric_ids unknown_matcher_fault
     unknown_predicate_fault unknown_state_fault matcher_cycle_fault predicate_cycle_fault reaches_by_id first_place
 the_cycles_member = refl
@@ -180,7 +190,8 @@ the_cycles_member = refl
 a_predicate_of_itself : verdict (record nothing { predicates = not_of_predicate 11 11 ∷ [] })
     ≡ Some (fault 8 0 (pos 11))
 unfolding verdict rule_fault id_fault reference_fault name_fault cycle_fault bad_type_fault bad_part_fault
-    bad_metric_fault bad_links bad_rest bad_times bad_slices bad_kind matchers_linked predicates_linked states_linked limit_fault
+    bad_metric_fault bad_links bad_rest bad_times bad_slices bad_kind matchers_linked predicates_linked states_linked
+    limit_fault
     no_id_fault duplicate_id_fault matcher_ids predicate_ids state_ids metric_ids unknown_matcher_fault
     unknown_predicate_fault unknown_state_fault matcher_cycle_fault predicate_cycle_fault reaches_by_id first_place
 a_predicate_of_itself = refl
@@ -189,7 +200,8 @@ a_predicate_of_itself = refl
 no_body : verdict (record nothing { matchers = record { id = Some (pos 1); body = None } ∷ [] })
     ≡ Some (fault 9 1 (pos 1))
 unfolding verdict rule_fault id_fault reference_fault name_fault cycle_fault bad_type_fault bad_part_fault
-    bad_metric_fault bad_links bad_rest bad_times bad_slices bad_kind matchers_linked predicates_linked states_linked limit_fault
+    bad_metric_fault bad_links bad_rest bad_times bad_slices bad_kind matchers_linked predicates_linked states_linked
+    limit_fault
     no_id_fault duplicate_id_fault matcher_ids predicate_ids state_ids metric_ids unknown_matcher_fault
     unknown_predicate_fault unknown_state_fault matcher_cycle_fault predicate_cycle_fault reaches_by_id first_place
 no_body = refl
@@ -198,7 +210,8 @@ no_body = refl
 hidden_nothing : verdict (record nothing { no_report = pos 5 ∷ [] })
     ≡ Some (fault 9 19 (pos 5))
 unfolding verdict rule_fault id_fault reference_fault name_fault cycle_fault bad_type_fault bad_part_fault
-    bad_metric_fault bad_links bad_rest bad_times bad_slices bad_kind matchers_linked predicates_linked states_linked limit_fault
+    bad_metric_fault bad_links bad_rest bad_times bad_slices bad_kind matchers_linked predicates_linked states_linked
+    limit_fault
     no_id_fault duplicate_id_fault matcher_ids predicate_ids state_ids metric_ids unknown_matcher_fault
     unknown_predicate_fault unknown_state_fault matcher_cycle_fault predicate_cycle_fault reaches_by_id first_place
 hidden_nothing = refl

@@ -22,8 +22,8 @@ use Rattle.link_rules.specs.declared.fault.LinkFault.{LinkFault}
 use Rattle.link_rules.specs.declared.known.Ids.{Ids}
 use Rattle.link_rules.specs.EntityLimits.{limit_fault, limits, count_limit, number_limit, most_bound, most_samples, most_bucket_samples, default_samples, number_or, samples_by, bound_or_default, samples_limit, samples_of, metric_limit}
 use Rattle.link_rules.specs.EntityIds.{no_id_fault, duplicate_id_fault, set_ids, id_of_predicate, matcher_ids, predicate_ids, place_in}
-use Rattle.link_rules.specs.EntityNames.{first_unknown, predicates_of_predicate, predicates_of_metric, unknown_in, unknown_predicates, unknown_predicate_fault, unknown_matcher_fault, unknown_state_fault}
-use Rattle.link_rules.specs.LinkFaults.{fault, unknown_predicate, predicate_kind, first_in}
+use Rattle.link_rules.specs.EntityNames.{first_unknown, predicates_of_predicate, unknown_predicates, unknown_predicate_fault, unknown_matcher_fault, unknown_state_fault}
+use Rattle.link_rules.specs.LinkFaults.{fault, unknown_predicate, predicate_kind}
 use Rattle.link_rules.specs.Cycles.{cycle_fault}
 use Rattle.link_rules.specs.LinkRules.{rule_fault, id_fault, reference_fault, name_fault, ids_in}
 use Rattle.link_rules.proofs.LinkFaultLemmas.{none_of, none_in}
@@ -184,7 +184,8 @@ links_within : (entities : Entities) → length (predicate_ids entities) ≤ len
 unfolding predicates_linked
 links_within entities few known x y named =
     let all = predicates_within (predicate_ids entities) _ few (matcher_ids entities) entities.predicates known in
-    let within = ranged (map named_predicates (predicates_linked entities)) (length (predicates_linked entities)) all x y
+    let within = ranged (map named_predicates (predicates_linked entities)) (length (predicates_linked entities)) all
+    x y
     named in
     let same : length (map named_predicates (predicates_linked entities)) ≡ length (predicates_linked entities)
     = length-map (predicates_linked entities) named_predicates in

@@ -1,40 +1,37 @@
 -- What a metric has by its kind is sound where none of its reasons holds.
-use Rattle.std.proofs.Common.{◌≡◌, ◌≢◌, ℕ, zero, suc, ◌<◌, ◌≤◌, ◌*◌, ◌⊎◌, inl, inr, Bool, true, false, not, ◌&&◌, ◌||◌, ◌==◌, nat_lt, nat_le, List, [], ◌∷◌, map, length, get_or, Option, Some, None, is_none, is_some, slice_get, if◌then◌else◌, All, AllPairs, refl, sym, ap, ◌∙◌, subst, arith}
+use Rattle.std.proofs.Common.{◌≡◌, ℕ, ◌<◌, ◌≤◌, ◌*◌, ◌⊎◌, inl, inr, Bool, true, false, not, ◌&&◌, ◌||◌, ◌==◌, nat_lt, List, [], ◌∷◌, length, Option, Some, None, is_some, slice_get, if◌then◌else◌, All, refl, sym, ap, ◌∙◌, subst, arith}
 use Rattle.std.specs.Prelude.{ℤ, pos, negsuc}
 use Rattle.std.specs.Ordering.{int_eq}
-use Rattle.std.specs.Option.{option_map, option_and_then, unwrap_or}
-use Rattle.std.specs.List.{AllByRecursion, list_any, list_all, find}
+use Rattle.std.specs.Option.{option_map, unwrap_or}
+use Rattle.std.specs.List.{AllByRecursion, list_all, find}
 use Rattle.std.proofs.lemmas.Bool.{ltb-false}
-use Rattle.std.proofs.lemmas.List.{length-map}
 use Rattle.std.proofs.lemmas.List.Elements.{All-from_recursion}
 use Rattle.config_types.specs.declared.bucket.TimeUnit.{TimeUnit}
 use Rattle.config_types.specs.declared.bucket.TimeUnit.TheVariants.{OneMinute, FiveMinutes, TenMinutes, ThirtyMinutes, OneHour, ThreeHours, SixHours, TwelveHours, OneDay, Cts}
-use Rattle.config_types.specs.Buckets.{nanos_of, seconds_of, second_nanos, root_uid, shell_uid}
+use Rattle.config_types.specs.Buckets.{nanos_of, second_nanos, root_uid, shell_uid}
 use Rattle.config_types.specs.declared.parameters.PredSpec.{PredSpec}
 use Rattle.config_types.specs.declared.metric.SamplingType.{SamplingType}
 use Rattle.config_types.specs.declared.metric.SamplingType.TheVariants.{RandomOne, ChangeToTrue, FirstN}
 use Rattle.field_select.specs.declared.leaf.FieldSet.{FieldSet}
 use Rattle.field_select.specs.declared.leaf.LeafPath.{LeafPath}
 use Rattle.field_select.specs.FieldSets.{IsLeaf, IsFieldSet, is_all}
-use Rattle.field_select.specs.WellFormed.{is_number_to}
 use Rattle.link_rules.specs.declared.fault.LinkFault.{LinkFault}
-use Rattle.link_rules.specs.EntityLimits.{count_limit, number_limit, most_samples, most_bucket_samples, number_or, default_samples, samples_by, samples_of, bound_or_default}
+use Rattle.link_rules.specs.EntityLimits.{count_limit, number_limit, most_samples, most_bucket_samples, number_or, default_samples, samples_by}
 use Rattle.link_rules.specs.EntityIds.{place_in}
-use Rattle.config_links.specs.declared.linked.LMatcher.{LMatcher}
 use Rattle.config_links.specs.declared.linked.LPredicate.{LPredicate}
 use Rattle.config_links.specs.declared.linked.LSlice.{LSlice}
 use Rattle.config_links.specs.declared.linked.LLink.{LLink}
 use Rattle.config_links.specs.declared.scope.Scope.{Scope}
 use Rattle.config_links.specs.declared.sets.StateLinkSets.{StateLinkSets}
 use Rattle.config_links.specs.LinkScopes.{predicate_named, spec_in, dims_in, is_pulled_matcher, names_pulled, state_atom}
-use Rattle.config_links.specs.MetricLinks.{are_one_of, is_within}
-use Rattle.config_links.specs.MetricSlices.{are_within, slice_fields, linked_slice, linked_slices, is_atom}
-use Rattle.config_links.specs.MetricKinds.{is_value_set, first_leaf, may_sample, no_spec, timed_spec, sampling_mode, sampled_fields}
+use Rattle.config_links.specs.MetricLinks.{is_within}
+use Rattle.config_links.specs.MetricSlices.{are_within, slice_fields, linked_slices, is_atom}
+use Rattle.config_links.specs.MetricKinds.{is_value_set, first_leaf, may_sample, no_spec, timed_spec, sampling_mode}
 use Rattle.config_links.specs.declared.linked.Linked.{Linked}
 use Rattle.config_links.specs.declared.linked.LMetric.{LMetric}
-use Rattle.config_links.specs.SoundConfig.{IsFromOne, IsSize, IsValueLeaf, IsFilter, AreSamples, HasMode, AreFieldsOf, MayBeFieldsOf, IsSoundDuration}
+use Rattle.config_links.specs.SoundConfig.{IsFromOne, IsSize, IsValueLeaf, IsFilter, HasMode, AreFieldsOf, MayBeFieldsOf, IsSoundDuration}
 use Rattle.config_links.proofs.SoundParts.{left_holds, right_holds, number_from_one}
-use Rattle.config_links.proofs.SoundNames.{Known, led_to, place_below, all_pass, not_zero, is_zero, nothing_found}
+use Rattle.config_links.proofs.SoundNames.{Known, led_to, place_below, all_pass, not_zero, nothing_found}
 
 -- the length of a minute's bucket, for whatever client
 minute_fits : (short : Bool) → IsSize (second_nanos * (if short then 60 else 300))
@@ -60,7 +57,8 @@ not_all true h = absurd (cc)
 not_all false h = refl
 
 -- one leaf, which picks one entry
-pub value_leaf : (leaves : List LeafPath) → All IsLeaf leaves → is_value_set leaves ≡ true → IsValueLeaf (first_leaf leaves)
+pub value_leaf : (leaves : List LeafPath) → All IsLeaf leaves → is_value_set leaves ≡ true
+    → IsValueLeaf (first_leaf leaves)
 value_leaf [] each is = absurd (cc)
 value_leaf (leaf ∷ []) each is = (each 0 leaf (omega arith), not_all (is_all leaf.position) is)
 value_leaf (leaf ∷ other ∷ leaves) each is = absurd (cc)
@@ -79,7 +77,8 @@ limit_step : (within : Bool) (found : LinkFault) → (if within then None else S
 limit_step true found h = refl
 limit_step false found h = absurd (cc)
 
-number_fits : (samples : Option ℤ) → number_limit 7 most_samples samples ≡ None → IsFromOne 100 (number_or default_samples samples)
+number_fits : (samples : Option ℤ) → number_limit 7 most_samples samples ≡ None
+    → IsFromOne 100 (number_or default_samples samples)
 number_fits None h = (omega arith, omega arith)
 number_fits (Some (pos n)) h = number_from_one most_samples (Some (pos n)) (limit_step _ _ h)
 number_fits (Some (negsuc n)) h = absurd (cc)
@@ -170,21 +169,27 @@ module _ (scope : Scope) (what : ℤ) where
       → is_some (spec_in (predicate_named scope what)) ≡ true
       → are_within (dims_in (predicate_named scope what)) metric.dims metric.links links ≡ true
       → IsSoundDuration linked metric (timed_spec scope what bound)
-  duration_sound linked metric bound links ids known many same_predicates same_what same_bound same_slices simple within =
+  duration_sound linked metric bound links ids known many same_predicates same_what same_bound same_slices simple
+      within =
       let timed = some_spec (spec_in (predicate_named scope what)) simple in
-      let below : place_in scope.ids.predicates what < length scope.ids.predicates = place_below (int_eq what) scope.ids.predicates known in
+      let below : place_in scope.ids.predicates what < length scope.ids.predicates = place_below (int_eq what)
+      scope.ids.predicates known in
       let at : predicate_named scope what ≡ slice_get linked.predicates metric.what =
       led_to scope.predicates scope.ids.predicates what known
-      ∙ ap (λ (predicates : List LPredicate). slice_get predicates (place_in scope.ids.predicates what)) (sym same_predicates)
+      ∙ ap (λ (predicates : List LPredicate). slice_get predicates (place_in scope.ids.predicates what))
+      (sym same_predicates)
       ∙ ap (slice_get linked.predicates) (sym same_what) in
       let dims = dims_in (predicate_named scope what) in
       let here = left_holds (is_within dims metric.dims) _ within in
       let others = right_holds (is_within dims metric.dims) _ within in
       let of_links = left_holds (list_all (λ (link : LLink). is_within dims link.in_what) metric.links) _ others in
       let of_states = right_holds (list_all (λ (link : LLink). is_within dims link.in_what) metric.links) _ others in
-      let slices : All (λ (slice : LSlice). MayBeFieldsOf (predicate_named scope what) slice.in_what) (linked_slices scope links ids) =
-      All-from_recursion (λ (slice : LSlice). MayBeFieldsOf (predicate_named scope what) slice.in_what) (linked_slices scope links ids)
-      (slices_within (predicate_named scope what) links ids (all_pass (λ (sets : StateLinkSets). is_within dims sets.in_what) links of_states)) in
+      let slices : All (λ (slice : LSlice). MayBeFieldsOf (predicate_named scope what) slice.in_what)
+      (linked_slices scope links ids) =
+      All-from_recursion (λ (slice : LSlice). MayBeFieldsOf (predicate_named scope what) slice.in_what)
+      (linked_slices scope links ids)
+      (slices_within (predicate_named scope what) links ids
+      (all_pass (λ (sets : StateLinkSets). is_within dims sets.in_what) links of_states)) in
       record {
         within = omega (arith, below, many, same_what);
         timed = timed.0;
@@ -192,9 +197,12 @@ module _ (scope : Scope) (what : ℤ) where
         kept = ap (λ (found : Option PredSpec). record (unwrap_or found no_spec) { bound = bound }) timed.1
             ∙ ap (λ (b : ℕ). record timed.0 { bound = b }) (sym same_bound);
         dims = subst (λ (found : Option LPredicate). AreFieldsOf found metric.dims) at here;
-        links = subst (λ (found : Option LPredicate). All (λ (link : LLink). AreFieldsOf found link.in_what) metric.links) at
+        links = subst (λ (found : Option LPredicate). All (λ (link : LLink). AreFieldsOf found link.in_what)
+            metric.links) at
             (All-from_recursion (λ (link : LLink). is_within dims link.in_what ≡ true) metric.links
             (all_pass (λ (link : LLink). is_within dims link.in_what) metric.links of_links));
-        slices = subst (λ (found : Option LPredicate). All (λ (slice : LSlice). MayBeFieldsOf found slice.in_what) metric.slices) at
-            (subst (λ (made : List LSlice). All (λ (slice : LSlice). MayBeFieldsOf (predicate_named scope what) slice.in_what) made) (sym same_slices) slices);
+        slices = subst (λ (found : Option LPredicate). All (λ (slice : LSlice). MayBeFieldsOf found slice.in_what)
+            metric.slices) at
+            (subst (λ (made : List LSlice). All (λ (slice : LSlice). MayBeFieldsOf (predicate_named scope what)
+            slice.in_what) made) (sym same_slices) slices);
       }

@@ -1,13 +1,12 @@
 -- A configuration without faults has a sound linked form.
-use Rattle.std.proofs.Common.{◌≡◌, ◌≢◌, ℕ, ◌+◌, ◌≤◌, Bool, true, false, List, [], ◌∷◌, map, length, Option, Some, None, Result, Ok, Err, IfOk, AllPairs, refl, sym, ap, ◌∙◌, subst, arith}
+use Rattle.std.proofs.Common.{◌≡◌, ◌≢◌, ℕ, ◌+◌, ◌≤◌, List, [], ◌∷◌, map, length, Option, Some, None, Result, Ok, Err, IfOk, AllPairs, refl, sym, ap, ◌∙◌, subst, arith}
 use Rattle.std.specs.Prelude.{ℤ, pos}
 use Rattle.std.specs.Ordering.{int_eq}
-use Rattle.std.specs.Option.{option_map, unwrap_or}
+use Rattle.std.specs.Option.{unwrap_or}
 use Rattle.std.specs.List.{AllByRecursion}
 use Rattle.std.proofs.lemmas.Bool.Decides.{Decides-int_eq}
 use Rattle.std.proofs.lemmas.List.{length-map}
 use Rattle.config_types.specs.declared.config.Config.{Config}
-use Rattle.config_types.specs.declared.matcher.MatcherDef.{MatcherDef}
 use Rattle.config_types.specs.declared.predicate.PredicateDef.{PredicateDef}
 use Rattle.distinct.specs.Repeats.{repeat_in, AreApart}
 use Rattle.distinct.proofs.ApartLemmas.{apart_without_repeat}
@@ -15,10 +14,9 @@ use Rattle.link_graph.specs.Links.{HasNoCycle}
 use Rattle.link_graph.specs.Ids.{IdNode}
 use Rattle.link_rules.specs.declared.entities.Entities.{Entities}
 use Rattle.link_rules.specs.declared.entities.Metric.{Metric}
-use Rattle.link_rules.specs.declared.fault.LinkFault.{LinkFault}
 use Rattle.link_rules.specs.declared.fault.LinkError.{LinkError}
 use Rattle.link_rules.specs.Entities.{entities_of}
-use Rattle.link_rules.specs.LinkFaults.{Links, first_of, first_in, fault, duplicate_id, unknown_matcher, unknown_predicate, unknown_state, matcher_kind, predicate_kind, metric_kind}
+use Rattle.link_rules.specs.LinkFaults.{Links, first_in, fault, duplicate_id, unknown_matcher, unknown_predicate, unknown_state, matcher_kind, predicate_kind, metric_kind}
 use Rattle.link_rules.specs.EntityLimits.{limit_fault, limits, predicate_limit, metric_limit}
 use Rattle.link_rules.specs.EntityIds.{no_id_from, set_ids, id_of_matcher, id_of_predicate, id_of_state, id_of_metric, missing_ids, duplicate_ids, no_id_fault, duplicate_id_fault, matcher_ids, predicate_ids, state_ids, metric_ids}
 use Rattle.link_rules.specs.EntityNames.{first_unknown, matchers_of_matcher, matchers_of_predicate, matchers_of_metric, predicates_of_predicate, predicates_of_metric, states_of_metric, unknown_matchers, unknown_predicates, unknown_matcher_fault, unknown_predicate_fault, unknown_state_fault}
@@ -129,13 +127,17 @@ module _ (entities : Entities) where
       × AllByRecursion (λ def. metric_limit def ≡ None) entities.metrics
   unfolding limit_fault
   within_limits h =
-      let parts = none_of (limits entities) h in
-      (none_in predicate_limit entities.predicates parts.1.1.1.1.0, none_in metric_limit entities.metrics parts.1.1.1.1.1.0)
+      let parts = none_of (limits entities) h in (
+        none_in predicate_limit entities.predicates parts.1.1.1.1.0,
+        none_in metric_limit entities.metrics
+            parts.1.1.1.1.1.0,
+      )
 
   -- the names of matchers lead somewhere
   starts : unknown_matcher_fault entities ≡ None
       → AllByRecursion (λ def. first_unknown (matcher_ids entities) (matchers_of_matcher def) ≡ None) entities.matchers
-      × AllByRecursion (λ def. first_unknown (matcher_ids entities) (matchers_of_predicate def) ≡ None) entities.predicates
+      × AllByRecursion (λ def. first_unknown (matcher_ids entities) (matchers_of_predicate def)
+      ≡ None) entities.predicates
       × AllByRecursion (λ def. first_unknown (matcher_ids entities) (matchers_of_metric def) ≡ None) entities.metrics
   unfolding unknown_matcher_fault
   starts h =
@@ -151,8 +153,10 @@ module _ (entities : Entities) where
 
   -- and those of predicates
   names : unknown_predicate_fault entities ≡ None
-      → AllByRecursion (λ def. first_unknown (predicate_ids entities) (predicates_of_predicate def) ≡ None) entities.predicates
-      × AllByRecursion (λ def. first_unknown (predicate_ids entities) (predicates_of_metric def) ≡ None) entities.metrics
+      → AllByRecursion (λ def. first_unknown (predicate_ids entities) (predicates_of_predicate def)
+      ≡ None) entities.predicates
+      × AllByRecursion (λ def. first_unknown (predicate_ids entities) (predicates_of_metric def)
+      ≡ None) entities.metrics
   unfolding unknown_predicate_fault
   names h =
       let known = predicate_ids entities in
@@ -174,15 +178,33 @@ module _ (entities : Entities) where
   -- there are no more ids than entities
   some_matchers : length (matcher_ids entities) ≤ length (matchers_linked entities)
   unfolding matcher_ids matchers_linked
-  some_matchers = omega (arith, few_ids (map id_of_matcher entities.matchers), length-map entities.matchers id_of_matcher, length-map entities.matchers (linked_matcher (matcher_ids entities)))
+  some_matchers = omega (
+    arith,
+    few_ids (map id_of_matcher entities.matchers),
+    length-map entities.matchers
+        id_of_matcher,
+    length-map entities.matchers (linked_matcher (matcher_ids entities)),
+  )
 
   some_predicates : length (predicate_ids entities) ≤ length (predicates_linked entities)
   unfolding predicate_ids predicates_linked
-  some_predicates = omega (arith, few_ids (map id_of_predicate entities.predicates), length-map entities.predicates id_of_predicate, length-map entities.predicates (linked_predicate (matcher_ids entities) (predicate_ids entities)))
+  some_predicates = omega (
+    arith,
+    few_ids (map id_of_predicate entities.predicates),
+    length-map entities.predicates
+        id_of_predicate,
+    length-map entities.predicates
+        (linked_predicate (matcher_ids entities) (predicate_ids entities)),
+  )
 
   some_states : length (state_ids entities) ≤ length (states_linked entities)
   unfolding state_ids states_linked
-  some_states = omega (arith, few_ids (map id_of_state entities.states), length-map entities.states id_of_state, length-map entities.states linked_state)
+  some_states = omega (
+    arith,
+    few_ids (map id_of_state entities.states),
+    length-map entities.states id_of_state,
+    length-map entities.states linked_state,
+  )
 
   -- no id of a predicate stood earlier
   no_predicate_again : id_fault entities ≡ None → repeat_in int_eq (predicate_ids entities) ≡ None
@@ -207,11 +229,15 @@ module _ (entities : Entities) where
       → AllPairs (λ (one later : LMetric). one.id ≢ later.id) (metrics_linked (scope_of entities) uid entities)
   unfolding duplicate_id_fault no_id_fault metrics_linked
   metrics_apart uid h =
-      let none = nothing_mapped (fault duplicate_id metric_kind) _ (none_of (duplicate_ids entities) (id_parts h).2).1.1.1.0 in
-      let set = all_set metric_kind 0 (map id_of_metric entities.metrics) (none_of (missing_ids entities) (id_parts h).1).1.1.1.0 in
+      let none = nothing_mapped (fault duplicate_id metric_kind) _
+      (none_of (duplicate_ids entities) (id_parts h).2).1.1.1.0 in
+      let set = all_set metric_kind 0 (map id_of_metric entities.metrics)
+      (none_of (missing_ids entities) (id_parts h).1).1.1.1.0 in
       let ids = set ∙ metrics_again (scope_of entities) uid entities.no_report entities.metrics in
-      apart_mapped (λ (one : LMetric). one.id) (map (linked_metric (scope_of entities) uid entities.no_report) entities.metrics)
-      (subst AreApart ids (apart_without_repeat int_eq Decides-int_eq (set_ids (map id_of_metric entities.metrics)) none))
+      apart_mapped (λ (one : LMetric). one.id) (map (linked_metric (scope_of entities) uid entities.no_report)
+      entities.metrics)
+      (subst AreApart ids (apart_without_repeat int_eq Decides-int_eq (set_ids (map id_of_metric entities.metrics))
+      none))
 
   -- no linked combination is below itself
   matchers_end : id_fault entities ≡ None → name_fault entities ≡ None → cycle_fault entities ≡ None
@@ -243,14 +269,32 @@ module _ (entities : Entities) where
       let predicated = names named.1 in
       let few = few_entities entities rules.0 in
       record {
-        few_matchers = omega (arith, few.matchers, length-map entities.matchers (linked_matcher (matcher_ids entities)));
-        few_predicates = omega (arith, few.predicates, length-map entities.predicates (linked_predicate (matcher_ids entities) (predicate_ids entities)));
+        few_matchers = omega (
+          arith,
+          few.matchers,
+          length-map entities.matchers
+              (linked_matcher (matcher_ids entities)),
+        );
+        few_predicates = omega (
+          arith,
+          few.predicates,
+          length-map entities.predicates
+              (linked_predicate (matcher_ids entities) (predicate_ids entities)),
+        );
         few_states = omega (arith, few.states, length-map entities.states linked_state);
-        few_metrics = omega (arith, few.metrics, length-map entities.metrics (linked_metric (scope_of entities) uid entities.no_report));
+        few_metrics = omega (
+          arith,
+          few.metrics,
+          length-map entities.metrics
+              (linked_metric (scope_of entities) uid entities.no_report),
+        );
         matchers = matchers_sound (matcher_ids entities) _ some_matchers entities.matchers matched.0 good.0;
-        predicates = predicates_sound (matcher_ids entities) (predicate_ids entities) _ _ some_matchers some_predicates entities.predicates matched.1 predicated.0 limit.0 good.1;
+        predicates = predicates_sound (matcher_ids entities) (predicate_ids entities) _ _ some_matchers
+            some_predicates entities.predicates matched.1 predicated.0 limit.0 good.1;
         states = states_sound entities.states good.2;
-        metrics = metrics_sound (scope_of entities) (metrics_linked (scope_of entities) uid entities) some_matchers some_predicates some_states uid entities.no_report entities.metrics matched.2 predicated.1 (slices named.2) limit.1 (good_metrics types.1);
+        metrics = metrics_sound (scope_of entities) (metrics_linked (scope_of entities) uid entities) some_matchers
+            some_predicates some_states uid entities.no_report entities.metrics matched.2 predicated.1
+            (slices named.2) limit.1 (good_metrics types.1);
         matchers_end = matchers_end rules.0 rules.1 rules.2;
         predicates_end = predicates_end rules.0 rules.1 rules.2;
         predicate_ids = predicates_apart rules.0;

@@ -1,15 +1,15 @@
 -- What stands at the place of an id that is known, and what a name of a metric leads to.
-use Rattle.std.proofs.Common.{◌≡◌, ◌≢◌, ℕ, zero, suc, ◌<◌, ◌≤◌, ◌+◌, ◌⊎◌, inl, inr, Bool, true, false, not, ◌&&◌, ◌==◌, cond, List, [], ◌∷◌, map, length, get_or, Option, Some, None, is_none, is_some, slice_get, if◌then◌else◌, nat_lt, All, AllPairs, refl, sym, ap, ◌∙◌, subst, arith}
-use Rattle.std.specs.Prelude.{ℤ, pos}
+use Rattle.std.proofs.Common.{◌≡◌, ◌≢◌, ℕ, zero, suc, ◌<◌, ◌≤◌, Bool, true, false, not, ◌&&◌, ◌==◌, cond, List, [], ◌∷◌, map, length, get_or, Option, Some, None, is_none, is_some, slice_get, if◌then◌else◌, nat_lt, AllPairs, refl, sym, ap, ◌∙◌, subst, arith}
+use Rattle.std.specs.Prelude.{ℤ}
 use Rattle.std.specs.Ordering.{int_eq}
-use Rattle.std.specs.Option.{option_map, option_and_then, unwrap_or}
+use Rattle.std.specs.Option.{option_and_then, unwrap_or}
 use Rattle.std.specs.List.{AllByRecursion, list_any, list_all, position_or_len, find}
-use Rattle.std.proofs.lemmas.Bool.{ltb-true, or_cases, false≢true}
+use Rattle.std.proofs.lemmas.Bool.{ltb-true}
 use Rattle.std.proofs.lemmas.Bool.Decides.{Decides-int_eq, Decides-eqb}
 use Rattle.std.proofs.lemmas.List.{length-map, get_or-map}
 use Rattle.distinct.specs.Places.{first_place}
 use Rattle.distinct.proofs.PlaceLemmas.{found_at}
-use Rattle.link_rules.specs.EntityIds.{id_place, place_in, set_ids}
+use Rattle.link_rules.specs.EntityIds.{id_place, place_in}
 use Rattle.link_rules.specs.EntityNames.{first_unknown}
 use Rattle.link_rules.proofs.CycleLemmas.{stands_at}
 
@@ -90,7 +90,11 @@ module _ {A : Type 0} (test : A → Bool) where
   -- where all pass, each does
   pub all_pass : (xs : List A) → list_all test xs ≡ true → AllByRecursion (λ x. test x ≡ true) xs
   all_pass [] h = tt
-  all_pass (x ∷ xs) h = (first_passes (test x) (list_all test xs) h, all_pass xs (others_pass (test x) (list_all test xs) h))
+  all_pass (x ∷ xs) h = (
+    first_passes (test x) (list_all test xs) h,
+    all_pass xs
+        (others_pass (test x) (list_all test xs) h),
+  )
 
 known_step : (is : Bool) (id : ℤ) (more : Option ℤ) → (if is then more else Some id) ≡ None
     → (is ≡ true) × (more ≡ None)

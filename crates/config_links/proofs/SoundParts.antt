@@ -1,8 +1,8 @@
 -- Linked matchers, predicates and states are sound where no rule is broken and none of them has a reason.
-use Rattle.std.proofs.Common.{◌≡◌, ◌≢◌, ℕ, zero, suc, ◌<◌, ◌≤◌, Bool, true, false, not, ◌&&◌, cond, List, [], ◌∷◌, map, length, get_or, Option, Some, None, is_none, Ok, if◌then◌else◌, nat_lt, nat_le, AllPairs, refl, sym, ap, ◌∙◌, subst, arith}
-use Rattle.std.specs.Prelude.{ℤ, pos, negsuc, IsTrue}
+use Rattle.std.proofs.Common.{◌≡◌, ◌≢◌, ℕ, ◌<◌, ◌≤◌, Bool, true, false, not, ◌&&◌, List, [], ◌∷◌, map, length, Option, Some, None, Ok, if◌then◌else◌, nat_lt, nat_le, AllPairs, refl, sym, ap, ◌∙◌, arith}
+use Rattle.std.specs.Prelude.{ℤ, pos, negsuc}
 use Rattle.std.specs.Ordering.{int_eq}
-use Rattle.std.specs.Option.{option_map, unwrap_or}
+use Rattle.std.specs.Option.{option_map}
 use Rattle.std.specs.List.{All, AllByRecursion, list_any, list_all}
 use Rattle.std.proofs.lemmas.Bool.{leb-true, ltb-true}
 use Rattle.std.proofs.lemmas.List.{length-map, get_or-map}
@@ -16,23 +16,21 @@ use Rattle.config_types.specs.declared.predicate.PredicateDef.{PredicateDef}
 use Rattle.config_types.specs.declared.predicate.PredicateBody.{PredicateBody}
 use Rattle.config_types.specs.declared.predicate.PredicateBody.TheVariants as predicate
 use Rattle.config_types.specs.declared.state.StateDef.{StateDef}
-use Rattle.config_types.specs.Askable.{greatest_atom_id, is_set_up_to, is_askable_test, IsAskable}
+use Rattle.config_types.specs.Askable.{greatest_atom_id, is_set_up_to, is_askable_test}
 use Rattle.field_select.specs.FieldSets.{IsFieldSet}
 use Rattle.field_select.specs.WellFormed.{is_number_to, number_or_zero, set_of}
 use Rattle.field_select.proofs.LeafLemmas.{answer_is_set}
 use Rattle.link_rules.specs.declared.fault.LinkFault.{LinkFault}
-use Rattle.link_rules.specs.LinkFaults.{first_of, first_in, first_reason, fault, past_limit}
-use Rattle.link_rules.specs.EntityLimits.{number_limit, predicate_limit, bound_or_default, most_bound, absent_bound, number_or}
+use Rattle.link_rules.specs.LinkFaults.{first_reason}
+use Rattle.link_rules.specs.EntityLimits.{number_limit, predicate_limit, bound_or_default, most_bound}
 use Rattle.link_rules.specs.EntityIds.{place_in}
 use Rattle.link_rules.specs.EntityNames.{first_unknown, matchers_of_matcher, matchers_of_predicate, predicates_of_predicate}
 use Rattle.link_rules.specs.Cycles.{child_matchers, child_predicates, matcher_node, predicate_node, places_of}
-use Rattle.link_rules.proofs.LinkFaultLemmas.{none_of, none_in, no_reason}
-use Rattle.config_links.specs.LinkReasons.{least_reason, type_fault, takes_children, is_combo, names_atom, set_or_none, may_stand, has_bad_combo, has_bad_atom, has_bad_test, matcher_reasons, bad_matcher, has_bad_children, has_bad_dims, predicate_reasons, bad_predicate, state_reasons, bad_state}
+use Rattle.link_rules.proofs.LinkFaultLemmas.{no_reason}
+use Rattle.config_links.specs.LinkReasons.{least_reason, type_fault, takes_children, is_combo, set_or_none, may_stand, matcher_reasons, bad_matcher, predicate_reasons, bad_predicate, state_reasons, bad_state}
 use Rattle.config_links.specs.LinkedForm.{operation_or_and, matcher_form, linked_matcher, linked_body, linked_predicate, linked_state}
 use Rattle.config_links.specs.LinkScopes.{named_predicates, body_children}
-use Rattle.config_links.specs.declared.linked.LMatcher.{LMatcher}
-use Rattle.config_links.specs.declared.linked.LPredicate.{LPredicate}
-use Rattle.config_links.specs.SoundConfig.{AreWithin, MayBeWithin, IsFromOne, IsBound, named_matchers, IsSoundMatcher, IsSoundSimple, IsSoundBody, IsSoundPredicate, IsSoundState}
+use Rattle.config_links.specs.SoundConfig.{AreWithin, MayBeWithin, IsFromOne, IsBound, named_matchers, IsSoundMatcher, IsSoundBody, IsSoundPredicate, IsSoundState}
 use Rattle.config_links.proofs.ReadyLemmas.{place_within, all_within}
 
 -- a test that doesn't fail holds
@@ -84,14 +82,19 @@ set_from_one greatest None is = absurd (cc)
 -- the leaves of a tree that isn't ill-formed are a set
 pub set_is_set : (tree : Option FieldMatcher) → may_stand tree ≡ true → IsFieldSet (set_or_none tree)
 set_is_set (Some tree) is = answer_is_set (Ok (set_of tree)) tree (is, refl)
-set_is_set None is = record { each = λ k d within. absurd (omega arith); once = λ i j d before within. absurd (omega arith) }
+set_is_set None is = record {
+  each = λ k d within. absurd (omega arith);
+  once = λ i j d before within. absurd
+      (omega arith);
+}
 
 limit_step : (within : Bool) (found : LinkFault) → (if within then None else Some found) ≡ None → within ≡ true
 limit_step true found h = refl
 limit_step false found h = absurd (cc)
 
 -- a number within its limit, or the one that an absent one stands for
-pub bound_fits : (reason : ℕ) (bound : Option ℤ) → number_limit reason most_bound bound ≡ None → IsBound (bound_or_default bound)
+pub bound_fits : (reason : ℕ) (bound : Option ℤ) → number_limit reason most_bound bound ≡ None
+    → IsBound (bound_or_default bound)
 bound_fits reason None h = (omega arith, omega arith)
 bound_fits reason (Some (pos n)) h =
     let is : is_number_to most_bound (Some (pos n)) ≡ true = limit_step _ _ h in
@@ -99,18 +102,21 @@ bound_fits reason (Some (pos n)) h =
 bound_fits reason (Some (negsuc n)) h = absurd (cc)
 
 -- the operation of a combination takes as many children
-pub combo_takes : (op : Option Operation) (count : ℕ) → is_combo op count ≡ true → takes_children (operation_or_and op) count ≡ true
+pub combo_takes : (op : Option Operation) (count : ℕ) → is_combo op count ≡ true
+    → takes_children (operation_or_and op) count ≡ true
 combo_takes (Some op) count h = h
 combo_takes None count h = absurd (cc)
 
 combo_sound : (known : List ℤ) (op : Option Operation) (children : List ℤ) → is_combo op (length children) ≡ true
     → takes_children (operation_or_and op) (length (map (place_in known) children)) ≡ true
 combo_sound known op children is =
-    ap (takes_children (operation_or_and op)) (length-map children (place_in known)) ∙ combo_takes op (length children) is
+    ap (takes_children (operation_or_and op)) (length-map children (place_in known))
+    ∙ combo_takes op (length children) is
 
 module _ (known : List ℤ) (count : ℕ) (few : length known ≤ count) where
   -- the places of children that are known
-  children_within : (ids : List ℤ) → first_unknown known (map Some ids) ≡ None → AreWithin count (map (place_in known) ids)
+  children_within : (ids : List ℤ) → first_unknown known (map Some ids) ≡ None
+      → AreWithin count (map (place_in known) ids)
   children_within ids names =
       All-from_recursion (λ place. place < count) (map (place_in known) ids) (all_within known count few ids names)
 
@@ -157,7 +163,8 @@ module _ (known : List ℤ) (count : ℕ) (few : length known ≤ count) where
       let lt : place_in known id < length known = place_within known id both.0 in
       (omega (arith, lt, few), both.1)
 
-module _ (matchers predicates : List ℤ) (some many : ℕ) (few : length matchers ≤ some) (few_too : length predicates ≤ many) where
+module _ (matchers predicates : List ℤ) (some many : ℕ) (few : length matchers ≤ some)
+    (few_too : length predicates ≤ many) where
   predicate_body_sound : (def : PredicateDef) (body : Option PredicateBody)
       → first_unknown matchers (matchers_of_predicate (record def { body = body })) ≡ None
       → first_unknown predicates (predicates_of_predicate (record def { body = body })) ≡ None
@@ -239,7 +246,8 @@ predicate_names_again matchers known (Some (predicate.Combo combo)) = refl
 predicate_names_again matchers known None = refl
 
 pub predicate_links_again : (matchers known : List ℤ) (defs : List PredicateDef)
-    → map (places_of known) (map predicate_node defs) ≡ map named_predicates (map (linked_predicate matchers known) defs)
+    → map (places_of known) (map predicate_node defs)
+    ≡ map named_predicates (map (linked_predicate matchers known) defs)
 predicate_links_again matchers known [] = refl
 predicate_links_again matchers known (def ∷ defs) =
     let first = predicate_names_again matchers known def.body in

@@ -1,5 +1,5 @@
 -- What a sound configuration has at each place.
-use Rattle.std.proofs.Common.{◌≡◌, ℕ, zero, suc, ◌<◌, ◌≤◌, Bool, true, false, not, ◌==◌, List, [], ◌∷◌, map, length, get_or, Option, Some, None, slice_get, All, refl, sym, subst, arith}
+use Rattle.std.proofs.Common.{◌≡◌, ℕ, ◌<◌, ◌≤◌, true, List, [], map, length, Option, Some, None, slice_get, All, refl, subst, arith}
 use Rattle.std.specs.List.{Contains}
 use Rattle.std.proofs.lemmas.Bool.Decides.{Decides-eqb}
 use Rattle.std.proofs.lemmas.List.{length-map}
@@ -7,12 +7,11 @@ use Rattle.std.proofs.lemmas.List.Elements.{All-contains}
 use Rattle.std.proofs.lemmas.Option.{slice_get_within, get_or_from_slice_get}
 use Rattle.config_types.specs.declared.matcher.Operation.{Operation}
 use Rattle.config_types.specs.declared.matcher.Operation.TheVariants.{And, Or, Not, Nand, Nor}
-use Rattle.link_graph.specs.Links.{children_at, Refers, AreInRange}
+use Rattle.link_graph.specs.Links.{Refers, AreInRange}
 use Rattle.link_graph.proofs.NodeLemmas.{children_of, children_past}
 use Rattle.link_graph.proofs.DepthLaws.{ends_from_no_cycle}
 use Rattle.config_links.specs.declared.linked.LMatcher.{LMatcher}
 use Rattle.config_links.specs.declared.linked.LMatcher.TheVariants as linked_matchers
-use Rattle.config_links.specs.declared.linked.LPredicate.{LPredicate}
 use Rattle.config_links.specs.declared.linked.LPredBody.{LPredBody}
 use Rattle.config_links.specs.declared.linked.LPredBody.TheVariants as linked_bodies
 use Rattle.config_links.specs.declared.linked.Linked.{Linked}

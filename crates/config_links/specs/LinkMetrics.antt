@@ -1,5 +1,5 @@
 -- Metrics: what they can't be, and their linked form.
-use Rattle.std.specs.Prelude.{ℕ, ℤ, pos, Bool, not, ◌≤◌, List, [], ◌∷◌, length, map, Option, Some}
+use Rattle.std.specs.Prelude.{ℕ, ℤ, pos, Bool, not, List, [], ◌∷◌, length, Option}
 use Rattle.std.specs.Option.{unwrap_or}
 use Rattle.std.specs.Ordering.{int_eq}
 use Rattle.std.specs.List.{list_any}
@@ -7,11 +7,11 @@ use Rattle.config_types.specs.declared.bucket.TimeUnit.{TimeUnit}
 use Rattle.config_types.specs.Buckets.{nanos_of}
 use Rattle.link_rules.specs.declared.entities.Metric.{Metric}
 use Rattle.link_rules.specs.declared.entities.Kind.{Kind}
-use Rattle.link_rules.specs.declared.entities.Kind.TheVariants.{Event, Gauge, Duration}
+use Rattle.link_rules.specs.declared.entities.Kind.TheVariants.{Event, Duration}
 use Rattle.link_rules.specs.declared.fault.LinkFault.{LinkFault}
 use Rattle.link_rules.specs.LinkFaults.{first_of}
 use Rattle.link_rules.specs.EntityIds.{place_in}
-use Rattle.link_rules.specs.EntityLimits.{bound_or_default, samples_of}
+use Rattle.link_rules.specs.EntityLimits.{bound_or_default}
 use Rattle.config_links.specs.declared.linked.LMetric.{LMetric}
 use Rattle.config_links.specs.declared.metrics.MetricParts.{MetricParts}
 use Rattle.config_links.specs.declared.scope.Scope.{Scope}

@@ -1,6 +1,6 @@
 -- What is known when metrics are linked: a name leads to the linked form at the place of its id.
-use Rattle.std.specs.Prelude.{ℕ, ℤ, Bool, true, false, List, [], Option, Some, None, slice_get, is_some}
-use Rattle.std.specs.Option.{option_map, option_and_then}
+use Rattle.std.specs.Prelude.{ℕ, ℤ, Bool, false, List, [], Option, Some, None, slice_get}
+use Rattle.std.specs.Option.{option_and_then}
 use Rattle.config_types.specs.declared.parameters.PredSpec.{PredSpec}
 use Rattle.atom_record.specs.Pulled.{is_pull_id}
 use Rattle.field_select.specs.declared.leaf.FieldSet.{FieldSet}

@@ -1,5 +1,5 @@
 -- Matchers, predicates and states with places in the stead of ids. What a fault excludes has some form here, too.
-use Rattle.std.specs.Prelude.{ℕ, ℤ, pos, List, [], map, length, Option, Some, None}
+use Rattle.std.specs.Prelude.{ℤ, pos, List, [], map, length, Option, Some, None}
 use Rattle.std.specs.Option.{option_map, unwrap_or}
 use Rattle.config_types.specs.declared.matcher.MatcherDef.{MatcherDef}
 use Rattle.config_types.specs.declared.matcher.MatcherBody.{MatcherBody}

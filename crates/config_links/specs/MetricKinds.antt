@@ -1,7 +1,6 @@
 -- What a kind of metric can't be, and its linked form.
-use Rattle.std.specs.Prelude.{ℕ, ℤ, pos, ◌==◌, Bool, true, false, not, ◌&&◌, ◌||◌, ◌≤◌, List, [], ◌∷◌, length, Option, Some, None, is_none, is_some, if◌then◌else◌}
+use Rattle.std.specs.Prelude.{ℕ, ℤ, ◌==◌, Bool, true, false, not, ◌&&◌, ◌||◌, ◌≤◌, List, [], ◌∷◌, length, Option, Some, None, is_none, if◌then◌else◌}
 use Rattle.std.specs.Option.{option_map, unwrap_or}
-use Rattle.config_types.specs.declared.fields.Position.{Position}
 use Rattle.config_types.specs.declared.metric.SamplingType.{SamplingType}
 use Rattle.config_types.specs.declared.metric.SamplingType.TheVariants.{RandomOne, ChangeToTrue, FirstN}
 use Rattle.config_types.specs.declared.parameters.PredSpec.{PredSpec}
@@ -10,7 +9,6 @@ use Rattle.config_types.specs.declared.parameters.Sampling.TheVariants.{AtStart,
 use Rattle.field_select.specs.declared.leaf.FieldSet.{FieldSet}
 use Rattle.field_select.specs.declared.leaf.LeafPath.{LeafPath}
 use Rattle.field_select.specs.FieldSets.{is_all}
-use Rattle.link_rules.specs.declared.entities.Metric.{Metric}
 use Rattle.link_rules.specs.declared.entities.Kind.{Kind}
 use Rattle.link_rules.specs.declared.entities.Kind.TheVariants.{Event, Count, Value, Gauge, Duration}
 use Rattle.link_rules.specs.declared.entities.GaugeParts.{GaugeParts}
@@ -23,7 +21,6 @@ use Rattle.config_links.specs.declared.linked.LKind.TheVariants as kinds
 use Rattle.config_links.specs.declared.scope.Scope.{Scope}
 use Rattle.config_links.specs.LinkReasons.{least_reason, set_or_none}
 use Rattle.config_links.specs.LinkScopes.{predicate_named, spec_in, names_pulled}
-use Rattle.config_links.specs.MetricSlices.{is_pulled_kind}
 
 -- one leaf, which picks one entry
 abbrev pub is_value_set : List LeafPath → Bool

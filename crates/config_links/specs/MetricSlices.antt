@@ -1,13 +1,13 @@
 -- What a metric's `what` and its state slices can't be, and their linked form.
 use Rattle.std.specs.Prelude.{ℕ, ℤ, pos, nat_lt, ◌+◌, ◌*◌, ◌==◌, Bool, true, false, not, ◌&&◌, ◌||◌, List, [], ◌∷◌, length, map, Option, Some, None, is_none, is_some}
-use Rattle.std.specs.Option.{option_map, unwrap_or}
+use Rattle.std.specs.Option.{option_map}
 use Rattle.std.specs.Ordering.{int_eq}
 use Rattle.std.specs.List.{list_all, list_any, find}
 use Rattle.distinct.specs.Repeats.{repeat_in}
 use Rattle.field_select.specs.declared.leaf.FieldSet.{FieldSet}
 use Rattle.field_select.specs.declared.leaf.LeafPath.{LeafPath}
 use Rattle.link_rules.specs.declared.entities.Kind.{Kind}
-use Rattle.link_rules.specs.declared.entities.Kind.TheVariants.{Event, Count, Value, Gauge, Duration}
+use Rattle.link_rules.specs.declared.entities.Kind.TheVariants.{Value, Gauge, Duration}
 use Rattle.link_rules.specs.declared.fault.LinkFault.{LinkFault}
 use Rattle.link_rules.specs.EntityIds.{set_ids, place_in}
 use Rattle.config_links.specs.declared.linked.LLink.{LLink}

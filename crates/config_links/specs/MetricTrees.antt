@@ -1,5 +1,5 @@
 -- The trees of field numbers in a metric, and the sets of leaves that they mean.
-use Rattle.std.specs.Prelude.{Bool, ◌&&◌, List, map, Option, Some, None}
+use Rattle.std.specs.Prelude.{Bool, ◌&&◌, map, Option, None}
 use Rattle.std.specs.List.{list_all}
 use Rattle.config_types.specs.declared.fields.FieldMatcher.{FieldMatcher}
 use Rattle.config_types.specs.declared.metric.LinkDef.{LinkDef}

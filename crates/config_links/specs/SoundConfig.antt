@@ -1,8 +1,6 @@
 -- What holds of every linked configuration.
-use Rattle.std.specs.Prelude.{◌≡◌, ◌≢◌, ℕ, ◌+◌, ◌*◌, ◌<◌, ◌≤◌, ◌↔◌, ◌==◌, Bool, true, false, List, [], map, length, Option, Some, None, slice_get, is_some, is_none, AllPairs}
-use Rattle.std.specs.Option.{option_and_then}
-use Rattle.std.specs.List.{All, list_all}
-use Rattle.config_types.specs.declared.matcher.Operation.{Operation}
+use Rattle.std.specs.Prelude.{◌≡◌, ◌≢◌, ℕ, ◌*◌, ◌<◌, ◌≤◌, Bool, true, false, List, [], map, length, Option, Some, None, slice_get, AllPairs}
+use Rattle.std.specs.List.{All}
 use Rattle.config_types.specs.declared.parameters.PredSpec.{PredSpec}
 use Rattle.config_types.specs.declared.parameters.Sampling.{Sampling}
 use Rattle.config_types.specs.declared.parameters.Sampling.TheVariants.{AtStart, AtChange, AtTrigger}
@@ -146,7 +144,8 @@ pub record IsSoundDuration (linked : Linked) (metric : LMetric) (spec : PredSpec
   pub kept : spec ≡ record timed { bound = metric.bound }
   pub dims : AreFieldsOf (slice_get linked.predicates metric.what) metric.dims
   pub links : All (λ (link : LLink). AreFieldsOf (slice_get linked.predicates metric.what) link.in_what) metric.links
-  pub slices : All (λ (slice : LSlice). MayBeFieldsOf (slice_get linked.predicates metric.what) slice.in_what) metric.slices
+  pub slices : All (λ (slice : LSlice). MayBeFieldsOf (slice_get linked.predicates metric.what) slice.in_what)
+      metric.slices
 
 -- a value's leaf picks one entry
 abbrev pub IsValueLeaf : LeafPath → Type 0
@@ -181,7 +180,8 @@ pub record IsSoundMetric (linked : Linked) (metric : LMetric) : Type 0 where
   pub dims : IsFieldSet metric.dims
   pub bound : IsBound metric.bound
   pub slices : All (IsSoundSlice (length linked.states)) metric.slices
-  pub atoms : AllPairs (λ (slice later : LSlice). slice_atom linked.states slice ≢ slice_atom linked.states later) metric.slices
+  pub atoms : AllPairs (λ (slice later : LSlice). slice_atom linked.states slice ≢ slice_atom linked.states later)
+      metric.slices
   pub kind : IsSoundKind linked metric metric.kind
 
 -- a configuration: each entity is sound, there are as few as may be, no combination is below itself, and no two of a kind

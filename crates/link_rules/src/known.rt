@@ -8,7 +8,7 @@ use distinct::Distinct;
 use std::alloc::{AllocError, Global};
 use std::marker::Model;
 
-/// The ids of the entities of a kind, in config order, each once. There are at most as many as a configuration may have.
+/// The ids of the entities of a kind, in config order, each once. There are no more than a configuration may have.
 #[derive(Drop)]
 pub struct Known {
     ids: Distinct<i64>,
@@ -37,7 +37,8 @@ impl Known {
     pub fn add(&mut self, id: i64) -> Result<bool, AllocError>
         requires { length self.old < 800 }
         ensures was_new { IfOk result (λ added. added ≡ not (list_any (int_eq id) self.old)) }
-        ensures ids { IfOk result (λ added. self.new ≡ (if added then self.old ++ id ∷ [] else self.old)) }
+        ensures ids { IfOk result (λ added.
+            self.new ≡ (if added then self.old ++ id ∷ [] else self.old)) }
         ensures err { OnErr result (self.new ≡ self.old) }
     {
         self.ids.add(id)

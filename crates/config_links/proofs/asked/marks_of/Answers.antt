@@ -1,4 +1,4 @@
-use Rattle.std.proofs.Common.{◌≡◌, ◌≤◌, Bool, List, length, Some, sym, subst, arith}
+use Rattle.std.proofs.Common.{◌≤◌, Bool, List, length, Some, sym, subst, arith}
 use Rattle.config_links.specs.MetricLinks.{AreMarked}
 use Rattle.config_links.proofs.AskedLemmas.{marked_result, none_marked}
 use Rattle.config_links.proofs.asked.marks_of.Goals as goal
