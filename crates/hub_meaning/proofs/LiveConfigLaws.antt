@@ -120,7 +120,8 @@ module _ (says : SimpleMatcher → Atom → Bool) where
       (drop (suc config.place) (frames ++ frame ∷ []))
       ≡ outputs_after step (take (suc config.place) frames) (drop (suc config.place) frames) ++ step frames frame =
       rw (front, back) (outputs_after-push step (take (suc config.place) frames) (drop (suc config.place) frames) frame
-      ∙ ap (λ all. outputs_after step (take (suc config.place) frames) (drop (suc config.place) frames) ++ step all frame)
+      ∙ ap (λ all. outputs_after step (take (suc config.place) frames) (drop (suc config.place) frames) ++ step all
+      frame)
       (take-append-drop (suc config.place) frames)) in
       let base : clock_of (take config.place (frames ++ frame ∷ [])) ≡ clock_of (take config.place frames) =
       ap clock_of before in
@@ -242,43 +243,62 @@ live_distinct frames = AreDistinct-live_from [] [] frames tt
 
 module _ (new : LiveConfig) (id : ℤ) where
   -- an install puts its configuration at its own id, and at no other
-  pub config_at-with_config : (configs : List LiveConfig) → config_at id (with_config new configs) ≡ cond (int_eq new.id id) (Some new) (config_at id configs)
+  pub config_at-with_config : (configs : List LiveConfig) → config_at id (with_config new configs)
+      ≡ cond (int_eq new.id id) (Some new) (config_at id configs)
   config_at-with_config [] = refl
   config_at-with_config (old ∷ others) = by_case (int_eq old.id new.id) refl (config_at-with_config others) where
-    by_case : (same : Bool) → int_eq old.id new.id ≡ same → config_at id (with_config new others) ≡ cond (int_eq new.id id) (Some new) (config_at id others)
-        → config_at id (cond same (new ∷ others) (old ∷ with_config new others)) ≡ cond (int_eq new.id id) (Some new) (config_at id (old ∷ others))
+    by_case : (same : Bool) → int_eq old.id new.id ≡ same → config_at id (with_config new others)
+        ≡ cond (int_eq new.id id) (Some new) (config_at id others)
+        → config_at id (cond same (new ∷ others) (old ∷ with_config new others))
+        ≡ cond (int_eq new.id id) (Some new) (config_at id (old ∷ others))
     by_case true e rest =
         let one : int_eq old.id id ≡ int_eq new.id id = ap (λ n. int_eq n id) ((signed_Decides old.id new.id).0 e) in
         both (int_eq new.id id) (int_eq old.id id) one where
-          both : (a b : Bool) → b ≡ a → cond a (Some new) (config_at id others) ≡ cond a (Some new) (cond b (Some old) (config_at id others))
+          both : (a b : Bool) → b ≡ a → cond a (Some new) (config_at id others)
+              ≡ cond a (Some new) (cond b (Some old) (config_at id others))
           both true b same = refl
           both false b same = ap (λ c. cond c (Some old) (config_at id others)) (sym same)
-    by_case false e rest = ap (λ o. cond (int_eq old.id id) (Some old) o) rest ∙ apart (int_eq old.id id) (int_eq new.id id) refl refl where
-      apart : (a b : Bool) → int_eq old.id id ≡ a → int_eq new.id id ≡ b → cond a (Some old) (cond b (Some new) (config_at id others)) ≡ cond b (Some new) (cond a (Some old) (config_at id others))
-      apart true true f g = absurd (true≢false (sym ((signed_Decides old.id new.id).1 ((signed_Decides old.id id).0 f ∙ sym ((signed_Decides new.id id).0 g))) ∙ e))
-      apart true false f g = refl
-      apart false b f g = refl
+    by_case false e rest = ap (λ o. cond (int_eq old.id id) (Some old) o) rest
+        ∙ apart (int_eq old.id id) (int_eq new.id id) refl refl where
+          apart : (a b : Bool) → int_eq old.id id ≡ a → int_eq new.id id ≡ b
+              → cond a (Some old) (cond b (Some new) (config_at id others))
+              ≡ cond b (Some new) (cond a (Some old) (config_at id others))
+          apart true true f g = absurd (true≢false (sym ((signed_Decides old.id new.id).1 ((signed_Decides old.id id).0 f
+              ∙ sym ((signed_Decides new.id id).0 g))) ∙ e))
+          apart true false f g = refl
+          apart false b f g = refl
 
 -- a remove takes out what stands at its id, and nothing else
-pub config_at-without_id : (gone id : ℤ) (configs : List LiveConfig) → config_at id (without_id gone configs) ≡ cond (int_eq gone id) None (config_at id configs)
+pub config_at-without_id : (gone id : ℤ) (configs : List LiveConfig) → config_at id (without_id gone configs)
+    ≡ cond (int_eq gone id) None (config_at id configs)
 config_at-without_id gone id [] = none (int_eq gone id) where
   none : (b : Bool) → config_at id [] ≡ cond b None (config_at id [])
   none true = refl
   none false = refl
-config_at-without_id gone id (config ∷ others) = by_case (int_eq config.id gone) refl (config_at-without_id gone id others) where
-  by_case : (same : Bool) → int_eq config.id gone ≡ same → config_at id (without_id gone others) ≡ cond (int_eq gone id) None (config_at id others)
-      → config_at id (cond (not same) (config ∷ without_id gone others) (without_id gone others)) ≡ cond (int_eq gone id) None (config_at id (config ∷ others))
-  by_case true e rest =
-      let one : int_eq config.id id ≡ int_eq gone id = ap (λ n. int_eq n id) ((signed_Decides config.id gone).0 e) in
-      rest ∙ both (int_eq gone id) (int_eq config.id id) one where
-        both : (a b : Bool) → b ≡ a → cond a None (config_at id others) ≡ cond a None (cond b (Some config) (config_at id others))
-        both true b same = refl
-        both false b same = ap (λ c. cond c (Some config) (config_at id others)) (sym same)
-  by_case false e rest = ap (λ o. cond (int_eq config.id id) (Some config) o) rest ∙ apart (int_eq config.id id) (int_eq gone id) refl refl where
-    apart : (a b : Bool) → int_eq config.id id ≡ a → int_eq gone id ≡ b → cond a (Some config) (cond b None (config_at id others)) ≡ cond b None (cond a (Some config) (config_at id others))
-    apart true true f g = absurd (true≢false (sym ((signed_Decides config.id gone).1 ((signed_Decides config.id id).0 f ∙ sym ((signed_Decides gone id).0 g))) ∙ e))
-    apart true false f g = refl
-    apart false b f g = refl
+config_at-without_id gone id (config ∷ others) = by_case (int_eq config.id gone) refl
+    (config_at-without_id gone id others) where
+      by_case : (same : Bool) → int_eq config.id gone ≡ same → config_at id (without_id gone others)
+          ≡ cond (int_eq gone id) None (config_at id others)
+          → config_at id (cond (not same) (config ∷ without_id gone others) (without_id gone others))
+          ≡ cond (int_eq gone id) None (config_at id (config ∷ others))
+      by_case true e rest =
+          let one : int_eq config.id id ≡ int_eq gone id =
+          ap (λ n. int_eq n id) ((signed_Decides config.id gone).0 e) in
+          rest ∙ both (int_eq gone id) (int_eq config.id id) one where
+            both : (a b : Bool) → b ≡ a → cond a None (config_at id others)
+                ≡ cond a None (cond b (Some config) (config_at id others))
+            both true b same = refl
+            both false b same = ap (λ c. cond c (Some config) (config_at id others)) (sym same)
+      by_case false e rest = ap (λ o. cond (int_eq config.id id) (Some config) o) rest
+          ∙ apart (int_eq config.id id) (int_eq gone id) refl refl where
+            apart : (a b : Bool) → int_eq config.id id ≡ a → int_eq gone id ≡ b
+                → cond a (Some config) (cond b None (config_at id others))
+                ≡ cond b None (cond a (Some config) (config_at id others))
+            apart true true f g = absurd (true≢false (sym
+                ((signed_Decides config.id gone).1 ((signed_Decides config.id id).0 f ∙ sym ((signed_Decides gone id).0 g)))
+                ∙ e))
+            apart true false f g = refl
+            apart false b f g = refl
 
 -- one where something stands, else none
 abbrev pub one_if : Bool → ℕ
@@ -286,41 +306,61 @@ one_if true = 1
 one_if false = 0
 
 -- an install adds one where its id is new
-pub length-with_config : (new : LiveConfig) (configs : List LiveConfig) → length (with_config new configs) + one_if (is_some (config_at new.id configs)) ≡ length configs + 1
+pub length-with_config : (new : LiveConfig) (configs : List LiveConfig)
+    → length (with_config new configs) + one_if (is_some (config_at new.id configs)) ≡ length configs + 1
 length-with_config new [] = refl
 length-with_config new (old ∷ others) = by_case (int_eq old.id new.id) (length-with_config new others) where
-  by_case : (same : Bool) → length (with_config new others) + one_if (is_some (config_at new.id others)) ≡ length others + 1
-      → length (cond same (new ∷ others) (old ∷ with_config new others)) + one_if (is_some (cond same (Some old) (config_at new.id others))) ≡ length (old ∷ others) + 1
+  by_case : (same : Bool) → length (with_config new others) + one_if (is_some (config_at new.id others))
+      ≡ length others + 1
+      → length (cond same (new ∷ others) (old ∷ with_config new others)) + one_if
+      (is_some (cond same (Some old) (config_at new.id others))) ≡ length (old ∷ others) + 1
   by_case true rest = refl
   by_case false rest = omega (arith, rest)
 
-no_config : (id : ℤ) (configs : List LiveConfig) → has_config id configs ≡ false → length (without_id id configs) ≡ length configs
+no_config : (id : ℤ) (configs : List LiveConfig) → has_config id configs ≡ false → length (without_id id configs)
+    ≡ length configs
 no_config id [] none = refl
 no_config id (config ∷ others) none = by_case (int_eq config.id id) none (no_config id others) where
-  by_case : (same : Bool) → (same || has_config id others) ≡ false → (has_config id others ≡ false → length (without_id id others) ≡ length others)
+  by_case : (same : Bool) → (same || has_config id others) ≡ false
+      → (has_config id others ≡ false → length (without_id id others) ≡ length others)
       → length (cond (not same) (config ∷ without_id id others) (without_id id others)) ≡ length (config ∷ others)
   by_case true h rest = absurd (true≢false h)
   by_case false h rest = ap suc (rest h)
 
 -- a remove takes one out where there is one
-pub length-without_id : (id : ℤ) (configs : List LiveConfig) → AreDistinct configs → length (without_id id configs) + one_if (is_some (config_at id configs)) ≡ length configs
+pub length-without_id : (id : ℤ) (configs : List LiveConfig) → AreDistinct configs
+    → length (without_id id configs) + one_if (is_some (config_at id configs)) ≡ length configs
 length-without_id id [] distinct = refl
-length-without_id id (config ∷ others) distinct = by_case (int_eq config.id id) refl (length-without_id id others distinct.1) where
-  by_case : (same : Bool) → int_eq config.id id ≡ same → length (without_id id others) + one_if (is_some (config_at id others)) ≡ length others
-      → length (cond (not same) (config ∷ without_id id others) (without_id id others)) + one_if (is_some (cond same (Some config) (config_at id others))) ≡ length (config ∷ others)
-  by_case true e rest =
-      let none : has_config id others ≡ false = ap (λ n. has_config n others) (sym ((signed_Decides config.id id).0 e)) ∙ distinct.0 in
-      omega (arith, no_config id others none)
-  by_case false e rest = omega (arith, rest)
+length-without_id id (config ∷ others) distinct = by_case (int_eq config.id id) refl
+    (length-without_id id others distinct.1) where
+      by_case : (same : Bool) → int_eq config.id id ≡ same
+          → length (without_id id others) + one_if (is_some (config_at id others)) ≡ length others
+          → length (cond (not same) (config ∷ without_id id others) (without_id id others)) + one_if
+          (is_some (cond same (Some config) (config_at id others))) ≡ length (config ∷ others)
+      by_case true e rest =
+          let none : has_config id others ≡ false = ap (λ n. has_config n others)
+          (sym ((signed_Decides config.id id).0 e)) ∙ distinct.0 in
+          omega (arith, no_config id others none)
+      by_case false e rest = omega (arith, rest)
 
 -- a client's live configurations are those of other ids, and the one of the id if there is one
-pub others_and_one : (id : ℤ) (configs : List LiveConfig) → AreDistinct configs → count_by (is_other id) configs + one_if (is_some (config_at id configs)) ≡ length configs
-others_and_one id configs distinct = ap (λ n. n + one_if (is_some (config_at id configs))) (sym (length-filter (is_other id) configs)) ∙ length-without_id id configs distinct
+pub others_and_one : (id : ℤ) (configs : List LiveConfig) → AreDistinct configs
+    → count_by (is_other id) configs + one_if (is_some (config_at id configs)) ≡ length configs
+others_and_one id configs distinct = ap (λ n. n + one_if (is_some (config_at id configs)))
+    (sym (length-filter (is_other id) configs)) ∙ length-without_id id configs distinct
 
 -- what stands at an id was installed before the frames ended, and has that id
-pub placed_at : (count : ℕ) (id : ℤ) (configs : List LiveConfig) → ArePlaced count configs → (config : LiveConfig) → config_at id configs ≡ Some config → (config.place < count) × (config.id ≡ id)
+pub placed_at : (count : ℕ) (id : ℤ) (configs : List LiveConfig) → ArePlaced count configs → (config : LiveConfig)
+    → config_at id configs ≡ Some config → (config.place < count) × (config.id ≡ id)
 placed_at count id [] placed config is = absurd (cc)
-placed_at count id (first ∷ others) placed config is = by_case (int_eq first.id id) refl is (placed_at count id others placed.1 config) where
-  by_case : (same : Bool) → int_eq first.id id ≡ same → cond same (Some first) (config_at id others) ≡ Some config → (config_at id others ≡ Some config → (config.place < count) × (config.id ≡ id)) → (config.place < count) × (config.id ≡ id)
-  by_case true e is rest = let one : first ≡ config = cc in (subst (λ (c : LiveConfig). c.place < count) one placed.0, ap (λ (c : LiveConfig). c.id) (sym one) ∙ (signed_Decides first.id id).0 e)
-  by_case false e is rest = rest is
+placed_at count id (first ∷ others) placed config is = by_case (int_eq first.id id) refl is
+    (placed_at count id others placed.1 config) where
+      by_case : (same : Bool) → int_eq first.id id ≡ same → cond same (Some first) (config_at id others) ≡ Some config
+          → (config_at id others ≡ Some config → (config.place < count) × (config.id ≡ id))
+          → (config.place < count) × (config.id ≡ id)
+      by_case true e is rest = let one : first ≡ config = cc in (
+        subst (λ (c : LiveConfig). c.place < count) one placed.0,
+        ap (λ (c : LiveConfig). c.id) (sym one)
+            ∙ (signed_Decides first.id id).0 e,
+      )
+      by_case false e is rest = rest is

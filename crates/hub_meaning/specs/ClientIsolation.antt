@@ -10,7 +10,8 @@ use Rattle.hub_meaning.specs.ClientAnswers.{replies, replies_to}
 module _ (says : SimpleMatcher → Atom → Bool) where
   -- the replies to a client are all the replies of the session that has its own frames alone
   abbrev pub OwnFramesDecide : Type 0
-  OwnFramesDecide = (client : ℤ) (frames : List Frame) → replies_to says client frames ≡ replies says (own client frames)
+  OwnFramesDecide = (client : ℤ) (frames : List Frame) → replies_to says client frames
+      ≡ replies says (own client frames)
 
   -- in two sessions with the same own frames of a client, in the same order, the replies to the client are the same
   abbrev pub EqualOwnFramesEqualReplies : Type 0

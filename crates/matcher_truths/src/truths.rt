@@ -15,8 +15,8 @@ use config_links::LMatcher;
 use config_types::SimpleMatcher;
 use matcher_eval::Judge;
 
-/// Writes the truth of each matcher on the atom. Each simple matcher of the atom's id is asked once, in config order, and
-/// no other. It takes no memory.
+/// Writes the truth of each matcher on the atom. Each simple matcher of the atom's id is asked once, in config order,
+/// and no other. It takes no memory.
 pub fn evaluate<J: Judge>(
     matchers: &[LMatcher],
     order: &[u32],
@@ -34,7 +34,8 @@ pub fn evaluate<J: Judge>(
 
     requires room { length truths.old ≡ length matchers.now }
     ensures truths { truths.new ≡ all_truths J.says atom.now matchers.now }
-    ensures asked { AreTicks (count_by (is_asked atom.now) matchers.now) (J.ticks judge.old) (J.ticks judge.new) }
+    ensures asked { AreTicks (count_by (is_asked atom.now) matchers.now)
+        (J.ticks judge.old) (J.ticks judge.new) }
 {
     ask_all(matchers, atom, judge, truths);
 
@@ -64,7 +65,8 @@ fn ask_all<J: Judge>(matchers: &[LMatcher], atom: &Atom, judge: &mut J, truths: 
     requires room { length truths.old ≡ length matchers.now }
     ensures own { (at : ℕ) (matcher : LMatcher) → slice_get matchers.now at ≡ Some matcher
         → slice_index_or truths.new at false ≡ own_truth J.says atom.now matcher }
-    ensures asked { AreTicks (count_by (is_asked atom.now) matchers.now) (J.ticks judge.old) (J.ticks judge.new) }
+    ensures asked { AreTicks (count_by (is_asked atom.now) matchers.now)
+        (J.ticks judge.old) (J.ticks judge.new) }
 {
     for (at, matcher) in matchers.iter().enumerate() {
         truths[at] = ask(matcher, atom, judge);
@@ -76,7 +78,8 @@ fn ask<J: Judge>(matcher: &LMatcher, atom: &Atom, judge: &mut J) -> bool
     requires askable { MayBeAsked matcher.now }
     requires sound { HasNoFault atom.now }
     ensures own { result ≡ own_truth J.says atom.now matcher.now }
-    ensures asked { AreTicks (if is_asked atom.now matcher.now then 1 else 0) (J.ticks judge.old) (J.ticks judge.new) }
+    ensures asked { AreTicks (if is_asked atom.now matcher.now then 1 else 0)
+        (J.ticks judge.old) (J.ticks judge.new) }
 {
     match matcher {
         LMatcher::Simple(simple) => is_of(simple, atom) && judge.eval_simple(simple, atom),

@@ -93,7 +93,8 @@ module _ (base : ℕ) (metric : LMetric) where
         let make = lane_step (arrival_at metric) in
         let at_step : List Step → Step → List CountCall =
         λ before step. calls_at (count_demands (count_params base metric)) event_asks (map make before) (make step) in
-        ap (outputs marks_of_call) (outputs_after-map (calls_at (count_demands (count_params base metric)) event_asks) make [] steps)
+        ap (outputs marks_of_call) (outputs_after-map (calls_at (count_demands (count_params base metric)) event_asks)
+        make [] steps)
         ∙ outputs-through at_step marks_of_call (marks_at (count_news metric) base metric.size)
         (λ before step. step_marks before step.at step.what step.truths (outputs at_step before)) steps
 

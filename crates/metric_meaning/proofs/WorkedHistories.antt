@@ -17,7 +17,7 @@ use Rattle.report_writer.specs.declared.tree.NumBucket.{NumBucket}
 use Rattle.report_writer.specs.declared.tree.MetricBody.TheVariants.{Counts}
 use Rattle.metric_meaning.specs.Reports.{report_of}
 
--- the metric 100 counts what the matcher at 0 means, by field 1 of the atoms of id 5, in buckets of 1,000, two keys each
+-- the metric 100 counts what the matcher at 0 means, by field 1 of the atoms of id 5, in buckets of 1,000 with two keys
 abbrev guarded : LMetric
 guarded = record {
   id = pos 100;

@@ -21,7 +21,8 @@ bucket_of row = record { start = row.start; end = row.end; value = pos (min row.
 
 -- rows of counts by their keys
 abbrev pub count_groups : List (Row ℕ) → List NumTree
-count_groups = groups_of (λ leaves slices buckets. record { leaves = leaves; slices = slices; buckets = buckets }) bucket_of
+count_groups = groups_of (λ leaves slices buckets. record { leaves = leaves; slices = slices; buckets = buckets })
+    bucket_of
 
 -- a metric with what is shown of it, and its rows
 abbrev pub shown_tree : {A : Type 0} → ℕ → LMetric → Taken A → MetricBody → MetricTree

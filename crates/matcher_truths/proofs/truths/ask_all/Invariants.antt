@@ -7,6 +7,8 @@ use Rattle.matcher_truths.proofs.truths.ask_all.Given as goal
 
 abbrev pub invariant-loop-at : goal.invariant-loop-at
 invariant-loop-at g l = record {
-  own : (k : ℕ) (m : LMatcher) → k < l.at → slice_get l.matchers k ≡ Some m → get_or l.truths k false ≡ own_truth g.J.Judge.says l.atom m;
-  asked : AreTicks (count_by (is_asked l.atom) (take l.at l.matchers)) (g.J.Judge.ticks l.fn.judge) (g.J.Judge.ticks l.judge);
+  own : (k : ℕ) (m : LMatcher) → k < l.at → slice_get l.matchers k ≡ Some m → get_or l.truths k false
+      ≡ own_truth g.J.Judge.says l.atom m;
+  asked : AreTicks (count_by (is_asked l.atom) (take l.at l.matchers)) (g.J.Judge.ticks l.fn.judge)
+      (g.J.Judge.ticks l.judge);
 }

@@ -7,6 +7,8 @@ use Rattle.matcher_truths.proofs.truths.evaluate.Given as goal
 
 abbrev pub invariant-loop-place : goal.invariant-loop-place
 invariant-loop-place g l = record {
-  own : (k : ℕ) (simple : SimpleMatcher) → slice_get l.matchers k ≡ Some (Simple simple) → get_or l.truths k false ≡ simple_truth g.J.Judge.says l.atom simple;
-  before : (y : ℕ) → Contains (take l.place-index l.order) y → get_or l.truths y false ≡ matches g.J.Judge.says l.atom l.matchers y;
+  own : (k : ℕ) (simple : SimpleMatcher) → slice_get l.matchers k ≡ Some (Simple simple) → get_or l.truths k false
+      ≡ simple_truth g.J.Judge.says l.atom simple;
+  before : (y : ℕ) → Contains (take l.place-index l.order) y → get_or l.truths y false
+      ≡ matches g.J.Judge.says l.atom l.matchers y;
 }
