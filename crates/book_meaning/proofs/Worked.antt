@@ -10,7 +10,7 @@ use Rattle.atom_record.specs.declared.log.LogFrame.{LogFrame}
 use Rattle.atom_record.specs.declared.log.LogFrame.TheVariants.{Tick, AtomAt, Pull}
 use Rattle.atom_record.specs.declared.log.PullOutcome.TheVariants.{Atoms, Failed}
 use Rattle.book_meaning.specs.Snapshots.{kept_ids, snapshot_of, is_kept_next}
-use Rattle.book_meaning.specs.States.{state_ids, state_keys, state_value, state_drops, dropped_state_atoms}
+use Rattle.book_meaning.specs.States.{state_atom_ids, state_keys, state_value, state_drops, dropped_state_atoms}
 
 -- an entry of a field, with flags
 abbrev entry : ℕ → ℕ → Value → AtomField
@@ -86,7 +86,7 @@ keys_after_reset : state_keys 27 (screen 1 7 3 ∷ back 2 ∷ []) ≡ at_key 7 �
 keys_after_reset = refl
 
 -- a reset may be the first atom of an id, which then has no key
-reset_first : state_ids (back 1 ∷ []) ≡ 27 ∷ []
+reset_first : state_atom_ids (back 1 ∷ []) ≡ 27 ∷ []
 reset_first = refl
 
 -- an entry that is exclusive and primary is part of the key
@@ -94,7 +94,7 @@ both : state_value 30 (at_key 6) (AtomAt 1 (record { id = 30; fields = entry 2 3
 both = refl
 
 -- an atom without an exclusive entry tells no state
-tells_none : state_ids (AtomAt 1 (battery 5) ∷ []) ≡ []
+tells_none : state_atom_ids (AtomAt 1 (battery 5) ∷ []) ≡ []
 tells_none = refl
 
 -- nothing is dropped while there is room

@@ -21,8 +21,8 @@ abbrev pub same_dims : List Leaf → List Leaf → Bool
 same_dims = pointwise leaf_test.ghosts.eq
 
 -- the state of an id and key of which nothing is known: -1
-abbrev pub unknown_state : ℤ
-unknown_state = negsuc 0
+abbrev pub no_state_known : ℤ
+no_state_known = negsuc 0
 
 -- the entry that holds the state of an atom
 abbrev pub state_entry : Atom → Option AtomField
@@ -39,11 +39,11 @@ puts_back atom = list_any is_reset atom.fields
 -- the number that a value holds, if it is an Int
 abbrev pub int_or_unknown : Value → ℤ
 int_or_unknown (values.Int n) = n
-int_or_unknown _ = unknown_state
+int_or_unknown _ = no_state_known
 
 -- the state that an entry holds
 abbrev pub state_held : Option AtomField → ℤ
-state_held None = unknown_state
+state_held None = no_state_known
 state_held (Some entry) = int_or_unknown entry.value
 
 -- the state that an atom tells
@@ -69,8 +69,8 @@ abbrev pub state_atoms : List LogFrame → List Atom
 state_atoms frames = flat_map state_atom_in frames
 
 -- the ids of the book: the first distinct ones of state atoms, of those that put states back too
-abbrev pub state_ids : List LogFrame → List ℕ
-state_ids frames = admitted same_id most_state_ids (map (λ (atom : Atom). atom.id) (state_atoms frames))
+abbrev pub state_atom_ids : List LogFrame → List ℕ
+state_atom_ids frames = admitted same_id most_state_ids (map (λ (atom : Atom). atom.id) (state_atoms frames))
 
 -- how many state atoms have an id that isn't in the book
 abbrev pub dropped_state_atoms : List LogFrame → ℕ
@@ -78,7 +78,7 @@ dropped_state_atoms frames = dropped same_id most_state_ids (map (λ (atom : Ato
 
 -- an id is in the book
 abbrev pub is_state_id : ℕ → List LogFrame → Bool
-is_state_id id frames = is_among same_id id (state_ids frames)
+is_state_id id frames = is_among same_id id (state_atom_ids frames)
 
 -- the keys that the state atoms of an id name, but for those that put states back
 abbrev pub named_keys : ℕ → List LogFrame → List (List Leaf)
@@ -107,8 +107,8 @@ decides id key atom = same_id atom.id id && (puts_back atom || same_dims (primar
 
 -- the state after the atom that decided it last
 abbrev pub state_by : Option Atom → ℤ
-state_by None = unknown_state
-state_by (Some atom) = if puts_back atom then unknown_state else told_state atom
+state_by None = no_state_known
+state_by (Some atom) = if puts_back atom then no_state_known else told_state atom
 
 -- what the last state atom that decides the state of a key says
 abbrev pub last_state : ℕ → List Leaf → List LogFrame → ℤ
@@ -117,4 +117,4 @@ last_state id key frames = state_by (last_or None (filter (decides id key) (stat
 -- the state of a key of an id; what isn't among the keys has none
 abbrev pub state_value : ℕ → List Leaf → List LogFrame → ℤ
 state_value id key frames =
-    if is_among same_dims key (state_keys id frames) then last_state id key frames else unknown_state
+    if is_among same_dims key (state_keys id frames) then last_state id key frames else no_state_known

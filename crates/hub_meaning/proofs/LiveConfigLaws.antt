@@ -17,7 +17,7 @@ use Rattle.session_frames.specs.declared.reply.ReplyBody.{ReplyBody}
 use Rattle.config_links.specs.Verdict.{linked_form}
 use Rattle.metric_meaning.specs.Histories.{with_steps}
 use Rattle.hub_meaning.specs.SessionLog.{clock_of}
-use Rattle.hub_meaning.specs.Acceptance.{LiveConfig, is_other, acceptance}
+use Rattle.hub_meaning.specs.Acceptance.{LiveConfig, has_other_id, acceptance}
 use Rattle.hub_meaning.specs.LiveConfigs.{with_config, without_id, config_at, live_with, live_after, live_from, live, step_at, history_of}
 
 live_from-push : (before : List Frame) (configs : List LiveConfig) (frames : List Frame) (frame : Frame)
@@ -263,7 +263,8 @@ module _ (new : LiveConfig) (id : ℤ) where
           apart : (a b : Bool) → int_eq old.id id ≡ a → int_eq new.id id ≡ b
               → cond a (Some old) (cond b (Some new) (config_at id others))
               ≡ cond b (Some new) (cond a (Some old) (config_at id others))
-          apart true true f g = absurd (true≢false (sym ((signed_Decides old.id new.id).1 ((signed_Decides old.id id).0 f
+          apart true true f g = absurd (true≢false (sym
+              ((signed_Decides old.id new.id).1 ((signed_Decides old.id id).0 f
               ∙ sym ((signed_Decides new.id id).0 g))) ∙ e))
           apart true false f g = refl
           apart false b f g = refl
@@ -295,7 +296,8 @@ config_at-without_id gone id (config ∷ others) = by_case (int_eq config.id gon
                 → cond a (Some config) (cond b None (config_at id others))
                 ≡ cond b None (cond a (Some config) (config_at id others))
             apart true true f g = absurd (true≢false (sym
-                ((signed_Decides config.id gone).1 ((signed_Decides config.id id).0 f ∙ sym ((signed_Decides gone id).0 g)))
+                ((signed_Decides config.id gone).1 ((signed_Decides config.id id).0 f
+                ∙ sym ((signed_Decides gone id).0 g)))
                 ∙ e))
             apart true false f g = refl
             apart false b f g = refl
@@ -345,9 +347,9 @@ length-without_id id (config ∷ others) distinct = by_case (int_eq config.id id
 
 -- a client's live configurations are those of other ids, and the one of the id if there is one
 pub others_and_one : (id : ℤ) (configs : List LiveConfig) → AreDistinct configs
-    → count_by (is_other id) configs + one_if (is_some (config_at id configs)) ≡ length configs
+    → count_by (has_other_id id) configs + one_if (is_some (config_at id configs)) ≡ length configs
 others_and_one id configs distinct = ap (λ n. n + one_if (is_some (config_at id configs)))
-    (sym (length-filter (is_other id) configs)) ∙ length-without_id id configs distinct
+    (sym (length-filter (has_other_id id) configs)) ∙ length-without_id id configs distinct
 
 -- what stands at an id was installed before the frames ended, and has that id
 pub placed_at : (count : ℕ) (id : ℤ) (configs : List LiveConfig) → ArePlaced count configs → (config : LiveConfig)

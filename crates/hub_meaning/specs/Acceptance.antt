@@ -25,12 +25,12 @@ abbrev pub most_configs : ℕ
 most_configs = 10
 
 -- a live configuration has another id
-abbrev pub is_other : ℤ → LiveConfig → Bool
-is_other id live = not (int_eq live.id id)
+abbrev pub has_other_id : ℤ → LiveConfig → Bool
+has_other_id id live = not (int_eq live.id id)
 
 -- the client has as many of other ids as it may have
 abbrev pub is_full : ℤ → List LiveConfig → Bool
-is_full id configs = nat_le most_configs (count_by (is_other id) configs)
+is_full id configs = nat_le most_configs (count_by (has_other_id id) configs)
 
 -- why bytes that aren't a configuration are refused
 abbrev pub refusal_of : ConfigFault → Refusal

@@ -16,7 +16,7 @@ use Rattle.config_links.specs.Verdict.{linked_form}
 use Rattle.matcher_truths.specs.MatcherTruths.{all_truths}
 use Rattle.metric_meaning.specs.Histories.{Logged, Reported, Step, History}
 use Rattle.hub_meaning.specs.SessionLog.{clock_of}
-use Rattle.hub_meaning.specs.Acceptance.{LiveConfig, is_other, acceptance}
+use Rattle.hub_meaning.specs.Acceptance.{LiveConfig, has_other_id, acceptance}
 
 -- a configuration goes where the one of its id stands, or after all
 abbrev pub with_config : LiveConfig → List LiveConfig → List LiveConfig
@@ -25,7 +25,7 @@ with_config new (old ∷ others) = if int_eq old.id new.id then new ∷ others e
 
 -- a configuration is taken out
 abbrev pub without_id : ℤ → List LiveConfig → List LiveConfig
-without_id id configs = filter (is_other id) configs
+without_id id configs = filter (has_other_id id) configs
 
 -- the configuration of an id
 abbrev pub config_at : ℤ → List LiveConfig → Option LiveConfig

@@ -33,16 +33,19 @@ unknown_predicate = 5
 abbrev pub unknown_state : ℕ
 unknown_state = 6
 
--- the kinds of entities, in the order in which they are judged
+-- the kind of matchers, which are judged first
 abbrev pub matcher_kind : ℕ
 matcher_kind = 1
 
+-- the kind of predicates, which are judged after matchers
 abbrev pub predicate_kind : ℕ
 predicate_kind = 2
 
+-- the kind of states, which are judged after predicates
 abbrev pub state_kind : ℕ
 state_kind = 3
 
+-- the kind of metrics, which are judged last
 abbrev pub metric_kind : ℕ
 metric_kind = 4
 

@@ -11,7 +11,7 @@ use Rattle.config_types.specs.declared.matcher.SimpleMatcher.{SimpleMatcher}
 use Rattle.config_links.specs.declared.linked.LMatcher.{LMatcher}
 use Rattle.config_links.specs.declared.linked.LMatcher.TheVariants.{Simple, Combo}
 use Rattle.config_links.specs.SoundConfig.{named_matchers}
-use Rattle.matcher_truths.specs.MatcherTruths.{matcher_links}
+use Rattle.matcher_truths.specs.MatcherTruths.{named_places}
 use Rattle.link_graph.specs.Links.{Refers, AreInRange, HasNoCycle, IsOrder}
 use Rattle.link_graph.specs.Unrolled.{LooksDown}
 use Rattle.link_graph.proofs.DepthLaws.{ends_from_order, ends_from_no_cycle}
@@ -44,7 +44,7 @@ module _ (says : SimpleMatcher → Atom → Bool) (atom : Atom) (matchers : List
   same_truth f g (Combo op children) same = ap (combined_truth op) (map_same f g children same)
 
   same_found : (f g : ℕ → Bool) (x : ℕ) (found : Option LMatcher) → slice_get matchers x ≡ found
-      → ((y : ℕ) → Refers (matcher_links matchers) x y → f y ≡ g y) → truth_from says atom f found
+      → ((y : ℕ) → Refers (named_places matchers) x y → f y ≡ g y) → truth_from says atom f found
       ≡ truth_from says atom g found
   same_found f g x None e same = refl
   same_found f g x (Some m) e same =
@@ -52,18 +52,18 @@ module _ (says : SimpleMatcher → Atom → Bool) (atom : Atom) (matchers : List
       (sym (children_of named_matchers matchers x m e)) named))
 
   -- the truth of a matcher comes from the truths of those that it names
-  pub truth_looks_down : LooksDown (matcher_links matchers) (truth_step says atom matchers)
+  pub truth_looks_down : LooksDown (named_places matchers) (truth_step says atom matchers)
   truth_looks_down f g x same = same_found f g x (slice_get matchers x) refl same
 
-  module _ (order : List ℕ) (is_order : IsOrder (matcher_links matchers) order) where
+  module _ (order : List ℕ) (is_order : IsOrder (named_places matchers) order) where
     -- each place's truth is that of its matcher, by the truths at its children's places
     pub truth_equation : (x : ℕ) → x < length matchers → matches says atom matchers x
         ≡ truth_from says atom (matches says atom matchers) (slice_get matchers x)
     truth_equation x here =
-        let many : length (matcher_links matchers) ≡ length matchers = length-map matchers named_matchers in
-        equation (matcher_links matchers) (truth_step says atom matchers) false truth_looks_down
-        (length (matcher_links matchers)) x (length matchers)
-        (ends_from_order (matcher_links matchers) order is_order x (omega arith)) (omega arith)
+        let many : length (named_places matchers) ≡ length matchers = length-map matchers named_matchers in
+        equation (named_places matchers) (truth_step says atom matchers) false truth_looks_down
+        (length (named_places matchers)) x (length matchers)
+        (ends_from_order (named_places matchers) order is_order x (omega arith)) (omega arith)
 
     -- the truth that a place keeps or that is joined there is its truth
     pub joined-matches : (truth : ℕ → Bool) (x : ℕ) (m : LMatcher) → x < length matchers → slice_get matchers x
@@ -86,10 +86,10 @@ module _ (says : SimpleMatcher → Atom → Bool) (atom : Atom) (matchers : List
         (is_b : b ≡ joined_truth (λ y. get_or truths y false) p m) where
       children_before : (y : ℕ) → Contains (named_matchers m) y → get_or truths y false ≡ matches says atom matchers y
       children_before y named =
-          let listed : Refers (matcher_links matchers) p y =
+          let listed : Refers (named_places matchers) p y =
           subst (λ (xs : List ℕ). Contains xs y) (sym (children_of named_matchers matchers p m is_m)) named in
-          let below : Refers (matcher_links matchers) (get_or order i 0) y =
-          subst (λ (x : ℕ). Refers (matcher_links matchers) x y) is_p listed in
+          let below : Refers (named_places matchers) (get_or order i 0) y =
+          subst (λ (x : ℕ). Refers (named_places matchers) x y) is_p listed in
           before y (is_order.behind i y in_order below)
 
       written : b ≡ matches says atom matchers p
@@ -136,15 +136,15 @@ module _ (says : SimpleMatcher → Atom → Bool) (atom : Atom) (matchers : List
         ≡ all_truths says atom matchers
     all_found truths i past lengths before =
         fill_by_all (matches says atom matchers) truths (length matchers) false lengths (λ k lower.
-        let known : k < length (matcher_links matchers) = omega (arith, length-map matchers named_matchers) in
+        let known : k < length (named_places matchers) = omega (arith, length-map matchers named_matchers) in
         before k (subst (λ (xs : List ℕ). Contains xs k) (sym (take_all i order past)) (is_order.each k known)))
 
   -- without a cycle each place's truth is that of its matcher, by the truths at its children's places
-  pub equation_without_cycle : AreInRange (matcher_links matchers) → HasNoCycle (matcher_links matchers) → (x : ℕ)
+  pub equation_without_cycle : AreInRange (named_places matchers) → HasNoCycle (named_places matchers) → (x : ℕ)
       → x < length matchers → matches says atom matchers x
       ≡ truth_from says atom (matches says atom matchers) (slice_get matchers x)
   equation_without_cycle in_range no_cycle x here =
-      let many : length (matcher_links matchers) ≡ length matchers = length-map matchers named_matchers in
-      equation (matcher_links matchers) (truth_step says atom matchers) false truth_looks_down
-      (length (matcher_links matchers)) x (length matchers)
-      (ends_from_no_cycle (matcher_links matchers) no_cycle in_range x (omega arith)) (omega arith)
+      let many : length (named_places matchers) ≡ length matchers = length-map matchers named_matchers in
+      equation (named_places matchers) (truth_step says atom matchers) false truth_looks_down
+      (length (named_places matchers)) x (length matchers)
+      (ends_from_no_cycle (named_places matchers) no_cycle in_range x (omega arith)) (omega arith)

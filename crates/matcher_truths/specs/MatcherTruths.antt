@@ -1,5 +1,5 @@
 -- The truth of each matcher of a configuration on an atom, under a judge who says it of the simple ones.
-use Rattle.std.specs.Prelude.{ℕ, ◌==◌, Bool, false, ◌&&◌, List, [], map, length, Option, Some, None}
+use Rattle.std.specs.Prelude.{ℕ, ◌==◌, Bool, false, ◌&&◌, List, map, length, Option, Some, None}
 use Rattle.std.specs.List.{slice_get, range_with_len}
 use Rattle.atom_record.specs.declared.atom.Atom.{Atom}
 use Rattle.config_types.specs.declared.matcher.SimpleMatcher.{SimpleMatcher}
@@ -12,8 +12,8 @@ use Rattle.config_links.specs.declared.linked.LMatcher.TheVariants.{Simple, Comb
 use Rattle.config_links.specs.SoundConfig.{named_matchers}
 
 -- the places that each matcher names, in config order
-abbrev pub matcher_links : List LMatcher → List (List ℕ)
-matcher_links matchers = map named_matchers matchers
+abbrev pub named_places : List LMatcher → List (List ℕ)
+named_places matchers = map named_matchers matchers
 
 -- a simple matcher is of an atom's id
 abbrev pub is_of_atom : Atom → SimpleMatcher → Bool
@@ -49,9 +49,9 @@ module _ (says : SimpleMatcher → Atom → Bool) (atom : Atom) where
   own_truth (Combo op children) = false
 
 -- a judge is asked about a matcher that is simple and of the atom's id
-abbrev pub is_asked : Atom → LMatcher → Bool
-is_asked atom (Simple simple) = is_of_atom atom simple
-is_asked atom (Combo op children) = false
+abbrev pub is_question : Atom → LMatcher → Bool
+is_question atom (Simple simple) = is_of_atom atom simple
+is_question atom (Combo op children) = false
 
 -- a judge may be asked about a simple matcher
 abbrev pub MayBeAsked : LMatcher → Type 0

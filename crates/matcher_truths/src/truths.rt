@@ -6,7 +6,7 @@ ghost use Rattle.config_links.specs.declared.linked.LMatcher.{LMatcher};
 ghost use Rattle.link_graph.specs.Links.{AreInRange, IsOrder};
 ghost use Rattle.matcher_truths.specs.QuestionCounts.{AreTicks};
 ghost use Rattle.config_links.specs.SoundConfig.{named_matchers};
-ghost use Rattle.matcher_truths.specs.MatcherTruths.{matcher_links, all_truths, own_truth, is_asked, is_of_atom, MayBeAsked};
+ghost use Rattle.matcher_truths.specs.MatcherTruths.{named_places, all_truths, own_truth, is_question, is_of_atom, MayBeAsked};
 ghost use Rattle.matcher_truths.specs.JoinedTruths.{joined_truth};
 
 use crate::operation::joined_at;
@@ -25,8 +25,8 @@ pub fn evaluate<J: Judge>(
     truths: &mut [bool],
 )
     // No matcher is below itself: in this order each comes after those that it names.
-    requires in_range { AreInRange (matcher_links matchers.now) }
-    requires in_order { IsOrder (matcher_links matchers.now) order.now }
+    requires in_range { AreInRange (named_places matchers.now) }
+    requires in_order { IsOrder (named_places matchers.now) order.now }
 
     // The judge may be asked.
     requires askable { All MayBeAsked matchers.now }
@@ -34,7 +34,7 @@ pub fn evaluate<J: Judge>(
 
     requires room { length truths.old ≡ length matchers.now }
     ensures truths { truths.new ≡ all_truths J.says atom.now matchers.now }
-    ensures asked { AreTicks (count_by (is_asked atom.now) matchers.now)
+    ensures asked { AreTicks (count_by (is_question atom.now) matchers.now)
         (J.ticks judge.old) (J.ticks judge.new) }
 {
     ask_all(matchers, atom, judge, truths);
@@ -65,7 +65,7 @@ fn ask_all<J: Judge>(matchers: &[LMatcher], atom: &Atom, judge: &mut J, truths: 
     requires room { length truths.old ≡ length matchers.now }
     ensures own { (at : ℕ) (matcher : LMatcher) → slice_get matchers.now at ≡ Some matcher
         → slice_index_or truths.new at false ≡ own_truth J.says atom.now matcher }
-    ensures asked { AreTicks (count_by (is_asked atom.now) matchers.now)
+    ensures asked { AreTicks (count_by (is_question atom.now) matchers.now)
         (J.ticks judge.old) (J.ticks judge.new) }
 {
     for (at, matcher) in matchers.iter().enumerate() {
@@ -78,7 +78,7 @@ fn ask<J: Judge>(matcher: &LMatcher, atom: &Atom, judge: &mut J) -> bool
     requires askable { MayBeAsked matcher.now }
     requires sound { HasNoFault atom.now }
     ensures own { result ≡ own_truth J.says atom.now matcher.now }
-    ensures asked { AreTicks (if is_asked atom.now matcher.now then 1 else 0)
+    ensures asked { AreTicks (if is_question atom.now matcher.now then 1 else 0)
         (J.ticks judge.old) (J.ticks judge.new) }
 {
     match matcher {

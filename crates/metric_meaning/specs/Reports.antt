@@ -25,8 +25,8 @@ count_groups = groups_of (λ leaves slices buckets. record { leaves = leaves; sl
     bucket_of
 
 -- a metric with what is shown of it, and its rows
-abbrev pub shown_tree : {A : Type 0} → ℕ → LMetric → Taken A → MetricBody → MetricTree
-shown_tree base metric shown body = record {
+abbrev pub tree_with_body : {A : Type 0} → ℕ → LMetric → Taken A → MetricBody → MetricTree
+tree_with_body base metric shown body = record {
   id = metric.id;
   base = base;
   size = metric.size;
@@ -46,8 +46,8 @@ metric_tree base steps include_current now metric = by_kind metric.kind where
   by_kind : LKind → MetricTree
   by_kind Count =
       let shown = counts_shown base metric steps include_current now in
-      shown_tree base metric shown (Counts (count_groups shown.rows))
-  by_kind _ = shown_tree base metric nothing_shown (Events [])
+      tree_with_body base metric shown (Counts (count_groups shown.rows))
+  by_kind _ = tree_with_body base metric nothing_shown (Events [])
 
 -- the clock at the last report, or the base
 abbrev pub last_report : ℕ → List Step → ℕ

@@ -10,7 +10,7 @@ use Rattle.dim_table.specs.declared.answer.Admit.{Admit}
 use Rattle.dim_table.specs.declared.answer.Admit.TheVariants.{At, Full}
 use Rattle.dim_table.specs.Table.{Table, keys, with_value_at, IsThere, IsNew, Admits}
 use Rattle.dim_table.proofs.KeyLemmas.{Contains-from_place}
-use Rattle.book_meaning.specs.States.{unknown_state}
+use Rattle.book_meaning.specs.States.{no_state_known}
 use Rattle.state_slicer.specs.declared.states.Stamped.{Stamped}
 use Rattle.state_slicer.specs.StateTables.{current, current_table, IsStamped, blank, forgotten, put_back, IsTold}
 
@@ -58,7 +58,7 @@ All-set_value Q (row ∷ rows) (suc place) value holds all =
 
 -- a state that was stamped after the last reset is known
 pub current_same : (resets : ℕ) (state : ℤ) → current resets (record { state = state; resets = resets }) ≡ state
-current_same resets state = ap (λ b. if b then state else unknown_state) (eq-eqb resets resets refl)
+current_same resets state = ap (λ b. if b then state else no_state_known) (eq-eqb resets resets refl)
 
 module _ (resets : ℕ) (table : Table (List Leaf) Stamped) where
   -- the keys are the table's
@@ -157,10 +157,10 @@ blank_front-there (suc n) (row ∷ rows) less none = blank_front-there n rows (o
 -- states that are forgotten are unknown
 put_back-forgotten_rows : {K : Type 0} (resets : ℕ) (rows : List (K × Stamped))
     → valued (current 0) (map (λ row. (row.0, blank)) rows)
-    ≡ map (λ row. (row.0, unknown_state)) (valued (current resets) rows)
+    ≡ map (λ row. (row.0, no_state_known)) (valued (current resets) rows)
 put_back-forgotten_rows resets [] = refl
 put_back-forgotten_rows resets (row ∷ rows) =
-    ap (λ l. (row.0, unknown_state) ∷ l) (put_back-forgotten_rows resets rows)
+    ap (λ l. (row.0, no_state_known) ∷ l) (put_back-forgotten_rows resets rows)
 
 pub put_back-forgotten : (resets : ℕ) (table : Table (List Leaf) Stamped)
     → current_table 0 (forgotten table) ≡ put_back (current_table resets table)
@@ -183,18 +183,18 @@ stamped-forgotten resets table stamped = record { bound = stamped.bound; before 
 
 -- one more reset makes all states unknown
 unknown-later : (resets : ℕ) (stamped : Stamped) → stamped.resets ≤ resets
-    → current (resets + 1) stamped ≡ unknown_state
+    → current (resets + 1) stamped ≡ no_state_known
 unknown-later resets stamped before =
-    ap (λ b. if b then stamped.state else unknown_state)
+    ap (λ b. if b then stamped.state else no_state_known)
     (ne_eqb stamped.resets (resets + 1) (λ same. omega (arith, before, same)))
 
 put_back-later_rows : {K : Type 0} (resets : ℕ) (rows : List (K × Stamped)) → All (λ row. row.1.resets ≤ resets) rows
-    → valued (current (resets + 1)) rows ≡ map (λ row. (row.0, unknown_state)) (valued (current resets) rows)
+    → valued (current (resets + 1)) rows ≡ map (λ row. (row.0, no_state_known)) (valued (current resets) rows)
 put_back-later_rows resets [] all = refl
 put_back-later_rows resets (row ∷ rows) all =
     ap (λ s. (row.0, s) ∷ valued (current (resets + 1)) rows)
     (unknown-later resets row.1 (All-head (λ r. r.1.resets ≤ resets) row rows all))
-    ∙ ap (λ l. (row.0, unknown_state) ∷ l)
+    ∙ ap (λ l. (row.0, no_state_known) ∷ l)
     (put_back-later_rows resets rows (All-tail (λ r. r.1.resets ≤ resets) row rows all))
 
 pub put_back-later : (resets : ℕ) (table : Table (List Leaf) Stamped) → IsStamped resets table

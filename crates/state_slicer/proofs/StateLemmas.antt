@@ -27,7 +27,7 @@ use Rattle.dim_table.proofs.RowLemmas.{rows_by, rows_by-push, rows_by-absent, se
 use Rattle.dim_table.proofs.TableLemmas.{keys-with_value_at, TableStandsFor-with_value_at, there_stands, Admits-stands}
 use Rattle.book_meaning.specs.BookLimits.{most_state_ids, most_state_keys}
 use Rattle.book_meaning.specs.Snapshots.{same_id}
-use Rattle.book_meaning.specs.States.{same_dims, unknown_state, tells_state, puts_back, told_state, primary_key, state_atom_in, state_atoms, is_state_id, first_keys, decides, state_by, state_value, state_drops, other_keys, last_state}
+use Rattle.book_meaning.specs.States.{same_dims, no_state_known, tells_state, puts_back, told_state, primary_key, state_atom_in, state_atoms, is_state_id, first_keys, decides, state_by, state_value, state_drops, other_keys, last_state}
 use Rattle.state_slicer.specs.StateTables.{put_back, IsTold, TakesAtom, IsStateOf}
 use Rattle.state_slicer.specs.StateBooks.{StateBookStandsFor, AppliesAtom, IsTakenAt, IsTakenFirst, IsAtId, no_states}
 
@@ -183,12 +183,13 @@ id_of atom = atom.id
 abbrev book_in : List Atom → Table ℕ (Table (List Leaf) ℤ)
 book_in atoms = table_for same_id ids_exact most_state_ids (states_in atoms) (map id_of atoms)
 
-put_back-by : (value_of : List Leaf → ℤ) (after : List Leaf → ℤ) → ((key : List Leaf) → after key ≡ unknown_state)
+put_back-by : (value_of : List Leaf → ℤ) (after : List Leaf → ℤ) → ((key : List Leaf) → after key ≡ no_state_known)
     → (ks : List (List Leaf))
-    → map (λ (row : List Leaf × ℤ). (row.0, unknown_state)) (rows_by value_of ks) ≡ rows_by after ks
+    → map (λ (row : List Leaf × ℤ). (row.0, no_state_known)) (rows_by value_of ks) ≡ rows_by after ks
 put_back-by value_of after unknown [] = refl
 put_back-by value_of after unknown (key ∷ ks) =
-    ap (λ v. (key, v) ∷ map (λ (row : List Leaf × ℤ). (row.0, unknown_state)) (rows_by value_of ks)) (sym (unknown key))
+    ap (λ v. (key, v) ∷ map (λ (row : List Leaf × ℤ). (row.0, no_state_known)) (rows_by value_of ks))
+    (sym (unknown key))
     ∙ ap (λ l. (key, after key) ∷ l) (put_back-by value_of after unknown ks)
 
 module _ (atoms : List Atom) (atom : Atom) where
@@ -221,11 +222,11 @@ module _ (atoms : List Atom) (atom : Atom) where
       ∙ ap state_by (last-push None (filter (decides atom.id key) atoms) atom)
 
   module _ (back : puts_back atom ≡ true) where
-    all_unknown : (key : List Leaf) → state_in more_atoms atom.id key ≡ unknown_state
+    all_unknown : (key : List Leaf) → state_in more_atoms atom.id key ≡ no_state_known
     all_unknown key =
         decided key (ap (λ b. b && (puts_back atom || same_dims (primary_key atom) key)) self
         ∙ ap (λ b. b || same_dims (primary_key atom) key) back)
-        ∙ ap (λ b. if b then unknown_state else told_state atom) back
+        ∙ ap (λ b. if b then no_state_known else told_state atom) back
 
     taken_back : put_back (states_in atoms atom.id) ≡ states_in more_atoms atom.id
     taken_back =
@@ -248,7 +249,7 @@ module _ (atoms : List Atom) (atom : Atom) where
         (ap (λ b. b && (puts_back atom || same_dims (primary_key atom) (primary_key atom))) self
         ∙ ap (λ b. b || same_dims (primary_key atom) (primary_key atom)) tells
         ∙ (dims_exact (primary_key atom) (primary_key atom)).1 refl)
-        ∙ ap (λ b. if b then unknown_state else told_state atom) tells
+        ∙ ap (λ b. if b then no_state_known else told_state atom) tells
 
     other_key : (other : List Leaf) → same_dims (primary_key atom) other ≡ false
         → state_in more_atoms atom.id other ≡ state_in atoms atom.id other
@@ -441,10 +442,10 @@ module _ (book : Table ℕ (Table (List Leaf) ℤ)) (id : ℕ) (frames : List Lo
   no_id : ¬ Contains (keys book) id → is_state_id id frames ≡ false
   no_id absent = not_among same_id ids_exact book_ids id (subst (λ ks. ¬ Contains ks id) book_keys absent)
 
-  pub value_absent : (key : List Leaf) → ¬ Contains (keys book) id → unknown_state ≡ state_value id key frames
+  pub value_absent : (key : List Leaf) → ¬ Contains (keys book) id → no_state_known ≡ state_value id key frames
   value_absent key absent =
       sym (ap (λ b. if is_among same_dims key (if b then first_keys id frames else [])
-      then last_state id key frames else unknown_state) (no_id absent))
+      then last_state id key frames else no_state_known) (no_id absent))
 
   pub drops_absent : ¬ Contains (keys book) id → 0 ≡ count_in_u64 (state_drops id frames)
   drops_absent absent = sym (ap (λ b. count_in_u64 (if b then other_keys id frames else 0)) (no_id absent))
@@ -470,23 +471,24 @@ module _ (book : Table ℕ (Table (List Leaf) ℤ)) (id : ℕ) (frames : List Lo
     states_keys = ap keys are_states ∙ keys-by (state_in (state_atoms frames) id) (first_keys id frames)
 
     pub value_there : (key : List Leaf) (value : ℤ) → (Contains (keys states) key → IsStateOf states key value)
-        → ((¬ Contains (keys states) key) → value ≡ unknown_state) → value ≡ state_value id key frames
+        → ((¬ Contains (keys states) key) → value ≡ no_state_known) → value ≡ state_value id key frames
     value_there key value at_key no_key =
-        let choice : (if is_among same_dims key (first_keys id frames) then last_state id key frames else unknown_state)
+        let choice : (if is_among same_dims key (first_keys id frames) then last_state id key frames else
+        no_state_known)
         ≡ state_value id key frames =
         sym (ap (λ b. if is_among same_dims key (if b then first_keys id frames else [])
-        then last_state id key frames else unknown_state) in_book) in
+        then last_state id key frames else no_state_known) in_book) in
         ⊎_elim
         (λ (among : is_among same_dims key (first_keys id frames) ≡ true).
         let has = Contains-from_is_among same_dims dims_exact (first_keys id frames) key among in
         let row = at_key (subst (λ ks. Contains ks key) (sym states_keys) has) in
         row_value (state_in (state_atoms frames) id) (first_keys id frames) row.0 key value
         (ap (λ (t : Table (List Leaf) ℤ). slice_get t.rows row.0) (sym are_states) ∙ row.1)
-        ∙ sym (ap (λ b. if b then last_state id key frames else unknown_state) among) ∙ choice)
+        ∙ sym (ap (λ b. if b then last_state id key frames else no_state_known) among) ∙ choice)
         (λ (other : is_among same_dims key (first_keys id frames) ≡ false).
         no_key (λ has. true≢false (sym (is_among-from_Contains same_dims dims_exact (first_keys id frames) key
         (subst (λ ks. Contains ks key) states_keys has)) ∙ other))
-        ∙ sym (ap (λ b. if b then last_state id key frames else unknown_state) other) ∙ choice)
+        ∙ sym (ap (λ b. if b then last_state id key frames else no_state_known) other) ∙ choice)
         (cases_Bool (is_among same_dims key (first_keys id frames)))
 
 -- For the calls of a book: what its table says of one of its rows.

@@ -6,7 +6,7 @@ use Rattle.atom_record.specs.declared.value.Slice.{Slice}
 use Rattle.atom_record.specs.declared.value.Slice.TheVariants.{Plain, Group}
 use Rattle.config_links.specs.declared.linked.LState.{LState}
 use Rattle.config_links.specs.declared.linked.LGroup.{LGroup}
-use Rattle.book_meaning.specs.States.{unknown_state}
+use Rattle.book_meaning.specs.States.{no_state_known}
 
 -- a group lists a value
 abbrev pub lists_value : ℤ → LGroup → Bool
@@ -14,7 +14,7 @@ lists_value value group = list_any (λ listed. int_eq listed value) group.values
 
 -- the slice by a group, or -1 where there is none
 abbrev pub group_slice : LState → Option LGroup → Slice
-group_slice state None = Plain state.atom_id unknown_state
+group_slice state None = Plain state.atom_id no_state_known
 group_slice state (Some group) = Group state.atom_id group.group
 
 -- without groups the slice is the value itself, and else the first group that lists it

@@ -7,7 +7,7 @@ use Rattle.atom_record.specs.declared.log.LogFrame.TheVariants.{AtomAt}
 use Rattle.dim_table.specs.Table.{Table, with_value_at, IsNew, IsTurnedAway}
 use Rattle.bucket_meaning.specs.Kept.{count_in_u64}
 use Rattle.book_meaning.specs.BookLimits.{most_state_ids, most_state_keys}
-use Rattle.book_meaning.specs.States.{state_ids, first_keys, other_keys, last_state, dropped_state_atoms}
+use Rattle.book_meaning.specs.States.{state_atom_ids, first_keys, other_keys, last_state, dropped_state_atoms}
 use Rattle.state_slicer.specs.StateTables.{TakesAtom}
 
 -- the states of an id of the book: of each key what was told last, and how many atoms had another key
@@ -20,7 +20,7 @@ states_of_id id frames = record {
 
 -- the book is what these frames of the log make of an empty one
 pub record StateBookStandsFor (book : Table ℕ (Table (List Leaf) ℤ)) (frames : List LogFrame) : Type 0 where
-  pub ids : book.rows ≡ map (λ id. (id, states_of_id id frames)) (state_ids frames)
+  pub ids : book.rows ≡ map (λ id. (id, states_of_id id frames)) (state_atom_ids frames)
   pub bound : book.bound ≡ most_state_ids
   pub dropped : book.dropped ≡ count_in_u64 (dropped_state_atoms frames)
 

@@ -4,12 +4,12 @@ use Rattle.atom_record.specs.declared.value.Leaf.{Leaf}
 use Rattle.atom_record.specs.declared.atom.Atom.{Atom}
 use Rattle.dim_table.specs.Table.{Table, keys, with_value_at, IsNew, IsTurnedAway}
 use Rattle.book_meaning.specs.BookLimits.{most_state_keys}
-use Rattle.book_meaning.specs.States.{unknown_state, puts_back, primary_key, told_state}
+use Rattle.book_meaning.specs.States.{no_state_known, puts_back, primary_key, told_state}
 use Rattle.state_slicer.specs.declared.states.Stamped.{Stamped}
 
 -- the state that a stamped one still is: one that was told before the last reset is unknown
 abbrev pub current : ℕ → Stamped → ℤ
-current resets stamped = if stamped.resets == resets then stamped.state else unknown_state
+current resets stamped = if stamped.resets == resets then stamped.state else no_state_known
 
 -- the table of states, of a table of stamped ones
 abbrev pub current_table : ℕ → Table (List Leaf) Stamped → Table (List Leaf) ℤ
@@ -26,7 +26,7 @@ pub record IsStamped (resets : ℕ) (table : Table (List Leaf) Stamped) : Type 0
 
 -- a state of which nothing is known, as after no reset
 abbrev pub blank : Stamped
-blank = record { state = unknown_state; resets = 0 }
+blank = record { state = no_state_known; resets = 0 }
 
 -- the table with all stamped states blank
 abbrev pub forgotten : Table (List Leaf) Stamped → Table (List Leaf) Stamped
@@ -34,7 +34,7 @@ forgotten table = record table { rows = map (λ row. (row.0, blank)) table.rows 
 
 -- the table with all states unknown, and the same keys
 abbrev pub put_back : Table (List Leaf) ℤ → Table (List Leaf) ℤ
-put_back table = record table { rows = map (λ row. (row.0, unknown_state)) table.rows }
+put_back table = record table { rows = map (λ row. (row.0, no_state_known)) table.rows }
 
 -- a key that is there has another state, a new one has a place after the others, or is counted where there is none
 abbrev pub IsTold : Table (List Leaf) ℤ → Table (List Leaf) ℤ → List Leaf → ℤ → Type 0

@@ -4,7 +4,7 @@ ghost use Rattle.atom_record.specs.declared.log.LogFrame.{LogFrame};
 ghost use Rattle.dim_table.specs.Table.{keys, with_value_at, IsNew, IsTurnedAway};
 ghost use Rattle.bucket_meaning.specs.Kept.{count_in_u64};
 ghost use Rattle.book_meaning.specs.BookLimits.{most_state_ids, most_state_keys};
-ghost use Rattle.book_meaning.specs.States.{state_value, state_drops, dropped_state_atoms, state_ids, tells_state};
+ghost use Rattle.book_meaning.specs.States.{state_value, state_drops, dropped_state_atoms, state_atom_ids, tells_state};
 
 use crate::states::IdStates;
 use crate::told::{UNKNOWN, tells_state};
@@ -130,7 +130,7 @@ impl StateBook {
     /// The number of ids.
     pub fn atoms(&self) -> usize
         ensures answers { (frames : List LogFrame) → StateBookStandsFor self.now frames
-            → result ≡ length (state_ids frames) }
+            → result ≡ length (state_atom_ids frames) }
         ensures most { result ≤ most_state_ids }
         ensures value { result ≡ length self.now.rows }
         ensures distinct { AllPairs (λ one other. one ≢ other) (keys self.now) }

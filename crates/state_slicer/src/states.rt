@@ -3,7 +3,7 @@ ghost use Rattle.std.specs.Prelude.{◌≡◌, ◌≤◌, ℕ, [], length, map, 
 ghost use Rattle.atom_record.specs.Flags.{is_primary};
 ghost use Rattle.dim_table.specs.Table.{keys, with_value_at};
 ghost use Rattle.book_meaning.specs.BookLimits.{most_state_keys};
-ghost use Rattle.book_meaning.specs.States.{unknown_state};
+ghost use Rattle.book_meaning.specs.States.{no_state_known};
 ghost use Rattle.state_slicer.specs.StateTables.{current, forgotten};
 
 use crate::told::{UNKNOWN, primary_key, puts_back, told_state};
@@ -147,7 +147,7 @@ impl IdStates {
     /// The state of a key, or -1 where it isn't there.
     pub fn value(&self, key: &DimKey) -> i32
         ensures there { Contains (keys self.now) key.now → IsStateOf self.now key.now result }
-        ensures absent { (¬ Contains (keys self.now) key.now) → result ≡ unknown_state }
+        ensures absent { (¬ Contains (keys self.now) key.now) → result ≡ no_state_known }
     {
         let Some(place) = self.keys.place_of(key) else {
             return UNKNOWN;
