@@ -1,4 +1,6 @@
 //! Calls of a producer of counts, and what they hand out, in short forms.
+ghost use Rattle.std.specs.Prelude.{◌≤◌};
+
 use atom_record::{Leaf, MetricKey, Value};
 use bucket_clock::Crossings;
 use count_metric::{Closed, CountProducer, Producer, Row};
