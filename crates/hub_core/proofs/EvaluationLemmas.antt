@@ -5,6 +5,7 @@ use Rattle.std.specs.List.{All, Contains, list_any}
 use Rattle.std.specs.Prelude.{nat_eq}
 use Rattle.std.specs.Cmp.{nat_eq_equiv, unsigned_Decides}
 use Rattle.std.proofs.Props.{props}
+use Rattle.std.proofs.lemmas.List.FromFn.{length-map-range_with_len}
 use Rattle.std.proofs.lemmas.Map.Views.{list_any-from_Contains, Contains-from_any}
 use mathlib.Core.Logic.{∥∥₁_elim, ∥∥₁_map}
 use Rattle.atom_record.specs.declared.atom.Atom.{Atom}
@@ -17,7 +18,7 @@ use Rattle.config_links.specs.declared.linked.Linked.{Linked}
 use Rattle.config_links.specs.SoundConfig.{IsSoundMatcher, IsSoundConfig}
 use Rattle.config_links.proofs.SoundUses.{references_end}
 use Rattle.link_graph.specs.Links.{Refers, AreInRange, IsOrder}
-use Rattle.matcher_truths.specs.MatcherTruths.{matcher_links, all_truths, MayBeAsked}
+use Rattle.matcher_truths.specs.MatcherTruths.{matcher_links, matches, MayBeAsked}
 use Rattle.metric_meaning.specs.Histories.{History, with_step}
 use Rattle.hub_meaning.specs.LiveConfigs.{truths_at}
 use Rattle.client_engine.specs.declared.instance.Instance.{Instance}
@@ -51,10 +52,10 @@ had_number xs x has =
 pub had_order : (links : List (List ℕ)) (order : List ℕ) → ∥ IsOrder links order ∥₁ → IsOrder links order
 had_order links order is = record {
   in_range = ∥∥₁_elim is (hlevel props) (λ o. o.in_range);
-  each = λ x within. had_number order x (∥∥₁_map (λ (o : IsOrder links order). o.each x within) is);
+  each = λ x within. had_number order x (∥∥₁_map is (λ (o : IsOrder links order). o.each x within));
   once = ∥∥₁_elim is (hlevel props) (λ o. o.once);
   behind = λ i y within refers.
-      had_number (take i order) y (∥∥₁_map (λ (o : IsOrder links order). o.behind i y within refers) is);
+      had_number (take i order) y (∥∥₁_map is (λ (o : IsOrder links order). o.behind i y within refers));
 }
 
 module _ (says : SimpleMatcher → Atom → Bool) where
@@ -66,7 +67,7 @@ module _ (says : SimpleMatcher → Atom → Bool) where
 
   is_view : (linked : Linked) (frame : LogFrame) → IsView linked frame (truths_at says linked frame)
   is_view linked (Tick at) = refl
-  is_view linked (AtomAt at atom) = search
+  is_view linked (AtomAt at atom) = length-map-range_with_len (matches says atom linked.matchers) 0 (length linked.matchers)
   is_view linked (Pull at id outcome) = refl
 
   -- an instance that took a frame with the truths of its matchers took it as the judge says

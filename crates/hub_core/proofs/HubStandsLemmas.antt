@@ -24,6 +24,7 @@ use Rattle.report_writer.specs.ReportSpelling.{report_message}
 use Rattle.config_links.specs.declared.linked.Linked.{Linked}
 use Rattle.config_links.specs.Verdict.{linked_form}
 use Rattle.metric_meaning.specs.Histories.{Step, History, with_steps}
+use Rattle.metric_meaning.specs.Reports.{report_of}
 use Rattle.hub_meaning.specs.SessionLog.{is_own, own, clock_of}
 use Rattle.hub_meaning.specs.Acceptance.{LiveConfig, most_configs, is_other, is_full, acceptance}
 use Rattle.hub_meaning.specs.LiveConfigs.{with_config, without_id, config_at, live_with, live_after, live, truths_at, step_at, history_of}
@@ -318,7 +319,8 @@ module _ (says : SimpleMatcher → Atom → Bool) where
               ap (λ b. cond b (reported_step include_current (clock_of mine) ∷ []) []) (ap (λ n. int_eq id n) other_id ∙ e))
               (λ other e. refl)
               (h.counts uid),
-          r.answer ∙ ap (λ t. answers.ReportBytes (report_message t)) done.1,
+          r.answer ∙ ap (λ t. answers.ReportBytes (report_message t)) done.1
+              ∙ ap (λ t. answers.ReportBytes (report_message (report_of (history_of says uid mine config) uid id include_current t))) time,
         )
     report_case clock include_current now None (Some config) is s counts r = absurd s
     report_case clock include_current now (Some None) (Some config) is s counts r = absurd s

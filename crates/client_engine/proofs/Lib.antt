@@ -1,0 +1,3 @@
+pub mod GroupsLemmas
+pub mod LeavesLemmas
+pub mod TrackLemmas
