@@ -8,10 +8,12 @@ use Rattle.condition_links.specs.ThreeValues.{is_true}
 use Rattle.condition_links.specs.SeenTruths.{seen_of}
 use Rattle.condition_links.proofs.joined.Seen.holds.Goals as goal
 
-all_true : (seen : Seen) (truths : List Truth) → seen ≡ seen_of truths → seen.all ≡ list_all (λ truth. truth) (map is_true truths)
+all_true : (seen : Seen) (truths : List Truth) → seen ≡ seen_of truths → seen.all
+    ≡ list_all (λ truth. truth) (map is_true truths)
 all_true seen truths e = ap (λ (s : Seen). s.all) e ∙ sym (list_all-map (λ truth. truth) is_true truths)
 
-any_true : (seen : Seen) (truths : List Truth) → seen ≡ seen_of truths → seen.any ≡ list_any (λ truth. truth) (map is_true truths)
+any_true : (seen : Seen) (truths : List Truth) → seen ≡ seen_of truths → seen.any
+    ≡ list_any (λ truth. truth) (map is_true truths)
 any_true seen truths e = ap (λ (s : Seen). s.any) e ∙ sym (list_any-map (λ truth. truth) is_true truths)
 
 pub returns-in-And : goal.returns-in-And
