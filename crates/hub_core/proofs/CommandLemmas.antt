@@ -1,5 +1,5 @@
 -- A configuration that goes in under its name.
-use Rattle.std.proofs.Common.{◌≡◌, ℕ, ◌+◌, ℤ, Bool, false, cond, Some, is_some, Result, Ok, Err, sym, ap, subst, ◌∙◌}
+use Rattle.std.proofs.Common.{◌≡◌, ℕ, ◌+◌, ℤ, false, cond, Some, is_some, Result, Ok, Err, sym, ap, subst, ◌∙◌}
 use Rattle.std.specs.Prelude.{nat_le, IfOk}
 use Rattle.std.specs.Bool.{MatchBool}
 use Rattle.std.specs.Ordering.{int_eq}
@@ -20,9 +20,9 @@ use Rattle.hub_core.specs.Commands.{found, others, Answers, PutsIn, InstallsLink
 pub puts_in : (clock : ℕ) (uid id : ℤ) (linked : Linked) (old new : Lives) (body : ReplyBody) (fresh : LiveInstance)
     (count : ℕ) → IsFresh linked clock fresh.instance
     → ((name : LiveId) → slot_at name new.slots.entries
-      ≡ cond (same_id (live_id uid id) name) (Some (Some fresh)) (slot_at name old.slots.entries))
+    ≡ cond (same_id (live_id uid id) name) (Some (Some fresh)) (slot_at name old.slots.entries))
     → ((client : ℤ) → count_at client new.counts.entries
-      ≡ cond (int_eq uid client) (count + 1) (count_at client old.counts.entries))
+    ≡ cond (int_eq uid client) (count + 1) (count_at client old.counts.entries))
     → count ≡ others uid id old → body ≡ cond (is_some (found uid id old)) answers.Replaced answers.Installed
     → PutsIn clock uid id linked old new body
 puts_in clock uid id linked old new body fresh count is_fresh slots counts is answer = record {
@@ -44,5 +44,5 @@ pub installs : {E : Type 0} (clock : ℕ) (uid id : ℤ) (config : Config) (link
 installs clock uid id config linked old (Err e) room is puts = tt
 installs clock uid id config linked old (Ok r) room is puts =
     subst (λ full. MatchBool full (Answers (answers.ClientFull most_configs) old r.0 r.1)
-      (InstallsLinked clock uid id (linked_read uid config) old r.0 r.1)) (sym room)
+    (InstallsLinked clock uid id (linked_read uid config) old r.0 r.1)) (sym room)
     (subst (λ read. InstallsLinked clock uid id read old r.0 r.1) (sym is) puts)

@@ -1,8 +1,7 @@
 -- What the evaluation of matchers may rest on, from the mere facts that a live configuration keeps.
-use Rattle.std.proofs.Common.{◌≡◌, ℕ, ◌<◌, Bool, true, List, [], length, take, get_or, refl, sym, ap, subst, ◌∙◌}
+use Rattle.std.proofs.Common.{◌≡◌, ℕ, Bool, List, length, take, refl, sym, ap, subst, ◌∙◌}
 use Rattle.std.specs.Prelude.{slice_index_or}
-use Rattle.std.specs.List.{All, Contains, list_any}
-use Rattle.std.specs.Prelude.{nat_eq}
+use Rattle.std.specs.List.{All, Contains}
 use Rattle.std.specs.Cmp.{nat_eq_equiv, unsigned_Decides}
 use Rattle.std.proofs.Props.{props}
 use Rattle.std.proofs.lemmas.List.FromFn.{length-map-range_with_len}
@@ -17,16 +16,16 @@ use Rattle.config_links.specs.declared.linked.LMatcher.TheVariants.{Simple, Comb
 use Rattle.config_links.specs.declared.linked.Linked.{Linked}
 use Rattle.config_links.specs.SoundConfig.{IsSoundMatcher, IsSoundConfig}
 use Rattle.config_links.proofs.SoundUses.{references_end}
-use Rattle.link_graph.specs.Links.{Refers, AreInRange, IsOrder}
-use Rattle.matcher_truths.specs.MatcherTruths.{matcher_links, matches, MayBeAsked}
-use Rattle.metric_meaning.specs.Histories.{History, with_step}
+use Rattle.link_graph.specs.Links.{AreInRange, IsOrder}
+use Rattle.matcher_truths.specs.MatcherTruths.{named_places, matches, MayBeAsked}
+use Rattle.metric_meaning.specs.Histories.{with_step}
 use Rattle.hub_meaning.specs.LiveConfigs.{truths_at}
 use Rattle.client_engine.specs.declared.instance.Instance.{Instance}
 use Rattle.client_engine.specs.InstanceStands.{linked_in, InstanceStandsFor, IsView, logged_step, Logs}
 use Rattle.hub_core.specs.FrameTruths.{truths_by, LogsBy}
 
 -- references of a sound configuration lead to places that are there
-pub in_range : (linked : Linked) → ∥ IsSoundConfig linked ∥₁ → AreInRange (matcher_links linked.matchers)
+pub in_range : (linked : Linked) → ∥ IsSoundConfig linked ∥₁ → AreInRange (named_places linked.matchers)
 in_range linked sound = ∥∥₁_elim sound (hlevel props) (λ s. (references_end linked s).matchers_there)
 
 sound_askable : (count : ℕ) (matcher : LMatcher) → IsSoundMatcher count matcher → MayBeAsked matcher

@@ -26,7 +26,7 @@ use Rattle.config_links.specs.Verdict.{linked_form}
 use Rattle.metric_meaning.specs.Histories.{Step, History, with_steps}
 use Rattle.metric_meaning.specs.Reports.{report_of}
 use Rattle.hub_meaning.specs.SessionLog.{is_own, own, clock_of}
-use Rattle.hub_meaning.specs.Acceptance.{LiveConfig, most_configs, is_other, is_full, acceptance}
+use Rattle.hub_meaning.specs.Acceptance.{LiveConfig, most_configs, has_other_id, is_full, acceptance}
 use Rattle.hub_meaning.specs.LiveConfigs.{with_config, without_id, config_at, live_with, live_after, live, truths_at, step_at, history_of}
 use Rattle.hub_meaning.specs.ClientAnswers.{install_answer, remove_answer, report_answer, reply_of, reply_to}
 use Rattle.hub_meaning.proofs.SessionLogLaws.{own-push_own, own-push_other, clock_of-push, clock_of-own}
@@ -399,7 +399,7 @@ module _ (says : SimpleMatcher → Atom → Bool) where
       unfolding acceptance
       brought_is read is =
           accepted uid (is_full id lives_before) (config_of config)
-          ∙ ap (λ n. accepted_read uid (nat_le most_configs n) (config_read (config_of config))) (sym (length-filter (is_other id) lives_before) ∙ sym others_are)
+          ∙ ap (λ n. accepted_read uid (nat_le most_configs n) (config_read (config_of config))) (sym (length-filter (has_other_id id) lives_before) ∙ sym others_are)
           ∙ ap (accepted_read uid (nat_le most_configs (others uid id old))) (sym is)
 
       pub serves_install : (read : Result Config Refusal) → read ≡ config_read (config_of config) → Installs clock uid id read old new body

@@ -1,5 +1,5 @@
 -- The answers of the decoder and of the linker, put together as the meaning has them.
-use Rattle.std.proofs.Common.{◌≡◌, ℤ, Bool, true, false, cond, Option, Some, None, Result, Ok, Err, refl, sym, ap, ◌∙◌}
+use Rattle.std.proofs.Common.{◌≡◌, ℤ, Bool, true, false, cond, Option, Some, None, Result, Ok, Err, refl, ap}
 use Rattle.config_types.specs.declared.config.Config.{Config}
 use Rattle.config_decode.specs.ConfigFault.{ConfigFault}
 use Rattle.session_frames.specs.declared.reply.Refusal.{Refusal}
@@ -10,7 +10,7 @@ use Rattle.config_links.specs.declared.linked.Linked.{Linked}
 use Rattle.config_links.specs.Verdict.{verdict, linked_form}
 use Rattle.metric_meaning.specs.Forms.{is_built}
 use Rattle.hub_meaning.specs.Acceptance.{most_configs, other_form, accepted_links, accepted_config}
-use Rattle.hub_core.specs.InstallReading.{config_read, form_read, read_unless, linked_read}
+use Rattle.hub_core.specs.InstallReading.{config_read, read_unless, linked_read}
 
 -- what an install brings, by what was linked
 abbrev pub accepted_as : Config → Result Linked Refusal → Result Config ReplyBody

@@ -1,5 +1,5 @@
 -- A report of what stands under a name.
-use Rattle.std.proofs.Common.{◌≡◌, ℕ, Bool, cond, List, Option, Some, None, sym, subst}
+use Rattle.std.proofs.Common.{◌≡◌, ℕ, Bool, cond, List, Option, Some, sym, subst}
 use Rattle.std.specs.Option.{MatchOption}
 use Rattle.session_frames.specs.declared.reply.ReplyBody.{ReplyBody}
 use Rattle.session_frames.specs.declared.reply.ReplyBody.TheVariants as answers
@@ -19,5 +19,5 @@ module _ (clock : ℕ) (name : LiveId) (include_current : Bool) (old new : List 
       → ReportsAt clock name include_current old new body
   shows live next tree is steps slots answer =
       subst (λ found. MatchOption found ((new ≡ old) × (body ≡ answers.NoConfig))
-        (λ slot. MatchOption slot (Unit {0}) (λ it. ShowsAt clock name include_current it old new body))) (sym is)
+      (λ slot. MatchOption slot (Unit {0}) (λ it. ShowsAt clock name include_current it old new body))) (sym is)
       (record { next = next; tree = tree; steps = steps; slots = slots; answer = answer })

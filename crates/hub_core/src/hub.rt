@@ -59,7 +59,7 @@ impl<J: Judge> Hub<J> {
         // The answer is what the frames so far mean, whatever they are, and the hub stands for them with this one.
         ensures serves { (frames : List Frame) → HubStandsFor J.says self frames → IsInTime (clock_of frames) frame
             → IfOk result (λ r. HubStandsFor J.says r.0 (frames ++ frame ∷ [])
-              × (r.1 ≡ reply_to J.says frames frame)) }
+            × (r.1 ≡ reply_to J.says frames frame)) }
 
         // The judge is asked at atoms alone, once for each simple matcher of the atom's id, instance by instance.
         ensures asked { IfOk result (λ r. AreTicks (asked_in frame self)
@@ -77,7 +77,7 @@ impl<J: Judge> Hub<J> {
         requires faultless { IsFaultless frame }
         ensures serves { (frames : List Frame) → HubStandsFor J.says self frames → IsInTime (clock_of frames) frame
             → IfOk result (λ r. HubStandsFor J.says r.0 (frames ++ frame ∷ [])
-              × (r.1 ≡ reply_to J.says frames frame)) }
+            × (r.1 ≡ reply_to J.says frames frame)) }
         ensures asked { IfOk result (λ r. AreTicks (asked_in frame self)
             (J.ticks (judge_of self)) (J.ticks (judge_of r.0))) }
     {

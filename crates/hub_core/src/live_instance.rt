@@ -4,7 +4,7 @@ ghost use Rattle.session_frames.specs.Faultless.{IsFaultlessLog};
 ghost use Rattle.report_writer.specs.Writable.{IsWritableReport};
 ghost use Rattle.link_graph.specs.Links.{AreInRange, IsOrder};
 ghost use Rattle.config_links.specs.SoundConfig.{IsSoundConfig};
-ghost use Rattle.matcher_truths.specs.MatcherTruths.{matcher_links, MayBeAsked};
+ghost use Rattle.matcher_truths.specs.MatcherTruths.{named_places, MayBeAsked};
 ghost use Rattle.matcher_truths.specs.QuestionCounts.{AreTicks};
 ghost use Rattle.hub_meaning.specs.LiveConfigs.{truths_at};
 ghost use Rattle.client_engine.specs.InstanceStands.{linked_in, IsFresh, Reports};
@@ -28,7 +28,7 @@ pub struct LiveInstance {
     /// The places of its matchers, each after those that it names.
     order: Seq<u32>,
     ghost sound: { ∥ IsSoundConfig (linked_in instance) ∥₁ },
-    ghost in_order: { ∥ IsOrder (matcher_links (linked_in instance).matchers) order ∥₁ },
+    ghost in_order: { ∥ IsOrder (named_places (linked_in instance).matchers) order ∥₁ },
 }
 
 impl LiveInstance {
@@ -91,8 +91,8 @@ fn judge_all<J: Judge>(
     truths: &mut Vec<bool>,
 ) -> Result<(), AllocError>
     requires sound { IsFaultlessLog frame.now }
-    requires in_range { AreInRange (matcher_links matchers.now) }
-    requires in_order { IsOrder (matcher_links matchers.now) order.now }
+    requires in_range { AreInRange (named_places matchers.now) }
+    requires in_order { IsOrder (named_places matchers.now) order.now }
     requires askable { All MayBeAsked matchers.now }
     ensures truths { OnOk result (truths.new.items ≡ truths_by J.says matchers.now frame.now) }
     ensures ticks { OnOk result (AreTicks (asked_by frame.now matchers.now) (J.ticks judge.old) (J.ticks judge.new)) }

@@ -41,5 +41,5 @@ returns-clause-logs g c =
 pub returns-clause-ticks : goal.returns-clause-ticks
 returns-clause-ticks g c =
     subst (λ l. AreTicks (asked_by_all c.args.frame.now l) (g.J.Judge.ticks c.args.judge.now)
-      (g.J.Judge.ticks c.loop-place.judge)) (take_all c.loop-place.place c.args.slots.now.entries (omega arith))
+    (g.J.Judge.ticks c.loop-place.judge)) (take_all c.loop-place.place c.args.slots.now.entries (omega arith))
     c.loop-place.invariant.ticks

@@ -1,21 +1,21 @@
 -- What the evaluation asks for follows from the facts of the type.
 use Rattle.std.proofs.Common.{sym, subst}
 use Rattle.std.specs.List.{All}
-use Rattle.link_graph.specs.Links.{AreInRange, IsOrder}
-use Rattle.matcher_truths.specs.MatcherTruths.{matcher_links, MayBeAsked}
+use Rattle.link_graph.specs.Links.{AreInRange}
+use Rattle.matcher_truths.specs.MatcherTruths.{named_places, MayBeAsked}
 use Rattle.client_engine.specs.InstanceStands.{linked_in}
 use Rattle.hub_core.proofs.EvaluationLemmas.{in_range, had_order, all_askable}
 use Rattle.hub_core.proofs.live_instance.LiveInstance.log.Goals as goal
 
 pub judge_all-requires-clause-in_range : goal.judge_all-requires-clause-in_range
 judge_all-requires-clause-in_range g c =
-    subst (λ ms. AreInRange (matcher_links ms)) (sym c.matchers.ensures)
+    subst (λ ms. AreInRange (named_places ms)) (sym c.matchers.ensures)
     (in_range (linked_in c.args.self.instance) c.args.self.sound)
 
 pub judge_all-requires-clause-in_order : goal.judge_all-requires-clause-in_order
 judge_all-requires-clause-in_order g c =
     rw (c.matchers.ensures, c.as_slice.ensures)
-    (had_order (matcher_links (linked_in c.args.self.instance).matchers) c.args.self.order c.args.self.in_order)
+    (had_order (named_places (linked_in c.args.self.instance).matchers) c.args.self.order c.args.self.in_order)
 
 pub judge_all-requires-clause-askable : goal.judge_all-requires-clause-askable
 judge_all-requires-clause-askable g c =
