@@ -1,3 +1,0 @@
-pub mod GroupsLemmas
-pub mod LeavesLemmas
-pub mod TrackLemmas

@@ -1,5 +1,0 @@
-pub mod Leaves
-pub mod Groups
-pub mod TrackStands
-pub mod Tracks
-pub mod InstanceStands
