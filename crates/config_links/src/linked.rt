@@ -93,7 +93,7 @@ pub struct LGroup {
 pub struct LSlice {
     /// The place of the state.
     pub state: u32,
-    /// The fields of the atom that is counted that make the state's key; none where the metric has no link to the state.
+    /// The fields of the atom that is counted that make the state's key; none where the metric has no link to it.
     pub in_what: Option<FieldSet>,
 }
 
@@ -152,7 +152,11 @@ pub enum LKind {
         trigger: Option<u32>,
     },
     /// The sum of the times for which the predicate holds.
-    SumDuration { spec: PredSpec },
+    SumDuration {
+        spec: PredSpec,
+    },
     /// The longest of these times.
-    MaxSparse { spec: PredSpec },
+    MaxSparse {
+        spec: PredSpec,
+    },
 }

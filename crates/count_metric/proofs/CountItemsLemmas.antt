@@ -11,7 +11,7 @@ use Rattle.kept_rows.specs.KeptRows.{Keeping}
 use Rattle.kept_rows.specs.KeptItems.{kept_items, IsKeeping}
 use Rattle.count_metric.specs.declared.row.Row.{Row}
 use Rattle.count_metric.specs.declared.count.CountProducer.{CountProducer}
-use Rattle.count_metric.specs.CountItems.{row_items, IsRow, count_row_items, count_items, IsCount}
+use Rattle.count_metric.specs.CountItems.{row_items, IsRow, count_row_items, count_items, HasBounds}
 
 module _ {V : Type 0} (valid : V → Type 0) (flat : V → List Item) where
   -- a row by its parts: the key and the times, and the value
@@ -56,7 +56,8 @@ CountForm = ℕ × (Table MetricKey ℕ × Keeping (Row ℕ))
 
 -- their items
 abbrev pub count_form_items : CountForm → List Item
-count_form_items = pair_items number_items (pair_items (table_items key_items number_items) (kept_items count_row_items))
+count_form_items =
+    pair_items number_items (pair_items (table_items key_items number_items) (kept_items count_row_items))
 
 -- any time, a table, and kept rows
 abbrev pub IsCountForm : CountForm → Type 0
@@ -68,14 +69,14 @@ count_form it = (it.start, (it.table, it.kept))
 
 -- no such parts stand there, so no producer does
 pub count_fails : (items : List Item) (place : ℕ) (e : FlatError)
-    → Builds IsCountForm count_form_items items place (Err e) → Builds IsCount count_items items place (Err e)
-count_fails items place e fails = laws.form_fails IsCountForm count_form_items IsCount count_items count_form
+    → Builds IsCountForm count_form_items items place (Err e) → Builds HasBounds count_items items place (Err e)
+count_fails items place e fails = laws.form_fails IsCountForm count_form_items HasBounds count_items count_form
     (λ it. refl) (λ it is. (tt, (is.table, is.kept))) items place e fails
 
 -- the producer of the parts that stand there
 pub count_built : (items : List Item) (place : ℕ) (form : CountForm) (next : ℕ)
     → IsBuilt IsCountForm count_form_items items place form next
-    → IsBuilt IsCount count_items items place (record { start = form.0; table = form.1.0; kept = form.1.1 }) next
+    → IsBuilt HasBounds count_items items place (record { start = form.0; table = form.1.0; kept = form.1.1 }) next
 count_built items place form next one = record {
   is_valid = record { table = one.is_valid.1.0; kept = one.is_valid.1.1 };
   stands = one.stands;

@@ -91,28 +91,32 @@ came old new at key start kept takes =
 -- a condition changes nothing
 pub learned : (it : CountProducer) (at : ℕ) (now : Unit {0})
     → Moves CountStandsFor count_demands it it (Learned at now)
-learned it at now = moves count_demands count_collecting HasBooks it it (Learned at now) (λ params calls books has may. has)
+learned it at now =
+    moves count_demands count_collecting HasBooks it it (Learned at now) (λ params calls books has may. has)
 
 -- the open part was cut
 pub cuts : (old new : CountProducer) (at : ℕ) → ClosesPart old new at
     → Moves CountStandsFor count_demands old new (CutAt at)
-cuts old new at closed = moves count_demands count_collecting HasBooks old new (CutAt at) (λ params calls books has may. closed params books has)
+cuts old new at closed =
+    moves count_demands count_collecting HasBooks old new (CutAt at)
+    (λ params calls books has may. closed params books has)
 
 -- what is kept was handed out
 pub took : (old new : CountProducer) → new.start ≡ old.start → new.table ≡ record old.table { dropped = 0 }
     → ((weigh : Row ℕ → ℕ) → IsKept weigh [] new.kept)
     → Moves CountStandsFor count_demands old new Took
-took old new start table kept = moves count_demands count_collecting HasBooks old new Took (λ params calls books has may. record {
-  bound = ap (λ (t : Table MetricKey ℕ). t.bound) table ∙ has.bound;
-  start = start ∙ has.start;
-  table = record {
-    rows = ap (λ (t : Table MetricKey ℕ). t.rows) table ∙ has.table.rows
-        ∙ ap (λ n. tally n books.came) (sym (ap (λ (t : Table MetricKey ℕ). t.bound) table));
-    dropped_are = ap (λ (t : Table MetricKey ℕ). t.dropped) table;
-  };
-  kept = kept row_weight;
-  missing = refl;
-})
+took old new start table kept = moves count_demands count_collecting HasBooks old new Took
+    (λ params calls books has may. record {
+      bound = ap (λ (t : Table MetricKey ℕ). t.bound) table ∙ has.bound;
+      start = start ∙ has.start;
+      table = record {
+        rows = ap (λ (t : Table MetricKey ℕ). t.rows) table ∙ has.table.rows
+            ∙ ap (λ n. tally n books.came) (sym (ap (λ (t : Table MetricKey ℕ). t.bound) table));
+        dropped_are = ap (λ (t : Table MetricKey ℕ). t.dropped) table;
+      };
+      kept = kept row_weight;
+      missing = refl;
+    })
 
 -- a part in which nothing came has no row
 no_rows : (bound start end : ℕ)
@@ -159,7 +163,8 @@ pub crosses : (old mid : CountProducer) (crossings : Crossings) (start : ℕ) �
     → (last_end crossings < 2 ^ 63 → start ≡ last_end crossings)
     → Moves CountStandsFor count_demands old (record mid { start = start }) (Crossed crossings)
 crosses old mid crossings start closed is_last =
-    moves count_demands count_collecting HasBooks old (record mid { start = start }) (Crossed crossings) (λ params calls books has may.
+    moves count_demands count_collecting HasBooks old (record mid { start = start }) (Crossed crossings)
+    (λ params calls books has may.
     let first = crossings.first_end in
     let has_first = closed params books has in
     let last : start ≡ last_end crossings = is_last (answer_fits (count_demands params) _ crossings may) in

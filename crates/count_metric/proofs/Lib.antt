@@ -1,3 +1,4 @@
+mod CountWorked
 pub mod CollectingLemmas
 pub mod TallyLemmas
 pub mod CountLemmas

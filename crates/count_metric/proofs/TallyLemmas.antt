@@ -29,6 +29,7 @@ count_at came key = count_in_u64 (length (of_key is_same_key key came))
 abbrev raised_from : ℕ → ℕ
 raised_from count = min (count + 1) (2 ^ 64 - 1)
 
+-- a key that differs from another, the other way round
 other_way : (one other : MetricKey) → is_same_key one other ≡ false → is_same_key other one ≡ false
 other_way one other differ = ⊎_elim
     (λ (alike : is_same_key other one ≡ true).
@@ -46,20 +47,26 @@ entry_other came key other differ =
     ∙ ap (λ b. of_key is_same_key other came ++ (if b then 1 ∷ [] else [])) (other_way other key differ)
     ∙ append-nil (of_key is_same_key other came))
 
+-- the key's own arrivals are one more
+size_own : (came : List (MetricKey × ℕ)) (key : MetricKey)
+    → length (of_key is_same_key key (with_key_in came key)) ≡ length (of_key is_same_key key came) + 1
+size_own came key =
+    let self : is_same_key key key ≡ true = (metric_key_exact key key).1 refl in
+    let one : List ℕ = 1 ∷ [] in
+    ap length (of_key-push is_same_key key came (key, 1)
+    ∙ ap (λ b. of_key is_same_key key came ++ (if b then one else [])) self)
+    ∙ length-append (of_key is_same_key key came) one
+
+-- a count of one more is raised
+raised_count : (n : ℕ) → count_in_u64 (n + 1) ≡ raised_from (count_in_u64 n)
+raised_count n = omega arith
+
 -- the key's own number is one more
 entry_own : (came : List (MetricKey × ℕ)) (key : MetricKey)
     → tally_of (with_key_in came key) key ≡ (key, raised_from (count_at came key))
 entry_own came key =
-    let self : is_same_key key key ≡ true = (metric_key_exact key key).1 refl in
-    let one : List ℕ = 1 ∷ [] in
-    let size : length (of_key is_same_key key came ++ one) ≡ length (of_key is_same_key key came) + 1 =
-    length-append (of_key is_same_key key came) one in
-    let count : count_in_u64 (length (of_key is_same_key key came ++ one)) ≡ raised_from (count_at came key) =
-    omega (arith, size) in
-    ap (λ ones. (key, count_in_u64 (length ones)))
-    (of_key-push is_same_key key came (key, 1)
-    ∙ ap (λ b. of_key is_same_key key came ++ (if b then one else [])) self)
-    ∙ ap (λ n. (key, n)) count
+    ap (λ n. (key, count_in_u64 n)) (size_own came key)
+    ∙ ap (λ n. (key, n)) (raised_count (length (of_key is_same_key key came)))
 
 -- the numbers of other keys stay
 entries_other : (came : List (MetricKey × ℕ)) (key : MetricKey) (ks : List MetricKey)
@@ -126,12 +133,13 @@ keys_of_tally : (came : List (MetricKey × ℕ)) (ks : List MetricKey) → keys_
 keys_of_tally came [] = refl
 keys_of_tally came (key ∷ ks) = ap (λ others. key ∷ others) (keys_of_tally came ks)
 
--- the row at the end
+-- the number at the end
 last_number : (rows : List (MetricKey × ℕ)) (key : MetricKey) (number : ℕ)
     → slice_get (values_of (rows ++ (key, number) ∷ [])) (length rows) ≡ Some number
 last_number [] key number = refl
 last_number (row ∷ rows) key number = last_number rows key number
 
+-- the number at the end is replaced
 set_last : (rows : List (MetricKey × ℕ)) (key : MetricKey) (number other : ℕ)
     → set_value_at (rows ++ (key, number) ∷ []) (length rows) other ≡ rows ++ (key, other) ∷ []
 set_last [] key number other = refl
@@ -239,7 +247,8 @@ takes_new old mid key place new added raised =
           let grows : admitted is_same_key bound (arrived ++ key ∷ []) ≡ ks ++ key ∷ [] =
           admitted_new is_same_key bound arrived key absent room in
           let none : drops count_kind bound came (key, 1) ≡ 0 =
-          drops_are bound came key 0 (dropped_new is_same_key metric_key_exact bound arrived key absent room ∙ omega arith) in
+          drops_are bound came key 0
+          (dropped_new is_same_key metric_key_exact bound arrived key absent room ∙ omega arith) in
           let not_come : of_key is_same_key key came ≡ [] =
           of_key_none is_same_key key came (not_yet_come is_same_key metric_key_exact bound arrived key room absent) in
           let first : tally_of (with_key_in came key) key ≡ (key, 1) =
@@ -274,7 +283,8 @@ takes_none old new key away =
           (not_among is_same_key metric_key_exact (keys old) key away.absent) in
           let size : length old.rows ≡ length ks = ap length is.rows ∙ length-map ks (tally_of came) in
           let full : bound ≤ length ks = omega (arith, size, away.full) in
-          let stays : admitted is_same_key bound (arrived ++ key ∷ []) ≡ ks = admitted_full is_same_key bound arrived key full in
+          let stays : admitted is_same_key bound (arrived ++ key ∷ []) ≡ ks =
+          admitted_full is_same_key bound arrived key full in
           let one : drops count_kind bound came (key, 1) ≡ 1 =
           drops_are bound came key 1
           (dropped_same is_same_key bound arrived key stays

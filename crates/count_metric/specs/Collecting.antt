@@ -9,8 +9,8 @@ use Rattle.call_rules.specs.Calls.{Call, Got, Learned, Crossed, CutAt, Took, Dem
 use Rattle.count_metric.specs.declared.row.Row.{Row}
 use Rattle.count_metric.specs.declared.row.Closed.{Closed}
 
--- What a kind of producer says of itself, by what it was made with: how many keys a part admits, its kind of metric, the
--- marks of an event and of a condition, and what stands at a boundary, each knowing the calls before.
+-- What a kind of producer says of itself, by what it was made with: how many keys a part admits, its kind of metric,
+-- the marks of an event and of a condition, and what stands at a boundary, each knowing the calls before.
 pub record Collecting (Params Event After X K C R : Type 0) : Type 0 where
   pub bound : Params → ℕ
   pub kind : Params → Kind X K C R

@@ -60,7 +60,7 @@ abbrev pub count_items : CountProducer → List Item
 count_items it = Num it.start ∷ (table_items key_items number_items it.table ++ kept_items count_row_items it.kept)
 
 -- its table is one, and its kept rows are within their bound
-pub record IsCount (it : CountProducer) : Type 0 where
+pub record HasBounds (it : CountProducer) : Type 0 where
   pub table : IsTable Anything Anything it.table
   pub kept : IsKeeping (IsRow Anything) it.kept
 
@@ -73,7 +73,7 @@ abbrev pub count_entries : CountProducer → ℕ
 count_entries it = table_entries key_items number_items it.table + kept_entries count_row_items it.kept
 
 -- a head of seven items, and eight at most for each entry
-pub count_bounded : (it : CountProducer) → IsCount it → length (count_items it) ≤ most_items 7 (count_entries it)
+pub count_bounded : (it : CountProducer) → HasBounds it → length (count_items it) ≤ most_items 7 (count_entries it)
 count_bounded it is =
     let table = table_bounded key_items number_items Anything Anything it.table is.table in
     let kept = kept_bounded count_row_items (IsRow Anything) it.kept is.kept in
@@ -89,7 +89,7 @@ count_few it =
     omega arith
 
 -- the items of a producer with such keys can be spelled
-pub count_savable : (it : CountProducer) → IsCount it → IsSavableCount it → AreSavable (count_items it)
+pub count_savable : (it : CountProducer) → HasBounds it → IsSavableCount it → AreSavable (count_items it)
 count_savable it is can =
     let table = table_savable key_items number_items Anything Anything IsShortKey Anything key_savable number_savable
     it.table is.table can.0 in

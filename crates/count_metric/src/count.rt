@@ -59,7 +59,8 @@ fn keep_all(
     end: u64,
     tally: IntoIter<MetricKey, u64>,
 ) -> Result<(), AllocError>
-    ensures { OnOk result (AddsRows row_weight kept.old kept.new (map (tally_row start end) tally)) }
+    ensures { OnOk result
+        (AddsRows row_weight kept.old kept.new (map (tally_row start end) tally)) }
 {
     for (key, value) in tally {
         let row = Row {

@@ -55,11 +55,11 @@ impl<V: Flat + Drop> Flat for Row<V> {
 type Parts = (u64, (Guarded<MetricKey, u64>, KeptRows<Row<u64>>));
 
 impl Flat for CountProducer {
-    ghost use Rattle.count_metric.specs.CountItems.{count_items, IsCount, IsSavableCount, count_entries, count_bounded, count_few, count_savable};
+    ghost use Rattle.count_metric.specs.CountItems.{count_items, HasBounds, IsSavableCount, count_entries, count_bounded, count_few, count_savable};
 
     ghost flat = { count_items };
 
-    ghost valid = { IsCount };
+    ghost valid = { HasBounds };
 
     ghost savable = { IsSavableCount };
 
