@@ -20,7 +20,7 @@ use Rattle.flat_form.proofs.FlatLaws as laws
 use Rattle.dim_table.specs.Table.{Table}
 use Rattle.dim_table.specs.TableItems.{table_items, IsTable}
 use Rattle.pull_book.specs.PullBooks.{IsPullTable}
-use Rattle.pull_book.specs.PullItems.{payload_items, outcome_items, HasSoundAtoms, book_table, book_items, IsPullBook, book_is_table}
+use Rattle.pull_book.specs.PullItems.{payload_items, outcome_items, HoldsSoundAtoms, book_table, book_items, IsPullBook, book_is_table}
 
 -- the items of the tables of books
 abbrev pull_table_items : Table ℕ PullOutcome → List Item
@@ -28,7 +28,7 @@ pull_table_items = table_items number_items outcome_items
 
 -- which tables there are
 abbrev IsSoundTable : Table ℕ PullOutcome → Type 0
-IsSoundTable = IsTable Anything HasSoundAtoms
+IsSoundTable = IsTable Anything HoldsSoundAtoms
 
 -- a table that a book has is that of its rows
 pub as_book : (table : Table ℕ PullOutcome) → IsPullTable table → table ≡ book_table table.rows
@@ -92,7 +92,7 @@ module _ (items : List Item) (place : ℕ) where
 
   -- where no number stands, no outcome does
   pub kind_fails : (e : FlatError) → Builds Anything number_items items place (Err e)
-      → Builds HasSoundAtoms outcome_items items place (Err e)
+      → Builds HoldsSoundAtoms outcome_items items place (Err e)
   kind_fails Bad never = λ outcome valid there. no_number never outcome there
   kind_fails Memory none = tt
 
@@ -119,7 +119,7 @@ module _ (items : List Item) (place : ℕ) where
         let other = kind_is (Atoms atoms) there in absurd (omega (arith, is, other))
 
     -- a failed pull is built
-    pub failed_built : kind ≡ 0 → IsBuilt HasSoundAtoms outcome_items items place Failed middle
+    pub failed_built : kind ≡ 0 → IsBuilt HoldsSoundAtoms outcome_items items place Failed middle
     failed_built is = record {
       is_valid = tt;
       stands = subst (λ (k : ℕ). StandsAt items place (number_items k)) is one.stands;
@@ -130,7 +130,7 @@ module _ (items : List Item) (place : ℕ) where
     module _ (is : kind ≡ 1) where
       only_atoms : (atoms : List Atom) (next : ℕ)
           → IsBuilt (All HasNoFault) (list_items payload_items) items middle atoms next
-          → (outcome : PullOutcome) → HasSoundAtoms outcome → StandsAt items place (outcome_items outcome)
+          → (outcome : PullOutcome) → HoldsSoundAtoms outcome → StandsAt items place (outcome_items outcome)
           → outcome ≡ Atoms atoms
       unfolding kind_of
       only_atoms atoms next built Failed valid there =
@@ -141,7 +141,7 @@ module _ (items : List Item) (place : ℕ) where
       -- a pull with these atoms is built
       pub snapshot_built : (atoms : List Atom) (next : ℕ)
           → IsBuilt (All HasNoFault) (list_items payload_items) items middle atoms next
-          → IsBuilt HasSoundAtoms outcome_items items place (Atoms atoms) next
+          → IsBuilt HoldsSoundAtoms outcome_items items place (Atoms atoms) next
       snapshot_built atoms next built = record {
         is_valid = built.is_valid;
         stands = laws.StandsAt-join items place (number_items 1) (list_items payload_items atoms)
@@ -152,7 +152,7 @@ module _ (items : List Item) (place : ℕ) where
       }
 
       never_atoms : Builds (All HasNoFault) (list_items payload_items) items middle (Err Bad)
-          → (outcome : PullOutcome) → HasSoundAtoms outcome → ¬ (StandsAt items place (outcome_items outcome))
+          → (outcome : PullOutcome) → HoldsSoundAtoms outcome → ¬ (StandsAt items place (outcome_items outcome))
       unfolding kind_of
       never_atoms never Failed valid there =
           let other = kind_is Failed there in absurd (omega (arith, is, other))
@@ -161,7 +161,7 @@ module _ (items : List Item) (place : ℕ) where
       -- no atoms stand after the number
       pub snapshot_fails : (e : FlatError)
           → Builds (All HasNoFault) (list_items payload_items) items middle (Err e)
-          → Builds HasSoundAtoms outcome_items items place (Err e)
+          → Builds HoldsSoundAtoms outcome_items items place (Err e)
       snapshot_fails Bad never = never_atoms never
       snapshot_fails Memory none = tt
 
@@ -172,7 +172,7 @@ module _ (items : List Item) (place : ℕ) where
     never_kind not_failed not_atoms (Atoms atoms) there = not_atoms (sym (kind_is (Atoms atoms) there))
 
     -- no outcome begins with another number
-    pub no_kind : ¬ (kind ≡ 0) → ¬ (kind ≡ 1) → Builds HasSoundAtoms outcome_items items place (Err Bad)
+    pub no_kind : ¬ (kind ≡ 0) → ¬ (kind ≡ 1) → Builds HoldsSoundAtoms outcome_items items place (Err Bad)
     no_kind not_failed not_atoms = λ outcome valid there. never_kind not_failed not_atoms outcome there
 
   -- where no table stands, no book does
@@ -199,7 +199,8 @@ module _ (items : List Item) (place : ℕ) where
             stands = subst (StandsAt items place) same one.stands;
             ends = one.ends ∙ ap (λ part. place + length part) same;
             only = λ other valid there.
-                ap (λ (t : Table ℕ PullOutcome). t.rows) (one.only (book_table other) (book_is_table other valid) there);
+                ap (λ (t : Table ℕ PullOutcome). t.rows)
+                (one.only (book_table other) (book_is_table other valid) there);
           })
 
       -- no book has the table that stands there

@@ -31,9 +31,9 @@ outcome_items Failed = Num 0 ∷ []
 outcome_items (Atoms atoms) = Num 1 ∷ list_items payload_items atoms
 
 -- the atoms of an outcome have no fault
-abbrev pub HasSoundAtoms : PullOutcome → Type 0
-HasSoundAtoms Failed = Unit {0}
-HasSoundAtoms (Atoms atoms) = All HasNoFault atoms
+abbrev pub HoldsSoundAtoms : PullOutcome → Type 0
+HoldsSoundAtoms Failed = Unit {0}
+HoldsSoundAtoms (Atoms atoms) = All HasNoFault atoms
 
 -- an entry for each eight atoms that are begun
 abbrev pub outcome_entries : PullOutcome → ℕ
@@ -41,7 +41,7 @@ outcome_entries Failed = 0
 outcome_entries (Atoms atoms) = list_entries payload_items atoms
 
 -- an outcome is a head of two items, and eight at most for each entry
-pub outcome_bounded : (outcome : PullOutcome) → HasSoundAtoms outcome
+pub outcome_bounded : (outcome : PullOutcome) → HoldsSoundAtoms outcome
     → length (outcome_items outcome) ≤ most_items 2 (outcome_entries outcome)
 outcome_bounded Failed valid = omega arith
 outcome_bounded (Atoms atoms) valid = let part = list_bounded payload_items HasNoFault atoms valid in omega arith
@@ -57,7 +57,7 @@ payload_savable atom sound any =
     items_savable (Chunk (payload_of atom)) [] (omega (arith, sound.fits)) none_savable
 
 -- the items of an outcome can be spelled
-pub outcome_savable : (outcome : PullOutcome) → HasSoundAtoms outcome → Anything outcome
+pub outcome_savable : (outcome : PullOutcome) → HoldsSoundAtoms outcome → Anything outcome
     → AreSavable (outcome_items outcome)
 outcome_savable Failed valid any = items_savable (Num 0) [] tt none_savable
 outcome_savable (Atoms atoms) valid any =
@@ -81,17 +81,17 @@ pub record IsPullBook (rows : List (ℕ × PullOutcome)) : Type 0 where
   pub rows_kept : All IsKeptRow rows
 
 -- what may be recorded has atoms without a fault
-pub recordable_sound : (id : ℕ) (outcome : PullOutcome) → IsRecordable id outcome → HasSoundAtoms outcome
+pub recordable_sound : (id : ℕ) (outcome : PullOutcome) → IsRecordable id outcome → HoldsSoundAtoms outcome
 recordable_sound id Failed may = tt
 recordable_sound id (Atoms atoms) may = All-weaker (IsSnapshotAtom id) HasNoFault (λ atom is. is.1) atoms may
 
 -- the table of a book's rows is one
 pub book_is_table : (rows : List (ℕ × PullOutcome)) → IsPullBook rows
-    → IsTable Anything HasSoundAtoms (book_table rows)
+    → IsTable Anything HoldsSoundAtoms (book_table rows)
 book_is_table rows valid = record {
   bounded = record { least = omega arith; most = omega arith; within = valid.most };
   distinct = valid.distinct;
-  rows_valid = All-weaker IsKeptRow (IsValidPair Anything HasSoundAtoms)
+  rows_valid = All-weaker IsKeptRow (IsValidPair Anything HoldsSoundAtoms)
       (λ row kept. (tt, recordable_sound row.0 row.1 kept.1)) rows valid.rows_kept;
 }
 
@@ -103,7 +103,7 @@ book_entries rows = table_entries number_items outcome_items (book_table rows)
 pub book_bounded : (rows : List (ℕ × PullOutcome)) → IsPullBook rows
     → length (book_items rows) ≤ most_items 3 (book_entries rows)
 book_bounded rows valid =
-    table_bounded number_items outcome_items Anything HasSoundAtoms (book_table rows) (book_is_table rows valid)
+    table_bounded number_items outcome_items Anything HoldsSoundAtoms (book_table rows) (book_is_table rows valid)
 
 -- an entry is an item at least
 pub book_few : (rows : List (ℕ × PullOutcome)) → book_entries rows ≤ length (book_items rows)
@@ -112,6 +112,6 @@ book_few rows = table_few number_items outcome_items (book_table rows)
 -- the items of a book can be spelled
 pub book_savable : (rows : List (ℕ × PullOutcome)) → IsPullBook rows → Anything rows → AreSavable (book_items rows)
 book_savable rows valid any =
-    table_savable number_items outcome_items Anything HasSoundAtoms Anything Anything number_savable outcome_savable
+    table_savable number_items outcome_items Anything HoldsSoundAtoms Anything Anything number_savable outcome_savable
     (book_table rows) (book_is_table rows valid)
     (All-weaker IsKeptRow (IsValidPair Anything Anything) (λ row kept. (tt, tt)) rows valid.rows_kept)

@@ -5,7 +5,7 @@ ghost use Rattle.atom_record.specs.AtomSound.{HasNoFault};
 ghost use Rattle.flat_form.specs.declared.item.Item.TheVariants.{Chunk};
 ghost use Rattle.flat_form.specs.Flat.{IsFront, Builds, BuildsAll, list_items};
 ghost use Rattle.pull_book.specs.PullBooks.{IsKeptRow, IsPullTable};
-ghost use Rattle.pull_book.specs.PullItems.{payload_items, HasSoundAtoms};
+ghost use Rattle.pull_book.specs.PullItems.{payload_items, HoldsSoundAtoms};
 
 use crate::recorded::Recorded;
 use crate::{MAX_IDS, PullBook};
@@ -91,11 +91,11 @@ fn build_snapshot(
 }
 
 impl Flat for Recorded {
-    ghost use Rattle.pull_book.specs.PullItems.{outcome_items, HasSoundAtoms, outcome_entries, outcome_bounded, outcome_few, outcome_savable};
+    ghost use Rattle.pull_book.specs.PullItems.{outcome_items, HoldsSoundAtoms, outcome_entries, outcome_bounded, outcome_few, outcome_savable};
 
     ghost flat = { outcome_items };
 
-    ghost valid = { HasSoundAtoms };
+    ghost valid = { HoldsSoundAtoms };
 
     ghost head = { 2 };
 

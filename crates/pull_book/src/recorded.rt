@@ -3,7 +3,7 @@ ghost use Rattle.std.specs.Prelude.{◌≡◌, ◌↔◌, IsTrue};
 ghost use Rattle.std.specs.Option.{option_map};
 ghost use Rattle.book_meaning.specs.Snapshots.{atoms_in};
 ghost use Rattle.pull_book.specs.PullBooks.{IsRecordable};
-ghost use Rattle.pull_book.specs.PullItems.{HasSoundAtoms};
+ghost use Rattle.pull_book.specs.PullItems.{HoldsSoundAtoms};
 
 use atom_record::{Atom, PullOutcome};
 use std::marker::Model;
@@ -16,19 +16,19 @@ pub struct Recorded {
 
 impl Model for Recorded {
     ghost use Rattle.atom_record.specs.declared.log.PullOutcome.{PullOutcome};
-    ghost use Rattle.pull_book.specs.PullItems.{HasSoundAtoms};
+    ghost use Rattle.pull_book.specs.PullItems.{HoldsSoundAtoms};
 
     ghost Value = { PullOutcome };
 
     ghost view = { λ r. r.outcome };
 
-    ghost invariant = { λ r. HasSoundAtoms r.outcome };
+    ghost invariant = { λ r. HoldsSoundAtoms r.outcome };
 }
 
 impl Recorded {
     /// This outcome, moved.
     pub fn new(outcome: PullOutcome) -> Recorded
-        requires sound { HasSoundAtoms outcome }
+        requires sound { HoldsSoundAtoms outcome }
         ensures { result ≡ outcome }
     {
         Recorded { outcome }
@@ -57,7 +57,7 @@ impl Recorded {
     /// The outcome, to read.
     pub fn outcome(&self) -> &PullOutcome
         ensures is { result.now ≡ self.now }
-        ensures sound { HasSoundAtoms self.now }
+        ensures sound { HoldsSoundAtoms self.now }
     {
         &self.outcome
     }
