@@ -20,7 +20,7 @@ pub const MAX_IDS: usize = 256;
 /// What the last pull of each id gave, for the first pulled ids that came. The ids of later ones have no snapshot.
 #[derive(Drop)]
 pub struct PullBook {
-    table: Guarded<u64, Recorded>,
+    pub(crate) table: Guarded<u64, Recorded>,
 }
 
 impl Model for PullBook {

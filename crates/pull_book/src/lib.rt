@@ -2,6 +2,7 @@
 #![tactic(auto)]
 
 mod book;
+mod flat;
 mod recorded;
 
 pub use book::{MAX_IDS, PullBook};
