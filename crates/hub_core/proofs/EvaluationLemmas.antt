@@ -21,7 +21,8 @@ use Rattle.matcher_truths.specs.MatcherTruths.{named_places, matches, MayBeAsked
 use Rattle.metric_meaning.specs.Histories.{with_step}
 use Rattle.hub_meaning.specs.LiveConfigs.{truths_at}
 use Rattle.client_engine.specs.declared.instance.Instance.{Instance}
-use Rattle.client_engine.specs.InstanceStands.{linked_in, InstanceStandsFor, IsView, logged_step, Logs}
+use Rattle.client_engine.specs.TrackStands.{logged_step}
+use Rattle.client_engine.specs.InstanceStands.{linked_in, InstanceStandsFor, IsView, Logs}
 use Rattle.hub_core.specs.FrameTruths.{truths_by, LogsBy}
 
 -- references of a sound configuration lead to places that are there

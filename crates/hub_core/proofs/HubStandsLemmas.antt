@@ -31,7 +31,8 @@ use Rattle.hub_meaning.specs.LiveConfigs.{with_config, without_id, config_at, li
 use Rattle.hub_meaning.specs.ClientAnswers.{install_answer, remove_answer, report_answer, reply_of, reply_to}
 use Rattle.hub_meaning.proofs.SessionLogLaws.{own-push_own, own-push_other, clock_of-push, clock_of-own}
 use Rattle.hub_meaning.proofs.LiveConfigLaws.{live-push, live_placed, live_distinct, history_of-push, history_of-new, one_if, config_at-with_config, config_at-without_id, length-with_config, length-without_id, placed_at}
-use Rattle.client_engine.specs.InstanceStands.{InstanceStandsFor, last_from, last_time, logged_step, reported_step}
+use Rattle.client_engine.specs.TrackStands.{last_from, logged_step, reported_step}
+use Rattle.client_engine.specs.InstanceStands.{InstanceStandsFor, last_time}
 use Rattle.hub_core.specs.declared.live_id.LiveId.{LiveId}
 use Rattle.hub_core.specs.declared.live_instance.LiveInstance.{LiveInstance}
 use Rattle.hub_core.specs.declared.lives.Lives.{Lives}
