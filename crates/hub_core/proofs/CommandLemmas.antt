@@ -14,7 +14,7 @@ use Rattle.hub_core.specs.declared.lives.Lives.{Lives}
 use Rattle.hub_meaning.specs.Acceptance.{most_configs}
 use Rattle.hub_core.specs.InstallReading.{linked_read}
 use Rattle.hub_core.specs.Slots.{live_id, same_id, slot_at, count_at}
-use Rattle.hub_core.specs.Commands.{found, others, Answers, PutsIn, InstallsLinked, Installs}
+use Rattle.hub_core.specs.Commands.{held_at, others, StaysWith, PutsIn, InstallsLinked, Installs}
 
 -- it stands under its name, and its client's count is one more than that of the others
 pub puts_in : (clock : ℕ) (uid id : ℤ) (linked : Linked) (old new : Lives) (body : ReplyBody) (fresh : LiveInstance)
@@ -23,7 +23,7 @@ pub puts_in : (clock : ℕ) (uid id : ℤ) (linked : Linked) (old new : Lives) (
     ≡ cond (same_id (live_id uid id) name) (Some (Some fresh)) (slot_at name old.slots.entries))
     → ((client : ℤ) → count_at client new.counts.entries
     ≡ cond (int_eq uid client) (count + 1) (count_at client old.counts.entries))
-    → count ≡ others uid id old → body ≡ cond (is_some (found uid id old)) answers.Replaced answers.Installed
+    → count ≡ others uid id old → body ≡ cond (is_some (held_at uid id old)) answers.Replaced answers.Installed
     → PutsIn clock uid id linked old new body
 puts_in clock uid id linked old new body fresh count is_fresh slots counts is answer = record {
   fresh = fresh;
@@ -43,6 +43,6 @@ pub installs : {E : Type 0} (clock : ℕ) (uid id : ℤ) (config : Config) (link
     → IfOk result (λ r. Installs clock uid id (Ok config) old r.0 r.1)
 installs clock uid id config linked old (Err e) room is puts = tt
 installs clock uid id config linked old (Ok r) room is puts =
-    subst (λ full. MatchBool full (Answers (answers.ClientFull most_configs) old r.0 r.1)
+    subst (λ full. MatchBool full (StaysWith (answers.ClientFull most_configs) old r.0 r.1)
     (InstallsLinked clock uid id (linked_read uid config) old r.0 r.1)) (sym room)
     (subst (λ read. InstallsLinked clock uid id read old r.0 r.1) (sym is) puts)

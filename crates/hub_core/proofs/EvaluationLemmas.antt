@@ -21,17 +21,20 @@ use Rattle.matcher_truths.specs.MatcherTruths.{named_places, matches, MayBeAsked
 use Rattle.metric_meaning.specs.Histories.{with_step}
 use Rattle.hub_meaning.specs.LiveConfigs.{truths_at}
 use Rattle.client_engine.specs.declared.instance.Instance.{Instance}
-use Rattle.client_engine.specs.InstanceStands.{linked_in, InstanceStandsFor, IsView, logged_step, Logs}
+use Rattle.client_engine.specs.TrackStands.{logged_step}
+use Rattle.client_engine.specs.InstanceStands.{linked_in, InstanceStandsFor, IsView, Logs}
 use Rattle.hub_core.specs.FrameTruths.{truths_by, LogsBy}
 
 -- references of a sound configuration lead to places that are there
 pub in_range : (linked : Linked) → ∥ IsSoundConfig linked ∥₁ → AreInRange (named_places linked.matchers)
 in_range linked sound = ∥∥₁_elim sound (hlevel props) (λ s. (references_end linked s).matchers_there)
 
+-- a sound simple matcher may be asked
 sound_askable : (count : ℕ) (matcher : LMatcher) → IsSoundMatcher count matcher → MayBeAsked matcher
 sound_askable count (Simple simple) sound = sound
 sound_askable count (Combo op children) sound = tt
 
+-- that one may be asked has one proof at most
 askable_prop : (matcher : LMatcher) → IsProp (MayBeAsked matcher)
 askable_prop (Simple simple) = hlevel props
 askable_prop (Combo op children) = hlevel props
@@ -39,7 +42,8 @@ askable_prop (Combo op children) = hlevel props
 -- each simple matcher of a sound configuration may be asked
 pub all_askable : (linked : Linked) → ∥ IsSoundConfig linked ∥₁ → All MayBeAsked linked.matchers
 all_askable linked sound = ∥∥₁_elim sound (hlevel askable_prop)
-    (λ s k d within. sound_askable (length linked.matchers) (slice_index_or linked.matchers k d) (s.matchers k d within))
+    (λ s k d within. sound_askable (length linked.matchers) (slice_index_or linked.matchers k d)
+    (s.matchers k d within))
 
 -- a list that merely contains a number contains it
 had_number : (xs : List ℕ) (x : ℕ) → ∥ Contains xs x ∥₁ → Contains xs x
@@ -64,9 +68,11 @@ module _ (says : SimpleMatcher → Atom → Bool) where
   truths_are linked (AtomAt at atom) = refl
   truths_are linked (Pull at id outcome) = refl
 
+  -- there is one truth for each matcher at an atom, and none else
   is_view : (linked : Linked) (frame : LogFrame) → IsView linked frame (truths_at says linked frame)
   is_view linked (Tick at) = refl
-  is_view linked (AtomAt at atom) = length-map-range_with_len (matches says atom linked.matchers) 0 (length linked.matchers)
+  is_view linked (AtomAt at atom) = length-map-range_with_len (matches says atom linked.matchers) 0
+      (length linked.matchers)
   is_view linked (Pull at id outcome) = refl
 
   -- an instance that took a frame with the truths of its matchers took it as the judge says

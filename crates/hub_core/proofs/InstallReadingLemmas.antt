@@ -20,8 +20,10 @@ accepted_as config (Err refusal) = Err (Refused refusal)
 -- the same by what was read and whether the client is full
 abbrev pub accepted_read : ℤ → Bool → Result Config Refusal → Result Config ReplyBody
 accepted_read uid full (Err refusal) = Err (Refused refusal)
-accepted_read uid full (Ok config) = cond full (Err (ClientFull most_configs)) (accepted_as config (linked_read uid config))
+accepted_read uid full (Ok config) = cond full (Err (ClientFull most_configs)) (accepted_as config
+    (linked_read uid config))
 
+-- by the fault of the references, if there is one
 links_accepted : (uid : ℤ) (config : Config) (fault : Option LinkFault)
     → accepted_links uid config fault ≡ accepted_as config (read_unless fault (linked_form config uid))
 links_accepted uid config (Some found) = refl
@@ -35,7 +37,8 @@ links_accepted uid config None = by_form (is_built (linked_form config uid)) whe
 pub accepted : (uid : ℤ) (full : Bool) (read : Result Config ConfigFault)
     → accepted_config uid full read ≡ accepted_read uid full (config_read read)
 accepted uid full (Err found) = refl
-accepted uid full (Ok config) = ap (cond full (Err (ClientFull most_configs))) (links_accepted uid config (verdict config))
+accepted uid full (Ok config) = ap (cond full (Err (ClientFull most_configs))) (links_accepted uid config
+    (verdict config))
 
 -- what was linked without a refusal is the linked form
 pub linked_is : (uid : ℤ) (config : Config) (linked : Linked) → linked_read uid config ≡ Ok linked

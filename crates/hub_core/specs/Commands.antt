@@ -24,12 +24,12 @@ pub record Changes (uid id : ℤ) (slot : Option (Option LiveInstance)) (count :
       ≡ (if int_eq uid client then count else count_at client old.counts.entries)
 
 -- what was found at a client's id before
-abbrev pub found : ℤ → ℤ → Lives → Option (Option LiveInstance)
-found uid id lives = slot_at (live_id uid id) lives.slots.entries
+abbrev pub held_at : ℤ → ℤ → Lives → Option (Option LiveInstance)
+held_at uid id lives = slot_at (live_id uid id) lives.slots.entries
 
 -- how many of other ids the client had before
 abbrev pub others : ℤ → ℤ → Lives → ℕ
-others uid id lives = others_at uid (is_some (found uid id lives)) lives.counts.entries
+others uid id lives = others_at uid (is_some (held_at uid id lives)) lives.counts.entries
 
 -- nothing changes
 pub record Stays (old new : Lives) : Type 0 where
@@ -37,7 +37,7 @@ pub record Stays (old new : Lives) : Type 0 where
   pub counts : new.counts ≡ old.counts
 
 -- nothing changes, and this is the answer
-pub record Answers (given : ReplyBody) (old new : Lives) (body : ReplyBody) : Type 0 where
+pub record StaysWith (given : ReplyBody) (old new : Lives) (body : ReplyBody) : Type 0 where
   pub stays : Stays old new
   pub answer : body ≡ given
 
@@ -46,18 +46,18 @@ pub record PutsIn (clock : ℕ) (uid id : ℤ) (linked : Linked) (old new : Live
   pub fresh : LiveInstance
   pub is_fresh : IsFresh linked clock fresh.instance
   pub changes : Changes uid id (Some (Some fresh)) (others uid id old + 1) old new
-  pub answer : body ≡ (if is_some (found uid id old) then answers.Replaced else answers.Installed)
+  pub answer : body ≡ (if is_some (held_at uid id old) then answers.Replaced else answers.Installed)
 
 -- an install with room for it, when the clock stood so and this is the linked form
 abbrev pub InstallsLinked : ℕ → ℤ → ℤ → Result Linked Refusal → Lives → Lives → ReplyBody → Type 0
-InstallsLinked clock uid id (Err refusal) old new body = Answers (answers.Refused refusal) old new body
+InstallsLinked clock uid id (Err refusal) old new body = StaysWith (answers.Refused refusal) old new body
 InstallsLinked clock uid id (Ok linked) old new body = PutsIn clock uid id linked old new body
 
 -- an install, when the clock stood so and this was read: a full client is told so before the references are judged
 abbrev pub Installs : ℕ → ℤ → ℤ → Result Config Refusal → Lives → Lives → ReplyBody → Type 0
-Installs clock uid id (Err refusal) old new body = Answers (answers.Refused refusal) old new body
+Installs clock uid id (Err refusal) old new body = StaysWith (answers.Refused refusal) old new body
 Installs clock uid id (Ok config) old new body =
-    MatchBool (nat_le most_configs (others uid id old)) (Answers (answers.ClientFull most_configs) old new body)
+    MatchBool (nat_le most_configs (others uid id old)) (StaysWith (answers.ClientFull most_configs) old new body)
     (InstallsLinked clock uid id (linked_read uid config) old new body)
 
 -- one is taken out
@@ -68,9 +68,10 @@ pub record TakesOut (uid id : ℤ) (old new : Lives) (body : ReplyBody) : Type 0
 -- a remove
 abbrev pub Removes : ℤ → ℤ → Lives → Lives → ReplyBody → Type 0
 Removes uid id old new body =
-    MatchOption (found uid id old) (Answers answers.NoConfig old new body) (λ slot. TakesOut uid id old new body)
+    MatchOption (held_at uid id old) (StaysWith answers.NoConfig old new body) (λ slot. TakesOut uid id old new body)
 
 -- a report of what stands at a client's id; the counts stay
-pub record ReportsLive (clock : ℕ) (uid id : ℤ) (include_current : Bool) (old new : Lives) (body : ReplyBody) : Type 0 where
+pub record ReportsLive (clock : ℕ) (uid id : ℤ) (include_current : Bool) (old new : Lives)
+    (body : ReplyBody) : Type 0 where
   pub slots : ReportsAt clock (live_id uid id) include_current old.slots.entries new.slots.entries body
   pub counts : new.counts ≡ old.counts

@@ -10,7 +10,8 @@ use Rattle.matcher_truths.specs.MatcherTruths.{all_truths, is_question}
 use Rattle.metric_meaning.specs.Histories.{History, with_step}
 use Rattle.hub_meaning.specs.LiveConfigs.{truths_at}
 use Rattle.client_engine.specs.declared.instance.Instance.{Instance}
-use Rattle.client_engine.specs.InstanceStands.{InstanceStandsFor, last_time, logged_step}
+use Rattle.client_engine.specs.InstanceStands.{InstanceStandsFor, last_time}
+use Rattle.client_engine.specs.TrackStands.{logged_step}
 
 -- how many questions of a judge these matchers are worth: one for each simple matcher of an atom's id
 abbrev pub asked_by : LogFrame → List LMatcher → ℕ

@@ -42,7 +42,8 @@ pub record ShowsAt (clock : ℕ) (name : LiveId) (include_current : Bool) (live 
   pub next : LiveInstance
   pub tree : ReportTree
   pub steps : Reports live.instance name.uid name.id include_current clock next.instance tree
-  pub slots : (other : LiveId) → slot_at other new ≡ (if same_id name other then Some (Some next) else slot_at other old)
+  pub slots : (other : LiveId) → slot_at other new ≡ (if same_id name other then Some
+      (Some next) else slot_at other old)
   pub answer : body ≡ answers.ReportBytes (report_message tree)
 
 -- a report of what stands under a name; a slot that is found isn't empty

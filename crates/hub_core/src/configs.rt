@@ -32,7 +32,8 @@ pub fn read_config(alloc: Global, bytes: &[u8]) -> Result<Result<Config, Refusal
     }
 }
 
-/// A client's configuration with its references looked up, or why it is refused: a fault, or a form that isn't acted on.
+/// A client's configuration with its references looked up, or why it is refused: a fault, or a form that is not acted
+/// on.
 pub fn link_config(
     alloc: Global,
     config: Config,

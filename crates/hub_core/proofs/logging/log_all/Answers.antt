@@ -23,7 +23,8 @@ loop-place-preserved g c =
           rw (w.slots-is, w.judge-is) (record {
             part = next_slot g.J.Judge.says c.args.frame.now c.loop-place.place olds c.loop-place.slots.entries
                 w.in-Some.slot.now w.log_slot.new.slot c.loop-place.invariant.part at w.in_ok-log_slot.ensures.logs;
-            ticks = subst (λ (n : ℕ). AreTicks n (g.J.Judge.ticks c.args.judge.now) (g.J.Judge.ticks w.log_slot.new.judge))
+            ticks = subst (λ (n : ℕ). AreTicks n (g.J.Judge.ticks c.args.judge.now)
+                (g.J.Judge.ticks w.log_slot.new.judge))
                 (sym more) ticks;
             len = index_map_len-with_value_at c.loop-place.slots c.loop-place.place w.log_slot.new.slot
                 ∙ c.loop-place.invariant.len;

@@ -8,5 +8,7 @@ use Rattle.hub_core.proofs.slots.take_out.Goals as goal
 
 pub returns-clause-held : goal.returns-clause-held
 returns-clause-held c = λ uid.
-    subst (λ l. held_by uid l + (if int_eq c.args.name.uid uid && is_some (slot_at c.args.name c.args.slots.now.entries) then 1 else 0) ≡ held_by uid c.args.slots.now.entries) (sym c.swap_remove.ensures.entries)
+    subst (λ l. held_by uid l + (if int_eq c.args.name.uid uid && is_some
+    (slot_at c.args.name c.args.slots.now.entries) then 1 else 0)
+    ≡ held_by uid c.args.slots.now.entries) (sym c.swap_remove.ensures.entries)
     (held-swap_remove uid c.args.name c.args.slots.now.entries)

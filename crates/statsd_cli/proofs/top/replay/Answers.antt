@@ -6,7 +6,7 @@ use Rattle.statsd_cli.proofs.top.replay.Goals as goal
 
 pub frames-init : goal.frames-init
 frames-init g c = record {
-  along = begins_along _ _ _ _ c.new-reader.ensures c.new-hub.ensures;
+  along = begins_along _ _ _ _ c.new-reader.ensures c.new-hub.ensures.stands;
   reads = omega arith;
   writes = omega arith;
 }

@@ -12,7 +12,8 @@ use Rattle.hub_core.proofs.hub.Hub.serve.Goals as goal
 pub returns-in_ok-self-in-Log-clause-serves : goal.returns-in_ok-self-in-Log-clause-serves
 returns-in_ok-self-in-Log-clause-serves g c = λ frames h in_time.
     serves_as g.J.Judge.says _ frames c.args.frame (Log c.in-Log.frame) None c.in-Log.is
-    (hub_log g.J.Judge.says c.args.self _ frames h c.in-Log.frame (subst (IsInTime (clock_of frames)) c.in-Log.is in_time)
+    (hub_log g.J.Judge.says c.args.self _ frames h c.in-Log.frame (subst (IsInTime
+    (clock_of frames)) c.in-Log.is in_time)
     c.time_of.ensures c.in_ok-self-in-Log.ensures.slots c.in_ok-self-in-Log.ensures.counts)
 
 pub returns-in_ok-lives-in-Install-clause-serves : goal.returns-in_ok-lives-in-Install-clause-serves
@@ -22,7 +23,8 @@ returns-in_ok-lives-in-Install-clause-serves g c =
     let installs = simp to_z-of_z at c.in_ok-lives-in-Install.ensures in
     simp to_z-of_z (λ frames h in_time.
     serves_as g.J.Judge.says _ frames c.args.frame _ _ c.in-Install.is
-    (hub_install g.J.Judge.says c.args.self _ frames h c.in-Install.uid c.in-Install.id c.in_ok-lives-in-Install.body refl
+    (hub_install g.J.Judge.says c.args.self _ frames h c.in-Install.uid c.in-Install.id c.in_ok-lives-in-Install.body
+    refl
     c.in-Install.config c.in_ok-read-in-Install.read
     (c.in_ok-read-in-Install.ensures ∙ ap (λ bytes. config_read (config_of bytes)) c.as_slice.ensures) installs))
 

@@ -23,5 +23,6 @@ invariant_of-result c =
     let order = subst (λ ms. IsOrder (named_places ms) c.in_ok-order.order) c.as_slice.ensures c.in_ok-order.ensures in
     record {
       sound = subst (λ (l : Linked). ∥ IsSoundConfig l ∥₁) (sym same) (merely c.requires.may_run.sound);
-      in_order = subst (λ (l : Linked). ∥ IsOrder (named_places l.matchers) c.in_ok-order.order ∥₁) (sym same) (merely order);
+      in_order = subst (λ (l : Linked). ∥ IsOrder (named_places l.matchers) c.in_ok-order.order ∥₁) (sym same)
+          (merely order);
     }

@@ -11,6 +11,7 @@ invariant_of-result c =
     let set = simp to_z-of_z at c.in_ok-set_count.ensures in
     let found = c.contains_key.ensures in
     let is = simp to_z-of_z at c.others_of-others.ensures in
-    let all = counted_take_out c.args.name.uid c.args.name.id c.args.self.slots.entries c.take_out.new.slots.entries c.args.self.counts.entries c.set_count.new.counts.entries c.others_of-others.result
+    let all = counted_take_out c.args.name.uid c.args.name.id c.args.self.slots.entries c.take_out.new.slots.entries
+    c.args.self.counts.entries c.set_count.new.counts.entries c.others_of-others.result
     c.args.self.counted c.args.self.few (sym found ∙ c.if-not-contains_key.false) held set is in
     record { counted = λ uid. (all uid).0; few = λ uid. (all uid).1 }
