@@ -16,7 +16,7 @@ use Rattle.count_metric.specs.declared.row.Row.{Row}
 use Rattle.count_metric.specs.Counting.{is_same_key}
 use Rattle.metric_meaning.specs.KeyTrees.{group_of}
 use Rattle.metric_meaning.specs.Reports.{bucket_of, count_groups}
-use Rattle.client_engine.specs.Groups.{key_in, buckets_of, entry_in, first_keys, grouped, group_tree, AddsRow}
+use Rattle.client_engine.specs.Groups.{key_in, buckets_of, entry_in, keys_in_order, grouped, group_tree, AddsRow}
 
 -- a key that differs from another, the other way round
 other_way : (one other : MetricKey) → is_same_key one other ≡ false → is_same_key other one ≡ false
@@ -137,16 +137,16 @@ keys_of_entries rows [] = refl
 keys_of_entries rows (key ∷ ks) = ap (λ others. key ∷ others) (keys_of_entries rows ks)
 
 -- the first keys, with one more row
-first_keys-push : (rows : List (Row ℕ)) (row : Row ℕ)
-    → first_keys (rows ++ row ∷ []) ≡ with_key is_same_key (first_keys rows) row.key
-first_keys-push rows row =
+keys_in_order-push : (rows : List (Row ℕ)) (row : Row ℕ)
+    → keys_in_order (rows ++ row ∷ []) ≡ with_key is_same_key (keys_in_order rows) row.key
+keys_in_order-push rows row =
     ap (firsts is_same_key []) (map-append key_in rows (row ∷ []))
     ∙ firsts-push is_same_key [] (map key_in rows) row.key
 
 -- the keys of groups are apart
-first_keys-distinct : (rows : List (Row ℕ)) → IsDistinct is_same_key (first_keys rows)
+keys_in_order-distinct : (rows : List (Row ℕ)) → IsDistinct is_same_key (keys_in_order rows)
 unfolding IsDistinct
-first_keys-distinct rows = firsts-distinct is_same_key [] (map key_in rows) tt
+keys_in_order-distinct rows = firsts-distinct is_same_key [] (map key_in rows) tt
 
 -- a bucket more at the place of a row's key
 pub adds_there : (old new : List (MetricKey × List NumBucket)) (row : Row ℕ) (place : ℕ)
@@ -155,20 +155,20 @@ pub adds_there : (old new : List (MetricKey × List NumBucket)) (row : Row ℕ) 
     → new ≡ set_value_at old place (buckets ++ bucket_of row ∷ []))
     → AddsRow old new row
 adds_there old new row place at added rows is =
-    let ks = first_keys rows in
+    let ks = keys_in_order rows in
     let own : keys_of old ≡ ks = ap keys_of is ∙ keys_of_entries rows ks in
     let there : slice_get ks place ≡ Some row.key =
     found is_same_key metric_key_exact ks row.key place
     (subst (λ l. position (is_same_key row.key) l ≡ Some place) own at) in
     let among : is_among is_same_key row.key ks ≡ true =
     is_among-from_Contains is_same_key metric_key_exact ks row.key (Contains-from_place ks place row.key there) in
-    let stays : first_keys (rows ++ row ∷ []) ≡ ks =
-    first_keys-push rows row ∙ ap (λ b. if b then ks else ks ++ row.key ∷ []) among in
+    let stays : keys_in_order (rows ++ row ∷ []) ≡ ks =
+    keys_in_order-push rows row ∙ ap (λ b. if b then ks else ks ++ row.key ∷ []) among in
     added (buckets_of rows row.key)
     (subst (λ entries. slice_get (values_of entries) place ≡ Some (buckets_of rows row.key)) (sym is)
     (buckets_there rows row.key ks place there))
     ∙ ap (λ entries. set_value_at entries place (buckets_of rows row.key ++ bucket_of row ∷ [])) is
-    ∙ added_there rows row ks place (first_keys-distinct rows) there
+    ∙ added_there rows row ks place (keys_in_order-distinct rows) there
     ∙ ap (map (entry_in (rows ++ row ∷ []))) (sym stays)
 
 -- a key that isn't among the first keys is that of no row
@@ -182,12 +182,12 @@ none_of_key (first ∷ rows) key absent =
     ∙ none_of_key rows key (grind arith)
 
 -- no row has a key that isn't among the first keys
-not_come : (rows : List (Row ℕ)) (key : MetricKey) → is_among is_same_key key (first_keys rows) ≡ false
+not_come : (rows : List (Row ℕ)) (key : MetricKey) → is_among is_same_key key (keys_in_order rows) ≡ false
     → is_among is_same_key key (map key_in rows) ≡ false
 not_come rows key absent =
-    let bound = suc (length (first_keys rows)) in
-    let whole : admitted is_same_key bound (map key_in rows) ≡ first_keys rows =
-    take_all bound (first_keys rows) (omega arith) in
+    let bound = suc (length (keys_in_order rows)) in
+    let whole : admitted is_same_key bound (map key_in rows) ≡ keys_in_order rows =
+    take_all bound (keys_in_order rows) (omega arith) in
     not_yet_come is_same_key metric_key_exact bound (map key_in rows) key
     (subst (λ ks. length ks < bound) (sym whole) (omega arith))
     (subst (λ ks. is_among is_same_key key ks ≡ false) (sym whole) absent)
@@ -198,7 +198,7 @@ pub adds_new : (old new : List (MetricKey × List NumBucket)) (row : Row ℕ)
     → new ≡ old ++ (row.key, bucket_of row ∷ []) ∷ []
     → AddsRow old new row
 adds_new old new row nowhere added rows is =
-    let ks = first_keys rows in
+    let ks = keys_in_order rows in
     let own : keys_of old ≡ ks = ap keys_of is ∙ keys_of_entries rows ks in
     let absent : is_among is_same_key row.key ks ≡ false =
     not_among is_same_key metric_key_exact ks row.key
@@ -206,8 +206,8 @@ adds_new old new row nowhere added rows is =
     (subst (λ l. position (is_same_key row.key) l ≡ None) own nowhere)) in
     let none : filter (λ (r : Row ℕ). is_same_key r.key row.key) rows ≡ [] =
     none_of_key rows row.key (not_come rows row.key absent) in
-    let grows : first_keys (rows ++ row ∷ []) ≡ ks ++ row.key ∷ [] =
-    first_keys-push rows row ∙ ap (λ b. if b then ks else ks ++ row.key ∷ []) absent in
+    let grows : keys_in_order (rows ++ row ∷ []) ≡ ks ++ row.key ∷ [] =
+    keys_in_order-push rows row ∙ ap (λ b. if b then ks else ks ++ row.key ∷ []) absent in
     let fresh : entry_in (rows ++ row ∷ []) row.key ≡ (row.key, bucket_of row ∷ []) =
     entry_own rows row ∙ ap (λ l. (row.key, map bucket_of l ++ bucket_of row ∷ [])) none in
     added ∙ ap (λ l. l ++ (row.key, bucket_of row ∷ []) ∷ []) is
@@ -229,4 +229,4 @@ map_groups rows (key ∷ ks) = ap (λ l. group_tree (entry_in rows key) ∷ l) (
 
 -- the groups are those of a report
 pub groups_shown : (rows : List (Row ℕ)) → map group_tree (grouped rows) ≡ count_groups rows
-groups_shown rows = map_groups rows (first_keys rows)
+groups_shown rows = map_groups rows (keys_in_order rows)

@@ -10,7 +10,7 @@ use Rattle.metric_meaning.specs.Reports.{report_of, last_report, metric_tree}
 use Rattle.report_writer.specs.declared.tree.MetricTree.{MetricTree}
 use Rattle.client_engine.specs.TrackStands.{logged_step, reported_step, ComesInTime, ComeInTime, last_from}
 use Rattle.client_engine.specs.Tracks.{AllReport}
-use Rattle.client_engine.specs.InstanceStands.{tree_with, linked_of_inside, InsideStandsFor, last_time, InsideLogs, InsideReports}
+use Rattle.client_engine.specs.InstanceStands.{tree_with, linked_of_inside, InsideStandsFor, last_step_time, InsideLogs, InsideReports}
 use Rattle.client_engine.specs.declared.instance.Inside.{Inside}
 
 -- the clock at the last report, after a step at a time
@@ -44,7 +44,7 @@ last_report-push last (first ∷ steps) step =
 -- an instance takes one more frame of the log
 pub inside_logs : (old new : Inside) (frame : LogFrame) (truths : List Bool) → InsideLogs frame truths old new
     → log_time frame < time_limit → (history : History) → InsideStandsFor old history
-    → last_time history ≤ log_time frame → InsideStandsFor new (with_step history (logged_step frame truths))
+    → last_step_time history ≤ log_time frame → InsideStandsFor new (with_step history (logged_step frame truths))
 inside_logs old new frame truths logs fits history has later =
     let step = logged_step frame truths in
     let base : new.base ≡ old.base = ap (λ (it : Inside). it.base) logs.same in
@@ -62,7 +62,7 @@ inside_logs old new frame truths logs fits history has later =
 -- an instance takes one more report
 pub inside_reports : (old new : Inside) (uid id : ℤ) (include_current : Bool) (at : ℕ) (trees : List MetricTree)
     (last : ℕ) → InsideReports include_current at old new trees last
-    → (history : History) → InsideStandsFor old history → last_time history ≡ at
+    → (history : History) → InsideStandsFor old history → last_step_time history ≡ at
     → InsideStandsFor new (with_step history (reported_step include_current at))
     × (tree_with uid id last at trees ≡ report_of history uid id include_current at)
 unfolding report_of

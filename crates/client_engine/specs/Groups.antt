@@ -22,12 +22,12 @@ abbrev pub entry_in : List (Row ℕ) → MetricKey → MetricKey × List NumBuck
 entry_in rows key = (key, buckets_of rows key)
 
 -- each key once, in the order in which they first come
-abbrev pub first_keys : List (Row ℕ) → List MetricKey
-first_keys rows = firsts is_same_key [] (map key_in rows)
+abbrev pub keys_in_order : List (Row ℕ) → List MetricKey
+keys_in_order rows = firsts is_same_key [] (map key_in rows)
 
 -- all keys with their buckets
 abbrev pub grouped : List (Row ℕ) → List (MetricKey × List NumBucket)
-grouped rows = map (entry_in rows) (first_keys rows)
+grouped rows = map (entry_in rows) (keys_in_order rows)
 
 -- a key with its buckets, as a report shows it
 abbrev pub group_tree : MetricKey × List NumBucket → NumTree

@@ -8,7 +8,8 @@ use Rattle.report_writer.specs.declared.tree.ReportTree.{ReportTree}
 use Rattle.report_writer.specs.declared.tree.MetricTree.{MetricTree}
 use Rattle.metric_meaning.specs.Histories.{History, with_step}
 use Rattle.metric_meaning.specs.Reports.{report_of, last_report}
-use Rattle.client_engine.specs.TrackStands.{logged_step, reported_step, last_from, ComeInTime}
+use Rattle.client_engine.specs.TrackStands.{ComeInTime}
+pub use Rattle.client_engine.specs.TrackStands.{logged_step, reported_step, last_from}
 use Rattle.client_engine.specs.Tracks.{metric_in, AllStandFor, AllStep, AllReport}
 use Rattle.client_engine.specs.declared.instance.Inside.{Inside}
 use Rattle.client_engine.specs.declared.instance.Instance.{Instance}
@@ -40,8 +41,8 @@ abbrev pub InstanceStandsFor : Instance → History → Type 0
 InstanceStandsFor it history = InsideStandsFor it.inside.value history
 
 -- the time of the last step, or the base
-abbrev pub last_time : History → ℕ
-last_time history = last_from history.base history.steps
+abbrev pub last_step_time : History → ℕ
+last_step_time history = last_from history.base history.steps
 
 -- an instance that has seen nothing
 abbrev pub IsFresh : Linked → ℕ → Instance → Type 0
@@ -55,13 +56,13 @@ IsView linked _ truths = truths ≡ []
 -- whatever history the old stood for, if the frame may come next, the new stands for that with this frame of the log
 abbrev pub Logs : Instance → LogFrame → List Bool → Instance → Type 0
 Logs old frame truths new =
-    (history : History) → InstanceStandsFor old history → last_time history ≤ log_time frame
+    (history : History) → InstanceStandsFor old history → last_step_time history ≤ log_time frame
     → IsView history.linked frame truths → InstanceStandsFor new (with_step history (logged_step frame truths))
 
 -- whatever history the old stood for, what is shown is its report, and the new stands for it with that report
 abbrev pub Reports : Instance → ℤ → ℤ → Bool → ℕ → Instance → ReportTree → Type 0
 Reports old uid id include_current at new tree =
-    (history : History) → InstanceStandsFor old history → last_time history ≡ at
+    (history : History) → InstanceStandsFor old history → last_step_time history ≡ at
     → InstanceStandsFor new (with_step history (reported_step include_current at))
     × (tree ≡ report_of history uid id include_current at)
 

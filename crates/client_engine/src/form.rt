@@ -5,8 +5,8 @@ ghost use Rattle.metric_meaning.specs.Forms.{is_built, is_built_metric};
 
 use config_links::{LKind, LMetric, Linked};
 
-/// Whether a configuration is acted on: any matchers, no predicates and no states,
-    and metrics that count with no condition.
+/// Whether a configuration is acted on: any matchers, no predicates and no states, and metrics that count without a
+/// condition.
 pub fn built(linked: &Linked) -> bool
     ensures { result ≡ is_built linked.now }
 {

@@ -32,20 +32,20 @@ use Rattle.hub_meaning.specs.ClientAnswers.{install_answer, remove_answer, repor
 use Rattle.hub_meaning.proofs.SessionLogLaws.{own-push_own, own-push_other, clock_of-push, clock_of-own}
 use Rattle.hub_meaning.proofs.LiveConfigLaws.{live-push, live_placed, live_distinct, history_of-push, history_of-new, one_if, config_at-with_config, config_at-without_id, length-with_config, length-without_id, placed_at}
 use Rattle.client_engine.specs.TrackStands.{last_from, logged_step, reported_step}
-use Rattle.client_engine.specs.InstanceStands.{InstanceStandsFor, last_time}
+use Rattle.client_engine.specs.InstanceStands.{InstanceStandsFor, last_step_time}
 use Rattle.hub_core.specs.declared.live_id.LiveId.{LiveId}
 use Rattle.hub_core.specs.declared.live_instance.LiveInstance.{LiveInstance}
 use Rattle.hub_core.specs.declared.lives.Lives.{Lives}
 use Rattle.hub_core.specs.declared.hub.Hub.{Hub}
 use Rattle.hub_core.specs.InstallReading.{config_read, linked_read}
 use Rattle.hub_core.specs.SlotLogs.{SlotLogs, AllLog}
-use Rattle.hub_core.specs.Slots.{live_id, same_id, slot_at, count_at, ShowsAt}
+use Rattle.hub_core.specs.Slots.{live_id, is_same_id, slot_at, count_at, ShowsAt}
 use Rattle.hub_core.specs.Commands.{held_at, others, Changes, Stays, StaysWith, PutsIn, InstallsLinked, Installs, TakesOut, Removes, ReportsLive}
 use Rattle.hub_core.specs.HubStands.{SlotStandsFor, LivesStandFor, HubStandsFor}
 use Rattle.hub_core.proofs.InstallReadingLemmas.{accepted_as, accepted_read, accepted, linked_is}
 
 -- two names are the same where their clients and their ids are
-same_id_is : (uid id n other : ℤ) → same_id (live_id uid id) (live_id n other) ≡ (int_eq uid n && int_eq id other)
+same_id_is : (uid id n other : ℤ) → is_same_id (live_id uid id) (live_id n other) ≡ (int_eq uid n && int_eq id other)
 same_id_is uid id n other = refl
 
 -- a number is itself
@@ -99,7 +99,7 @@ module _ (says : SimpleMatcher → Atom → Bool) where
       record {
         instance = subst (InstanceStandsFor new.instance) (sym history) (logs before h.instance (omega
             (arith, in_time, h.time)));
-        time = ap last_time history ∙ last_from-push before.base before.steps step
+        time = ap last_step_time history ∙ last_from-push before.base before.steps step
             ∙ sym (clock_of-push frames (Log frame));
       }
   slot_logged uid frames frame (Some (Some old)) (Some None) (Some config) placed in_time logs h = absurd logs
@@ -124,7 +124,7 @@ module _ (says : SimpleMatcher → Atom → Bool) where
       ∙ no_step (history_of says uid frames config) in
       record {
         instance = subst (InstanceStandsFor it.instance) (sym same) h.instance;
-        time = ap last_time same ∙ h.time ∙ sym (clock_of-push frames frame ∙ still);
+        time = ap last_step_time same ∙ h.time ∙ sym (clock_of-push frames frame ∙ still);
       }
   slot_idle uid frames frame (Some None) (Some config) still idle h = absurd h
   slot_idle uid frames frame (Some slot) None still idle h = absurd h
@@ -161,7 +161,7 @@ module _ (says : SimpleMatcher → Atom → Bool) where
         (live_id uid id) new.slots.entries) (config_at id (live mine))
         (λ c is. (placed_at (length mine) id (live mine) (live_placed mine) c is).0)
         (omega (arith, in_time, clock_of-own uid frames))
-        (found_logs frame (same_id (live_id uid id)) old.slots.entries new.slots.entries all)
+        (found_logs frame (is_same_id (live_id uid id)) old.slots.entries new.slots.entries all)
         (h.slots uid id)));
     counts = λ uid.
         let mine = own uid frames in
@@ -417,7 +417,7 @@ module _ (says : SimpleMatcher → Atom → Bool) where
               (subst (SlotStandsFor says uid (mine ++ Report uid id include_current ∷ []) (Some (Some r.next)))
               (sym is) (record {
                 instance = subst (InstanceStandsFor r.next.instance) (sym history) done.0;
-                time = ap last_time history ∙ last_from-push (clock_of (take config.place mine))
+                time = ap last_step_time history ∙ last_from-push (clock_of (take config.place mine))
                     (history_of says uid mine config).steps (reported_step include_current clock) ∙ time
                     ∙ sym (clock_of-push mine (Report uid id include_current));
               }))
@@ -492,7 +492,7 @@ module _ (says : SimpleMatcher → Atom → Bool) where
                 (subst (SlotStandsFor says uid (mine ++ Install uid id config ∷ []) (Some (Some r.fresh)))
                 (sym at_id) (record {
                   instance = fresh;
-                  time = ap last_time history
+                  time = ap last_step_time history
                       ∙ sym (clock_of-push mine (Install uid id config));
                 }))
                 (λ other e other_config other_is. refl)

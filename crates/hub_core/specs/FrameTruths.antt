@@ -10,7 +10,7 @@ use Rattle.matcher_truths.specs.MatcherTruths.{all_truths, is_question}
 use Rattle.metric_meaning.specs.Histories.{History, with_step}
 use Rattle.hub_meaning.specs.LiveConfigs.{truths_at}
 use Rattle.client_engine.specs.declared.instance.Instance.{Instance}
-use Rattle.client_engine.specs.InstanceStands.{InstanceStandsFor, last_time}
+use Rattle.client_engine.specs.InstanceStands.{InstanceStandsFor, last_step_time}
 use Rattle.client_engine.specs.TrackStands.{logged_step}
 
 -- how many questions of a judge these matchers are worth: one for each simple matcher of an atom's id
@@ -28,5 +28,5 @@ module _ (says : SimpleMatcher → Atom → Bool) where
   -- truths of the history's matchers
   abbrev pub LogsBy : LogFrame → Instance → Instance → Type 0
   LogsBy frame old new =
-      (history : History) → InstanceStandsFor old history → last_time history ≤ log_time frame
+      (history : History) → InstanceStandsFor old history → last_step_time history ≤ log_time frame
       → InstanceStandsFor new (with_step history (logged_step frame (truths_at says history.linked frame)))

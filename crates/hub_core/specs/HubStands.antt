@@ -7,7 +7,7 @@ use Rattle.session_frames.specs.declared.frame.Frame.TheVariants.{Log}
 use Rattle.hub_meaning.specs.SessionLog.{own, clock_of}
 use Rattle.hub_meaning.specs.Acceptance.{LiveConfig}
 use Rattle.hub_meaning.specs.LiveConfigs.{config_at, live, history_of}
-use Rattle.client_engine.specs.InstanceStands.{InstanceStandsFor, last_time}
+use Rattle.client_engine.specs.InstanceStands.{InstanceStandsFor, last_step_time}
 use Rattle.hub_core.specs.declared.live_instance.LiveInstance.{LiveInstance}
 use Rattle.hub_core.specs.declared.lives.Lives.{Lives}
 use Rattle.hub_core.specs.declared.hub.Hub.{Hub}
@@ -28,7 +28,7 @@ module _ (says : SimpleMatcher → Atom → Bool) where
   -- A live configuration of a client with these own frames: its last step is at the clock.
   pub record LiveStandsFor (uid : ℤ) (frames : List Frame) (it : LiveInstance) (config : LiveConfig) : Type 0 where
     pub instance : InstanceStandsFor it.instance (history_of says uid frames config)
-    pub time : last_time (history_of says uid frames config) ≡ clock_of frames
+    pub time : last_step_time (history_of says uid frames config) ≡ clock_of frames
 
   -- what is held at an id of a client with these own frames is its live configuration of that id
   abbrev pub SlotStandsFor : ℤ → List Frame → Option (Option LiveInstance) → Option LiveConfig → Type 0
