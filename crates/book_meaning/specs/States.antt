@@ -14,7 +14,7 @@ use Rattle.atom_record.specs.declared.log.LogFrame.TheVariants.{Tick, AtomAt, Pu
 use Rattle.atom_record.specs.Flags.{is_exclusive, is_primary, is_reset}
 use Rattle.bucket_meaning.specs.Guard.{is_among, admitted, dropped}
 use Rattle.book_meaning.specs.BookLimits.{most_state_ids, most_state_keys}
-use Rattle.book_meaning.specs.Snapshots.{same_id}
+use Rattle.book_meaning.specs.Snapshots.{same_atom_id}
 
 -- two keys are equal
 abbrev pub same_dims : List Leaf → List Leaf → Bool
@@ -70,20 +70,20 @@ state_atoms frames = flat_map state_atom_in frames
 
 -- the ids of the book: the first distinct ones of state atoms, of those that put states back too
 abbrev pub state_atom_ids : List LogFrame → List ℕ
-state_atom_ids frames = admitted same_id most_state_ids (map (λ (atom : Atom). atom.id) (state_atoms frames))
+state_atom_ids frames = admitted same_atom_id most_state_ids (map (λ (atom : Atom). atom.id) (state_atoms frames))
 
 -- how many state atoms have an id that isn't in the book
 abbrev pub dropped_state_atoms : List LogFrame → ℕ
-dropped_state_atoms frames = dropped same_id most_state_ids (map (λ (atom : Atom). atom.id) (state_atoms frames))
+dropped_state_atoms frames = dropped same_atom_id most_state_ids (map (λ (atom : Atom). atom.id) (state_atoms frames))
 
 -- an id is in the book
 abbrev pub is_state_id : ℕ → List LogFrame → Bool
-is_state_id id frames = is_among same_id id (state_atom_ids frames)
+is_state_id id frames = is_among same_atom_id id (state_atom_ids frames)
 
 -- the keys that the state atoms of an id name, but for those that put states back
 abbrev pub named_keys : ℕ → List LogFrame → List (List Leaf)
 named_keys id frames =
-    map primary_key (filter (λ (atom : Atom). same_id atom.id id && not (puts_back atom)) (state_atoms frames))
+    map primary_key (filter (λ (atom : Atom). same_atom_id atom.id id && not (puts_back atom)) (state_atoms frames))
 
 -- the first distinct keys that the state atoms of an id name
 abbrev pub first_keys : ℕ → List LogFrame → List (List Leaf)
@@ -103,7 +103,7 @@ state_drops id frames = if is_state_id id frames then other_keys id frames else 
 
 -- an atom decides the state of a key: it has the key, or puts all states back
 abbrev pub decides : ℕ → List Leaf → Atom → Bool
-decides id key atom = same_id atom.id id && (puts_back atom || same_dims (primary_key atom) key)
+decides id key atom = same_atom_id atom.id id && (puts_back atom || same_dims (primary_key atom) key)
 
 -- the state after the atom that decided it last
 abbrev pub state_by : Option Atom → ℤ

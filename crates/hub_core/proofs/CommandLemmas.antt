@@ -13,14 +13,14 @@ use Rattle.hub_core.specs.declared.live_instance.LiveInstance.{LiveInstance}
 use Rattle.hub_core.specs.declared.lives.Lives.{Lives}
 use Rattle.hub_meaning.specs.Acceptance.{most_configs}
 use Rattle.hub_core.specs.InstallReading.{linked_read}
-use Rattle.hub_core.specs.Slots.{live_id, is_same_id, slot_at, count_at}
+use Rattle.hub_core.specs.Slots.{live_id, same_id, slot_at, count_at}
 use Rattle.hub_core.specs.Commands.{held_at, others, StaysWith, PutsIn, InstallsLinked, Installs}
 
 -- it stands under its name, and its client's count is one more than that of the others
 pub puts_in : (clock : ℕ) (uid id : ℤ) (linked : Linked) (old new : Lives) (body : ReplyBody) (fresh : LiveInstance)
     (count : ℕ) → IsFresh linked clock fresh.instance
     → ((name : LiveId) → slot_at name new.slots.entries
-    ≡ cond (is_same_id (live_id uid id) name) (Some (Some fresh)) (slot_at name old.slots.entries))
+    ≡ cond (same_id (live_id uid id) name) (Some (Some fresh)) (slot_at name old.slots.entries))
     → ((client : ℤ) → count_at client new.counts.entries
     ≡ cond (int_eq uid client) (count + 1) (count_at client old.counts.entries))
     → count ≡ others uid id old → body ≡ cond (is_some (held_at uid id old)) answers.Replaced answers.Installed

@@ -15,10 +15,10 @@ use Rattle.config_types.specs.declared.matcher.SimpleMatcher.{SimpleMatcher}
 use Rattle.hub_core.specs.declared.live_instance.LiveInstance.{LiveInstance}
 use Rattle.hub_core.specs.declared.live_id.LiveId.{LiveId}
 use Rattle.hub_core.specs.SlotLogs.{AllLog}
-use Rattle.hub_core.specs.Slots.{live_id, is_same_id, slot_at, count_at, held_by}
+use Rattle.hub_core.specs.Slots.{live_id, same_id, slot_at, count_at, held_by}
 
 -- names that are the same are of one client
-same_uid : (name other : LiveId) (uid : ℤ) → is_same_id name other ≡ true → int_eq other.uid uid ≡ int_eq name.uid uid
+same_uid : (name other : LiveId) (uid : ℤ) → same_id name other ≡ true → int_eq other.uid uid ≡ int_eq name.uid uid
 same_uid name other uid same = by_case (int_eq name.uid other.uid) refl same where
   by_case : (is : Bool) → int_eq name.uid other.uid ≡ is → (is && int_eq name.id other.id) ≡ true
       → int_eq other.uid uid ≡ int_eq name.uid uid
@@ -51,16 +51,16 @@ held-cons uid row rows = sum_by-cons (one_of uid) row rows
 module _ (uid : ℤ) (name : LiveId) where
   -- a new name adds one to its client's
   pub held-insert : (slot : Option LiveInstance) (rows : List (LiveId × Option LiveInstance))
-      → held_by uid (insert_entry is_same_id rows name slot)
+      → held_by uid (insert_entry same_id rows name slot)
       ≡ held_by uid rows + cond (int_eq name.uid uid && not (is_some (slot_at name rows))) 1 0
   held-insert slot [] = by_case (int_eq name.uid uid) refl where
     by_case : (b : Bool) → int_eq name.uid uid ≡ b → held_by uid ((name, slot) ∷ []) ≡ 0 + cond (b && true) 1 0
     by_case true e = held-cons uid (name, slot) [] ∙ ap (λ b. cond b 1 0 + 0) e
     by_case false e = held-cons uid (name, slot) [] ∙ ap (λ b. cond b 1 0 + 0) e
-  held-insert slot (row ∷ rows) = by_case (is_same_id name row.0) (held-insert slot rows) where
-    by_case : (same : Bool) → held_by uid (insert_entry is_same_id rows name slot)
+  held-insert slot (row ∷ rows) = by_case (same_id name row.0) (held-insert slot rows) where
+    by_case : (same : Bool) → held_by uid (insert_entry same_id rows name slot)
         ≡ held_by uid rows + cond (int_eq name.uid uid && not (is_some (slot_at name rows))) 1 0
-        → held_by uid (cond same ((row.0, slot) ∷ rows) (row ∷ insert_entry is_same_id rows name slot))
+        → held_by uid (cond same ((row.0, slot) ∷ rows) (row ∷ insert_entry same_id rows name slot))
         ≡ held_by uid (row ∷ rows) + cond (int_eq name.uid uid && not (is_some (cond same (Some row.1)
         (slot_at name rows)))) 1 0
     by_case true rest =
@@ -68,28 +68,28 @@ module _ (uid : ℤ) (name : LiveId) where
     by_case false rest = omega (
       arith,
       held-cons uid row
-          (insert_entry is_same_id rows name slot),
+          (insert_entry same_id rows name slot),
       held-cons uid row rows,
       rest,
     )
 
   -- a name that is taken out takes one from its client's
   pub held-swap_remove : (rows : List (LiveId × Option LiveInstance))
-      → held_by uid (swap_remove_entry (is_same_id name) rows) + cond (int_eq name.uid uid && is_some
+      → held_by uid (swap_remove_entry (same_id name) rows) + cond (int_eq name.uid uid && is_some
       (slot_at name rows)) 1 0 ≡ held_by uid rows
-  held-swap_remove rows = by_place (position (is_same_id name) (keys_of rows)) refl where
-    by_place : (place : Option ℕ) → position (is_same_id name) (keys_of rows) ≡ place
-        → held_by uid (swap_remove_entry (is_same_id name) rows) + cond (int_eq name.uid uid && is_some
+  held-swap_remove rows = by_place (position (same_id name) (keys_of rows)) refl where
+    by_place : (place : Option ℕ) → position (same_id name) (keys_of rows) ≡ place
+        → held_by uid (swap_remove_entry (same_id name) rows) + cond (int_eq name.uid uid && is_some
         (slot_at name rows)) 1 0 ≡ held_by uid rows
     by_place None e =
-        let absent : is_some (slot_at name rows) ≡ false = sym (some_index (is_same_id name) rows) ∙ ap is_some e in
+        let absent : is_some (slot_at name rows) ≡ false = sym (some_index (same_id name) rows) ∙ ap is_some e in
         let less : one_if (int_eq name.uid uid && is_some (slot_at name rows))
         ≡ 0 = ap (λ b. one_if (int_eq name.uid uid && b)) absent ∙ and_false (int_eq name.uid uid) in
-        omega (arith, less, ap (held_by uid) (swap_remove_entry-missing (is_same_id name) rows e))
+        omega (arith, less, ap (held_by uid) (swap_remove_entry-missing (same_id name) rows e))
     by_place (Some i) e =
         let d : LiveId × Option LiveInstance = (name, None) in
-        let there : is_some (slot_at name rows) ≡ true = sym (some_index (is_same_id name) rows) ∙ ap is_some e in
-        let at = position-Some (is_same_id name) (keys_of rows) i name e in
+        let there : is_some (slot_at name rows) ≡ true = sym (some_index (same_id name) rows) ∙ ap is_some e in
+        let at = position-Some (same_id name) (keys_of rows) i name e in
         let within : i < length rows = omega (
           arith,
           at.0,
@@ -99,7 +99,7 @@ module _ (uid : ℤ) (name : LiveId) where
         let key : get_or (keys_of rows) i name ≡ (get_or rows i d).0 = get_or-map (λ
         (row : LiveId × Option LiveInstance). row.0) rows i d name within in
         let one : one_of uid (get_or rows i d) ≡ one_if (int_eq name.uid uid) =
-        ap one_if (same_uid name (get_or rows i d).0 uid (ap (is_same_id name) (sym key) ∙ at.1)) in
+        ap one_if (same_uid name (get_or rows i d).0 uid (ap (same_id name) (sym key) ∙ at.1)) in
         let more : one_if (int_eq name.uid uid && is_some (slot_at name rows))
         ≡ one_if (int_eq name.uid uid) = ap (λ b. one_if (int_eq name.uid uid && b)) there
         ∙ and_true (int_eq name.uid uid) in
@@ -108,23 +108,23 @@ module _ (uid : ℤ) (name : LiveId) where
           more,
           one,
           ap (held_by uid) (swap_remove_entry-found
-              (is_same_id name) rows i d e),
+              (same_id name) rows i d e),
           sum_by-swap_remove (one_of uid) rows i d within,
         )
 
   -- a write at a name leaves the number
   pub held-set_value : (slot : Option LiveInstance) (rows : List (LiveId × Option LiveInstance))
-      → held_by uid (set_value (is_same_id name) rows slot) ≡ held_by uid rows
+      → held_by uid (set_value (same_id name) rows slot) ≡ held_by uid rows
   held-set_value slot [] = refl
-  held-set_value slot (row ∷ rows) = by_case (is_same_id name row.0) (held-set_value slot rows) where
-    by_case : (same : Bool) → held_by uid (set_value (is_same_id name) rows slot) ≡ held_by uid rows
-        → held_by uid (cond same ((row.0, slot) ∷ rows) (row ∷ set_value (is_same_id name) rows slot))
+  held-set_value slot (row ∷ rows) = by_case (same_id name row.0) (held-set_value slot rows) where
+    by_case : (same : Bool) → held_by uid (set_value (same_id name) rows slot) ≡ held_by uid rows
+        → held_by uid (cond same ((row.0, slot) ∷ rows) (row ∷ set_value (same_id name) rows slot))
         ≡ held_by uid (row ∷ rows)
     by_case true rest = omega (arith, held-cons uid (row.0, slot) rows, held-cons uid row rows)
     by_case false rest = omega (
       arith,
       held-cons uid row (set_value
-          (is_same_id name) rows slot),
+          (same_id name) rows slot),
       held-cons uid row rows,
       rest,
     )
@@ -133,8 +133,8 @@ module _ (uid : ℤ) (name : LiveId) where
 pub held-found : (name : LiveId) (rows : List (LiveId × Option LiveInstance)) → is_some (slot_at name rows) ≡ true
     → 0 < held_by name.uid rows
 held-found name [] there = absurd (true≢false (sym there))
-held-found name (row ∷ rows) there = by_case (is_same_id name row.0) refl there (held-found name rows) where
-  by_case : (same : Bool) → is_same_id name row.0 ≡ same → is_some (cond same (Some row.1) (slot_at name rows)) ≡ true
+held-found name (row ∷ rows) there = by_case (same_id name row.0) refl there (held-found name rows) where
+  by_case : (same : Bool) → same_id name row.0 ≡ same → is_some (cond same (Some row.1) (slot_at name rows)) ≡ true
       → (is_some (slot_at name rows) ≡ true → 0 < held_by name.uid rows) → 0 < held_by name.uid (row ∷ rows)
   by_case true e h rest =
       let one : one_of name.uid row ≡ 1 = ap (λ b. cond b 1 0) (same_uid name row.0 name.uid e

@@ -39,13 +39,13 @@ use Rattle.hub_core.specs.declared.lives.Lives.{Lives}
 use Rattle.hub_core.specs.declared.hub.Hub.{Hub}
 use Rattle.hub_core.specs.InstallReading.{config_read, linked_read}
 use Rattle.hub_core.specs.SlotLogs.{SlotLogs, AllLog}
-use Rattle.hub_core.specs.Slots.{live_id, is_same_id, slot_at, count_at, ShowsAt}
+use Rattle.hub_core.specs.Slots.{live_id, same_id, slot_at, count_at, ShowsAt}
 use Rattle.hub_core.specs.Commands.{held_at, others, Changes, Stays, StaysWith, PutsIn, InstallsLinked, Installs, TakesOut, Removes, ReportsLive}
 use Rattle.hub_core.specs.HubStands.{SlotStandsFor, LivesStandFor, HubStandsFor}
 use Rattle.hub_core.proofs.InstallReadingLemmas.{accepted_as, accepted_read, accepted, linked_is}
 
 -- two names are the same where their clients and their ids are
-same_id_is : (uid id n other : ℤ) → is_same_id (live_id uid id) (live_id n other) ≡ (int_eq uid n && int_eq id other)
+same_id_is : (uid id n other : ℤ) → same_id (live_id uid id) (live_id n other) ≡ (int_eq uid n && int_eq id other)
 same_id_is uid id n other = refl
 
 -- a number is itself
@@ -161,7 +161,7 @@ module _ (says : SimpleMatcher → Atom → Bool) where
         (live_id uid id) new.slots.entries) (config_at id (live mine))
         (λ c is. (placed_at (length mine) id (live mine) (live_placed mine) c is).0)
         (omega (arith, in_time, clock_of-own uid frames))
-        (found_logs frame (is_same_id (live_id uid id)) old.slots.entries new.slots.entries all)
+        (found_logs frame (same_id (live_id uid id)) old.slots.entries new.slots.entries all)
         (h.slots uid id)));
     counts = λ uid.
         let mine = own uid frames in

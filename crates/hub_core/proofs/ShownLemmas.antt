@@ -8,14 +8,14 @@ use Rattle.report_writer.specs.ReportSpelling.{report_message}
 use Rattle.client_engine.specs.InstanceStands.{Reports}
 use Rattle.hub_core.specs.declared.live_id.LiveId.{LiveId}
 use Rattle.hub_core.specs.declared.live_instance.LiveInstance.{LiveInstance}
-use Rattle.hub_core.specs.Slots.{is_same_id, slot_at, ShowsAt, ReportsAt}
+use Rattle.hub_core.specs.Slots.{same_id, slot_at, ShowsAt, ReportsAt}
 
 module _ (clock : ℕ) (name : LiveId) (include_current : Bool) (old new : List (LiveId × Option LiveInstance))
     (body : ReplyBody) where
   -- it was found, and its next stands there
   pub shows : (live next : LiveInstance) (tree : ReportTree) → slot_at name old ≡ Some (Some live)
       → Reports live.instance name.uid name.id include_current clock next.instance tree
-      → ((other : LiveId) → slot_at other new ≡ cond (is_same_id name other) (Some (Some next)) (slot_at other old))
+      → ((other : LiveId) → slot_at other new ≡ cond (same_id name other) (Some (Some next)) (slot_at other old))
       → body ≡ answers.ReportBytes (report_message tree)
       → ReportsAt clock name include_current old new body
   shows live next tree is steps slots answer =

@@ -14,12 +14,12 @@ use Rattle.hub_core.specs.declared.live_id.LiveId.{LiveId}
 use Rattle.hub_core.specs.declared.live_instance.LiveInstance.{LiveInstance}
 use Rattle.hub_core.specs.declared.lives.Lives.{Lives}
 use Rattle.hub_core.specs.InstallReading.{linked_read}
-use Rattle.hub_core.specs.Slots.{live_id, is_same_id, slot_at, count_at, others_at, ReportsAt}
+use Rattle.hub_core.specs.Slots.{live_id, same_id, slot_at, count_at, others_at, ReportsAt}
 
 -- One slot changes, and its client's count; all other slots and counts stay.
 pub record Changes (uid id : ℤ) (slot : Option (Option LiveInstance)) (count : ℕ) (old new : Lives) : Type 0 where
   pub slots : (name : LiveId) → slot_at name new.slots.entries
-      ≡ (if is_same_id (live_id uid id) name then slot else slot_at name old.slots.entries)
+      ≡ (if same_id (live_id uid id) name then slot else slot_at name old.slots.entries)
   pub counts : (client : ℤ) → count_at client new.counts.entries
       ≡ (if int_eq uid client then count else count_at client old.counts.entries)
 

@@ -17,12 +17,12 @@ abbrev pub live_id : ℤ → ℤ → LiveId
 live_id uid id = record { uid = uid; id = id }
 
 -- two are of one client and one id
-abbrev pub is_same_id : LiveId → LiveId → Bool
-is_same_id = block.ghosts.eq
+abbrev pub same_id : LiveId → LiveId → Bool
+same_id = block.ghosts.eq
 
 -- what is held at a client's id
 abbrev pub slot_at : LiveId → List (LiveId × Option LiveInstance) → Option (Option LiveInstance)
-slot_at name slots = lookup (is_same_id name) slots
+slot_at name slots = lookup (same_id name) slots
 
 -- how many a client has
 abbrev pub count_at : ℤ → List (ℤ × ℕ) → ℕ
@@ -42,7 +42,7 @@ pub record ShowsAt (clock : ℕ) (name : LiveId) (include_current : Bool) (live 
   pub next : LiveInstance
   pub tree : ReportTree
   pub steps : Reports live.instance name.uid name.id include_current clock next.instance tree
-  pub slots : (other : LiveId) → slot_at other new ≡ (if is_same_id name other then Some
+  pub slots : (other : LiveId) → slot_at other new ≡ (if same_id name other then Some
       (Some next) else slot_at other old)
   pub answer : body ≡ answers.ReportBytes (report_message tree)
 

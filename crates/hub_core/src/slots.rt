@@ -2,7 +2,7 @@
 ghost use Rattle.std.specs.Prelude.{◌≡◌, ◌+◌, ◌<◌, ◌^◌, ℤ, not, ◌&&◌, Some, None, is_some, OnOk, IfOk, if◌then◌else◌};
 ghost use Rattle.std.specs.Ordering.{int_eq};
 ghost use Rattle.hub_core.specs.declared.live_id.LiveId.{LiveId};
-ghost use Rattle.hub_core.specs.Slots.{is_same_id, slot_at, count_at, others_at, held_by, ReportsAt};
+ghost use Rattle.hub_core.specs.Slots.{same_id, slot_at, count_at, others_at, held_by, ReportsAt};
 
 use crate::live_id::LiveId;
 use crate::live_instance::LiveInstance;
@@ -19,7 +19,7 @@ pub fn put(
     live: LiveInstance,
 ) -> Result<(), AllocError>
     ensures slots { OnOk result ((other : LiveId) → slot_at other slots.new.entries
-        ≡ (if is_same_id name other then Some (Some live) else slot_at other slots.old.entries)) }
+        ≡ (if same_id name other then Some (Some live) else slot_at other slots.old.entries)) }
     ensures held { OnOk result ((uid : ℤ) → held_by uid slots.new.entries
         ≡ held_by uid slots.old.entries
         + (if int_eq name.uid uid && not (is_some (slot_at name slots.old.entries)) then 1 else 0)) }
@@ -31,7 +31,7 @@ pub fn put(
 /// Takes what is under a name out; the last slot takes its place.
 pub fn take_out(slots: &mut IndexMap<LiveId, Option<LiveInstance>>, name: LiveId)
     ensures slots { (other : LiveId) → slot_at other slots.new.entries
-        ≡ (if is_same_id name other then None else slot_at other slots.old.entries) }
+        ≡ (if same_id name other then None else slot_at other slots.old.entries) }
     ensures held { (uid : ℤ) → held_by uid slots.new.entries
         + (if int_eq name.uid uid && is_some (slot_at name slots.old.entries) then 1 else 0)
         ≡ held_by uid slots.old.entries }

@@ -23,12 +23,12 @@ use Rattle.dim_table.specs.Table.{Table, with_value_at}
 use Rattle.dim_table.proofs.KeyLemmas.{Contains-from_place, is_among-from_Contains, not_among}
 use Rattle.dim_table.proofs.RowLemmas.{rows_by, rows_by-push, rows_by-absent, set_value_at-rows_by}
 use Rattle.book_meaning.specs.BookLimits.{most_pulled_ids}
-use Rattle.book_meaning.specs.Snapshots.{same_id, pull_in, pulls_of, outcome_or_failed, last_outcome, atoms_in, snapshot_of, is_kept_next}
+use Rattle.book_meaning.specs.Snapshots.{same_atom_id, pull_in, pulls_of, outcome_or_failed, last_outcome, atoms_in, snapshot_of, is_kept_next}
 use Rattle.pull_book.specs.PullBooks.{IsSnapshotAtom, IsRecordable, IsKeptRow, IsPullTable, PullBookStandsFor, TakesPull, IsAppended}
 
 -- the test on ids decides
-pub same_id-exact : (x y : ℕ) → Decides (same_id x y) (x ≡ y)
-same_id-exact x y = Decides-eqb x y
+pub same_atom_id-exact : (x y : ℕ) → Decides (same_atom_id x y) (x ≡ y)
+same_atom_id-exact x y = Decides-eqb x y
 
 last_or-push : {A : Type 0} (first : Option A) (xs : List A) (x : A) → last_or first (xs ++ x ∷ []) ≡ Some x
 last_or-push first [] x = refl
@@ -42,11 +42,11 @@ pulls_of-push frames frame =
 
 -- the kept ids of these pulls
 abbrev ids_in : List (ℕ × PullOutcome) → List ℕ
-ids_in pulls = admitted same_id most_pulled_ids (map arrival_key pulls)
+ids_in pulls = admitted same_atom_id most_pulled_ids (map arrival_key pulls)
 
 -- what the last of these pulls with an id gave
 abbrev outcome_in : List (ℕ × PullOutcome) → ℕ → PullOutcome
-outcome_in pulls id = outcome_or_failed (last_or None (of_key same_id id pulls))
+outcome_in pulls id = outcome_or_failed (last_or None (of_key same_atom_id id pulls))
 
 -- both
 abbrev rows_in : List (ℕ × PullOutcome) → List (ℕ × PullOutcome)
@@ -63,51 +63,51 @@ module _ (pulls : List (ℕ × PullOutcome)) (id : ℕ) (outcome : PullOutcome) 
   last_here : outcome_in more id ≡ outcome
   last_here =
       ap (λ l. outcome_or_failed (last_or None l))
-      (of_key-push same_id id pulls (id, outcome)
-      ∙ ap (λ b. of_key same_id id pulls ++ (if b then outcome ∷ [] else [])) ((same_id-exact id id).1 refl))
-      ∙ ap outcome_or_failed (last_or-push None (of_key same_id id pulls) outcome)
+      (of_key-push same_atom_id id pulls (id, outcome)
+      ∙ ap (λ b. of_key same_atom_id id pulls ++ (if b then outcome ∷ [] else [])) ((same_atom_id-exact id id).1 refl))
+      ∙ ap outcome_or_failed (last_or-push None (of_key same_atom_id id pulls) outcome)
 
   -- other ids keep what their last pull gave
-  others_keep : (other : ℕ) → same_id id other ≡ false → outcome_in more other ≡ outcome_in pulls other
+  others_keep : (other : ℕ) → same_atom_id id other ≡ false → outcome_in more other ≡ outcome_in pulls other
   others_keep other apart =
       ap (λ l. outcome_or_failed (last_or None l))
-      (of_key-push same_id other pulls (id, outcome)
-      ∙ ap (λ b. of_key same_id other pulls ++ (if b then outcome ∷ [] else [])) apart
-      ∙ append-nil (of_key same_id other pulls))
+      (of_key-push same_atom_id other pulls (id, outcome)
+      ∙ ap (λ b. of_key same_atom_id other pulls ++ (if b then outcome ∷ [] else [])) apart
+      ∙ append-nil (of_key same_atom_id other pulls))
 
   -- an id that is kept already
   ids_present : Contains (ids_in pulls) id → ids_in more ≡ ids_in pulls
   ids_present there =
-      ap (admitted same_id most_pulled_ids) keys_more
-      ∙ admitted_present same_id most_pulled_ids (map arrival_key pulls) id
-      (is_among-from_Contains same_id same_id-exact (ids_in pulls) id there)
+      ap (admitted same_atom_id most_pulled_ids) keys_more
+      ∙ admitted_present same_atom_id most_pulled_ids (map arrival_key pulls) id
+      (is_among-from_Contains same_atom_id same_atom_id-exact (ids_in pulls) id there)
 
   -- a new id that finds room
   ids_new : ¬ Contains (ids_in pulls) id → length (ids_in pulls) < most_pulled_ids
       → ids_in more ≡ ids_in pulls ++ id ∷ []
   ids_new absent room =
-      ap (admitted same_id most_pulled_ids) keys_more
-      ∙ admitted_new same_id most_pulled_ids (map arrival_key pulls) id
-      (not_among same_id same_id-exact (ids_in pulls) id absent) room
+      ap (admitted same_atom_id most_pulled_ids) keys_more
+      ∙ admitted_new same_atom_id most_pulled_ids (map arrival_key pulls) id
+      (not_among same_atom_id same_atom_id-exact (ids_in pulls) id absent) room
 
   -- an id that comes when there is no room
   ids_full : most_pulled_ids ≤ length (ids_in pulls) → ids_in more ≡ ids_in pulls
   ids_full full =
-      ap (admitted same_id most_pulled_ids) keys_more
-      ∙ admitted_full same_id most_pulled_ids (map arrival_key pulls) id full
+      ap (admitted same_atom_id most_pulled_ids) keys_more
+      ∙ admitted_full same_atom_id most_pulled_ids (map arrival_key pulls) id full
 
   -- the rows, in each of these cases
   rows_present : (place : ℕ) → slice_get (ids_in pulls) place ≡ Some id
       → set_value_at (rows_in pulls) place outcome ≡ rows_in more
   rows_present place at =
       ap (set_value_at (rows_in pulls) place) (sym last_here)
-      ∙ set_value_at-rows_by same_id same_id-exact (outcome_in pulls) (outcome_in more) (ids_in pulls) place id
-      (admitted-distinct same_id most_pulled_ids (map arrival_key pulls)) at others_keep
+      ∙ set_value_at-rows_by same_atom_id same_atom_id-exact (outcome_in pulls) (outcome_in more) (ids_in pulls) place id
+      (admitted-distinct same_atom_id most_pulled_ids (map arrival_key pulls)) at others_keep
       ∙ ap (rows_by (outcome_in more)) (sym (ids_present (Contains-from_place (ids_in pulls) place id at)))
 
   module _ (absent : ¬ Contains (ids_in pulls) id) where
     old_rows : rows_in pulls ≡ rows_by (outcome_in more) (ids_in pulls)
-    old_rows = rows_by-absent same_id same_id-exact (outcome_in pulls) (outcome_in more) id (ids_in pulls) absent
+    old_rows = rows_by-absent same_atom_id same_atom_id-exact (outcome_in pulls) (outcome_in more) id (ids_in pulls) absent
         others_keep
 
     rows_new : length (ids_in pulls) < most_pulled_ids → rows_in pulls ++ (id, outcome) ∷ [] ≡ rows_in more
@@ -256,33 +256,33 @@ module _ (book : List (ℕ × PullOutcome)) (id : ℕ) where
     pub no_snapshot : (frames : List LogFrame) → PullBookStandsFor book frames → None ≡ snapshot_of id frames
     no_snapshot frames stands =
         ap (λ b. if b then atoms_in (last_outcome id frames) else None)
-        (sym (not_among same_id same_id-exact (ids_in (pulls_of frames)) id (not_kept frames stands)))
+        (sym (not_among same_atom_id same_atom_id-exact (ids_in (pulls_of frames)) id (not_kept frames stands)))
 
     -- a pull of it that comes next is kept where the id is pulled and there is room
     pub next_new : (frames : List LogFrame) → PullBookStandsFor book frames → (pulled : Bool)
         → is_pull_id id ≡ pulled → (pulled && nat_lt (length book) most_pulled_ids) ≡ is_kept_next id frames
     next_new frames stands false other =
-        sym (ap (λ pulls. is_among same_id id (ids_in pulls)) (no_pull frames 0 id Failed other)
-        ∙ not_among same_id same_id-exact (ids_in (pulls_of frames)) id (not_kept frames stands))
+        sym (ap (λ pulls. is_among same_atom_id id (ids_in pulls)) (no_pull frames 0 id Failed other)
+        ∙ not_among same_atom_id same_atom_id-exact (ids_in (pulls_of frames)) id (not_kept frames stands))
     next_new frames stands true pulled =
         let size = length_stands frames stands in
         let ids = ids_in (pulls_of frames) in
-        let next : is_kept_next id frames ≡ is_among same_id id (ids_in (pulls_of frames ++ (id, Failed) ∷ [])) =
-        ap (λ pulls. is_among same_id id (ids_in pulls)) (one_pull frames 0 id Failed pulled) in
+        let next : is_kept_next id frames ≡ is_among same_atom_id id (ids_in (pulls_of frames ++ (id, Failed) ∷ [])) =
+        ap (λ pulls. is_among same_atom_id id (ids_in pulls)) (one_pull frames 0 id Failed pulled) in
         ⊎_elim
         (λ (room : length book < most_pulled_ids).
         lt-ltb (length book) most_pulled_ids room
         ∙ sym (next
-        ∙ ap (is_among same_id id) (ids_new (pulls_of frames) id Failed (not_kept frames stands)
+        ∙ ap (is_among same_atom_id id) (ids_new (pulls_of frames) id Failed (not_kept frames stands)
         (omega (arith, size, room)))
-        ∙ is_among-push same_id id ids id
-        ∙ ap (λ b. is_among same_id id ids || b) ((same_id-exact id id).1 refl)
-        ∙ or_true (is_among same_id id ids)))
+        ∙ is_among-push same_atom_id id ids id
+        ∙ ap (λ b. is_among same_atom_id id ids || b) ((same_atom_id-exact id id).1 refl)
+        ∙ or_true (is_among same_atom_id id ids)))
         (λ (full : most_pulled_ids ≤ length book).
         le-ltb (length book) most_pulled_ids full
         ∙ sym (next
-        ∙ ap (is_among same_id id) (ids_full (pulls_of frames) id Failed (omega (arith, size, full)))
-        ∙ not_among same_id same_id-exact ids id (not_kept frames stands)))
+        ∙ ap (is_among same_atom_id id) (ids_full (pulls_of frames) id Failed (omega (arith, size, full)))
+        ∙ not_among same_atom_id same_atom_id-exact ids id (not_kept frames stands)))
         (cases_lt (length book) most_pulled_ids)
 
   module _ (place : ℕ) (there : slice_get (keys_of book) place ≡ Some id) where
@@ -291,8 +291,8 @@ module _ (book : List (ℕ × PullOutcome)) (id : ℕ) where
     kept_at frames stands = ap (λ ids. slice_get ids place) (sym (ids_stand frames stands)) ∙ there
 
     is_kept : (frames : List LogFrame) → PullBookStandsFor book frames
-        → is_among same_id id (ids_in (pulls_of frames)) ≡ true
-    is_kept frames stands = is_among-from_Contains same_id same_id-exact (ids_in (pulls_of frames)) id
+        → is_among same_atom_id id (ids_in (pulls_of frames)) ≡ true
+    is_kept frames stands = is_among-from_Contains same_atom_id same_atom_id-exact (ids_in (pulls_of frames)) id
         (Contains-from_place (ids_in (pulls_of frames)) place id (kept_at frames stands))
 
     -- what stands in the row of an id is its snapshot
@@ -316,10 +316,10 @@ module _ (book : List (ℕ × PullOutcome)) (id : ℕ) where
     next_there frames stands = by (is_pull_id id) refl
       where
         by : (b : Bool) → is_pull_id id ≡ b → true ≡ is_kept_next id frames
-        by false other = sym (ap (λ pulls. is_among same_id id (ids_in pulls)) (no_pull frames 0 id Failed other)
+        by false other = sym (ap (λ pulls. is_among same_atom_id id (ids_in pulls)) (no_pull frames 0 id Failed other)
             ∙ is_kept frames stands)
-        by true pulled = sym (ap (λ pulls. is_among same_id id (ids_in pulls)) (one_pull frames 0 id Failed pulled)
-            ∙ ap (is_among same_id id) (ids_present (pulls_of frames) id Failed
+        by true pulled = sym (ap (λ pulls. is_among same_atom_id id (ids_in pulls)) (one_pull frames 0 id Failed pulled)
+            ∙ ap (is_among same_atom_id id) (ids_present (pulls_of frames) id Failed
             (Contains-from_place (ids_in (pulls_of frames)) place id (kept_at frames stands)))
             ∙ is_kept frames stands)
 

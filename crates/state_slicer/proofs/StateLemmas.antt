@@ -26,13 +26,13 @@ use Rattle.dim_table.proofs.KeyLemmas.{keys_of-push, Contains-from_place, Contai
 use Rattle.dim_table.proofs.RowLemmas.{rows_by, rows_by-push, rows_by-absent, set_value_at-rows_by}
 use Rattle.dim_table.proofs.TableLemmas.{keys-with_value_at, TableStandsFor-with_value_at, there_stands, Admits-stands}
 use Rattle.book_meaning.specs.BookLimits.{most_state_ids, most_state_keys}
-use Rattle.book_meaning.specs.Snapshots.{same_id}
+use Rattle.book_meaning.specs.Snapshots.{same_atom_id}
 use Rattle.book_meaning.specs.States.{same_dims, no_state_known, tells_state, puts_back, told_state, primary_key, state_atom_in, state_atoms, is_state_id, first_keys, decides, state_by, state_value, state_drops, other_keys, last_state}
 use Rattle.state_slicer.specs.StateTables.{put_back, IsTold, TakesAtom, IsStateOf}
 use Rattle.state_slicer.specs.StateBooks.{StateBookStandsFor, AppliesAtom, IsTakenAt, IsTakenFirst, IsAtId, no_states}
 
 -- the tests decide
-pub ids_exact : (x y : ℕ) → Decides (same_id x y) (x ≡ y)
+pub ids_exact : (x y : ℕ) → Decides (same_atom_id x y) (x ≡ y)
 ids_exact x y = Decides-eqb x y
 
 pub dims_exact : (x y : List Leaf) → Decides (same_dims x y) (x ≡ y)
@@ -167,7 +167,7 @@ state_in atoms id key = state_by (last_or None (filter (decides id key) atoms))
 
 -- an atom names a key of an id
 abbrev names : ℕ → Atom → Bool
-names id atom = same_id atom.id id && not (puts_back atom)
+names id atom = same_atom_id atom.id id && not (puts_back atom)
 
 -- the keys that these atoms name
 abbrev named_in : List Atom → ℕ → List (List Leaf)
@@ -181,7 +181,7 @@ abbrev id_of : Atom → ℕ
 id_of atom = atom.id
 
 abbrev book_in : List Atom → Table ℕ (Table (List Leaf) ℤ)
-book_in atoms = table_for same_id ids_exact most_state_ids (states_in atoms) (map id_of atoms)
+book_in atoms = table_for same_atom_id ids_exact most_state_ids (states_in atoms) (map id_of atoms)
 
 put_back-by : (value_of : List Leaf → ℤ) (after : List Leaf → ℤ) → ((key : List Leaf) → after key ≡ no_state_known)
     → (ks : List (List Leaf))
@@ -196,11 +196,11 @@ module _ (atoms : List Atom) (atom : Atom) where
   abbrev more_atoms : List Atom
   more_atoms = atoms ++ atom ∷ []
 
-  self : same_id atom.id atom.id ≡ true
+  self : same_atom_id atom.id atom.id ≡ true
   self = (ids_exact atom.id atom.id).1 refl
 
   -- the states of other ids stay
-  other_id : (other : ℕ) → same_id atom.id other ≡ false → states_in more_atoms other ≡ states_in atoms other
+  other_id : (other : ℕ) → same_atom_id atom.id other ≡ false → states_in more_atoms other ≡ states_in atoms other
   other_id other apart =
       let named : named_in more_atoms other ≡ named_in atoms other =
       ap (map primary_key) (filter-none (names other) atoms atom (ap (λ b. b && not (puts_back atom)) apart)) in
@@ -302,15 +302,15 @@ module _ (atoms : List Atom) (atom : Atom) where
   ids_more : map id_of atoms ++ atom.id ∷ [] ≡ map id_of more_atoms
   ids_more = sym (map-append id_of atoms (atom ∷ []))
 
-  abbrev ended : table_for same_id ids_exact most_state_ids (states_in more_atoms) (map id_of atoms ++ atom.id ∷ [])
+  abbrev ended : table_for same_atom_id ids_exact most_state_ids (states_in more_atoms) (map id_of atoms ++ atom.id ∷ [])
       ≡ book_in more_atoms
-  ended = ap (λ ids. table_for same_id ids_exact most_state_ids (states_in more_atoms) ids) ids_more
+  ended = ap (λ ids. table_for same_atom_id ids_exact most_state_ids (states_in more_atoms) ids) ids_more
 
   -- the book after an atom of an id that is there
   book_at : (new : Table ℕ (Table (List Leaf) ℤ)) (place : ℕ) → IsTakenAt (book_in atoms) new place atom
       → new ≡ book_in more_atoms
   book_at new place at =
-      let ids = admitted same_id most_state_ids (map id_of atoms) in
+      let ids = admitted same_atom_id most_state_ids (map id_of atoms) in
       let before : at.0 ≡ states_in atoms atom.id =
       row_value (states_in atoms) ids place atom.id at.0 at.2 in
       let after : at.1 ≡ states_in more_atoms atom.id =
@@ -319,14 +319,14 @@ module _ (atoms : List Atom) (atom : Atom) where
       ap (λ ks. slice_get ks place) (keys-by (states_in atoms) ids)
       ∙ row_key (states_in atoms) ids place atom.id at.0 at.2 in
       at.4 ∙ ap (with_value_at (book_in atoms) place) after
-      ∙ now_at same_id ids_exact most_state_ids (states_in atoms) (states_in more_atoms) (map id_of atoms) atom.id
+      ∙ now_at same_atom_id ids_exact most_state_ids (states_in atoms) (states_in more_atoms) (map id_of atoms) atom.id
       other_id place there ∙ ended
 
-never_named : (id : ℕ) (atoms : List Atom) → is_among same_id id (map id_of atoms) ≡ false → named_in atoms id ≡ []
+never_named : (id : ℕ) (atoms : List Atom) → is_among same_atom_id id (map id_of atoms) ≡ false → named_in atoms id ≡ []
 never_named id [] absent = refl
 never_named id (atom ∷ atoms) absent =
-    let first : same_id atom.id id ≡ false = grind arith in
-    let rest : is_among same_id id (map id_of atoms) ≡ false = grind arith in
+    let first : same_atom_id atom.id id ≡ false = grind arith in
+    let rest : is_among same_atom_id id (map id_of atoms) ≡ false = grind arith in
     ap (λ b. map primary_key (cond (b && not (puts_back atom)) (atom ∷ filter (names id) atoms)
     (filter (names id) atoms))) first
     ∙ never_named id atoms rest
@@ -336,27 +336,27 @@ module _ (atoms : List Atom) (atom : Atom) where
   book_first : (new : Table ℕ (Table (List Leaf) ℤ)) → IsTakenFirst (book_in atoms) new atom
       → new ≡ book_in (atoms ++ atom ∷ [])
   book_first new first =
-      let ids = admitted same_id most_state_ids (map id_of atoms) in
+      let ids = admitted same_atom_id most_state_ids (map id_of atoms) in
       let others = other_id atoms atom in
       ⊎_elim
       (λ (it : (after : Table (List Leaf) ℤ) × TakesAtom no_states after atom
       × IsNew (book_in atoms) new atom.id after (length (book_in atoms).rows)).
-      let absent : is_among same_id atom.id ids ≡ false =
-      not_among same_id ids_exact ids atom.id
+      let absent : is_among same_atom_id atom.id ids ≡ false =
+      not_among same_atom_id ids_exact ids atom.id
       (subst (λ ks. ¬ Contains ks atom.id) (keys-by (states_in atoms) ids) it.2.absent) in
       let size : length (rows_by (states_in atoms) ids) ≡ length ids = length-by (states_in atoms) ids in
       let room : length ids < most_state_ids = omega (arith, size, it.2.room) in
       let none : named_in atoms atom.id ≡ [] = never_named atom.id atoms
-      (not_yet_come same_id ids_exact most_state_ids (map id_of atoms) atom.id room absent) in
+      (not_yet_come same_atom_id ids_exact most_state_ids (map id_of atoms) atom.id room absent) in
       let empty : no_states ≡ states_in atoms atom.id =
       ap (λ ks. table_for same_dims dims_exact most_state_keys (state_in atoms atom.id) ks) (sym none) in
       let after : it.0 ≡ states_in (atoms ++ atom ∷ []) atom.id =
       taken atoms atom it.0 (subst (λ old. TakesAtom old it.0 atom) empty it.1) in
-      now_new same_id ids_exact most_state_ids (states_in atoms) (states_in (atoms ++ atom ∷ [])) (map id_of atoms)
+      now_new same_atom_id ids_exact most_state_ids (states_in atoms) (states_in (atoms ++ atom ∷ [])) (map id_of atoms)
       atom.id others new (length (book_in atoms).rows)
       (subst (λ s. IsNew (book_in atoms) new atom.id s (length (book_in atoms).rows)) after it.2) ∙ ended atoms atom)
       (λ (away : IsTurnedAway (book_in atoms) new atom.id).
-      now_away same_id ids_exact most_state_ids (states_in atoms) (states_in (atoms ++ atom ∷ [])) (map id_of atoms)
+      now_away same_atom_id ids_exact most_state_ids (states_in atoms) (states_in (atoms ++ atom ∷ [])) (map id_of atoms)
       atom.id others new away ∙ ended atoms atom)
       first
 
@@ -433,14 +433,14 @@ module _ (old : Table ℕ (Table (List Leaf) ℤ)) (atom : Atom) where
 module _ (book : Table ℕ (Table (List Leaf) ℤ)) (id : ℕ) (frames : List LogFrame)
     (stands : StateBookStandsFor book frames) where
   abbrev book_ids : List ℕ
-  book_ids = admitted same_id most_state_ids (map id_of (state_atoms frames))
+  book_ids = admitted same_atom_id most_state_ids (map id_of (state_atoms frames))
 
   book_keys : keys book ≡ book_ids
   book_keys = ap keys (is_book book frames stands) ∙ keys-by (states_in (state_atoms frames)) book_ids
 
   -- an id that isn't there
   no_id : ¬ Contains (keys book) id → is_state_id id frames ≡ false
-  no_id absent = not_among same_id ids_exact book_ids id (subst (λ ks. ¬ Contains ks id) book_keys absent)
+  no_id absent = not_among same_atom_id ids_exact book_ids id (subst (λ ks. ¬ Contains ks id) book_keys absent)
 
   pub value_absent : (key : List Leaf) → ¬ Contains (keys book) id → no_state_known ≡ state_value id key frames
   value_absent key absent =
@@ -459,7 +459,7 @@ module _ (book : Table ℕ (Table (List Leaf) ℤ)) (id : ℕ) (frames : List Lo
     are_states = row_value (states_in (state_atoms frames)) book_ids there.0 id states at_id
 
     in_book : is_state_id id frames ≡ true
-    in_book = is_among-from_Contains same_id ids_exact book_ids id
+    in_book = is_among-from_Contains same_atom_id ids_exact book_ids id
         (Contains-from_place book_ids there.0 id
         (row_key (states_in (state_atoms frames)) book_ids there.0 id states at_id))
 
