@@ -1,5 +1,7 @@
 //! Trees of predicates and their tables.
-ghost use Rattle.std.specs.Prelude.{◌≡◌, IfOk};
+ghost use Rattle.condition_links.specs.Conditions.{predicate_names, IsSoundTree};
+ghost use Rattle.link_graph.specs.Links.{AreInRange, HasNoCycle};
+ghost use Rattle.std.specs.Prelude.{◌≡◌, IfOk, IfSome, IsTrue, ◌<◌, ◌^◌, length};
 
 use condition_links::{MOST_PREDICATES, query};
 use config_links::{CondTree, LPredBody, LPredicate};
@@ -52,6 +54,36 @@ pub fn table(alloc: Global, truth: Truth) -> Result<PredTable, AllocError> {
     Ok(table)
 }
 
+// Whether a root is one of so many predicates, or there is none.
+fn is_below(root: Option<u32>, count: usize) -> bool
+    ensures { IsTrue result → IfSome root (λ place. place < count) }
+{
+    match root {
+        Some(place) => (place as usize) < count,
+        None => true,
+    }
+}
+
+// Whether all predicates name predicates that are there.
+fn are_there(nodes: &[LPredicate]) -> bool
+    requires { length nodes.now < 2 ^ 32 }
+    ensures { IsTrue result → AreInRange (predicate_names nodes.now) }
+{
+    are_in_range(nodes)
+}
+
+// Whether no predicate is below itself.
+fn stand_on_no_cycle(alloc: Global, nodes: &[LPredicate]) -> Result<bool, AllocError>
+    requires few { length nodes.now < 2 ^ 32 }
+    requires in_range { AreInRange (predicate_names nodes.now) }
+    ensures { IfOk result (λ free. IsTrue free → HasNoCycle (predicate_names nodes.now)) }
+{
+    match first_on_cycle(alloc, nodes)? {
+        Some(_) => Ok(false),
+        None => Ok(true),
+    }
+}
+
 /// The truth of a condition, or none where the tree isn't sound or a table or a list is wanting.
 pub fn asked(
     alloc: Global,
@@ -64,12 +96,10 @@ pub fn asked(
     if count > MOST_PREDICATES || tables.len() != count || binds.len() != count {
         return Ok(None);
     }
-    if let Some(root) = tree.root
-        && root as usize >= count
-    {
+    if !is_below(tree.root, count) {
         return Ok(None);
     }
-    if !are_in_range(nodes) || first_on_cycle(alloc, nodes)?.is_some() {
+    if !are_there(nodes) || !stand_on_no_cycle(alloc, nodes)? {
         return Ok(None);
     }
     Ok(Some(query(tree, tables, binds)))
