@@ -7,7 +7,7 @@ use Rattle.std.proofs.lemmas.List.{length-append, map-append, append-nil}
 use Rattle.std.proofs.lemmas.List.Elements.{All-head, All-tail}
 use Rattle.proto_wire.specs.declared.fault.WireFault.{WireFault}
 use Rattle.proto_wire.specs.Fields.{BodyOf, FieldOf, Rest}
-use Rattle.proto_wire.specs.WireReading.{Walk, with_field, stopped, walk_on, walk_from, field_at}
+use Rattle.proto_wire.specs.WireReading.{Walk, with_field, walk_end, walk_on, walk_from, field_at}
 use Rattle.proto_wire.specs.Grammar.{IsGroup, StartsWith}
 use Rattle.proto_wire.proofs.RestReading.{field_at-read, field_at-only, shorter, walk_from-some, walk_from-none}
 use Rattle.config_decode.specs.Values.{records_of, records_of_all}
@@ -104,7 +104,7 @@ starts_on rest after at depth shallow others (Ok (field, new)) stands whole =
 starts_on rest after at depth shallow others (Err fault) stands whole = absurd (cc)
 
 -- the end of the bytes
-nothing : (at depth : ℕ) → read_at at depth [] ≡ stopped None
+nothing : (at depth : ℕ) → read_at at depth [] ≡ walk_end None
 nothing at depth = walk_from-none (record { bytes = []; at = at; depth = depth }) refl
 
 -- A message without a fault goes on with what comes after it, in at most so many turns.
@@ -115,7 +115,7 @@ goes_on_in turns [] here deep enough whole after at depth shallow =
     let same_place : at + 0 ≡ at = omega arith in
     subst (λ (walk : Walk). GoesOn walk (read_at (at + 0) depth after) (read_at at depth after))
     (sym (nothing here deep))
-    (subst (λ (place : ℕ). GoesOn (stopped None) (read_at place depth after) (read_at at depth after))
+    (subst (λ (place : ℕ). GoesOn (walk_end None) (read_at place depth after) (read_at at depth after))
     (sym same_place) (record { same = refl; fault = refl }))
 goes_on_in zero (byte ∷ bytes) here deep enough whole after at depth shallow = absurd (omega arith)
 goes_on_in (suc turns) (byte ∷ bytes) here deep enough whole after at depth shallow =
@@ -146,7 +146,7 @@ elsewhere bytes here deep whole at depth shallow =
     let on = goes_on bytes here deep whole [] at depth shallow in
     let bytes_are : read_at at depth bytes ≡ read_at at depth (bytes ++ []) =
     ap (read_at at depth) (sym (append-nil bytes)) in
-    let end : read_at (at + length bytes) depth [] ≡ stopped None = nothing (at + length bytes) depth in
+    let end : read_at (at + length bytes) depth [] ≡ walk_end None = nothing (at + length bytes) depth in
     record {
       whole = ap (λ (walk : Walk). walk.fault) bytes_are ∙ on.fault ∙ ap (λ (walk : Walk). walk.fault) end;
       same = ap (λ (walk : Walk). contents walk.fields) bytes_are
@@ -177,7 +177,7 @@ with_others payload others whole one =
 -- payloads without a fault are read as one
 pub read_as_one : PayloadsAreReadAsOne
 read_as_one [] whole =
-    let end : read_at 0 0 [] ≡ stopped None = nothing 0 0 in
+    let end : read_at 0 0 [] ≡ walk_end None = nothing 0 0 in
     record {
       whole = ap (λ (walk : Walk). walk.fault) end;
       same = ap (λ (walk : Walk). contents walk.fields) end;

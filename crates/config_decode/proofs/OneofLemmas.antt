@@ -9,7 +9,7 @@ use Rattle.std.proofs.lemmas.List.{map_more, append-nil}
 use Rattle.std.proofs.lemmas.List.Folds.{list_all-append}
 use Rattle.std.proofs.lemmas.List.Elements.{filter-append}
 use Rattle.proto_wire.specs.declared.field.Field.{Field}
-use Rattle.proto_wire.specs.Fields.{FieldOf, seen}
+use Rattle.proto_wire.specs.Fields.{FieldOf, field_view}
 use Rattle.config_decode.specs.Values.{all_have, last_run, run_with, with_numbers, oneof_run}
 
 and-true : (a b : Bool) → (a && b) ≡ true → (a ≡ true) × (b ≡ true)
@@ -67,22 +67,23 @@ last_run-push (first ∷ fields) field =
 -- Records are gone through one by one, and those of some members are looked at.
 module _ (members : List ℕ) (fields : List Field) (i : ℕ) (d : Field) (below : i < length fields) where
   -- what is there up to a place, and the record there
-  with_more : (more : List FieldOf) → with_numbers members (seen (get_or fields i d) ∷ []) ≡ more
-      → with_numbers members (map seen (take (i + 1) fields)) ≡ with_numbers members (map seen (take i fields)) ++ more
+  with_more : (more : List FieldOf) → with_numbers members (field_view (get_or fields i d) ∷ []) ≡ more
+      → with_numbers members (map field_view (take (i + 1) fields))
+      ≡ with_numbers members (map field_view (take i fields)) ++ more
   with_more more one =
-      ap (with_numbers members) (map_more seen fields i d below)
-      ∙ filter-append _ (map seen (take i fields)) (seen (get_or fields i d) ∷ [])
-      ∙ ap (λ (m : List FieldOf). with_numbers members (map seen (take i fields)) ++ m) one
+      ap (with_numbers members) (map_more field_view fields i d below)
+      ∙ filter-append _ (map field_view (take i fields)) (field_view (get_or fields i d) ∷ [])
+      ∙ ap (λ (m : List FieldOf). with_numbers members (map field_view (take i fields)) ++ m) one
 
   -- one more record of a member goes after the run, or begins a new one
   pub run_more : list_any (λ number. number == (get_or fields i d).number) members ≡ true
-      → oneof_run members (map seen (take (i + 1) fields))
-      ≡ run_with (seen (get_or fields i d)) (oneof_run members (map seen (take i fields)))
+      → oneof_run members (map field_view (take (i + 1) fields))
+      ≡ run_with (field_view (get_or fields i d)) (oneof_run members (map field_view (take i fields)))
   run_more member =
-      ap last_run (with_more (seen (get_or fields i d) ∷ []) (rw member refl))
-      ∙ last_run-push (with_numbers members (map seen (take i fields))) (seen (get_or fields i d))
+      ap last_run (with_more (field_view (get_or fields i d) ∷ []) (rw member refl))
+      ∙ last_run-push (with_numbers members (map field_view (take i fields))) (field_view (get_or fields i d))
 
   -- another record is passed over
   pub run_same : list_any (λ number. number == (get_or fields i d).number) members ≡ false
-      → oneof_run members (map seen (take (i + 1) fields)) ≡ oneof_run members (map seen (take i fields))
+      → oneof_run members (map field_view (take (i + 1) fields)) ≡ oneof_run members (map field_view (take i fields))
   run_same other = ap last_run (with_more [] (rw other refl) ∙ append-nil _)

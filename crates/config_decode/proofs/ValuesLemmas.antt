@@ -11,7 +11,7 @@ use Rattle.std.proofs.lemmas.List.Concat.{flat_map-append}
 use Rattle.std.proofs.lemmas.List.Elements.{filter-append}
 use Rattle.proto_wire.specs.declared.field.Field.{Field}
 use Rattle.proto_wire.specs.declared.fault.WireFault.{WireFault}
-use Rattle.proto_wire.specs.Fields.{FieldOf, seen, inside_of}
+use Rattle.proto_wire.specs.Fields.{FieldOf, field_view, inside_of}
 use Rattle.proto_wire.specs.WireReading.{varint_at}
 use Rattle.config_decode.specs.Walk.{Packed, packed_at}
 use Rattle.config_decode.specs.Short.{HaveShortPayloads}
@@ -29,24 +29,24 @@ module _ {A : Type 0} (held : FieldOf → List A) (passes : FieldOf → Bool) wh
       ∙ flat_map-append held (filter passes fields) (filter passes others)
 
   found-more : (fields : List Field) (i : ℕ) (d : Field) → i < length fields
-      → found (map seen (take (i + 1) fields))
-      ≡ found (map seen (take i fields)) ++ found (seen (get_or fields i d) ∷ [])
+      → found (map field_view (take (i + 1) fields))
+      ≡ found (map field_view (take i fields)) ++ found (field_view (get_or fields i d) ∷ [])
   found-more fields i d below =
-      ap found (map_more seen fields i d below)
-      ∙ found-append (map seen (take i fields)) (seen (get_or fields i d) ∷ [])
+      ap found (map_more field_view fields i d below)
+      ∙ found-append (map field_view (take i fields)) (field_view (get_or fields i d) ∷ [])
 
 -- What one more record adds to what is found for a number.
 module _ (number : ℕ) (fields : List Field) (i : ℕ) (d : Field) (below : i < length fields) where
-  pub varints_more : varints number (map seen (take (i + 1) fields))
-      ≡ varints number (map seen (take i fields)) ++ varints number (seen (get_or fields i d) ∷ [])
+  pub varints_more : varints number (map field_view (take (i + 1) fields))
+      ≡ varints number (map field_view (take i fields)) ++ varints number (field_view (get_or fields i d) ∷ [])
   varints_more = found-more _ _ fields i d below
 
-  pub numbers_more : numbers number (map seen (take (i + 1) fields))
-      ≡ numbers number (map seen (take i fields)) ++ numbers number (seen (get_or fields i d) ∷ [])
+  pub numbers_more : numbers number (map field_view (take (i + 1) fields))
+      ≡ numbers number (map field_view (take i fields)) ++ numbers number (field_view (get_or fields i d) ∷ [])
   numbers_more = found-more _ _ fields i d below
 
-  pub payloads_more : payloads number (map seen (take (i + 1) fields))
-      ≡ payloads number (map seen (take i fields)) ++ payloads number (seen (get_or fields i d) ∷ [])
+  pub payloads_more : payloads number (map field_view (take (i + 1) fields))
+      ≡ payloads number (map field_view (take i fields)) ++ payloads number (field_view (get_or fields i d) ∷ [])
   payloads_more = found-more _ _ fields i d below
 
 -- the payloads of further records
@@ -81,19 +81,19 @@ module _ (at : ℕ) (bytes : List ℕ) where
 
 -- the payload of a record at some place is short, where all are
 pub short_at : (fields items : List Field) (i : ℕ) (d : Field) → i < length fields → fields ≡ items
-    → HaveShortPayloads (map seen items) → length (inside_of (seen (get_or fields i d)).body) < 2 ^ 32
+    → HaveShortPayloads (map field_view items) → length (inside_of (field_view (get_or fields i d)).body) < 2 ^ 32
 short_at fields items i d below is short =
-    at_place fields i below (subst (λ (f : List Field). HaveShortPayloads (map seen f)) (sym is) short)
+    at_place fields i below (subst (λ (f : List Field). HaveShortPayloads (map field_view f)) (sym is) short)
   where
-    at_place : (fields : List Field) (i : ℕ) → i < length fields → HaveShortPayloads (map seen fields)
-        → length (inside_of (seen (get_or fields i d)).body) < 2 ^ 32
+    at_place : (fields : List Field) (i : ℕ) → i < length fields → HaveShortPayloads (map field_view fields)
+        → length (inside_of (field_view (get_or fields i d)).body) < 2 ^ 32
     at_place [] i below short = absurd (omega arith)
     at_place (field ∷ fields) zero below short = short.0
     at_place (field ∷ fields) (suc i) below short = at_place fields i (omega arith) short.1
 
 -- further records are short too
-pub short_append : (fields others : List Field) → HaveShortPayloads (map seen fields)
-    → HaveShortPayloads (map seen others) → HaveShortPayloads (map seen (fields ++ others))
+pub short_append : (fields others : List Field) → HaveShortPayloads (map field_view fields)
+    → HaveShortPayloads (map field_view others) → HaveShortPayloads (map field_view (fields ++ others))
 short_append [] others short more = more
 short_append (field ∷ fields) others short more = (short.0, short_append fields others short.1 more)
 

@@ -7,8 +7,8 @@ use Rattle.std.proofs.lemmas.Result.{IfOk-at_ok}
 use Rattle.proto_wire.specs.declared.fault.WireFault.{WireFault}
 use Rattle.proto_wire.specs.WireCauses.{cause_too_deep}
 use Rattle.proto_wire.specs.declared.field.Field.{Field}
-use Rattle.proto_wire.specs.Fields.{FieldOf, Rest, seen, inside_of, FitsOffsets, StepsOver}
-use Rattle.proto_wire.specs.WireReading.{fault_at, Walk, with_field, stopped, inside_at, walk_from, walk_by, AnswersNext}
+use Rattle.proto_wire.specs.Fields.{FieldOf, Rest, field_view, inside_of, FitsOffsets, StepsOver}
+use Rattle.proto_wire.specs.WireReading.{fault_at, Walk, with_field, walk_end, inside_at, walk_from, walk_by, AnswersNext}
 use Rattle.proto_wire.specs.Grammar.{StartsWith}
 use Rattle.proto_wire.proofs.RestReading.{field_at-read}
 use Rattle.config_decode.specs.declared.fault.DecodeFault.{DecodeFault}
@@ -95,17 +95,17 @@ module _ (levels : ℕ) (above : List ℕ) (kind : Kind) where
       ∙ ap (and_then (walk_of_record (inner_walk levels) kind above depth field))
       (ap (λ (d : ℕ). fields_walked d (walk_from new)) (sym there) ∙ sym (walk_in-fields new (walk_from new) refl))
 
-  walk_in-end : (rest : Rest) (fault : Option WireFault) → walk_from rest ≡ stopped fault
+  walk_in-end : (rest : Rest) (fault : Option WireFault) → walk_from rest ≡ walk_end fault
       → walk_in levels above kind rest ≡ walk_to_fault fault
   walk_in-end rest fault is = walk_in-fields rest _ is
 
   -- a message that can't be read further
-  pub halts : (rest : Rest) (fault : WireFault) → walk_from rest ≡ stopped (Some fault)
+  pub halts : (rest : Rest) (fault : WireFault) → walk_from rest ≡ walk_end (Some fault)
       → (walk_in levels above kind rest).fault ≡ Some fault
   halts rest fault is = ap (λ (walked : Walked). walked.fault) (walk_in-end rest (Some fault) is)
 
   -- a message at its end
-  pub ends : (rest : Rest) (walker : Walker) → walk_from rest ≡ stopped None
+  pub ends : (rest : Rest) (walker : Walker) → walk_from rest ≡ walk_end None
       → LeavesOff (walk_in levels above kind rest) walker walker
   ends rest walker is =
       subst (λ (walked : Walked). LeavesOff walked walker walker) (sym (walk_in-end rest None is))
@@ -120,12 +120,12 @@ pub record Takes (rest : Rest) (field : FieldOf) (new : Rest) : Type 0 where
 
 pub takes : (rest new : Rest) (found : Option Field) (field : Field) → found ≡ Some field
     → AnswersNext rest (Ok found) new → walk_from rest ≡ walk_by (Ok found) new
-    → IfSome found (λ f. StepsOver rest (seen f) new) → Takes rest (seen field) new
+    → IfSome found (λ f. StepsOver rest (field_view f) new) → Takes rest (field_view field) new
 takes rest new None field is read walk step = absurd (cc is)
 takes rest new (Some given) field is read walk step =
     let same : given ≡ field = cc is in
     let stands = IfOk-at_ok (λ read. StartsWith rest read.0 read.1) read (field_at-read rest) in
-    subst (λ (f : Field). Takes rest (seen f) new) same (record {
+    subst (λ (f : Field). Takes rest (field_view f) new) same (record {
       walk = walk;
       depth = ap (λ (r : Rest). r.depth) stands.moved;
       shorter = step.shorter;
@@ -134,7 +134,7 @@ takes rest new (Some given) field is read walk step =
 
 -- A call for the next field found none.
 pub takes_none : (rest new : Rest) (found : Option Field) → found ≡ None → walk_from rest ≡ walk_by (Ok found) new
-    → walk_from rest ≡ stopped None
+    → walk_from rest ≡ walk_end None
 takes_none rest new None is walk = walk
 takes_none rest new (Some given) is walk = absurd (cc is)
 

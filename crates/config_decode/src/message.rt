@@ -2,7 +2,7 @@
 ghost use Rattle.std.specs.Prelude.{◌≡◌, ◌∷◌, ◌++◌, ◌<◌, ◌^◌, ℕ, List, [], length, map, IfOk, IfSome, OnOk};
 ghost use Rattle.std.specs.Option.{option_copied};
 ghost use Rattle.std.specs.List.{cons_option};
-ghost use Rattle.proto_wire.specs.Fields.{seen, inside_of};
+ghost use Rattle.proto_wire.specs.Fields.{field_view, inside_of};
 ghost use Rattle.config_decode.specs.Walk.{packed_at};
 ghost use Rattle.config_decode.specs.Values as values;
 ghost use Rattle.config_decode.specs.Values.{records_of};
@@ -22,14 +22,14 @@ pub struct Message<'a> {
 
 impl<'a> Model for Message<'a> {
     ghost use Rattle.std.specs.Prelude.{List, map};
-    ghost use Rattle.proto_wire.specs.Fields.{FieldOf, seen};
+    ghost use Rattle.proto_wire.specs.Fields.{FieldOf, field_view};
     ghost use Rattle.config_decode.specs.Short.{HaveShortPayloads};
 
     ghost Value = { List FieldOf };
 
-    ghost view = { λ m. map seen m.records.items };
+    ghost view = { λ m. map field_view m.records.items };
 
-    ghost invariant = { λ m. HaveShortPayloads (map seen m.records.items) };
+    ghost invariant = { λ m. HaveShortPayloads (map field_view m.records.items) };
 }
 
 /// What is made of a payload.
@@ -217,8 +217,8 @@ impl<'a> Message<'a> {
 
     // A member is set after those of a run: it goes on with a run of its number, or begins a new one.
     fn push_member(&mut self, field: &Field<'a>) -> Result<(), AllocError>
-        requires { length (inside_of (seen field.now).body) < 2 ^ 32 }
-        ensures { OnOk result (self.new ≡ values.run_with (seen field.now) self.old) }
+        requires { length (inside_of (field_view field.now).body) < 2 ^ 32 }
+        ensures { OnOk result (self.new ≡ values.run_with (field_view field.now) self.old) }
     {
         if self.number() != Some(field.number) {
             self.records.clear();
@@ -240,7 +240,7 @@ impl<'a> Message<'a> {
 
 // The number of a record, if it is of this field and holds one.
 fn varint_in(number: u32, field: &Field<'_>) -> Option<u64>
-    ensures { cons_option result [] ≡ values.varints number (seen field.now ∷ []) }
+    ensures { cons_option result [] ≡ values.varints number (field_view field.now ∷ []) }
 {
     match field.body {
         Body::Varint(value) if field.number == number => Some(value),
@@ -251,8 +251,8 @@ fn varint_in(number: u32, field: &Field<'_>) -> Option<u64>
 // The bytes of a record, if it is of this field and holds some.
 fn payload_in<'a>(number: u32, field: &Field<'a>) -> Option<&'a [u8]>
     ensures payload { cons_option (option_copied result) []
-        ≡ values.payloads number (seen field.now ∷ []) }
-    ensures inside { IfSome result (λ bytes. bytes.now ≡ inside_of (seen field.now).body) }
+        ≡ values.payloads number (field_view field.now ∷ []) }
+    ensures inside { IfSome result (λ bytes. bytes.now ≡ inside_of (field_view field.now).body) }
 {
     match field.body {
         Body::Bytes(bytes) if field.number == number => Some(bytes),
@@ -263,7 +263,7 @@ fn payload_in<'a>(number: u32, field: &Field<'a>) -> Option<&'a [u8]>
 // Adds the numbers of a record, if it is of this field: one, or packed ones.
 fn add_numbers(numbers: &mut Vec<u64>, number: u32, field: &Field<'_>) -> Result<(), AllocError>
     ensures { OnOk result (numbers.new.items
-        ≡ numbers.old.items ++ values.numbers number (seen field.now ∷ [])) }
+        ≡ numbers.old.items ++ values.numbers number (field_view field.now ∷ [])) }
 {
     match field.body {
         Body::Varint(value) if field.number == number => numbers.push(value)?,

@@ -1,6 +1,6 @@
 //! The profile: which fields the messages of a configuration have, and what stands in them.
 ghost use Rattle.std.specs.Prelude.{◌≡◌};
-ghost use Rattle.proto_wire.specs.Fields.{seen};
+ghost use Rattle.proto_wire.specs.Fields.{field_view};
 ghost use Rattle.config_decode.specs.Profile as profile;
 
 use crate::numbers;
@@ -336,7 +336,7 @@ impl Kind {
     /// Whether a record of this message isn't supported: no field of its number, another wire type than that of its
     /// field, or a number outside an enum that is strict. At the top such a record is passed over, but for strict ones.
     pub fn refuses(self, field: &Field<'_>) -> bool
-        ensures { result ≡ profile.refuses self (seen field.now) }
+        ensures { result ≡ profile.refuses self (field_view field.now) }
     {
         match (self.shape(field.number), field.body) {
             (Shape::Ignored, _)

@@ -1,6 +1,6 @@
 //! The walk over a configuration: the first fault of the wire format, and the first record that isn't supported.
 ghost use Rattle.std.specs.Prelude.{◌≡◌, ◌≤◌, ◌<◌, ◌+◌, ◌-◌, ◌^◌, length, OnOk};
-ghost use Rattle.proto_wire.specs.Fields.{seen, FitsOffsets};
+ghost use Rattle.proto_wire.specs.Fields.{field_view, FitsOffsets};
 ghost use Rattle.config_decode.specs.Walk.{packed_at, walk_in, most_levels, walk_of_record, walk_of_body, inner_walk, walk_of};
 ghost use Rattle.config_decode.specs.Walks.{Walks, GoesTo, IsUnsupported, PacksWell};
 
@@ -61,9 +61,9 @@ impl Walker {
     ) -> Result<(), DecodeFault>
         requires depth { length self.old.path.items ≡ records.now.depth }
         requires shallow { records.now.depth ≤ most_levels }
-        requires within { FitsOffsets (seen field.now) }
+        requires within { FitsOffsets (field_view field.now) }
         ensures walked { Walks (walk_of_record (inner_walk (most_levels - records.now.depth))
-            kind self.old.path.items records.now.depth (seen field.now)) self.old self.new result }
+            kind self.old.path.items records.now.depth (field_view field.now)) self.old self.new result }
     {
         self.note(kind, field)?;
         self.inside(kind.shape(field.number), records, field)?;
@@ -74,7 +74,7 @@ impl Walker {
     // Goes to a record, and notes its path if it is the first that isn't supported.
     fn note(&mut self, kind: Kind, field: &Field<'_>) -> Result<(), AllocError>
         requires { length self.old.path.items ≤ most_levels }
-        ensures { OnOk result (GoesTo kind (seen field.now) self.old self.new) }
+        ensures { OnOk result (GoesTo kind (field_view field.now) self.old self.new) }
     {
         self.path.push(field.number)?;
         if self.unsupported.is_none() && kind.refuses(field) {
@@ -92,10 +92,10 @@ impl Walker {
         field: &Field<'_>,
     ) -> Result<(), DecodeFault>
         requires depth { length self.old.path.items ≡ records.now.depth + 1 }
-        requires within { FitsOffsets (seen field.now) }
+        requires within { FitsOffsets (field_view field.now) }
         ensures walked { Walks (walk_of_body
             (inner_walk (most_levels - records.now.depth) self.old.path.items)
-            records.now.depth (seen field.now) shape (seen field.now).body) self.old self.new result }
+            records.now.depth (field_view field.now) shape (field_view field.now).body) self.old self.new result }
     {
         match (shape, field.body) {
             (Shape::Message(kind), Body::Bytes(_)) => self.message(kind, records.enter(field)?),

@@ -3,7 +3,7 @@ use Rattle.std.proofs.Common.{◌≡◌, ℕ, ◌+◌, ◌<◌, ◌≤◌, Bool,
 use Rattle.std.specs.Bool.{Decides}
 use Rattle.std.proofs.lemmas.Map.Entries.{length-keys_of}
 use Rattle.bucket_meaning.specs.Guard.{is_among, admitted, dropped}
-use Rattle.bucket_meaning.specs.Kept.{counted}
+use Rattle.bucket_meaning.specs.Kept.{count_in_u64}
 use Rattle.bucket_meaning.proofs.GuardLemmas.{admitted_present, admitted_new, admitted_full, dropped_same, dropped_new}
 use Rattle.dim_table.specs.declared.answer.Admit.{Admit}
 use Rattle.dim_table.specs.declared.answer.Admit.TheVariants.{At, Full}
@@ -22,7 +22,8 @@ module _ {K V : Type 0} (same : K → K → Bool) where
   TableStandsFor-alike old new arrived same_keys same_bound same_count stands =
       record {
         keys_are = same_keys ∙ stands.keys_are ∙ ap (λ n. admitted same n arrived) (sym same_bound);
-        dropped_are = same_count ∙ stands.dropped_are ∙ ap (λ n. counted (dropped same n arrived)) (sym same_bound);
+        dropped_are = same_count ∙ stands.dropped_are
+            ∙ ap (λ n. count_in_u64 (dropped same n arrived)) (sym same_bound);
       }
 
   -- and so after a write to a value
@@ -54,7 +55,7 @@ module _ {K V : Type 0} (same : K → K → Bool) where
           record {
             keys_are = stands.keys_are ∙ sym stays;
             dropped_are = stands.dropped_are
-                ∙ ap counted (omega (arith, none));
+                ∙ ap count_in_u64 (omega (arith, none));
           } in
           subst (λ table. TableStandsFor same table (arrived ++ key ∷ [])) (sym h.same) kept
 
@@ -70,7 +71,7 @@ module _ {K V : Type 0} (same : K → K → Bool) where
             keys_are = keys_of-push old.rows key fresh ∙ ap (λ ks. ks ++ key ∷ []) stands.keys_are
                 ∙ sym (admitted_new same old.bound arrived key among room);
             dropped_are = stands.dropped_are
-                ∙ ap counted (sym (dropped_new same exact old.bound arrived key among room));
+                ∙ ap count_in_u64 (sym (dropped_new same exact old.bound arrived key among room));
           } in
           subst (λ table. TableStandsFor same table (arrived ++ key ∷ [])) (sym h.added) kept
 
@@ -85,7 +86,7 @@ module _ {K V : Type 0} (same : K → K → Bool) where
           let one : dropped same old.bound (arrived ++ key ∷ []) ≡ dropped same old.bound arrived + 1 =
           dropped_same same old.bound arrived key stays
           ∙ ap (λ b. dropped same old.bound arrived + (if not b then 1 else 0)) among in
-          let counting : Table K V = record old { dropped = counted (old.dropped + 1) } in
+          let counting : Table K V = record old { dropped = count_in_u64 (old.dropped + 1) } in
           let kept : TableStandsFor same counting (arrived ++ key ∷ []) = record {
             keys_are = stands.keys_are ∙ sym stays;
             dropped_are = omega (arith, one, stands.dropped_are);

@@ -5,7 +5,7 @@ use Rattle.std.specs.Map.{keys_of}
 pub use Rattle.indexmap.specs.Layout.{set_value_at}
 use Rattle.bucket_meaning.specs.Limits.{most_keys}
 use Rattle.bucket_meaning.specs.Guard.{admitted, dropped}
-use Rattle.bucket_meaning.specs.Kept.{counted}
+use Rattle.bucket_meaning.specs.Kept.{count_in_u64}
 use Rattle.dim_table.specs.declared.answer.Admit.{Admit}
 use Rattle.dim_table.specs.declared.answer.Admit.TheVariants.{At, Full}
 
@@ -42,7 +42,7 @@ module _ {K V : Type 0} where
   pub record IsTurnedAway (old new : Table K V) (key : K) : Type 0 where
     pub absent : ¬ Contains (keys old) key
     pub full : length old.rows ≡ old.bound
-    pub added : new ≡ record old { dropped = counted (old.dropped + 1) }
+    pub added : new ≡ record old { dropped = count_in_u64 (old.dropped + 1) }
 
   -- what each answer to one more arrival says
   abbrev pub Admits : Table K V → Table K V → K → V → Admit → Type 0
@@ -62,7 +62,7 @@ module _ {K V : Type 0} (same : K → K → Bool) where
   -- counted
   pub record TableStandsFor (table : Table K V) (arrived : List K) : Type 0 where
     pub keys_are : keys table ≡ admitted same table.bound arrived
-    pub dropped_are : table.dropped ≡ counted (dropped same table.bound arrived)
+    pub dropped_are : table.dropped ≡ count_in_u64 (dropped same table.bound arrived)
 
   -- whatever arrivals the old table stood for, the new one stands for those and this one
   abbrev pub TakesArrival : Table K V → Table K V → K → Type 0

@@ -10,6 +10,7 @@ ghost use Rattle.dim_table.specs.Lent.{lends_value};
 
 use crate::Admit;
 use indexmap::IndexMap;
+use indexmap::map::IntoIter;
 use sd_base::Exact;
 use std::alloc::{AllocError, Global};
 use std::hash::Hash;
@@ -135,6 +136,23 @@ impl<K: Exact + Hash + Drop, V: Drop> Guarded<K, V> {
         ensures { self.new ≡ record self.old { rows = [] } }
     {
         self.rows.clear();
+    }
+
+    /// Moves all rows out, in order. The count of what was dropped stays.
+    pub fn move_out(&mut self) -> IntoIter<K, V>
+        ensures rows { result ≡ self.old.rows }
+        ensures left { self.new ≡ record self.old { rows = [] } }
+    {
+        let rows = mem::replace(&mut self.rows, IndexMap::new(self.alloc));
+        rows.into_iter()
+    }
+
+    /// Hands the count of what was dropped over, and starts it anew. The rows stay.
+    pub fn take_dropped(&mut self) -> u64
+        ensures given { result ≡ self.old.dropped }
+        ensures left { self.new ≡ record self.old { dropped = 0 } }
+    {
+        mem::replace(&mut self.dropped, 0)
     }
 
     /// The number of rows.

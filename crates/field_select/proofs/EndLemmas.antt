@@ -1,9 +1,9 @@
--- Lemmas on specs/Ends.antt: what the walk to an end finds, and that tables of ends say which entries are picked.
+-- Lemmas on specs/FieldEnds.antt: what the walk to an end finds, and that tables of ends say which entries are picked.
 use Rattle.std.proofs.Common.{◌≡◌, ◌≢◌, ℕ, zero, suc, ◌≤◌, min, List, [], ◌∷◌, refl, sym, ap, ◌∙◌, arith}
 use Rattle.field_select.specs.declared.ends.End.{End}
 use Rattle.field_select.specs.declared.ends.End.TheVariants.{First, Last}
 use Rattle.field_select.specs.LeafValues.{lesser_index}
-use Rattle.field_select.specs.Ends.{nearer_index, end_index}
+use Rattle.field_select.specs.FieldEnds.{nearer_index, end_index}
 
 -- 0 is none, on either side
 lesser_zero : (x : ℕ) → lesser_index x 0 ≡ x

@@ -2,5 +2,5 @@ mod Worked
 pub mod RepeatLemmas
 pub mod LeafLemmas
 pub mod EndLemmas
-pub mod WalkLemmas
-pub mod TableLemmas
+pub mod EndWalkLemmas
+pub mod EndTableLemmas

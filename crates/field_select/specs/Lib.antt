@@ -1,4 +1,4 @@
 pub mod FieldSets
 pub mod LeafValues
 pub mod WellFormed
-pub mod Ends
+pub mod FieldEnds

@@ -1,7 +1,7 @@
 //! The first and the last index at which an atom has entries of a field.
 ghost use Rattle.std.specs.Prelude.{◌≡◌, ℕ, ◌<◌, slice_index};
 ghost use Rattle.field_select.specs.LeafValues.{field_indexes};
-ghost use Rattle.field_select.specs.Ends.{nearer_index, end_index, ends_after};
+ghost use Rattle.field_select.specs.FieldEnds.{nearer_index, end_index, ends_after};
 
 use atom_record::AtomField;
 

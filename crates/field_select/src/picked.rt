@@ -2,7 +2,7 @@
 ghost use Rattle.std.specs.Prelude.{◌≡◌, filter, IfOk};
 ghost use Rattle.std.specs.List.{list_any};
 ghost use Rattle.field_select.specs.LeafValues.{filtered, some_leaf_picks};
-ghost use Rattle.field_select.specs.Ends.{picks_by_ends, picks_index_by};
+ghost use Rattle.field_select.specs.FieldEnds.{picks_by_ends, picks_index_by};
 
 use crate::ends::{End, ends_of};
 use crate::{FieldSet, LeafPath};

@@ -3,7 +3,7 @@ ghost use Rattle.std.specs.Prelude.{◌≡◌, Some, None, true, false};
 ghost use Rattle.std.specs.Option.{option_copied};
 ghost use Rattle.field_select.specs.FieldSets.{is_all};
 ghost use Rattle.field_select.specs.LeafValues.{picks_entry, picked_values, first_value, one_or_missing, leaf_in};
-ghost use Rattle.field_select.specs.Ends.{end_position, found_after, nearest_step, picks_each};
+ghost use Rattle.field_select.specs.FieldEnds.{end_position, found_after, nearest_step, picks_each};
 
 use crate::LeafPath;
 use crate::ends::{End, nearer};

@@ -3,7 +3,7 @@ use Rattle.std.proofs.Common.{◌≡◌, ℕ, ◌+◌, ◌-◌, ◌<◌, ◌≤�
 use Rattle.std.proofs.lemmas.Result.{IfOk-at_ok}
 use Rattle.proto_wire.specs.declared.fault.WireFault.{WireFault}
 use Rattle.proto_wire.specs.Fields.{FieldOf, Rest, StepsOver}
-use Rattle.proto_wire.specs.WireReading.{rest_with, field_at, with_field, stopped, walk_on, walk_from}
+use Rattle.proto_wire.specs.WireReading.{rest_with, field_at, with_field, walk_end, walk_on, walk_from}
 use Rattle.proto_wire.specs.Grammar.{StartsWith, Written, spelling, written_number, written_body, IsWritable}
 use Rattle.proto_wire.proofs.RestReading.{field_at-read, field_at-only, shorter, within, walk_from-some, walk_from-none}
 use Rattle.proto_wire.proofs.WrittenReading.{field_there, written-starts}
@@ -66,7 +66,7 @@ module _ (old : Rest) where
     fault-unwritten written after writable parts = let there = written-starts old written after writable parts in
         fault-none _ _ there.2
 
-    pub fault-walk : 0 < length old.bytes → walk_from old ≡ stopped (Some fault)
+    pub fault-walk : 0 < length old.bytes → walk_from old ≡ walk_end (Some fault)
     fault-walk some = walk_from-some old some ∙ ap (walk_on walk_from) is
 
   -- the end
@@ -79,7 +79,7 @@ module _ (old : Rest) where
     end-unwritten written after writable parts = let there = written-starts old written after writable parts in
         end-none _ _ there.2
 
-    pub end-walk : walk_from old ≡ stopped None
+    pub end-walk : walk_from old ≡ walk_end None
     end-walk = walk_from-none old none
 
 -- the reader's parts, seen as what is left

@@ -8,7 +8,7 @@ use Rattle.proto_wire.specs.declared.fault.WireFault.{WireFault}
 use Rattle.proto_wire.specs.declared.tag.Tag.{Tag}
 use Rattle.proto_wire.specs.Fields.{BodyOf, Varint, Fixed64, Bytes, Group, Fixed32, FieldOf, Rest, inside_of}
 use Rattle.proto_wire.specs.WireCauses.{most_depth}
-use Rattle.proto_wire.specs.WireReading.{tag_at, field_with, group_at, field_at, Walk, with_field, stopped, walk_on, walk_turns, walk_from}
+use Rattle.proto_wire.specs.WireReading.{tag_at, field_with, group_at, field_at, Walk, with_field, walk_end, walk_on, walk_turns, walk_from}
 use Rattle.proto_wire.specs.Grammar.{IsPayload, IsLaidOut, IsGroup, StartsWith, wire_type_for, IsTag}
 use Rattle.sd_base.proofs.ReadsLemmas.{IfOk-bind, choice-agree}
 use Rattle.proto_wire.proofs.TagReading.{TagRead, tag_at-read, tag_at-only}
@@ -213,6 +213,6 @@ walk_from-some rest some =
     ap (λ n. walk_turns n rest) len ∙ walk-in_turns (length rest.bytes - 1) rest len
 
 -- a walk at the end
-pub walk_from-none : (rest : Rest) → length rest.bytes ≡ 0 → walk_from rest ≡ stopped None
+pub walk_from-none : (rest : Rest) → length rest.bytes ≡ 0 → walk_from rest ≡ walk_end None
 unfolding walk_from walk_turns
 walk_from-none rest none = rw none refl

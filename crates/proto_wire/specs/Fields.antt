@@ -20,16 +20,17 @@ pub record FieldOf : Type 0 where
   pub body : BodyOf
 
 -- what a field holds, without where its bytes lie in memory
-abbrev pub body_seen : Body → BodyOf
-body_seen (held.Varint value) = Varint value
-body_seen (held.Fixed64 value) = Fixed64 value
-body_seen (held.Bytes bytes) = Bytes bytes.now
-body_seen (held.Group bytes) = Group bytes.now
-body_seen (held.Fixed32 value) = Fixed32 value
+abbrev pub body_view : Body → BodyOf
+body_view (held.Varint value) = Varint value
+body_view (held.Fixed64 value) = Fixed64 value
+body_view (held.Bytes bytes) = Bytes bytes.now
+body_view (held.Group bytes) = Group bytes.now
+body_view (held.Fixed32 value) = Fixed32 value
 
 -- the field without where its bytes lie in memory
-abbrev pub seen : Field → FieldOf
-seen field = record { number = field.number; at = field.at; payload_at = field.payload_at; body = body_seen field.body }
+abbrev pub field_view : Field → FieldOf
+field_view field =
+    record { number = field.number; at = field.at; payload_at = field.payload_at; body = body_view field.body }
 
 -- what a reader has left: the bytes, where they begin in the whole configuration, and how deep their message is
 pub record Rest : Type 0 where

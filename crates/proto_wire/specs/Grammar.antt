@@ -8,7 +8,7 @@ use Rattle.proto_wire.specs.declared.tag.WireType.{WireType}
 use Rattle.proto_wire.specs.declared.tag.WireType.TheVariants as wire
 use Rattle.proto_wire.specs.WireCauses.{most_depth}
 use Rattle.proto_wire.specs.WireTypes.{code_of}
-use Rattle.proto_wire.specs.Fields.{BodyOf, Varint, Fixed64, Bytes, Group, Fixed32, FieldOf, Rest, seen}
+use Rattle.proto_wire.specs.Fields.{BodyOf, Varint, Fixed64, Bytes, Group, Fixed32, FieldOf, Rest, field_view}
 use Rattle.proto_wire.specs.WireReading.{groups_value}
 use Rattle.proto_wire.specs.Spelling.{varint_field, bytes_field, fixed32_field}
 
@@ -94,7 +94,7 @@ pub record StartsWith (old : Rest) (field : FieldOf) (new : Rest) : Type 0 where
 
 -- the call gave this field, and this is left
 abbrev pub GaveField : Result (Option Field) WireFault → Rest → FieldOf → Rest → Type 0
-GaveField (Ok (Some given)) left field new = (seen given ≡ field) × (left ≡ new)
+GaveField (Ok (Some given)) left field new = (field_view given ≡ field) × (left ≡ new)
 GaveField (Ok None) left field new = ⊥
 GaveField (Err fault) left field new = ⊥
 
@@ -137,6 +137,6 @@ pub record IsWritable (field : Written) : Type 0 where
 -- the call gave what was written, and this is left
 abbrev pub GaveBack : Result (Option Field) WireFault → Rest → Written → List ℕ → Type 0
 GaveBack (Ok (Some given)) left field bytes =
-    (given.number ≡ written_number field) × ((seen given).body ≡ written_body field) × (left.bytes ≡ bytes)
+    (given.number ≡ written_number field) × ((field_view given).body ≡ written_body field) × (left.bytes ≡ bytes)
 GaveBack (Ok None) left field bytes = ⊥
 GaveBack (Err fault) left field bytes = ⊥

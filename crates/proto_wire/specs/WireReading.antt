@@ -13,7 +13,7 @@ use Rattle.proto_wire.specs.declared.tag.WireType.TheVariants as wire
 use Rattle.proto_wire.specs.declared.field.Field.{Field}
 use Rattle.proto_wire.specs.WireCauses.{cause_long_varint, cause_cut, cause_unknown_wire_type, cause_zero_number, cause_stray_group_end, cause_too_deep, cause_long_tag, most_depth}
 use Rattle.proto_wire.specs.WireTypes.{wire_type_of}
-use Rattle.proto_wire.specs.Fields.{Varint, Fixed64, Bytes, Group, Fixed32, FieldOf, Rest, inside_of, seen}
+use Rattle.proto_wire.specs.Fields.{Varint, Fixed64, Bytes, Group, Fixed32, FieldOf, Rest, inside_of, field_view}
 
 -- a fault of this cause, at this offset
 abbrev pub fault_at : ℕ → ℕ → WireFault
@@ -148,7 +148,7 @@ field_at rest =
 -- What a call for the next field answers, by what is read: a field and what is left then, the end, or the first fault.
 -- At the end and at a fault as much is left as before.
 abbrev pub AnswersNext : Rest → Result (Option Field) WireFault → Rest → Type 0
-AnswersNext old (Ok (Some field)) new = field_at old ≡ Ok (seen field, new)
+AnswersNext old (Ok (Some field)) new = field_at old ≡ Ok (field_view field, new)
 AnswersNext old (Ok None) new = new ≡ old
 AnswersNext old (Err fault) new = (field_at old ≡ Err fault) × (new ≡ old)
 
@@ -169,19 +169,19 @@ abbrev pub with_field : FieldOf → Walk → Walk
 with_field field walk = record { fields = field ∷ walk.fields; fault = walk.fault }
 
 -- a walk that is over
-abbrev pub stopped : Option WireFault → Walk
-stopped fault = record { fields = []; fault = fault }
+abbrev pub walk_end : Option WireFault → Walk
+walk_end fault = record { fields = []; fault = fault }
 
 -- a field and the walk of what is after it, or the fault
 abbrev pub walk_on : (Rest → Walk) → Result (FieldOf × Rest) WireFault → Walk
 walk_on after (Ok field) = with_field field.0 (after field.1)
-walk_on after (Err fault) = stopped (Some fault)
+walk_on after (Err fault) = walk_end (Some fault)
 
 -- in at most so many turns
 unfoldable pub walk_turns : ℕ → Rest → Walk
-walk_turns zero rest = stopped None
+walk_turns zero rest = walk_end None
 walk_turns (suc turns) rest =
-    if length rest.bytes == 0 then stopped None
+    if length rest.bytes == 0 then walk_end None
     else walk_on (walk_turns turns) (field_at rest)
 
 -- all fields of what is left
@@ -206,6 +206,6 @@ fields_of bytes = fields_from (record { bytes = bytes; at = 0; depth = 0 })
 
 -- what a call answers, as the beginning of a walk: a field and the walk of what is left then, the end, or the fault
 abbrev pub walk_by : Result (Option Field) WireFault → Rest → Walk
-walk_by (Ok (Some field)) new = with_field (seen field) (walk_from new)
-walk_by (Ok None) new = stopped None
-walk_by (Err fault) new = stopped (Some fault)
+walk_by (Ok (Some field)) new = with_field (field_view field) (walk_from new)
+walk_by (Ok None) new = walk_end None
+walk_by (Err fault) new = walk_end (Some fault)

@@ -2,7 +2,7 @@
 ghost use Rattle.std.specs.Prelude.{◌≡◌, ◌+◌, ◌<◌, ◌≤◌, length, Some, IfOk};
 ghost use Rattle.std.specs.Int.{w32, w64};
 ghost use Rattle.sd_base.specs.Reads.{GivesBy};
-ghost use Rattle.proto_wire.specs.Fields.{seen};
+ghost use Rattle.proto_wire.specs.Fields.{field_view};
 ghost use Rattle.proto_wire.specs.WireReading.{taken_at, fixed_at, varint_record, fixed64_record, bytes_record, group_record, fixed32_record, field_with, group_at};
 
 use crate::fault::{CUT, STRAY_GROUP_END, TOO_DEEP, WireFault, fault};
@@ -28,7 +28,7 @@ fn varint_field<'a>(
     end: u32,
 ) -> Result<(Field<'a>, &'a [u8]), WireFault>
     requires { length bytes.now ≤ end }
-    ensures field { GivesBy Some (λ x. (seen x.0, x.1.now)) result
+    ensures field { GivesBy Some (λ x. (field_view x.0, x.1.now)) result
         (varint_record end at number bytes.now) }
     ensures shorter { IfOk result (λ x. length x.1.now ≤ length bytes.now) }
 {
@@ -54,7 +54,7 @@ fn fixed64_field<'a>(
     end: u32,
 ) -> Result<(Field<'a>, &'a [u8]), WireFault>
     requires { length bytes.now ≤ end }
-    ensures field { GivesBy Some (λ x. (seen x.0, x.1.now)) result
+    ensures field { GivesBy Some (λ x. (field_view x.0, x.1.now)) result
         (fixed64_record end at number bytes.now) }
     ensures shorter { IfOk result (λ x. length x.1.now ≤ length bytes.now) }
 {
@@ -80,7 +80,7 @@ fn bytes_field<'a>(
     end: u32,
 ) -> Result<(Field<'a>, &'a [u8]), WireFault>
     requires { length bytes.now ≤ end }
-    ensures field { GivesBy Some (λ x. (seen x.0, x.1.now)) result
+    ensures field { GivesBy Some (λ x. (field_view x.0, x.1.now)) result
         (bytes_record end at number bytes.now) }
     ensures shorter { IfOk result (λ x. length x.1.now ≤ length bytes.now) }
 {
@@ -107,7 +107,7 @@ fn fixed32_field<'a>(
     end: u32,
 ) -> Result<(Field<'a>, &'a [u8]), WireFault>
     requires { length bytes.now ≤ end }
-    ensures field { GivesBy Some (λ x. (seen x.0, x.1.now)) result
+    ensures field { GivesBy Some (λ x. (field_view x.0, x.1.now)) result
         (fixed32_record end at number bytes.now) }
     ensures shorter { IfOk result (λ x. length x.1.now ≤ length bytes.now) }
 {
@@ -136,7 +136,7 @@ pub fn field_of<'a>(
     levels: u32,
 ) -> Result<(Field<'a>, &'a [u8]), WireFault>
     requires { length bytes.now ≤ end }
-    ensures field { GivesBy Some (λ x. (seen x.0, x.1.now)) result
+    ensures field { GivesBy Some (λ x. (field_view x.0, x.1.now)) result
         (field_with (group_at end levels) end at tag.number tag.wire_type bytes.now) }
     ensures shorter { IfOk result (λ x. length x.1.now ≤ length bytes.now) }
 {
@@ -160,7 +160,7 @@ fn group_field<'a>(
     levels: u32,
 ) -> Result<(Field<'a>, &'a [u8]), WireFault>
     requires { length bytes.now ≤ end }
-    ensures field { GivesBy Some (λ x. (seen x.0, x.1.now)) result
+    ensures field { GivesBy Some (λ x. (field_view x.0, x.1.now)) result
         (group_record (group_at end levels) end at number bytes.now) }
     ensures shorter { IfOk result (λ x. length x.1.now ≤ length bytes.now) }
 {

@@ -2,7 +2,7 @@
 ghost use Rattle.std.specs.Prelude.{◌≡◌, ◌+◌, ◌<◌, ◌≤◌, ◌^◌, ◌↔◌, ◌++◌, ℕ, List, [], length, Ok, None, Some, IfOk, IfSome, IsTrue};
 ghost use Rattle.sd_base.specs.Reads.{GivesBy};
 ghost use Rattle.proto_wire.specs.WireCauses.{most_depth};
-ghost use Rattle.proto_wire.specs.Fields.{FieldOf, Rest, seen, has_inside, FitsOffsets, StepsOver};
+ghost use Rattle.proto_wire.specs.Fields.{FieldOf, Rest, field_view, has_inside, FitsOffsets, StepsOver};
 ghost use Rattle.proto_wire.specs.WireReading.{field_at, rest_with, AnswersNext, inside_at, walk_from, walk_by};
 ghost use Rattle.proto_wire.specs.Grammar.{StartsWith, GaveField, Written, spelling, IsWritable, GaveBack};
 
@@ -67,7 +67,7 @@ impl<'a> Records<'a> {
         // One step of a walk.
         ensures walk { walk_from self.old ≡ walk_by result self.new }
         ensures step { IfOk result
-            (λ found. IfSome found (λ f. StepsOver self.old (seen f) self.new)) }
+            (λ found. IfSome found (λ f. StepsOver self.old (field_view f) self.new)) }
     {
         if self.bytes.is_empty() {
             return Ok(None);
@@ -80,9 +80,9 @@ impl<'a> Records<'a> {
     /// The records inside a field that this reader gave, one level deeper.
     #[tactic(auto, unfolding(crate::specs::WireReading::inside_at))]
     pub fn enter(&self, f: &Field<'a>) -> Result<Records<'a>, WireFault>
-        requires inside { IsTrue (has_inside (seen f.now).body) }
-        requires within { FitsOffsets (seen f.now) }
-        ensures { result ≡ inside_at self.now.depth (seen f.now) }
+        requires inside { IsTrue (has_inside (field_view f.now).body) }
+        requires within { FitsOffsets (field_view f.now) }
+        ensures { result ≡ inside_at self.now.depth (field_view f.now) }
     {
         if self.depth == MAX_DEPTH {
             return Err(fault(f.at, TOO_DEEP));
@@ -100,7 +100,7 @@ impl<'a> Records<'a> {
     // The field in front, and what is after it.
     #[tactic(auto, unfolding(crate::specs::WireReading::field_at))]
     fn first(&self) -> Result<(Field<'a>, &'a [u8]), WireFault>
-        ensures { GivesBy Some (λ x. (seen x.0, rest_with self.now x.1.now)) result
+        ensures { GivesBy Some (λ x. (field_view x.0, rest_with self.now x.1.now)) result
             (field_at self.now) }
     {
         let at = self.end - self.bytes.len() as u32;

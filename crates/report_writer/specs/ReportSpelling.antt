@@ -38,8 +38,8 @@ abbrev pub truth_number : Bool → ℕ
 truth_number truth = if truth then 1 else 0
 
 -- a field of this number for each of these, which holds its message
-abbrev pub repeated : {X : Type 0} → ℕ → (X → List ℕ) → List X → List ℕ
-repeated number message items = flat_map (λ item. bytes_field number (message item)) items
+abbrev pub repeated_field : {X : Type 0} → ℕ → (X → List ℕ) → List X → List ℕ
+repeated_field number message items = flat_map (λ item. bytes_field number (message item)) items
 
 -- the value of a leaf, but for raw bytes, whose number is above that of the place
 abbrev pub leaf_value_field : Option Value → List ℕ
@@ -82,11 +82,11 @@ bucket_message bucket =
 -- the fields by which rows of one metric are told apart
 abbrev pub key_fields : List LeafTree → List Slice → List ℕ
 key_fields leaves slices =
-    repeated field.data_leaf leaf_message leaves ++ repeated field.data_slice slice_message slices
+    repeated_field field.data_leaf leaf_message leaves ++ repeated_field field.data_slice slice_message slices
 
 -- the buckets of one key
 unfoldable pub row_message : NumTree → List ℕ
-row_message row = repeated field.data_bucket bucket_message row.buckets ++ key_fields row.leaves row.slices
+row_message row = repeated_field field.data_bucket bucket_message row.buckets ++ key_fields row.leaves row.slices
 
 -- a field of an atom, by what it holds
 abbrev pub part_with : ℕ → PartBody → List ℕ
@@ -106,27 +106,27 @@ atom_message atom = bytes_field atom.id (flat_map part_field atom.parts)
 unfoldable pub samples_message : AtomBucket → List ℕ
 samples_message bucket =
     varint_field field.bucket_start bucket.start
-    ++ (varint_field field.bucket_end bucket.end ++ repeated field.bucket_atom atom_message bucket.atoms)
+    ++ (varint_field field.bucket_end bucket.end ++ repeated_field field.bucket_atom atom_message bucket.atoms)
 
 -- the buckets of one key of a gauge
 unfoldable pub gauge_message : GaugeTree → List ℕ
-gauge_message row = repeated field.data_bucket samples_message row.buckets ++ key_fields row.leaves row.slices
+gauge_message row = repeated_field field.data_bucket samples_message row.buckets ++ key_fields row.leaves row.slices
 
 -- an atom and when it was logged
 unfoldable pub event_message : EventTree → List ℕ
 event_message event = varint_field field.event_time event.at ++ bytes_field field.event_atom (atom_message event.atom)
 
 -- rows of a metric, in a field that is there even if there is no row
-abbrev pub wrapped : {X : Type 0} → ℕ → (X → List ℕ) → List X → List ℕ
-wrapped number message rows = bytes_field number (repeated field.wrapper_data message rows)
+abbrev pub wrapper_field : {X : Type 0} → ℕ → (X → List ℕ) → List X → List ℕ
+wrapper_field number message rows = bytes_field number (repeated_field field.wrapper_data message rows)
 
 -- the rows of a metric, in a field by the metric's kind
 abbrev pub rows_field : MetricBody → List ℕ
-rows_field (Events rows) = wrapped field.shown_events event_message rows
-rows_field (Counts rows) = wrapped field.shown_counts row_message rows
-rows_field (Durations rows) = wrapped field.shown_durations row_message rows
-rows_field (Values rows) = wrapped field.shown_values row_message rows
-rows_field (Gauges rows) = wrapped field.shown_gauges gauge_message rows
+rows_field (Events rows) = wrapper_field field.shown_events event_message rows
+rows_field (Counts rows) = wrapper_field field.shown_counts row_message rows
+rows_field (Durations rows) = wrapper_field field.shown_durations row_message rows
+rows_field (Values rows) = wrapper_field field.shown_values row_message rows
+rows_field (Gauges rows) = wrapper_field field.shown_gauges gauge_message rows
 
 -- how long a bucket is; an event metric has none
 abbrev pub size_field : MetricBody → ℕ → List ℕ
@@ -161,14 +161,14 @@ key_message tree = signed_field field.key_uid tree.uid ++ signed_field field.key
 -- the fields that say what full tables dropped
 abbrev pub drops_fields : ReportTree → List ℕ
 drops_fields tree =
-    repeated field.report_predicate_drops drop_message tree.predicate_drops
-    ++ (repeated field.report_state_drops drop_message tree.state_drops
+    repeated_field field.report_predicate_drops drop_message tree.predicate_drops
+    ++ (repeated_field field.report_state_drops drop_message tree.state_drops
     ++ field_if_above field.report_dropped_state_atoms tree.state_atoms_dropped)
 
 -- the part of a report that speaks of one configuration
 unfoldable pub config_message : ReportTree → List ℕ
 config_message tree =
-    repeated field.report_metric metric_message tree.metrics
+    repeated_field field.report_metric metric_message tree.metrics
     ++ (varint_field field.report_last tree.last ++ (varint_field field.report_now tree.now ++ drops_fields tree))
 
 -- a report

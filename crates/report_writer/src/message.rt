@@ -1,7 +1,7 @@
 //! Messages: each is written into a buffer of its own, and then goes whole into the message around it.
 ghost use Rattle.std.specs.Prelude.{◌≡◌, ℕ, ℤ, ◌≤◌, ◌<◌, ◌^◌, ◌++◌, List, All, OnOk};
 ghost use Rattle.proto_wire.specs.Spelling.{bytes_field};
-ghost use Rattle.report_writer.specs.ReportSpelling.{signed_field, field_if_above, repeated, wrapped};
+ghost use Rattle.report_writer.specs.ReportSpelling.{signed_field, field_if_above, repeated_field, wrapper_field};
 
 use crate::numbers::WRAPPER_DATA;
 use proto_wire::Writer;
@@ -70,7 +70,7 @@ pub fn put_messages<T: Message>(
     requires named { 1 ≤ number }
     requires fits { number < 2 ^ 29 }
     requires writable { All T.is_writable items.now }
-    ensures { OnOk result (out.new ≡ out.old ++ repeated number T.spelled items.now) }
+    ensures { OnOk result (out.new ≡ out.old ++ repeated_field number T.spelled items.now) }
 {
     for item in items {
         put_message(alloc, out, number, item)?;
@@ -88,7 +88,7 @@ pub fn put_wrapped<T: Message>(
     requires named { 1 ≤ number }
     requires fits { number < 2 ^ 29 }
     requires writable { All T.is_writable rows.now }
-    ensures { OnOk result (out.new ≡ out.old ++ wrapped number T.spelled rows.now) }
+    ensures { OnOk result (out.new ≡ out.old ++ wrapper_field number T.spelled rows.now) }
 {
     let mut wrapper = Writer::new(alloc);
     put_messages(alloc, &mut wrapper, WRAPPER_DATA, rows)?;

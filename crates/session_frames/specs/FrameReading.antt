@@ -146,14 +146,14 @@ frame_of_kind kind bytes =
     else Err (UnknownKind kind)
 
 -- a frame of the log doesn't come before the clock, and stays below the hour
-abbrev pub timed : ℕ → ℕ → Frame → Result Frame FrameFault
-timed clock kind (Log frame) =
+abbrev pub in_time : ℕ → ℕ → Frame → Result Frame FrameFault
+in_time clock kind (Log frame) =
     if nat_lt (log_time frame) clock then Err (TimeBackwards clock (log_time frame))
     else if not (nat_lt (log_time frame) hour) then Err (UnknownKind kind)
     else Ok (Log frame)
-timed clock kind frame = Ok frame
+in_time clock kind frame = Ok frame
 
 -- the frame that is a kind byte and its body, where the clock stands at a time
 abbrev pub frame_of : ℕ → List ℕ → Result Frame FrameFault
 frame_of clock [] = Err BadLength
-frame_of clock (kind ∷ body) = frame_of_kind kind body >>= timed clock kind
+frame_of clock (kind ∷ body) = frame_of_kind kind body >>= in_time clock kind

@@ -347,7 +347,7 @@ fn time_of(frame: &LogFrame) -> u64
 
 // The same frame, unless it is of the log and comes before the clock or after the hour.
 fn check_time(clock: u64, kind: u8, frame: Frame) -> Result<Frame, BodyError>
-    ensures exact { GivesBy fault_in (λ frame. frame) result (frames.timed clock kind frame) }
+    ensures exact { GivesBy fault_in (λ frame. frame) result (frames.in_time clock kind frame) }
     ensures sound { HasSoundBody frame → IfOk result (λ f. IsFaultless f × IsInTime clock f) }
 {
     match frame {

@@ -1,7 +1,1 @@
-pub mod Fields
-pub mod HubLemmas
-pub mod ListLemmas
-pub mod InstanceLemmas
-pub mod LivesLemmas
-pub mod OpenLemmas
 pub mod RunLemmas

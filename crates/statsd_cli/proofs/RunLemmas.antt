@@ -17,31 +17,35 @@ use Rattle.session_frames.specs.Reader.{Reading, unread, IsInStep, FitsSession, 
 use Rattle.session_frames.proofs.FrameLaws.{whole_takes, Begins-more, Begins-push, Reads-from_Begins, Begins_clock, Begins_bytes, some_reading, some_frames, one_frames, frames_of-Reads, frames_of-too_much, Begins-from_Reads, session_fault-other}
 use Rattle.session_frames.specs.declared.reply.Reply.{Reply}
 use Rattle.session_frames.specs.Replies.{reply_bytes}
-use Rattle.session_meaning.specs.Log.{clock_from, clock_of}
-use Rattle.session_meaning.specs.Answers.{reply_to, text}
-use Rattle.session_meaning.proofs.AnswerLaws.{text-push}
-use Rattle.statsd_cli.specs.declared.hub.Hub.{Hub}
+use Rattle.hub_meaning.specs.SessionLog.{clock_from, clock_of}
+use Rattle.matcher_eval.specs.declared.field_judge.FieldJudge.{FieldJudge}
+use Rattle.matcher_eval.specs.AtomTests.{matcher_holds}
+use Rattle.hub_meaning.specs.ClientAnswers.{reply_to, text}
+use Rattle.hub_meaning.proofs.ClientAnswerLaws.{text-push}
+use Rattle.hub_core.specs.declared.hub.Hub.{Hub}
 use Rattle.statsd_cli.specs.declared.top.Ending.{Ending}
 use Rattle.statsd_cli.specs.declared.top.Ending.TheVariants.{Done, BadSession, ReadFault, WriteFault, NoMemory}
-use Rattle.statsd_cli.specs.Hub.{HubStandsFor}
+use Rattle.hub_core.specs.HubStands.{HubStandsFor}
 use Rattle.statsd_cli.specs.Run.{IsBadSession, IsRun, status_of, reply_text, IsServed, ending_by}
 
 -- A run under way: these frames were served, of the bytes taken.
-pub record IsAlong (left_old left_new old new : Option (List ℕ)) (reader : Reading) (hub : Hub) : Type 0 where
-  pub frames : List Frame
-  pub taken : List ℕ
-  pub consumes : Consumes left_old left_new taken
-  pub begins : Begins start taken frames reader.place reader.pending
-  pub in_step : IsInStep reader left_new
-  pub stands : HubStandsFor hub frames
-  pub written : Appends old new (text frames)
+pub record IsAlong (left_old left_new old new : Option (List ℕ)) (reader : Reading) (hub : Hub FieldJudge) : Type 0
+  where
+    pub frames : List Frame
+    pub taken : List ℕ
+    pub consumes : Consumes left_old left_new taken
+    pub begins : Begins start taken frames reader.place reader.pending
+    pub in_step : IsInStep reader left_new
+    pub stands : HubStandsFor matcher_holds hub frames
+    pub written : Appends old new (text matcher_holds frames)
 
 clock_is : (clock : ℕ) (frames : List Frame) → fold clock_after clock frames ≡ clock_from clock frames
 clock_is clock [] = refl
 clock_is clock (frame ∷ frames) = clock_is (clock_after clock frame) frames
 
 -- at the beginning nothing was served
-pub begins_along : (left old : Option (List ℕ)) (reader : Reading) (hub : Hub) → reader ≡ unread → HubStandsFor hub []
+pub begins_along : (left old : Option (List ℕ)) (reader : Reading) (hub : Hub FieldJudge) → reader ≡ unread
+    → HubStandsFor matcher_holds hub []
     → IsAlong left left old old reader hub
 unfolding text
 begins_along left old reader hub is stands = record {
@@ -56,239 +60,243 @@ begins_along left old reader hub is stands = record {
 }
 
 -- the replies to more frames come after
-text_after : (frames others : List Frame) → (more : List ℕ) × (text (frames ++ others) ≡ text frames ++ more)
-text_after frames [] = ([], ap text (append-nil frames) ∙ sym (append-nil (text frames)))
+text_after : (frames others : List Frame)
+    → (more : List ℕ) × (text matcher_holds (frames ++ others) ≡ text matcher_holds frames ++ more)
+text_after frames [] = ([], ap (text matcher_holds) (append-nil frames) ∙ sym (append-nil (text matcher_holds frames)))
 text_after frames (frame ∷ others) =
     let rest = text_after (frames ++ frame ∷ []) others in (
       reply_text frames frame ++ rest.0,
-      ap text (sym (append_assoc frames (frame ∷ []) others)) ∙ rest.1 ∙ ap (λ l. l ++ rest.0) (text-push frames frame)
-          ∙ append_assoc (text frames) (reply_text frames frame) rest.0,
+      ap (text matcher_holds) (sym (append_assoc frames (frame ∷ []) others)) ∙ rest.1
+          ∙ ap (λ l. l ++ rest.0) (text-push matcher_holds frames frame)
+          ∙ append_assoc (text matcher_holds frames) (reply_text frames frame) rest.0,
     )
 
-no_text : text [] ≡ []
+no_text : text matcher_holds [] ≡ []
 unfolding text
 no_text = refl
 
-module _ (lo ln o n : Option (List ℕ)) (reader : Reading) (hub : Hub) (a : IsAlong lo ln o n reader hub) where
-  -- all the bytes taken, with more
-  all_with : List ℕ → List ℕ
-  all_with more = a.taken ++ more
+module _ (lo ln o n : Option (List ℕ)) (reader : Reading) (hub : Hub FieldJudge) (a : IsAlong lo ln o n reader hub)
+  where
+    -- all the bytes taken, with more
+    all_with : List ℕ → List ℕ
+    all_with more = a.taken ++ more
 
-  within_all : (more : List ℕ) → FitsSession reader.place (reader.pending ++ more)
-      → length (a.taken ++ more) ≤ most_input
-  within_all more within =
-      omega (
-        arith,
-        within,
-        Begins_bytes start a.taken a.frames reader.place reader.pending a.begins,
-        length-append a.taken more,
-        length-append reader.pending more,
-      )
-
-  further : (more : List ℕ) → Begins start (a.taken ++ more) a.frames reader.place (reader.pending ++ more)
-  further more = Begins-more start a.taken a.frames reader.place reader.pending more a.begins
-
-  -- the clock of the reader is that of the frames
-  pub clock_along : reader.place.clock ≡ clock_of a.frames
-  clock_along = Begins_clock start a.taken a.frames reader.place reader.pending a.begins ∙ clock_is 0 a.frames
-
-  -- a reader that has read nothing gave no frame
-  none_yet : reader ≡ unread → (a.frames ≡ []) × (a.taken ≡ [])
-  none_yet is =
-      let bytes = Begins_bytes start a.taken a.frames reader.place reader.pending a.begins in
-      let at : reader.place.bytes ≡ 0 = ap (λ (r : Reading). r.place.bytes) is in
-      let pending : length reader.pending ≡ 0 = ap (λ (r : Reading). length r.pending) is in
-      let len : length a.taken ≡ 0 = omega (arith, bytes, at, pending) in
-      let none : a.taken ≡ [] = nil_from_length a.taken len in
-      (no_frames a.frames a.taken reader.place reader.pending a.begins len, none) where
-        no_frames : (frames : List Frame) (taken : List ℕ) (place : Place) (rest : List ℕ)
-            → Begins start taken frames place rest → length taken ≡ 0 → frames ≡ []
-        no_frames [] taken place rest h len = refl
-        no_frames (frame ∷ frames) taken place rest h len = absurd (omega (arith, whole_takes 0 taken frame h.0 h.1))
-
-  -- the source ended
-  pub ends_done : (lm : Option (List ℕ)) (after : Reading) → GivesFrame ln lm reader after None → IsRun lo lm o n Done
-  ends_done lm after g = record {
-    taken = a.taken ++ g.taken;
-    consumes = Consumes-trans lo ln lm a.taken g.taken a.consumes g.consumes;
-    outcome = record {
-      frames = a.frames;
-      session = frames_of-Reads (a.taken ++ g.taken) a.frames Clean (within_all g.taken g.within)
-          (subst (λ all. Reads start (a.taken ++ g.taken) all Clean) (append-nil a.frames)
-          (Reads-from_Begins start (a.taken ++ g.taken) a.frames reader.place (reader.pending ++ g.taken) [] Clean
-          (further g.taken) g.next.0));
-      at_end = g.next.1;
-      written = a.written;
-    };
-  }
-
-  -- the session has a fault
-  bad : (lm : Option (List ℕ)) (at : ℕ) (fault : SessionFault) (taken : List ℕ) → Consumes ln lm taken
-      → IsFaultNext at fault reader (reader.pending ++ taken) lm
-      → IsRun lo lm o n (BadSession at fault)
-  bad lm at fault taken consumes h = record {
-    taken = a.taken ++ taken;
-    consumes = Consumes-trans lo ln lm a.taken taken a.consumes consumes;
-    outcome = record {
-      frames = a.frames;
-      session = frames_of-Reads (a.taken ++ taken) a.frames (Bad at fault) (within_all taken h.within)
-          (subst (λ all. Reads start (a.taken ++ taken) all (Bad at fault)) (append-nil a.frames)
-          (Reads-from_Begins start (a.taken ++ taken) a.frames reader.place (reader.pending ++ taken) [] (Bad at fault)
-          (further taken) (h.placed, h.broken)));
-      whole = inr h.at_end;
-      written = a.written;
-    };
-  }
-
-  -- the session is too long
-  too_long : (lm : Option (List ℕ)) (at : ℕ) (fault : SessionFault) (taken : List ℕ) → Consumes ln lm taken
-      → IsTooMuch at fault reader (reader.pending ++ taken)
-      → IsRun lo lm o n (BadSession at fault)
-  too_long lm at fault taken consumes h =
-      let none = none_yet h.first in
-      let pending : reader.pending ≡ [] = ap (λ (r : Reading). r.pending) h.first in
-      let same : reader.pending ++ taken ≡ a.taken ++ taken = ap (λ l. l ++ taken) (pending ∙ sym none.1) in
-      let much : IsTrue (is_too_much (a.taken ++ taken)) = subst (λ l. IsTrue (is_too_much l)) same h.too_much in
-      let at_most : frames_of (a.taken ++ taken) [] (Bad at TooManyFrames) =
-      subst (λ place. frames_of (a.taken ++ taken) [] (Bad place TooManyFrames)) (sym h.placed)
-      (frames_of-too_much (a.taken ++ taken) much) in
-      record {
-        taken = a.taken ++ taken;
-        consumes = Consumes-trans lo ln lm a.taken taken a.consumes consumes;
-        outcome = record {
-          frames = [];
-          session = subst (λ told. frames_of (a.taken ++ taken) [] (Bad at told)) (sym h.is) at_most;
-          whole = inl h.is;
-          written = subst (λ all. Appends o n (text all)) none.0 a.written;
-        };
-      }
-
-  -- memory was wanting, where the bytes are a session's, or before any frame
-  short_within : (lm : Option (List ℕ)) (taken : List ℕ) → Consumes ln lm taken
-      → FitsSession reader.place (reader.pending ++ taken) → IsRun lo lm o n NoMemory
-  short_within lm taken consumes within =
-      let others = some_reading reader.place (reader.pending ++ taken) in
-      record {
-        taken = a.taken ++ taken;
-        consumes = Consumes-trans lo ln lm a.taken taken a.consumes consumes;
-        outcome = record {
-          answered = a.frames;
-          others = others.0;
-          end = others.1;
-          session = frames_of-Reads (a.taken ++ taken) (a.frames ++ others.0) others.1 (within_all taken within)
-              (Reads-from_Begins start (a.taken ++ taken) a.frames reader.place (reader.pending ++ taken) others.0
-              others.1 (further taken) others.2);
-          written = a.written;
-        };
-      }
-
-  short_before : (lm : Option (List ℕ)) (taken : List ℕ) → Consumes ln lm taken → reader ≡ unread
-      → IsRun lo lm o n NoMemory
-  short_before lm taken consumes is =
-      let all = some_frames (a.taken ++ taken) in
-      record {
-        taken = a.taken ++ taken;
-        consumes = Consumes-trans lo ln lm a.taken taken a.consumes consumes;
-        outcome = record {
-          answered = [];
-          others = all.0;
-          end = all.1;
-          session = all.2;
-          written =
-              subst (λ frames. Appends o n (text frames)) (none_yet is).0 a.written;
-        };
-      }
-
-  -- the reader gave no frame
-  pub ends_refused : (lm : Option (List ℕ)) (e : FrameError) → Refuses ln lm reader e → IsRun lo lm o n (ending_by e)
-  ends_refused lm (errors.Session at fault) r =
-      ⊎_elim (bad lm at fault r.taken r.consumes) (too_long lm at fault r.taken r.consumes) r.cause
-  ends_refused lm errors.Read r = record {
-    taken = a.taken ++ r.taken;
-    consumes = Consumes-trans lo ln lm a.taken r.taken a.consumes r.consumes;
-    outcome = subst (Appends o n) no_text (subst (λ frames. Appends o n (text frames)) (none_yet r.cause).0 a.written);
-  }
-  ends_refused lm errors.Memory r = ⊎_elim (short_within lm r.taken r.consumes) (short_before lm r.taken r.consumes)
-      r.cause
-
-  module _ (lm : Option (List ℕ)) (after : Reading) (frame : Frame) (g : GivesFrame ln lm reader after (Some frame))
-      (m : Option (List ℕ)) where
-    one_more : Begins start (a.taken ++ g.taken) (a.frames ++ frame ∷ []) after.place after.pending
-    one_more =
-        subst (λ place. Begins start (a.taken ++ g.taken) (a.frames ++ frame ∷ []) place after.pending) (sym g.next.1)
-        (Begins-push start (a.taken ++ g.taken) a.frames reader.place (reader.pending ++ g.taken) frame after.pending
-        (further g.taken) g.next.0)
-
-    -- the place is further on, and within what a session may have
-    pub comes_nearer : (most_input + 1) - after.place.bytes < (most_input + 1) - reader.place.bytes
-    comes_nearer =
-        let place : after.place.bytes ≡ reader.place.bytes
-        + (length (reader.pending ++ g.taken) - length after.pending) = ap (λ (p : Place). p.bytes) g.next.1 in
+    within_all : (more : List ℕ) → FitsSession reader.place (reader.pending ++ more)
+        → length (a.taken ++ more) ≤ most_input
+    within_all more within =
         omega (
           arith,
-          place,
-          g.within,
-          whole_takes reader.place.clock (reader.pending ++ g.taken) frame after.pending
-              g.next.0,
+          within,
+          Begins_bytes start a.taken a.frames reader.place reader.pending a.begins,
+          length-append a.taken more,
+          length-append reader.pending more,
         )
 
-    -- the frame was served
-    pub goes_on : (new : Hub) → IsServed n m a.frames frame (Ok new) → IsAlong lo lm o m after new
-    goes_on new served = record {
-      frames = a.frames ++ frame ∷ [];
+    further : (more : List ℕ) → Begins start (a.taken ++ more) a.frames reader.place (reader.pending ++ more)
+    further more = Begins-more start a.taken a.frames reader.place reader.pending more a.begins
+
+    -- the clock of the reader is that of the frames
+    pub clock_along : reader.place.clock ≡ clock_of a.frames
+    clock_along = Begins_clock start a.taken a.frames reader.place reader.pending a.begins ∙ clock_is 0 a.frames
+
+    -- a reader that has read nothing gave no frame
+    none_yet : reader ≡ unread → (a.frames ≡ []) × (a.taken ≡ [])
+    none_yet is =
+        let bytes = Begins_bytes start a.taken a.frames reader.place reader.pending a.begins in
+        let at : reader.place.bytes ≡ 0 = ap (λ (r : Reading). r.place.bytes) is in
+        let pending : length reader.pending ≡ 0 = ap (λ (r : Reading). length r.pending) is in
+        let len : length a.taken ≡ 0 = omega (arith, bytes, at, pending) in
+        let none : a.taken ≡ [] = nil_from_length a.taken len in
+        (no_frames a.frames a.taken reader.place reader.pending a.begins len, none) where
+          no_frames : (frames : List Frame) (taken : List ℕ) (place : Place) (rest : List ℕ)
+              → Begins start taken frames place rest → length taken ≡ 0 → frames ≡ []
+          no_frames [] taken place rest h len = refl
+          no_frames (frame ∷ frames) taken place rest h len = absurd (omega (arith, whole_takes 0 taken frame h.0 h.1))
+
+    -- the source ended
+    pub ends_done : (lm : Option (List ℕ)) (after : Reading) → GivesFrame ln lm reader after None → IsRun lo lm o n Done
+    ends_done lm after g = record {
       taken = a.taken ++ g.taken;
       consumes = Consumes-trans lo ln lm a.taken g.taken a.consumes g.consumes;
-      begins = one_more;
-      in_step = g.in_step;
-      stands = served.0;
-      written = subst (Appends o m) (sym (text-push a.frames frame))
-          (Appends-trans o n m (text a.frames) (reply_text a.frames frame) a.written served.1);
+      outcome = record {
+        frames = a.frames;
+        session = frames_of-Reads (a.taken ++ g.taken) a.frames Clean (within_all g.taken g.within)
+            (subst (λ all. Reads start (a.taken ++ g.taken) all Clean) (append-nil a.frames)
+            (Reads-from_Begins start (a.taken ++ g.taken) a.frames reader.place (reader.pending ++ g.taken) [] Clean
+            (further g.taken) g.next.0));
+        at_end = g.next.1;
+        written = a.written;
+      };
     }
 
-    whole_session : (others : List Frame) (end : End) → Reads after.place after.pending others end
-        → frames_of (a.taken ++ g.taken) ((a.frames ++ frame ∷ []) ++ others) end
-    whole_session others end reads =
-        frames_of-Reads (a.taken ++ g.taken) ((a.frames ++ frame ∷ []) ++ others) end (within_all g.taken g.within)
-        (Reads-from_Begins start (a.taken ++ g.taken) (a.frames ++ frame ∷ []) after.place after.pending others end
-        one_more reads)
+    -- the session has a fault
+    bad : (lm : Option (List ℕ)) (at : ℕ) (fault : SessionFault) (taken : List ℕ) → Consumes ln lm taken
+        → IsFaultNext at fault reader (reader.pending ++ taken) lm
+        → IsRun lo lm o n (BadSession at fault)
+    bad lm at fault taken consumes h = record {
+      taken = a.taken ++ taken;
+      consumes = Consumes-trans lo ln lm a.taken taken a.consumes consumes;
+      outcome = record {
+        frames = a.frames;
+        session = frames_of-Reads (a.taken ++ taken) a.frames (Bad at fault) (within_all taken h.within)
+            (subst (λ all. Reads start (a.taken ++ taken) all (Bad at fault)) (append-nil a.frames)
+            (Reads-from_Begins start (a.taken ++ taken) a.frames reader.place (reader.pending ++ taken) [] (Bad at fault)
+            (further taken) (h.placed, h.broken)));
+        whole = inr h.at_end;
+        written = a.written;
+      };
+    }
 
-    -- the frame wasn't served
-    pub ends_in_serve : (ending : Ending) → IsServed n m a.frames frame (Err ending) → IsRun lo lm o m ending
-    ends_in_serve Done served = absurd served
-    ends_in_serve (BadSession at fault) served = absurd served
-    ends_in_serve ReadFault served = absurd served
-    ends_in_serve WriteFault served =
-        let others = some_reading after.place after.pending in
-        let front : AppendsFront o m (text (a.frames ++ frame ∷ [])) =
-        subst (AppendsFront o m) (sym (text-push a.frames frame))
-        (front_after o n m (text a.frames) (reply_text a.frames frame) a.written served) in
-        let back = text_after (a.frames ++ frame ∷ []) others.0 in
+    -- the session is too long
+    too_long : (lm : Option (List ℕ)) (at : ℕ) (fault : SessionFault) (taken : List ℕ) → Consumes ln lm taken
+        → IsTooMuch at fault reader (reader.pending ++ taken)
+        → IsRun lo lm o n (BadSession at fault)
+    too_long lm at fault taken consumes h =
+        let none = none_yet h.first in
+        let pending : reader.pending ≡ [] = ap (λ (r : Reading). r.pending) h.first in
+        let same : reader.pending ++ taken ≡ a.taken ++ taken = ap (λ l. l ++ taken) (pending ∙ sym none.1) in
+        let much : IsTrue (is_too_much (a.taken ++ taken)) = subst (λ l. IsTrue (is_too_much l)) same h.too_much in
+        let at_most : frames_of (a.taken ++ taken) [] (Bad at TooManyFrames) =
+        subst (λ place. frames_of (a.taken ++ taken) [] (Bad place TooManyFrames)) (sym h.placed)
+        (frames_of-too_much (a.taken ++ taken) much) in
         record {
-          taken = a.taken ++ g.taken;
-          consumes = Consumes-trans lo ln lm a.taken g.taken a.consumes g.consumes;
+          taken = a.taken ++ taken;
+          consumes = Consumes-trans lo ln lm a.taken taken a.consumes consumes;
           outcome = record {
-            frames = (a.frames ++ frame ∷ []) ++ others.0;
-            end = others.1;
-            session = whole_session others.0 others.1 others.2;
-            written = subst (AppendsFront o m) (sym back.1)
-                (front_before o m (text (a.frames ++ frame ∷ [])) back.0 front);
+            frames = [];
+            session = subst (λ told. frames_of (a.taken ++ taken) [] (Bad at told)) (sym h.is) at_most;
+            whole = inl h.is;
+            written = subst (λ all. Appends o n (text matcher_holds all)) none.0 a.written;
           };
         }
-    ends_in_serve NoMemory served =
-        let others = some_reading after.place after.pending in
+
+    -- memory was wanting, where the bytes are a session's, or before any frame
+    short_within : (lm : Option (List ℕ)) (taken : List ℕ) → Consumes ln lm taken
+        → FitsSession reader.place (reader.pending ++ taken) → IsRun lo lm o n NoMemory
+    short_within lm taken consumes within =
+        let others = some_reading reader.place (reader.pending ++ taken) in
         record {
-          taken = a.taken ++ g.taken;
-          consumes = Consumes-trans lo ln lm a.taken g.taken a.consumes g.consumes;
+          taken = a.taken ++ taken;
+          consumes = Consumes-trans lo ln lm a.taken taken a.consumes consumes;
           outcome = record {
             answered = a.frames;
-            others = frame ∷ others.0;
+            others = others.0;
             end = others.1;
-            session = subst (λ all. frames_of (a.taken ++ g.taken) all others.1)
-                (append_assoc a.frames (frame ∷ []) others.0) (whole_session others.0 others.1 others.2);
-            written = subst (Appends o m) (append-nil (text a.frames))
-                (Appends-trans o n m (text a.frames) [] a.written served);
+            session = frames_of-Reads (a.taken ++ taken) (a.frames ++ others.0) others.1 (within_all taken within)
+                (Reads-from_Begins start (a.taken ++ taken) a.frames reader.place (reader.pending ++ taken) others.0
+                others.1 (further taken) others.2);
+            written = a.written;
           };
         }
+
+    short_before : (lm : Option (List ℕ)) (taken : List ℕ) → Consumes ln lm taken → reader ≡ unread
+        → IsRun lo lm o n NoMemory
+    short_before lm taken consumes is =
+        let all = some_frames (a.taken ++ taken) in
+        record {
+          taken = a.taken ++ taken;
+          consumes = Consumes-trans lo ln lm a.taken taken a.consumes consumes;
+          outcome = record {
+            answered = [];
+            others = all.0;
+            end = all.1;
+            session = all.2;
+            written =
+                subst (λ frames. Appends o n (text matcher_holds frames)) (none_yet is).0 a.written;
+          };
+        }
+
+    -- the reader gave no frame
+    pub ends_refused : (lm : Option (List ℕ)) (e : FrameError) → Refuses ln lm reader e → IsRun lo lm o n (ending_by e)
+    ends_refused lm (errors.Session at fault) r =
+        ⊎_elim (bad lm at fault r.taken r.consumes) (too_long lm at fault r.taken r.consumes) r.cause
+    ends_refused lm errors.Read r = record {
+      taken = a.taken ++ r.taken;
+      consumes = Consumes-trans lo ln lm a.taken r.taken a.consumes r.consumes;
+      outcome = subst (Appends o n) no_text (subst (λ frames. Appends o n (text matcher_holds frames))
+          (none_yet r.cause).0 a.written);
+    }
+    ends_refused lm errors.Memory r = ⊎_elim (short_within lm r.taken r.consumes) (short_before lm r.taken r.consumes)
+        r.cause
+
+    module _ (lm : Option (List ℕ)) (after : Reading) (frame : Frame) (g : GivesFrame ln lm reader after (Some frame))
+        (m : Option (List ℕ)) where
+      one_more : Begins start (a.taken ++ g.taken) (a.frames ++ frame ∷ []) after.place after.pending
+      one_more =
+          subst (λ place. Begins start (a.taken ++ g.taken) (a.frames ++ frame ∷ []) place after.pending) (sym g.next.1)
+          (Begins-push start (a.taken ++ g.taken) a.frames reader.place (reader.pending ++ g.taken) frame after.pending
+          (further g.taken) g.next.0)
+
+      -- the place is further on, and within what a session may have
+      pub comes_nearer : (most_input + 1) - after.place.bytes < (most_input + 1) - reader.place.bytes
+      comes_nearer =
+          let place : after.place.bytes ≡ reader.place.bytes
+          + (length (reader.pending ++ g.taken) - length after.pending) = ap (λ (p : Place). p.bytes) g.next.1 in
+          omega (
+            arith,
+            place,
+            g.within,
+            whole_takes reader.place.clock (reader.pending ++ g.taken) frame after.pending
+                g.next.0,
+          )
+
+      -- the frame was served
+      pub goes_on : (new : Hub FieldJudge) → IsServed n m a.frames frame (Ok new) → IsAlong lo lm o m after new
+      goes_on new served = record {
+        frames = a.frames ++ frame ∷ [];
+        taken = a.taken ++ g.taken;
+        consumes = Consumes-trans lo ln lm a.taken g.taken a.consumes g.consumes;
+        begins = one_more;
+        in_step = g.in_step;
+        stands = served.0;
+        written = subst (Appends o m) (sym (text-push matcher_holds a.frames frame))
+            (Appends-trans o n m (text matcher_holds a.frames) (reply_text a.frames frame) a.written served.1);
+      }
+
+      whole_session : (others : List Frame) (end : End) → Reads after.place after.pending others end
+          → frames_of (a.taken ++ g.taken) ((a.frames ++ frame ∷ []) ++ others) end
+      whole_session others end reads =
+          frames_of-Reads (a.taken ++ g.taken) ((a.frames ++ frame ∷ []) ++ others) end (within_all g.taken g.within)
+          (Reads-from_Begins start (a.taken ++ g.taken) (a.frames ++ frame ∷ []) after.place after.pending others end
+          one_more reads)
+
+      -- the frame wasn't served
+      pub ends_in_serve : (ending : Ending) → IsServed n m a.frames frame (Err ending) → IsRun lo lm o m ending
+      ends_in_serve Done served = absurd served
+      ends_in_serve (BadSession at fault) served = absurd served
+      ends_in_serve ReadFault served = absurd served
+      ends_in_serve WriteFault served =
+          let others = some_reading after.place after.pending in
+          let front : AppendsFront o m (text matcher_holds (a.frames ++ frame ∷ [])) =
+          subst (AppendsFront o m) (sym (text-push matcher_holds a.frames frame))
+          (front_after o n m (text matcher_holds a.frames) (reply_text a.frames frame) a.written served) in
+          let back = text_after (a.frames ++ frame ∷ []) others.0 in
+          record {
+            taken = a.taken ++ g.taken;
+            consumes = Consumes-trans lo ln lm a.taken g.taken a.consumes g.consumes;
+            outcome = record {
+              frames = (a.frames ++ frame ∷ []) ++ others.0;
+              end = others.1;
+              session = whole_session others.0 others.1 others.2;
+              written = subst (AppendsFront o m) (sym back.1)
+                  (front_before o m (text matcher_holds (a.frames ++ frame ∷ [])) back.0 front);
+            };
+          }
+      ends_in_serve NoMemory served =
+          let others = some_reading after.place after.pending in
+          record {
+            taken = a.taken ++ g.taken;
+            consumes = Consumes-trans lo ln lm a.taken g.taken a.consumes g.consumes;
+            outcome = record {
+              answered = a.frames;
+              others = frame ∷ others.0;
+              end = others.1;
+              session = subst (λ all. frames_of (a.taken ++ g.taken) all others.1)
+                  (append_assoc a.frames (frame ∷ []) others.0) (whole_session others.0 others.1 others.2);
+              written = subst (Appends o m) (append-nil (text matcher_holds a.frames))
+                  (Appends-trans o n m (text matcher_holds a.frames) [] a.written served);
+            };
+          }
 
 -- A session that is good to its end has no fault.
 much_more : (taken rest : List ℕ) → is_too_much taken ≡ true → is_too_much (taken ++ rest) ≡ true
@@ -341,7 +349,8 @@ one_word (first ∷ []) word some few is = ap (λ w. w ∷ []) (sym is)
 one_word (first ∷ second ∷ others) word some few is = absurd (omega arith)
 
 -- the bytes of a reply that there is
-pub reply_text_is : (frames : List Frame) (frame : Frame) (reply : Reply) → reply_to frames frame ≡ Some reply
+pub reply_text_is : (frames : List Frame) (frame : Frame) (reply : Reply) → reply_to matcher_holds frames frame
+    ≡ Some reply
     → reply_text frames frame ≡ reply_bytes reply
 reply_text_is frames frame reply is = ap (λ r. flat_map reply_bytes (option_to_list r)) is
     ∙ append-nil (reply_bytes reply)

@@ -9,13 +9,15 @@ use Rattle.session_frames.specs.declared.frame.SessionFault.{SessionFault}
 use Rattle.session_frames.specs.declared.frame.SessionFault.TheVariants.{TooManyFrames}
 use Rattle.session_frames.specs.Frames.{End, Clean, Bad, frames_of}
 use Rattle.session_frames.specs.Replies.{reply_bytes}
-use Rattle.session_meaning.specs.Answers.{reply_to, text}
-use Rattle.statsd_cli.specs.declared.hub.Hub.{Hub}
+use Rattle.matcher_eval.specs.declared.field_judge.FieldJudge.{FieldJudge}
+use Rattle.matcher_eval.specs.AtomTests.{matcher_holds}
+use Rattle.hub_meaning.specs.ClientAnswers.{reply_to, text}
+use Rattle.hub_core.specs.declared.hub.Hub.{Hub}
 use Rattle.statsd_cli.specs.declared.note.Note.{Note}
 use Rattle.statsd_cli.specs.declared.note.Note.TheVariants as notes
 use Rattle.statsd_cli.specs.declared.top.Ending.{Ending}
 use Rattle.statsd_cli.specs.declared.top.Ending.TheVariants.{Done, BadSession, ReadFault, WriteFault, NoMemory}
-use Rattle.statsd_cli.specs.Hub.{HubStandsFor}
+use Rattle.hub_core.specs.HubStands.{HubStandsFor}
 use Rattle.statsd_cli.specs.Note.{note_line}
 
 -- the words are `replay` alone
@@ -77,21 +79,21 @@ pub record IsDone (taken : List ℕ) (left old new : Option (List ℕ)) : Type 0
   pub frames : List Frame
   pub session : frames_of taken frames Clean
   pub at_end : IsAtEnd left
-  pub written : Appends old new (text frames)
+  pub written : Appends old new (text matcher_holds frames)
 
 -- The session has the fault after its good frames, and every command in these was answered.
 pub record IsBadSession (at : ℕ) (fault : SessionFault) (taken : List ℕ) (left old new : Option (List ℕ)) : Type 0 where
   pub frames : List Frame
   pub session : frames_of taken frames (Bad at fault)
   pub whole : IsWhole fault left
-  pub written : Appends old new (text frames)
+  pub written : Appends old new (text matcher_holds frames)
 
 -- A front of the replies to the good frames of the bytes taken was written.
 pub record IsCutShort (taken : List ℕ) (old new : Option (List ℕ)) : Type 0 where
   pub frames : List Frame
   pub end : End
   pub session : frames_of taken frames end
-  pub written : AppendsFront old new (text frames)
+  pub written : AppendsFront old new (text matcher_holds frames)
 
 -- Whole replies were written, to the commands in a front of the good frames of the bytes taken.
 pub record IsShort (taken : List ℕ) (old new : Option (List ℕ)) : Type 0 where
@@ -99,7 +101,7 @@ pub record IsShort (taken : List ℕ) (old new : Option (List ℕ)) : Type 0 whe
   pub others : List Frame
   pub end : End
   pub session : frames_of taken (answered ++ others) end
-  pub written : Appends old new (text answered)
+  pub written : Appends old new (text matcher_holds answered)
 
 -- what was taken of the input and written to the output, by how the run ended
 abbrev pub Outcome : List ℕ → Option (List ℕ) → Option (List ℕ) → Option (List ℕ) → Ending → Type 0
@@ -117,12 +119,12 @@ pub record IsRun (left_old left_new old new : Option (List ℕ)) (ending : Endin
 
 -- the bytes of the reply to a frame, if it has one
 abbrev pub reply_text : List Frame → Frame → List ℕ
-reply_text frames frame = flat_map reply_bytes (option_to_list (reply_to frames frame))
+reply_text frames frame = flat_map reply_bytes (option_to_list (reply_to matcher_holds frames frame))
 
 -- one frame was served after these: its reply was written, or why not
-abbrev pub IsServed : Option (List ℕ) → Option (List ℕ) → List Frame → Frame → Result Hub Ending → Type 0
+abbrev pub IsServed : Option (List ℕ) → Option (List ℕ) → List Frame → Frame → Result (Hub FieldJudge) Ending → Type 0
 IsServed old new frames frame (Ok hub) =
-    HubStandsFor hub (frames ++ frame ∷ []) × Appends old new (reply_text frames frame)
+    HubStandsFor matcher_holds hub (frames ++ frame ∷ []) × Appends old new (reply_text frames frame)
 IsServed old new frames frame (Err WriteFault) = AppendsFront old new (reply_text frames frame)
 IsServed old new frames frame (Err NoMemory) = Appends old new []
 IsServed old new frames frame (Err ending) = ⊥

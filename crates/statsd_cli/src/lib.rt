@@ -1,12 +1,8 @@
 //! The engine's top call: it replays a recorded session and answers each command.
 #![tactic(auto)]
 
-mod config;
-pub mod hub;
-mod instance;
 mod isolation;
 mod note;
-mod report;
 mod top;
 
 pub use isolation::clients_are_isolated;

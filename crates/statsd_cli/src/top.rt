@@ -3,15 +3,17 @@ ghost use Rattle.std.specs.Prelude.{◌≡◌, ◌≤◌, ◌⊎◌, ◌↔◌, 
 ghost use Rattle.sd_io.specs.Causes.{Rose};
 ghost use Rattle.session_frames.specs.declared.frame.Frame.{Frame};
 ghost use Rattle.session_frames.specs.Frames.{Clean, frames_of, IsFaultless, IsInTime};
-ghost use Rattle.session_meaning.specs.Log.{clock_of};
+ghost use Rattle.matcher_eval.specs.AtomTests.{matcher_holds};
+ghost use Rattle.hub_meaning.specs.SessionLog.{clock_of};
+ghost use Rattle.hub_core.specs.HubStands.{HubStandsFor};
 ghost use Rattle.statsd_cli.specs.declared.note.Note.TheVariants as notes_told;
 ghost use Rattle.statsd_cli.specs.declared.top.Ending.{Ending};
-ghost use Rattle.statsd_cli.specs.Hub.{HubStandsFor};
 ghost use Rattle.statsd_cli.specs.Run.{IsReplay, status_of, status_done, status_usage, status_read_fault, status_write_fault, status_no_memory, note_of, IsNoted, IsRun, IsServed, ending_by};
 
-use crate::hub::Hub;
 use crate::note::{Note, write_note};
 use atom_record::Bytes;
+use hub_core::Hub;
+use matcher_eval::FieldJudge;
 use sd_io::{Sink, Source};
 use session_frames::{Frame, FrameError, FrameReader, SessionFault, write_reply};
 use std::alloc::Global;
@@ -151,7 +153,7 @@ fn replay<S: Source, K: Sink>(alloc: Global, input: &mut S, out: &mut K) -> Endi
     ensures write_fault { result ≡ Ending.WriteFault → Rose (K.faults out.old) (K.faults out.new) }
 {
     let mut reader = FrameReader::new(alloc);
-    let mut hub = Hub::new(alloc);
+    let mut hub = Hub::new(alloc, FieldJudge::new());
     'frames: loop {
         let (next, frame) = match reader.next(input) {
             Ok(given) => given,
@@ -182,9 +184,14 @@ fn ending_of(e: FrameError) -> Ending
 }
 
 /// One frame comes to the hub, and its reply goes out.
-fn serve<K: Sink>(hub: Hub, frame: Frame, out: &mut K) -> Result<Hub, Ending>
-    ensures serves { (frames : List Frame) → HubStandsFor hub frames
-        → IsFaultless frame → IsInTime (clock_of frames) frame
+fn serve<K: Sink>(
+    hub: Hub<FieldJudge>,
+    frame: Frame,
+    out: &mut K,
+) -> Result<Hub<FieldJudge>, Ending>
+    requires faultless { IsFaultless frame }
+    ensures serves { (frames : List Frame) → HubStandsFor matcher_holds hub frames
+        → IsInTime (clock_of frames) frame
         → IsServed (K.written out.old) (K.written out.new) frames frame result }
     ensures write_fault { result ≡ Err Ending.WriteFault
         → Rose (K.faults out.old) (K.faults out.new) }

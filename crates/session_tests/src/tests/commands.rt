@@ -102,7 +102,7 @@ const ROWS: [(&str, &str, &str); 21] = [
     ),
     (
         "a refused install of the same id",
-        "install atom2 install-nothing atom3 cut",
+        "install atom2 install-refused atom3 cut",
         "installed unsupported two-by-3",
     ),
 ];

@@ -30,42 +30,46 @@ const ROWS: [(&str, &str, &str); 28] = [
         "1e000000_10 own config 980601 atom2 cut",
         "installed one-by-2",
     ),
-    ("no record", "install-nothing cut", "unsupported no-config"),
-    // What the client has already stays, and counts on, here and below.
+    (
+        "no record",
+        "install-nothing cut",
+        "installed 1900000000000000_06 own owner 1204_1800_2000",
+    ),
     (
         "no record, after a good install",
         "install install-nothing atom2 cut",
-        "installed unsupported one-by-2",
+        "installed replaced 1900000000000000_06 own owner 1204_1800_2002",
     ),
     (
         "a metric of another matcher",
         "1b000000_10 own 3a060801120208051a0408641002 cut",
-        "unsupported no-config",
+        "unlinked 0404_0200000000000000 no-config",
     ),
+    // What the client has already stays, and counts on, here and below.
     (
         "a metric of another matcher, after a good install",
         "install 1b000000_10 own 3a060801120208051a0408641002 atom2 cut",
-        "installed unsupported one-by-2",
+        "installed unlinked 0404_0200000000000000 one-by-2",
     ),
     (
-        "a metric with a condition",
+        "a metric with a condition that isn't there",
         "1d000000_10 own 3a060801120208051a06086410011801 cut",
-        "unsupported no-config",
+        "unlinked 0504_0100000000000000 no-config",
     ),
     (
-        "a metric with a condition, after a good install",
+        "a metric with a condition that isn't there, after a good install",
         "install 1d000000_10 own 3a060801120208051a06086410011801 atom2 cut",
-        "installed unsupported one-by-2",
+        "installed unlinked 0504_0100000000000000 one-by-2",
     ),
     (
         "an atom's id of 2^31",
         "1f000000_10 own 3a0a080112060880808080081a0408641001 cut",
-        "unsupported no-config",
+        "unlinked 0903_0100000000000000 no-config",
     ),
     (
         "an atom's id of 2^31, after a good install",
         "install 1f000000_10 own 3a0a080112060880808080081a0408641001 atom2 cut",
-        "installed unsupported one-by-2",
+        "installed unlinked 0903_0100000000000000 one-by-2",
     ),
     // The cause of a fault of the wire format, and the offset of the record at fault in the configuration.
     (

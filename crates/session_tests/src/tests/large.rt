@@ -12,7 +12,7 @@ const ROUNDS: [(&str, &str); 6] = [
         "cut",
         "3300000000000000_06 own owner 121e_0a18_0864_2a0b_0a09_1a07_0800_1002_188004 from-0 1802_2002",
     ),
-    ("install-nothing", "unsupported"),
+    ("install-refused", "unsupported"),
     ("install", "replaced"),
     ("remove", "removed"),
     ("report", "no-config"),
@@ -21,10 +21,10 @@ const ROUNDS: [(&str, &str); 6] = [
 /// An atom of the id 5 with 4096 bytes, at 2.
 const LONG_ATOM: &str = "09100000_02_0200000000000000_05000000_0100000005f50f 00*4085";
 
-/// Eleven configurations of the client 1, and one of each of fifty clients more. No client is full so far.
+/// Ten configurations of the client 1, which is then full, and one of each of fifty clients more.
 fn owners(alloc: Global) -> Result<Vec<Owner>, AllocError> {
     let mut owners = Vec::new(alloc);
-    for id in 1..12 {
+    for id in 1..11 {
         owners.push(Owner { uid: 1, id })?;
     }
     for uid in 2..52 {

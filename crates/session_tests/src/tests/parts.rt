@@ -15,11 +15,12 @@ pub struct Owner {
 pub const TEN: Owner = Owner { uid: 10, id: 7 };
 
 /// Frames and replies by name. The configuration counts the atoms of id 5 in the metric 100, by a matcher of id 1.
-const PARTS: [(&str, &str); 26] = [
+const PARTS: [(&str, &str); 28] = [
     ("config", "3a060801120208051a0408641001"),
     ("install", "1b000000_10 own 3a060801120208051a0408641001"),
-    // Of no record, which is another form than the one that is understood.
+    // Of no record, and one that asks for what isn't supported: an activation of metrics.
     ("install-nothing", "0d000000_10 own"),
+    ("install-refused", "10000000_10 own 8a0100"),
     ("atom2", "0d000000_02_0200000000000000_05000000"),
     ("atom3", "0d000000_02_0300000000000000_05000000"),
     // Another id, at 2 and at 3.
@@ -34,9 +35,11 @@ const PARTS: [(&str, &str); 26] = [
     ("cut", "0e000000_12 own 01"),
     ("installed", "0d00000000000000_01 own"),
     ("replaced", "0d00000000000000_02 own"),
-    // Refused: another form, or a fault of the wire format, whose cause and offset follow.
-    ("unsupported", "0f00000000000000_03 own 0300"),
+    // Refused: what isn't supported, a fault of the wire format, whose cause and offset follow, or of references, whose
+    // number, reason and value follow.
+    ("unsupported", "1300000000000000_03 own 0301_11000000"),
     ("malformed", "1300000000000000_03 own 02"),
+    ("unlinked", "1800000000000000_03 own 04"),
     ("removed", "0d00000000000000_04 own"),
     ("no-config", "0d00000000000000_05 own"),
     // A report without a bucket, or with one: its begin, its end and its count follow.

@@ -1,8 +1,8 @@
 use Rattle.std.proofs.Common.{ℕ, drop, ◌+◌, sym, subst, arith}
 use Rattle.std.proofs.lemmas.List.{length-replicate}
 use Rattle.field_select.specs.LeafValues.{field_indexes}
-use Rattle.field_select.specs.Ends.{end_index}
-use Rattle.field_select.proofs.TableLemmas.{AreEnds, none_noted, entry_noted}
+use Rattle.field_select.specs.FieldEnds.{end_index}
+use Rattle.field_select.proofs.EndTableLemmas.{AreEnds, none_noted, entry_noted}
 use Rattle.field_select.proofs.ends.ends_of.Goals as goal
 
 -- before the first entry

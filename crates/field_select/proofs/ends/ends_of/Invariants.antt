@@ -1,6 +1,6 @@
 use Rattle.std.proofs.Common.{◌≡◌, ℕ, ◌<◌, length, drop, slice_index}
 use Rattle.field_select.specs.LeafValues.{field_indexes}
-use Rattle.field_select.specs.Ends.{nearer_index, end_index}
+use Rattle.field_select.specs.FieldEnds.{nearer_index, end_index}
 use Rattle.field_select.proofs.ends.ends_of.Given as goal
 
 -- of each field the nearest index so far, or a nearer one of what is left, is the nearest of all

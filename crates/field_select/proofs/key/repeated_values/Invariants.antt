@@ -1,6 +1,6 @@
 use Rattle.std.proofs.Common.{◌≡◌, ◌++◌, drop}
 use Rattle.field_select.specs.LeafValues.{picked_values}
-use Rattle.field_select.specs.Ends.{picked_from}
+use Rattle.field_select.specs.FieldEnds.{picked_from}
 use Rattle.field_select.proofs.key.repeated_values.Given as goal
 
 -- the values so far, and those that the leaf picks of what is left, are all that it picks

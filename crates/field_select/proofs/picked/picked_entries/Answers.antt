@@ -1,7 +1,7 @@
 use Rattle.std.proofs.Common.{◌≡◌, ◌∙◌, arith, rules}
 use Rattle.std.proofs.lemmas.Grind.{common_steps}
 use Rattle.field_select.specs.LeafValues.{some_leaf_picks}
-use Rattle.field_select.proofs.TableLemmas.{picks_by_tables}
+use Rattle.field_select.proofs.EndTableLemmas.{picks_by_tables}
 use Rattle.field_select.proofs.picked.picked_entries.Goals.{then-some_picks+in_ok-duplicate+in_ok-push, else-some_picks}
 use Rattle.field_select.proofs.picked.picked_entries.Goals as goal
 

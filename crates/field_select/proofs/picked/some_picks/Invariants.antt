@@ -1,6 +1,6 @@
 use Rattle.std.proofs.Common.{◌≡◌, drop}
 use Rattle.std.specs.List.{list_any}
-use Rattle.field_select.specs.Ends.{picks_by_ends}
+use Rattle.field_select.specs.FieldEnds.{picks_by_ends}
 use Rattle.field_select.proofs.picked.some_picks.Given as goal
 
 -- the leaves that are left decide

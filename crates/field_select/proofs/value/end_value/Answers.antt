@@ -1,5 +1,5 @@
 use Rattle.std.specs.Option.{option_copied}
-use Rattle.field_select.proofs.WalkLemmas.{walk_ends}
+use Rattle.field_select.proofs.EndWalkLemmas.{walk_ends}
 use Rattle.field_select.proofs.value.end_value.Goals as goal
 
 -- the walk has read all entries

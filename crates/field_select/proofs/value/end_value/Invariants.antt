@@ -1,6 +1,6 @@
 use Rattle.std.proofs.Common.{◌≡◌, drop, None}
 use Rattle.std.specs.Option.{option_copied}
-use Rattle.field_select.specs.Ends.{nearest_after}
+use Rattle.field_select.specs.FieldEnds.{nearest_after}
 use Rattle.field_select.proofs.value.end_value.Given as goal
 
 -- with what was found so far the walk over what is left finds what the whole walk finds

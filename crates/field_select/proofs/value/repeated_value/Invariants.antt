@@ -1,6 +1,6 @@
 use Rattle.std.proofs.Common.{◌≡◌, drop}
 use Rattle.field_select.specs.LeafValues.{picked_values}
-use Rattle.field_select.specs.Ends.{picked_from}
+use Rattle.field_select.specs.FieldEnds.{picked_from}
 use Rattle.field_select.proofs.value.repeated_value.Given as goal
 
 -- the first value in what is left is the first of all

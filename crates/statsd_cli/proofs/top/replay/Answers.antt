@@ -6,7 +6,7 @@ use Rattle.statsd_cli.proofs.top.replay.Goals as goal
 
 pub frames-init : goal.frames-init
 frames-init g c = record {
-  along = begins_along _ _ _ _ c.new-reader.ensures c.new-hub.ensures;
+  along = begins_along _ _ _ _ c.new-reader.ensures c.new-hub.ensures.stands;
   reads = omega arith;
   writes = omega arith;
 }
@@ -38,7 +38,7 @@ frames-preserved g c =
     record {
       along = goes_on _ _ _ _ c.frames.reader c.frames.hub along _ c.in-Ok.given.0 c.in-Some.frame
           (rw c.in-Some.is at (c.in-Ok.ensures.gives along.in_step)) _ c.in-Ok-serve.served
-          (c.in-Ok-serve.ensures.serves along.frames along.stands good.0 in_time);
+          (c.in-Ok-serve.ensures.serves along.frames along.stands in_time);
       reads = omega (arith, c.frames.invariant.reads, c.in-Ok.ensures.cause.later);
       writes = omega (arith, c.frames.invariant.writes, c.in-Ok-serve.ensures.later);
     }
@@ -51,4 +51,4 @@ returns-in-Err-serve-clause-run g c =
     good.1 in
     ends_in_serve _ _ _ _ c.frames.reader c.frames.hub along _ c.in-Ok.given.0 c.in-Some.frame
     (rw c.in-Some.is at (c.in-Ok.ensures.gives along.in_step)) _ c.in-Err-serve.ending
-    (c.in-Err-serve.ensures.serves along.frames along.stands good.0 in_time)
+    (c.in-Err-serve.ensures.serves along.frames along.stands in_time)

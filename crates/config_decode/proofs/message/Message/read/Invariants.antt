@@ -1,6 +1,6 @@
 -- The records so far and those that are left are all of them.
 use Rattle.std.proofs.Common.{◌≡◌, ◌++◌, length, map}
-use Rattle.proto_wire.specs.Fields.{seen}
+use Rattle.proto_wire.specs.Fields.{field_view}
 use Rattle.proto_wire.specs.WireReading.{walk_from}
 use Rattle.config_decode.specs.Short.{HaveShortPayloads}
 use Rattle.config_decode.specs.Values.{records_of}
@@ -8,8 +8,8 @@ use Rattle.config_decode.proofs.message.Message.read.Given as goal
 
 abbrev pub invariant-loop-field : goal.invariant-loop-field
 invariant-loop-field l = record {
-  read : map seen l.message-inside.records.items ++ (walk_from l.records).fields ≡ records_of l.bytes;
-  short : HaveShortPayloads (map seen l.message-inside.records.items);
+  read : map field_view l.message-inside.records.items ++ (walk_from l.records).fields ≡ records_of l.bytes;
+  short : HaveShortPayloads (map field_view l.message-inside.records.items);
 }
 
 abbrev pub decreases-loop-field : goal.decreases-loop-field

@@ -1,7 +1,7 @@
 use Rattle.std.proofs.Common.{◌≡◌, map, take}
-use Rattle.proto_wire.specs.Fields.{seen}
+use Rattle.proto_wire.specs.Fields.{field_view}
 use Rattle.config_decode.specs.Values as values
 use Rattle.config_decode.proofs.message.Message.varints.Given as goal
 
 abbrev pub invariant-loop-field : goal.invariant-loop-field
-invariant-loop-field l = l.numbers.items ≡ values.numbers l.number (map seen (take l.field-index l.field-items))
+invariant-loop-field l = l.numbers.items ≡ values.numbers l.number (map field_view (take l.field-index l.field-items))

@@ -3,7 +3,7 @@ use Rattle.std.proofs.Common.{◌≡◌, ◌<◌, ◌-◌, ℕ, List, length, tr
 use Rattle.std.specs.Prelude.{◌==◌}
 use Rattle.std.proofs.lemmas.Bool.{eqb-true, eqb-false}
 use Rattle.std.proofs.lemmas.Result.{err_from_is_err_and}
-use Rattle.proto_wire.specs.Fields.{Rest, seen}
+use Rattle.proto_wire.specs.Fields.{Rest, field_view}
 use Rattle.proto_wire.proofs.NextLaws as laws
 use Rattle.proto_wire.proofs.records.Records.next.Goals as goal
 
@@ -51,19 +51,19 @@ pub returns-clause-grammar : goal.returns-clause-grammar
 returns-clause-grammar c =
     laws.field-exactly c.args.self.now _ _ (laws.parts-read c.self.inside.end c.self.inside.depth
     c.self.inside.bytes.now c.in_ok-field.after.now c.args.self.now
-    (seen c.in_ok-field.field) c.self.view_is c.self.invariant.0 c.in_ok-field.ensures)
+    (field_view c.in_ok-field.field) c.self.view_is c.self.invariant.0 c.in_ok-field.ensures)
 
 pub returns-clause-written : goal.returns-clause-written
 returns-clause-written c =
     laws.field-written c.args.self.now _ _ (laws.parts-read c.self.inside.end c.self.inside.depth
     c.self.inside.bytes.now c.in_ok-field.after.now c.args.self.now
-    (seen c.in_ok-field.field) c.self.view_is c.self.invariant.0 c.in_ok-field.ensures)
+    (field_view c.in_ok-field.field) c.self.view_is c.self.invariant.0 c.in_ok-field.ensures)
 
 pub returns-clause-walk : goal.returns-clause-walk
 returns-clause-walk c =
     laws.field-walk c.args.self.now _ _ (laws.parts-read c.self.inside.end c.self.inside.depth c.self.inside.bytes.now
     c.in_ok-field.after.now c.args.self.now
-    (seen c.in_ok-field.field) c.self.view_is c.self.invariant.0 c.in_ok-field.ensures)
+    (field_view c.in_ok-field.field) c.self.view_is c.self.invariant.0 c.in_ok-field.ensures)
     (some_left c.self.inside.bytes.now c.args.self.now (ap (λ
     (r : Rest). r.bytes) c.self.view_is) c.if-is_empty.ensures)
 
@@ -74,7 +74,7 @@ returns-clause-step c =
     (r : Rest). r.at) c.self.view_is in
     laws.field-step c.args.self.now _ _ (laws.parts-read c.self.inside.end c.self.inside.depth c.self.inside.bytes.now
     c.in_ok-field.after.now c.args.self.now
-    (seen c.in_ok-field.field) c.self.view_is c.self.invariant.0 c.in_ok-field.ensures) (omega (
+    (field_view c.in_ok-field.field) c.self.view_is c.self.invariant.0 c.in_ok-field.ensures) (omega (
       arith,
       ap length bytes_is,
       c.self.invariant.0,

@@ -1,0 +1,2 @@
+//! What the two books of the log mean: snapshots of recorded pulls, and states. Definitions alone.
+#![tactic(auto)]

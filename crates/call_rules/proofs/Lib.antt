@@ -1,0 +1,6 @@
+pub mod RuleLemmas
+pub mod LaneReach
+pub mod LaneCrossing
+pub mod LaneCallsLemmas
+pub mod ClockBehind
+mod Worked

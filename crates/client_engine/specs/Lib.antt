@@ -1,0 +1,5 @@
+pub mod Leaves
+pub mod Groups
+pub mod TrackStands
+pub mod Tracks
+pub mod InstanceStands

@@ -1,0 +1,34 @@
+//! Which configurations are acted on so far.
+ghost use Rattle.std.specs.Prelude.{◌≡◌};
+ghost use Rattle.std.specs.List.{list_all};
+ghost use Rattle.metric_meaning.specs.Forms.{is_built, is_built_metric};
+
+use config_links::{LKind, LMetric, Linked};
+
+/// Whether a configuration is acted on: any matchers, no predicates and no states, and metrics that count without a
+/// condition.
+pub fn built(linked: &Linked) -> bool
+    ensures { result ≡ is_built linked.now }
+{
+    let metrics = are_acted_on(linked.metrics.as_slice());
+    linked.predicates.is_empty() && linked.states.is_empty() && metrics
+}
+
+// Whether all metrics are acted on.
+fn are_acted_on(metrics: &[LMetric]) -> bool
+    ensures { result ≡ list_all is_built_metric metrics.now }
+{
+    metrics.iter().all(|metric| is_acted_on(metric))
+}
+
+// Whether a metric is acted on.
+fn is_acted_on(metric: &LMetric) -> bool
+    ensures { result ≡ is_built_metric metric.now }
+{
+    match metric.kind {
+        LKind::Count => {
+            metric.condition.is_none() && metric.links.is_empty() && metric.slices.is_empty()
+        }
+        _ => false,
+    }
+}

@@ -1,0 +1,12 @@
+//! Conditions in three values: combinations of predicates over what their tables say, and links to what is counted.
+#![tactic(auto)]
+
+mod joined;
+mod laws;
+mod links;
+mod search;
+
+pub use joined::combine3;
+pub use laws::each_truth_is_made_of_others;
+pub use links::{bind_atom, bind_key};
+pub use search::{MOST_PREDICATES, query};

@@ -1,0 +1,115 @@
+//! What a link asks of its predicate.
+ghost use Rattle.std.specs.Prelude.{◌≡◌, IfOk, OnOk, length, slice_get, position, map};
+ghost use Rattle.std.specs.Option.{option_copied};
+ghost use Rattle.field_select.specs.FieldSets.{same_leaf};
+ghost use Rattle.field_select.specs.LeafValues.{key_of};
+ghost use Rattle.condition_links.specs.LinkBinds.{binds_of, with_next, leaf_or_missing, value_at_leaf, key_values_at};
+
+use atom_record::{Atom, DimKey, Leaf};
+use config_links::LLink;
+use field_select::{FieldSet, LeafPath, key_of};
+use predicate_state::{Bind, BindList};
+use sd_base::{Duplicate, Seq};
+use std::alloc::{AllocError, Global};
+
+/// What a link asks of its predicate for an atom that is counted.
+pub fn bind_atom(alloc: Global, link: &LLink, atom: &Atom) -> Result<BindList, AllocError>
+    ensures { IfOk result (λ binds. binds ≡ binds_of link.now.places (key_of link.now.in_what atom.now)) }
+{
+    let key = key_of(alloc, &link.in_what, atom)?;
+    binds_of(alloc, link.places.as_slice(), key)
+}
+
+/// What a link asks of its predicate for a key of another predicate, whose values are those of the leaves of `inner`.
+pub fn bind_key(
+    alloc: Global,
+    link: &LLink,
+    inner: &FieldSet,
+    key: &DimKey,
+) -> Result<BindList, AllocError>
+    ensures { IfOk result (λ binds.
+        binds ≡ binds_of link.now.places (key_values_at inner.now key.now link.now.in_what)) }
+{
+    let values = values_at(
+        alloc,
+        inner.leaves.as_slice(),
+        key.as_slice(),
+        link.in_what.leaves.as_slice(),
+    )?;
+    binds_of(alloc, link.places.as_slice(), values)
+}
+
+// The values that a key of some leaves has at others.
+fn values_at(
+    alloc: Global,
+    leaves: &[LeafPath],
+    values: &[Leaf],
+    others: &[LeafPath],
+) -> Result<DimKey, AllocError>
+    ensures { IfOk result (λ key.
+        key ≡ map (λ leaf. value_at_leaf leaves.now values.now leaf) others.now) }
+{
+    let mut key = Seq::new(alloc);
+    for leaf in others {
+        let value = value_at_leaf(alloc, leaves, values, leaf)?;
+        key.push(value)?;
+    }
+    Ok(key)
+}
+
+// Each place with the value that has its turn.
+fn binds_of(alloc: Global, places: &[u32], values: DimKey) -> Result<BindList, AllocError>
+    ensures { IfOk result (λ binds. binds ≡ binds_of places.now values) }
+{
+    let mut binds = Seq::new(alloc);
+    for value in values.into_vec() {
+        bind_next(&mut binds, places, value)?;
+    }
+    Ok(binds)
+}
+
+// Binds the place that comes next, if there is one.
+fn bind_next(binds: &mut BindList, places: &[u32], value: Leaf) -> Result<(), AllocError>
+    ensures { OnOk result
+        (binds.new ≡ with_next (slice_get places.now (length binds.old)) value binds.old) }
+{
+    match places.get(binds.len()) {
+        Some(place) => binds.push(Bind {
+            place: *place,
+            value,
+        }),
+        None => Ok(()),
+    }
+}
+
+// The first place at which a leaf stands.
+fn place_of(leaves: &[LeafPath], leaf: &LeafPath) -> Option<usize>
+    ensures { result ≡ position (λ other. same_leaf other leaf.now) leaves.now }
+{
+    leaves.iter().position(|other| *other == *leaf)
+}
+
+// A copy of what was found.
+fn copy_of(alloc: Global, found: Option<&Leaf>) -> Result<Leaf, AllocError>
+    ensures { IfOk result (λ copy. copy ≡ leaf_or_missing (option_copied found.entry)) }
+{
+    match found {
+        Some(leaf) => leaf.duplicate(alloc),
+        None => Ok(Leaf::Missing),
+    }
+}
+
+// The value that a key has at a leaf.
+fn value_at_leaf(
+    alloc: Global,
+    leaves: &[LeafPath],
+    values: &[Leaf],
+    leaf: &LeafPath,
+) -> Result<Leaf, AllocError>
+    ensures { IfOk result (λ value. value ≡ value_at_leaf leaves.now values.now leaf.now) }
+{
+    match place_of(leaves, leaf) {
+        Some(place) => copy_of(alloc, values.get(place)),
+        None => Ok(Leaf::Missing),
+    }
+}

@@ -1,0 +1,78 @@
+//! The truth of a condition.
+ghost use Rattle.std.specs.Prelude.{◌≡◌, ℕ, ◌<◌, ◌≤◌, length, map, slice_index_or, slice_get, Some, None};
+ghost use Rattle.link_graph.specs.Links.{AreInRange, HasNoCycle};
+ghost use Rattle.link_graph.specs.Depth.{EndsWithin};
+ghost use Rattle.condition_links.specs.Conditions.{predicate_names, condition_of, predicate_truth, table_truth_at, IsSoundTree, AreTables};
+ghost use Rattle.condition_links.specs.FoundTruths.{AreFound};
+
+use crate::joined::Seen;
+use config_links::{CondTree, LPredBody, LPredicate};
+use predicate_state::{BindList, PredTable, Truth};
+
+/// The most predicates that a configuration has.
+pub const MOST_PREDICATES: usize = 300;
+
+/// The truth of the condition. Each predicate is asked or joined at most once, and no memory is taken.
+pub fn query(tree: &CondTree, tables: &[PredTable], binds: &[BindList]) -> Truth
+    requires sound { IsSoundTree tree.now }
+    requires tables { AreTables tree.now.nodes tables.now binds.now }
+    ensures { result ≡ condition_of tree.now tables.now binds.now }
+{
+    let Some(root) = tree.root else {
+        return Truth::True;
+    };
+    let nodes = tree.nodes.as_slice();
+    let mut found = [None; MOST_PREDICATES];
+    find(nodes, tables, binds, root as usize, nodes.len(), &mut found)
+}
+
+// The truth at a place from which fewer references lead down than `depth`. What is found is kept in `found`.
+fn find(
+    nodes: &[LPredicate],
+    tables: &[PredTable],
+    binds: &[BindList],
+    at: usize,
+    depth: usize,
+    found: &mut [Option<Truth>],
+) -> Truth
+    requires few { length nodes.now ≤ length found.old }
+    requires tables { AreTables nodes.now tables.now binds.now }
+    requires here { at < length nodes.now }
+    requires in_range { AreInRange (predicate_names nodes.now) }
+    requires no_cycle { HasNoCycle (predicate_names nodes.now) }
+    requires depth { EndsWithin (predicate_names nodes.now) depth at }
+    requires found { AreFound (predicate_truth tables.now binds.now nodes.now) found.old }
+    ensures truth { result ≡ predicate_truth tables.now binds.now nodes.now at }
+    ensures found { AreFound (predicate_truth tables.now binds.now nodes.now) found.new }
+{
+    if let Some(truth) = found[at] {
+        return truth;
+    }
+    let truth = match &nodes[at].body {
+        LPredBody::Simple {
+            start: _,
+            stop: _,
+            stop_all: _,
+            dims: _,
+            spec: _,
+        } => ask(tables, binds, at),
+        LPredBody::Combo { op, children } => {
+            let mut seen = Seen::NONE;
+            for child in children.as_slice() {
+                seen = seen.with(find(nodes, tables, binds, *child as usize, depth - 1, found));
+            }
+            seen.joined(*op)
+        }
+    };
+    found[at] = Some(truth);
+    truth
+}
+
+// What the table at a place says under the binds there.
+fn ask(tables: &[PredTable], binds: &[BindList], at: usize) -> Truth
+    requires table { at < length tables.now }
+    requires list { at < length binds.now }
+    ensures { result ≡ table_truth_at tables.now binds.now at }
+{
+    tables[at].any(binds[at].as_slice())
+}

@@ -1,0 +1,11 @@
+pub mod LinkReasons
+pub mod LinkedForm
+pub mod LinkScopes
+pub mod MetricTrees
+pub mod MetricLinks
+pub mod MetricSlices
+pub mod MetricKinds
+pub mod LinkMetrics
+pub mod Verdict
+pub mod SoundConfig
+pub mod SoundLaws

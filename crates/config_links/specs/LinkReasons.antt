@@ -1,0 +1,105 @@
+-- What a matcher, a predicate or a state can't be: each reason with its test.
+use Rattle.std.specs.Prelude.{ℕ, ℤ, pos, ◌==◌, Bool, true, false, not, List, [], ◌∷◌, length, Option, Some, None, is_none}
+use Rattle.std.specs.Option.{option_map, unwrap_or}
+use Rattle.std.specs.List.{list_all}
+use Rattle.config_types.specs.declared.fields.FieldMatcher.{FieldMatcher}
+use Rattle.config_types.specs.declared.matcher.MatcherDef.{MatcherDef}
+use Rattle.config_types.specs.declared.matcher.MatcherBody.{MatcherBody}
+use Rattle.config_types.specs.declared.matcher.MatcherBody.TheVariants as matcher
+use Rattle.config_types.specs.declared.matcher.Operation.{Operation}
+use Rattle.config_types.specs.declared.matcher.Operation.TheVariants.{Not}
+use Rattle.config_types.specs.declared.predicate.PredicateDef.{PredicateDef}
+use Rattle.config_types.specs.declared.predicate.PredicateBody.{PredicateBody}
+use Rattle.config_types.specs.declared.predicate.PredicateBody.TheVariants as predicate
+use Rattle.config_types.specs.declared.state.StateDef.{StateDef}
+use Rattle.config_types.specs.Askable.{greatest_atom_id, is_set_up_to, is_askable_test}
+use Rattle.field_select.specs.declared.leaf.FieldSet.{FieldSet}
+use Rattle.field_select.specs.WellFormed.{is_well_formed, set_of}
+use Rattle.link_rules.specs.declared.fault.LinkFault.{LinkFault}
+use Rattle.link_rules.specs.LinkFaults.{fault, first_reason}
+
+-- an entity isn't what it should be; the value is its id
+abbrev pub bad_type : ℕ
+bad_type = 9
+
+-- the fault of an entity of this id for a reason
+abbrev pub type_fault : Option ℤ → ℕ → LinkFault
+type_fault id reason = fault bad_type reason (unwrap_or id (pos 0))
+
+-- the fault of an entity of this id, for the least reason whose test holds
+abbrev pub least_reason : Option ℤ → List (ℕ × Bool) → Option LinkFault
+least_reason id reasons = option_map (type_fault id) (first_reason reasons)
+
+-- an operation has a child, and NOT has one
+abbrev pub takes_children : Operation → ℕ → Bool
+takes_children Not count = count == 1
+takes_children _ count = not (count == 0)
+
+-- a combination has an operation, which takes so many children
+abbrev pub is_combo : Option Operation → ℕ → Bool
+is_combo (Some op) count = takes_children op count
+is_combo None count = false
+
+-- a number is the id of an atom
+abbrev pub names_atom : Option ℤ → Bool
+names_atom id = is_set_up_to greatest_atom_id id
+
+-- a tree that is absent has no leaves
+abbrev pub set_or_none : Option FieldMatcher → FieldSet
+set_or_none (Some tree) = set_of tree
+set_or_none None = record { atom_id = 0; leaves = [] }
+
+-- a tree that is absent isn't ill-formed
+abbrev pub may_stand : Option FieldMatcher → Bool
+may_stand (Some tree) = is_well_formed tree
+may_stand None = true
+
+-- a matcher's combination isn't one
+abbrev pub has_bad_combo : Option MatcherBody → Bool
+has_bad_combo (Some (matcher.Combo combo)) = not (is_combo combo.op (length combo.children))
+has_bad_combo _ = false
+
+-- a simple matcher names no atom
+abbrev pub has_bad_atom : Option MatcherBody → Bool
+has_bad_atom (Some (matcher.Simple simple)) = not (names_atom simple.atom_id)
+has_bad_atom _ = false
+
+-- a simple matcher has a test that can't be asked
+abbrev pub has_bad_test : Option MatcherBody → Bool
+has_bad_test (Some (matcher.Simple simple)) = not (list_all is_askable_test simple.tests)
+has_bad_test _ = false
+
+-- the reasons of a matcher
+abbrev pub matcher_reasons : Option MatcherBody → List (ℕ × Bool)
+matcher_reasons body =
+    (1, is_none body) ∷ (2, has_bad_combo body) ∷ (3, has_bad_atom body) ∷ (4, has_bad_test body) ∷ []
+
+-- a matcher
+abbrev pub bad_matcher : MatcherDef → Option LinkFault
+bad_matcher def = least_reason def.id (matcher_reasons def.body)
+
+-- a predicate's combination isn't one
+abbrev pub has_bad_children : Option PredicateBody → Bool
+has_bad_children (Some (predicate.Combo combo)) = not (is_combo combo.op (length combo.children))
+has_bad_children _ = false
+
+-- a simple predicate has ill-formed dimensions
+abbrev pub has_bad_dims : Option PredicateBody → Bool
+has_bad_dims (Some (predicate.Simple simple)) = not (may_stand simple.dims)
+has_bad_dims _ = false
+
+-- the reasons of a predicate
+abbrev pub predicate_reasons : Option PredicateBody → List (ℕ × Bool)
+predicate_reasons body = (1, is_none body) ∷ (2, has_bad_children body) ∷ (5, has_bad_dims body) ∷ []
+
+-- a predicate
+abbrev pub bad_predicate : PredicateDef → Option LinkFault
+bad_predicate def = least_reason def.id (predicate_reasons def.body)
+
+-- the reasons of a state
+abbrev pub state_reasons : StateDef → List (ℕ × Bool)
+state_reasons def = (3, not (names_atom def.atom_id)) ∷ []
+
+-- a state
+abbrev pub bad_state : StateDef → Option LinkFault
+bad_state def = least_reason def.id (state_reasons def)

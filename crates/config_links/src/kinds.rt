@@ -1,0 +1,188 @@
+//! What a kind of metric has of its own.
+ghost use Rattle.std.specs.Prelude.{◌≡◌, Some, None, if◌then◌else◌};
+ghost use Rattle.std.specs.Option.{option_map};
+ghost use Rattle.link_rules.specs.LinkFaults.{Links};
+ghost use Rattle.link_rules.specs.declared.entities.Kind.TheVariants as kind_of;
+ghost use Rattle.config_links.specs.LinkReasons.{set_or_none};
+ghost use Rattle.config_links.specs.MetricTrees.{own_tree};
+ghost use Rattle.config_links.specs.MetricSlices.{is_pulled_kind};
+ghost use Rattle.config_links.specs.MetricKinds as words;
+
+use crate::LKind;
+use crate::reasons::{place_of_option, type_fault};
+use crate::scope::Scope;
+use config_types::{DiffSpec, Position, PredSpec, Sampling, SamplingType};
+use field_select::{FieldSet, LeafPath};
+use link_rules::{GaugeParts, Kind, LinkError, ValueParts, samples_of};
+
+// How no table is kept.
+const NO_SPEC: PredSpec = PredSpec {
+    nesting: false,
+    unknown: false,
+    bound: 0,
+    leaves: 0,
+};
+
+// The leaf of a value, where there is one alone, which picks one entry.
+fn value_leaf(leaves: &[LeafPath]) -> Option<LeafPath>
+    ensures { result ≡ (if words.is_value_set leaves.now
+        then Some (words.first_leaf leaves.now) else None) }
+{
+    match leaves {
+        [leaf] if leaf.position != Some(Position::All) => Some(*leaf),
+        _ => None,
+    }
+}
+
+// Whether it may be said so whether differences are counted.
+fn may_diff(pulled: bool, diff: Option<bool>) -> bool
+    ensures { result ≡ words.may_diff pulled diff }
+{
+    match diff {
+        None => true,
+        Some(diff) => diff == pulled,
+    }
+}
+
+// The values of a metric of this id, or its least reason from 14 on.
+#[tactic(auto, unfolding(crate::specs::MetricKinds::bad_kind))]
+fn value_in(
+    id: Option<i64>,
+    pulled: bool,
+    links: usize,
+    own: FieldSet,
+    value: &ValueParts,
+) -> Result<LKind, LinkError>
+    requires { own ≡ set_or_none value.now.field }
+    ensures { Links result (words.bad_kind id pulled links (kind_of.Value value.now))
+        (words.value_form pulled value.now own) }
+{
+    let Some(leaf) = value_leaf(own.leaves.as_slice()) else {
+        return Err(LinkError::Fault(type_fault(id, 14)));
+    };
+    if !may_diff(pulled, value.diff) {
+        return Err(LinkError::Fault(type_fault(id, 15)));
+    }
+    if pulled && links != 0 {
+        return Err(LinkError::Fault(type_fault(id, 16)));
+    }
+    if pulled {
+        return Ok(LKind::PulledValue {
+            atom_id: own.atom_id,
+            leaf,
+            spec: DiffSpec {
+                agg: value.agg,
+                direction: value.direction,
+                abs_reset: value.abs_reset,
+                skip_zero: value.skip_zero,
+                zero_base: value.zero_base,
+            },
+        });
+    }
+    Ok(LKind::PushedValue {
+        atom_id: own.atom_id,
+        leaf,
+        agg: value.agg,
+    })
+}
+
+// Whether a gauge may take its samples so.
+fn may_sample(pulled: bool, sampling: SamplingType, trigger: Option<i64>) -> bool
+    ensures { result ≡ words.may_sample pulled sampling trigger }
+{
+    match sampling {
+        SamplingType::FirstN => pulled || trigger.is_none(),
+        SamplingType::ChangeToTrue => pulled && trigger.is_none(),
+        SamplingType::RandomOne => trigger.is_none(),
+    }
+}
+
+// When a pulled gauge takes its samples.
+fn sampling_mode(sampling: SamplingType, trigger: Option<u32>) -> Sampling
+    ensures { result ≡ words.sampling_mode sampling trigger }
+{
+    match sampling {
+        SamplingType::ChangeToTrue => Sampling::AtChange,
+        SamplingType::FirstN if trigger.is_some() => Sampling::AtTrigger,
+        SamplingType::FirstN | SamplingType::RandomOne => Sampling::AtStart,
+    }
+}
+
+// The samples of a metric of this id, or its least reason from 16 on.
+#[tactic(auto, unfolding(crate::specs::MetricKinds::bad_kind))]
+fn gauge_in(
+    scope: &Scope,
+    id: Option<i64>,
+    pulled: bool,
+    links: usize,
+    own: FieldSet,
+    gauge: &GaugeParts,
+) -> Result<LKind, LinkError>
+    requires own { own ≡ set_or_none gauge.now.fields }
+    requires few { words.TakesFew (kind_of.Gauge gauge.now) }
+    ensures { Links result (words.bad_kind id pulled links (kind_of.Gauge gauge.now))
+        (words.gauge_form scope.now pulled gauge.now own) }
+{
+    if pulled && links != 0 {
+        return Err(LinkError::Fault(type_fault(id, 16)));
+    }
+    if !gauge.include_all && own.leaves.is_empty() {
+        return Err(LinkError::Fault(type_fault(id, 17)));
+    }
+    if !may_sample(pulled, gauge.sampling, gauge.trigger) {
+        return Err(LinkError::Fault(type_fault(id, 18)));
+    }
+    let fields = if gauge.include_all { None } else { Some(own) };
+    let samples = samples_of(gauge) as u32;
+    if pulled {
+        let trigger = place_of_option(&scope.ids.matchers, gauge.trigger);
+        return Ok(LKind::PulledGauge {
+            fields,
+            samples,
+            mode: sampling_mode(gauge.sampling, trigger),
+            trigger,
+        });
+    }
+    Ok(LKind::PushedGauge { fields, samples })
+}
+
+// The times of a metric, whose predicate's table is kept so.
+fn duration_in(max_sparse: bool, spec: PredSpec) -> LKind
+    ensures { result ≡ words.duration_form max_sparse spec }
+{
+    if max_sparse {
+        LKind::MaxSparse { spec }
+    } else {
+        LKind::SumDuration { spec }
+    }
+}
+
+/// What is linked of a kind of metric, whose own tree has this set, or the least reason from 14 to 18.
+#[tactic(auto, unfolding(crate::specs::MetricKinds::bad_kind, crate::specs::MetricKinds::linked_kind))]
+pub fn kind_in(
+    scope: &Scope,
+    id: Option<i64>,
+    what: i64,
+    bound: u32,
+    links: usize,
+    own: FieldSet,
+    kind: &Kind,
+) -> Result<LKind, LinkError>
+    requires own { own ≡ set_or_none (own_tree kind.now) }
+    requires few { words.TakesFew kind.now }
+    ensures { Links result
+        (words.bad_kind id (is_pulled_kind scope.now kind.now what) links kind.now)
+        (words.linked_kind scope.now what bound kind.now) }
+{
+    match kind {
+        Kind::Event => Ok(LKind::Event),
+        Kind::Count => Ok(LKind::Count),
+        Kind::Value(value) => value_in(id, scope.names_pulled(what), links, own, value),
+        Kind::Gauge(gauge) => gauge_in(scope, id, scope.names_pulled(what), links, own, gauge),
+        Kind::Duration { max_sparse } => {
+            // What a duration times is a simple predicate: that was judged.
+            let spec = scope.spec_of(what).unwrap_or(NO_SPEC);
+            Ok(duration_in(*max_sparse, PredSpec { bound, ..spec }))
+        }
+    }
+}

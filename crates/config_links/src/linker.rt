@@ -1,0 +1,135 @@
+//! A configuration, linked.
+ghost use Rattle.std.specs.Prelude.{◌≡◌, None, map, IfOk};
+ghost use Rattle.std.specs.List.{All};
+ghost use Rattle.link_graph.specs.Links.{AreInRange};
+ghost use Rattle.link_rules.specs.declared.entities.Metric.{Metric};
+ghost use Rattle.link_rules.specs.LinkFaults.{Links};
+ghost use Rattle.link_rules.specs.LinkRules.{ids_in, rule_fault};
+ghost use Rattle.config_links.specs.LinkedForm.{linked_matcher, linked_predicate, linked_state};
+ghost use Rattle.config_links.specs.LinkMetrics.{linked_metric};
+ghost use Rattle.config_links.specs.LinkScopes.{named_predicates};
+ghost use Rattle.config_links.specs.MetricKinds.{TakesFew};
+ghost use Rattle.config_links.specs.SoundConfig.{IsSoundConfig};
+ghost use Rattle.config_links.specs.Verdict.{verdict, linked_form, entities_linked, bad_part_fault, bad_metric_fault, bad_type_fault, hidden_fault};
+
+use crate::matchers::matchers_in;
+use crate::metrics::metrics_in;
+use crate::predicates::predicates_in;
+use crate::reasons::BAD_TYPE;
+use crate::scope::Scope;
+use crate::states::states_in;
+use crate::{LMatcher, LMetric, LPredicate, LState, Linked};
+use config_types::{Config, MatcherDef, PredicateDef, StateDef};
+use link_rules::{
+    Entities, Ids, Known, LinkError, LinkFault, Metric, checked_ids, first_unknown_child, gather,
+    refuse,
+};
+use sd_base::Seq;
+use std::alloc::Global;
+
+// The linked matchers, predicates and states, or the first reason of these.
+#[tactic(auto, unfolding(crate::specs::Verdict::bad_part_fault))]
+fn parts_in(
+    alloc: Global,
+    ids: &Ids,
+    matchers: Seq<MatcherDef>,
+    predicates: Seq<PredicateDef>,
+    states: Seq<StateDef>,
+) -> Result<(Seq<LMatcher>, Seq<LPredicate>, Seq<LState>), LinkError>
+    ensures { Links result (bad_part_fault matchers predicates states) (
+      map (linked_matcher ids.now.matchers) matchers,
+      map (linked_predicate ids.now.matchers ids.now.predicates) predicates,
+      map linked_state states,
+    ) }
+{
+    let matchers = matchers_in(alloc, &ids.matchers, matchers)?;
+    let predicates = predicates_in(alloc, &ids.matchers, &ids.predicates, predicates)?;
+    let states = states_in(alloc, states)?;
+    Ok((matchers, predicates, states))
+}
+
+// The first id without a metric, among those of metrics that no report shows.
+fn hidden_fault(known: &Known, no_report: &[i64]) -> Option<LinkFault>
+    ensures { result ≡ hidden_fault known.now no_report.now }
+{
+    let value = first_unknown_child(known, no_report)?;
+    Some(LinkFault {
+        number: BAD_TYPE,
+        reason: 19,
+        value,
+    })
+}
+
+// The linked metrics, or the first reason of these and of those that no report shows.
+#[tactic(auto, unfolding(crate::specs::Verdict::bad_metric_fault))]
+fn last_in(
+    alloc: Global,
+    scope: &Scope,
+    uid: i32,
+    no_report: &[i64],
+    metrics: &[Metric],
+) -> Result<Seq<LMetric>, LinkError>
+    requires in_range { AreInRange (map named_predicates scope.now.predicates) }
+    requires few { All (λ (metric : Metric). TakesFew metric.kind) metrics.now }
+    ensures { Links result
+        (bad_metric_fault scope.now scope.now.ids.metrics metrics.now no_report.now)
+        (map (linked_metric scope.now uid no_report.now) metrics.now) }
+{
+    let linked = metrics_in(alloc, scope, uid, no_report, metrics)?;
+    refuse(hidden_fault(&scope.ids.metrics, no_report))?;
+    Ok(linked)
+}
+
+// The linked entities, or the first reason.
+#[tactic(auto, using(crate::proofs::ReadyLemmas::few_samples), unfolding(crate::specs::Verdict::bad_type_fault, crate::specs::Verdict::matchers_linked, crate::specs::Verdict::predicates_linked, crate::specs::Verdict::states_linked, crate::specs::Verdict::metrics_linked))]
+fn entities_in(alloc: Global, ids: Ids, entities: Entities, uid: i32) -> Result<Linked, LinkError>
+    requires ids { ids ≡ ids_in entities }
+    requires ready { rule_fault entities ≡ None }
+    ensures { Links result (bad_type_fault entities) (entities_linked entities uid) }
+{
+    let (matchers, predicates, states) = parts_in(
+        alloc,
+        &ids,
+        entities.matchers,
+        entities.predicates,
+        entities.states,
+    )?;
+    let scope = Scope {
+        ids,
+        matchers,
+        predicates,
+        states,
+    };
+    let no_report = entities.no_report;
+    let metrics = last_in(
+        alloc,
+        &scope,
+        uid,
+        no_report.as_slice(),
+        entities.metrics.as_slice(),
+    )?;
+    Ok(Linked {
+        matchers: scope.matchers,
+        predicates: scope.predicates,
+        states: scope.states,
+        metrics,
+    })
+}
+
+// The configuration, linked, or its first fault.
+#[tactic(auto, unfolding(crate::specs::Verdict::verdict, crate::specs::Verdict::linked_form))]
+fn linked_config(alloc: Global, config: Config, uid: i32) -> Result<Linked, LinkError>
+    ensures { Links result (verdict config) (linked_form config uid) }
+{
+    let entities = gather(alloc, config)?;
+    let ids = checked_ids(alloc, &entities)?;
+    entities_in(alloc, ids, entities, uid)
+}
+
+/// Looks up the references of a client's configuration, or names its first fault.
+pub fn link(alloc: Global, config: Config, uid: i32) -> Result<Linked, LinkError>
+    ensures linked { Links result (verdict config) (linked_form config uid) }
+    ensures sound { IfOk result IsSoundConfig }
+{
+    linked_config(alloc, config, uid)
+}

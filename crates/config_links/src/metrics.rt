@@ -1,0 +1,212 @@
+//! Metrics, linked.
+ghost use Rattle.std.specs.Prelude.{◌≡◌, map};
+ghost use Rattle.std.specs.List.{All};
+ghost use Rattle.link_graph.specs.Links.{AreInRange};
+ghost use Rattle.link_rules.specs.declared.entities.Metric.{Metric};
+ghost use Rattle.link_rules.specs.LinkFaults.{Links, first_in};
+ghost use Rattle.config_links.specs.LinkScopes.{named_predicates};
+ghost use Rattle.config_links.specs.MetricLinks.{bad_links};
+ghost use Rattle.config_links.specs.LinkReasons.{set_or_none};
+ghost use Rattle.config_links.specs.MetricTrees.{own_tree};
+ghost use Rattle.link_rules.specs.EntityLimits.{bound_or_default};
+ghost use Rattle.config_links.specs.MetricSlices.{linked_slices};
+ghost use Rattle.config_links.specs.MetricKinds.{linked_kind, TakesFew};
+ghost use Rattle.config_links.specs.LinkMetrics as words;
+
+use crate::asked::are_asked;
+use crate::kinds::kind_in;
+use crate::links::{are_even, links_in};
+use crate::predicates::bound_or_default;
+use crate::reasons::{place_of_option, type_fault};
+use crate::scope::Scope;
+use crate::sets::{StateLinkSets, sets_in};
+use crate::slices::{refuse_times, slices_in};
+use crate::{LKind, LLink, LMetric, LSlice};
+use config_types::{TimeUnit, bucket_nanos};
+use field_select::FieldSet;
+use link_rules::{Kind, LinkError, Metric};
+use sd_base::Seq;
+use std::alloc::Global;
+
+/// What is linked of a metric before its slices and its kind.
+#[derive(Debug, Drop)]
+pub struct MetricParts {
+    /// The id of what it counts or times.
+    pub what: i64,
+    pub dims: FieldSet,
+    pub links: Seq<LLink>,
+    pub state_links: Seq<StateLinkSets>,
+}
+
+// The sets, links and name of a metric, and the set of its kind, or its least reason from 5 to 9.
+#[tactic(auto, unfolding(crate::specs::MetricLinks::bad_links))]
+fn parts_in(
+    alloc: Global,
+    scope: &Scope,
+    metric: &Metric,
+) -> Result<(MetricParts, FieldSet), LinkError>
+    requires { AreInRange (map named_predicates scope.now.predicates) }
+    ensures { Links result (bad_links scope.now metric.now)
+        (words.metric_parts scope.now metric.now, set_or_none (own_tree metric.now.kind)) }
+{
+    let id = metric.common.id;
+    let sets = sets_in(alloc, metric)?;
+    if !are_even(sets.links.as_slice()) {
+        return Err(LinkError::Fault(type_fault(id, 6)));
+    }
+    if !are_asked(alloc, scope, metric.common.condition, sets.links.as_slice())? {
+        return Err(LinkError::Fault(type_fault(id, 7)));
+    }
+    let links = links_in(alloc, scope, id, sets.links)?;
+    let Some(what) = metric.common.what else {
+        return Err(LinkError::Fault(type_fault(id, 9)));
+    };
+    let parts = MetricParts {
+        what,
+        dims: sets.dims,
+        links,
+        state_links: sets.state_links,
+    };
+    Ok((parts, sets.own))
+}
+
+// The place of what a metric counts, or of the predicate that a duration times.
+#[tactic(auto, unfolding(crate::specs::LinkMetrics::what_place))]
+fn what_place(scope: &Scope, kind: &Kind, what: i64) -> u32
+    ensures { result ≡ words.what_place scope.now kind.now what }
+{
+    match kind {
+        Kind::Duration { .. } => scope.ids.predicates.place_in(what),
+        _ => scope.ids.matchers.place_in(what),
+    }
+}
+
+// The length of a bucket in nanoseconds.
+#[tactic(auto, unfolding(crate::specs::LinkMetrics::bucket_size))]
+fn bucket_size(uid: i32, kind: &Kind, bucket: Option<TimeUnit>) -> u64
+    ensures { result ≡ words.bucket_size uid kind.now bucket }
+{
+    match kind {
+        Kind::Event => 0,
+        _ => bucket_nanos(bucket, uid),
+    }
+}
+
+// How many keys a bucket admits.
+#[tactic(auto, unfolding(crate::specs::LinkMetrics::bucket_bound))]
+fn bucket_bound(kind: &Kind, bound: Option<i32>) -> u32
+    ensures { result ≡ words.bucket_bound kind.now bound }
+{
+    match kind {
+        Kind::Event => 1,
+        _ => bound_or_default(bound),
+    }
+}
+
+// A metric with these parts, slices and kind.
+fn metric_of(
+    scope: &Scope,
+    uid: i32,
+    no_report: &[i64],
+    metric: &Metric,
+    parts: MetricParts,
+    slices: Seq<LSlice>,
+    kind: LKind,
+) -> LMetric
+    requires slices { slices ≡
+        linked_slices scope.now parts.state_links metric.now.sliced.slices }
+    requires kind { kind ≡ linked_kind scope.now parts.what
+        (bound_or_default metric.now.sliced.bound) metric.now.kind }
+    ensures { result ≡ words.metric_with scope.now uid no_report.now metric.now parts }
+{
+    let id = metric.common.id.unwrap_or(0);
+    LMetric {
+        id,
+        shown: !no_report.contains(&id),
+        what: what_place(scope, &metric.kind, parts.what),
+        condition: place_of_option(&scope.ids.predicates, metric.common.condition),
+        links: parts.links,
+        dims: parts.dims,
+        size: bucket_size(uid, &metric.kind, metric.sliced.bucket),
+        bound: bucket_bound(&metric.kind, metric.sliced.bound),
+        slices,
+        kind,
+    }
+}
+
+// The slices and the kind of a metric with these parts, or its least reason from 10 on.
+#[tactic(auto, unfolding(crate::specs::LinkMetrics::bad_rest))]
+fn rest_of(
+    alloc: Global,
+    scope: &Scope,
+    metric: &Metric,
+    parts: &MetricParts,
+    own: FieldSet,
+) -> Result<(Seq<LSlice>, LKind), LinkError>
+    requires own { own ≡ set_or_none (own_tree metric.now.kind) }
+    requires few { TakesFew metric.now.kind }
+    ensures { Links result (words.bad_rest scope.now metric.now parts.now) (
+      linked_slices scope.now parts.now.state_links metric.now.sliced.slices,
+      linked_kind scope.now parts.now.what (bound_or_default metric.now.sliced.bound)
+          metric.now.kind,
+    ) }
+{
+    let id = metric.common.id;
+    let kind = &metric.kind;
+    let what = parts.what;
+    let state_links = parts.state_links.as_slice();
+    refuse_times(
+        alloc,
+        scope,
+        id,
+        kind,
+        what,
+        &parts.dims,
+        parts.links.as_slice(),
+        state_links,
+    )?;
+    let ids = metric.sliced.slices.as_slice();
+    let slices = slices_in(alloc, scope, id, kind, what, ids, state_links)?;
+    let bound = bound_or_default(metric.sliced.bound);
+    let count = metric.common.links.as_slice().len();
+    let linked = kind_in(scope, id, what, bound, count, own, kind)?;
+    Ok((slices, linked))
+}
+
+// A metric, linked, or its least reason.
+fn metric_in(
+    alloc: Global,
+    scope: &Scope,
+    uid: i32,
+    no_report: &[i64],
+    metric: &Metric,
+) -> Result<LMetric, LinkError>
+    requires in_range { AreInRange (map named_predicates scope.now.predicates) }
+    requires few { TakesFew metric.now.kind }
+    ensures { Links result (words.bad_metric scope.now metric.now)
+        (words.linked_metric scope.now uid no_report.now metric.now) }
+{
+    let (parts, own) = parts_in(alloc, scope, metric)?;
+    let (slices, kind) = rest_of(alloc, scope, metric, &parts, own)?;
+    Ok(metric_of(scope, uid, no_report, metric, parts, slices, kind))
+}
+
+/// The metrics of a client, linked, or the first reason.
+pub fn metrics_in(
+    alloc: Global,
+    scope: &Scope,
+    uid: i32,
+    no_report: &[i64],
+    metrics: &[Metric],
+) -> Result<Seq<LMetric>, LinkError>
+    requires in_range { AreInRange (map named_predicates scope.now.predicates) }
+    requires few { All (λ (metric : Metric). TakesFew metric.kind) metrics.now }
+    ensures { Links result (first_in (words.bad_metric scope.now) metrics.now)
+        (map (words.linked_metric scope.now uid no_report.now) metrics.now) }
+{
+    let mut linked = Seq::new(alloc);
+    for metric in metrics {
+        linked.push(metric_in(alloc, scope, uid, no_report, metric)?)?;
+    }
+    Ok(linked)
+}

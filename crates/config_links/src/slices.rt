@@ -1,0 +1,342 @@
+//! What a duration times, and the states by which a metric is sliced.
+ghost use Rattle.std.specs.Prelude.{◌≡◌, map, None, IfOk};
+ghost use Rattle.std.specs.List.{list_all, list_any};
+ghost use Rattle.link_rules.specs.LinkFaults.{Links};
+ghost use Rattle.link_rules.specs.EntityIds.{set_ids};
+ghost use Rattle.config_links.specs.MetricLinks.{are_as_many, are_one_of};
+ghost use Rattle.config_links.specs.MetricSlices as words;
+
+use crate::reasons::type_fault;
+use crate::scope::Scope;
+use crate::sets::StateLinkSets;
+use crate::table::DimsTable;
+use crate::{LLink, LSlice};
+use distinct::first_repeat;
+use field_select::{FieldSet, LeafPath};
+use link_rules::{Kind, LinkError};
+use sd_base::Seq;
+use std::alloc::{AllocError, Global};
+
+// Whether what a duration times is a simple predicate.
+fn times_simple(scope: &Scope, kind: &Kind, what: i64) -> bool
+    ensures { result ≡ words.times_simple scope.now kind.now what }
+{
+    match kind {
+        Kind::Duration { .. } => scope.spec_of(what).is_some(),
+        _ => true,
+    }
+}
+
+// Whether the fields of each link are among these dimensions.
+fn cover_links(table: &DimsTable, links: &[LLink]) -> bool
+    ensures { result ≡ list_all (λ (link : LLink).
+        are_one_of table.now.atom_id table.now.leaves link.in_what) links.now }
+{
+    for link in links {
+        if !table.covers(&link.in_what) {
+            return false;
+        }
+    }
+    true
+}
+
+// Whether the fields of each state link are among these dimensions.
+fn cover_state_links(table: &DimsTable, links: &[StateLinkSets]) -> bool
+    ensures { result ≡ list_all (λ (sets : StateLinkSets).
+        are_one_of table.now.atom_id table.now.leaves sets.in_what) links.now }
+{
+    for sets in links {
+        if !table.covers(&sets.in_what) {
+            return false;
+        }
+    }
+    true
+}
+
+// Whether the fields of a metric are among these dimensions.
+fn cover_all(
+    table: &DimsTable,
+    dims: &FieldSet,
+    links: &[LLink],
+    state_links: &[StateLinkSets],
+) -> bool
+    ensures { result ≡ words.are_among table.now.atom_id table.now.leaves
+        dims.now links.now state_links.now }
+{
+    if !table.covers(dims) {
+        return false;
+    }
+    cover_links(table, links) && cover_state_links(table, state_links)
+}
+
+// Whether the fields of what a duration times are among that predicate's dimensions.
+fn is_timed_within(
+    alloc: Global,
+    scope: &Scope,
+    kind: &Kind,
+    what: i64,
+    dims: &FieldSet,
+    links: &[LLink],
+    state_links: &[StateLinkSets],
+) -> Result<bool, LinkError>
+    ensures { Links result None
+        (words.is_timed_within scope.now kind.now what dims.now links.now state_links.now) }
+{
+    match kind {
+        Kind::Duration { .. } => {
+            let table = scope.dims_of(alloc, what)?;
+            Ok(cover_all(&table, dims, links, state_links))
+        }
+        _ => Ok(true),
+    }
+}
+
+// Whether a number is that of an atom.
+fn is_atom(atom: u32, number: Option<i32>) -> bool
+    ensures { result ≡ words.is_atom atom number }
+{
+    match number {
+        Some(number) => i64::from(number) == i64::from(atom),
+        None => false,
+    }
+}
+
+// Whether a number is that of one of these atoms.
+fn is_sliced(atoms: &[u32], number: Option<i32>) -> bool
+    ensures { result ≡ list_any (λ atom. words.is_atom atom number) atoms.now }
+{
+    for atom in atoms {
+        if is_atom(*atom, number) {
+            return true;
+        }
+    }
+    false
+}
+
+// A leaf without its position, as a number.
+fn leaf_number(leaf: &LeafPath) -> u32
+    ensures { result ≡ words.leaf_number leaf.now }
+{
+    256 * u32::from(leaf.field) + u32::from(leaf.sub)
+}
+
+// Whether leaves rise strictly, by field and then by the field of a message.
+fn rise(leaves: &[LeafPath]) -> bool
+    ensures { result ≡ words.rise leaves.now }
+{
+    let mut last: Option<u32> = None;
+    for leaf in leaves {
+        let number = leaf_number(leaf);
+        if let Some(last) = last
+            && last >= number
+        {
+            return false;
+        }
+        last = Some(number);
+    }
+    true
+}
+
+// Whether two sets have as many leaves, and not none.
+fn are_as_many(one: &FieldSet, other: &FieldSet) -> bool
+    ensures { result ≡ are_as_many one.now other.now }
+{
+    let leaves = one.leaves.len();
+    leaves != 0 && leaves == other.leaves.len()
+}
+
+// Whether a state link is of a sliced state's atom and has two fitting sides.
+fn fits_state(atoms: &[u32], sets: &StateLinkSets) -> bool
+    ensures { result ≡ words.fits_state atoms.now sets.now }
+{
+    if !is_sliced(atoms, sets.atom_id) || !are_as_many(&sets.in_what, &sets.in_state) {
+        return false;
+    }
+    is_atom(sets.in_state.atom_id, sets.atom_id) && rise(sets.in_state.leaves.as_slice())
+}
+
+// Whether each state link fits.
+fn each_fits(atoms: &[u32], links: &[StateLinkSets]) -> bool
+    ensures { result ≡ list_all (words.fits_state atoms.now) links.now }
+{
+    for sets in links {
+        if !fits_state(atoms, sets) {
+            return false;
+        }
+    }
+    true
+}
+
+// The atoms that state links name.
+fn linked_atoms(alloc: Global, links: &[StateLinkSets]) -> Result<Seq<i32>, AllocError>
+    ensures { IfOk result (λ atoms. atoms ≡ set_ids (map words.linked_atom links.now)) }
+{
+    let mut atoms = Seq::new(alloc);
+    for sets in links {
+        if let Some(atom_id) = sets.atom_id {
+            atoms.push(atom_id)?;
+        }
+    }
+    Ok(atoms)
+}
+
+// Whether each state link fits, and no two name the same atom.
+fn fit_states(alloc: Global, atoms: &[u32], links: &[StateLinkSets]) -> Result<bool, AllocError>
+    ensures { IfOk result (λ fit. fit ≡ words.fit_states atoms.now links.now) }
+{
+    if !each_fits(atoms, links) {
+        return Ok(false);
+    }
+    let named = linked_atoms(alloc, links)?;
+    Ok(first_repeat(alloc, named.as_slice())?.is_none())
+}
+
+// The atoms of the states by which a metric is sliced.
+fn sliced_atoms(alloc: Global, scope: &Scope, slices: &[i64]) -> Result<Seq<u32>, AllocError>
+    ensures { IfOk result (λ atoms. atoms ≡ words.sliced_atoms scope.now slices.now) }
+{
+    let mut atoms = Seq::new(alloc);
+    for id in slices {
+        atoms.push(scope.state_atom(*id))?;
+    }
+    Ok(atoms)
+}
+
+// Whether a kind of metric may be sliced by states.
+fn may_be_sliced(scope: &Scope, kind: &Kind, what: i64) -> bool
+    ensures { result ≡ words.may_be_sliced scope.now kind.now what }
+{
+    match kind {
+        Kind::Duration { max_sparse } => !*max_sparse,
+        Kind::Value(_) => !scope.names_pulled(what),
+        _ => true,
+    }
+}
+
+// Whether a metric has no slices, or may have these.
+fn fit_slices(
+    alloc: Global,
+    scope: &Scope,
+    kind: &Kind,
+    what: i64,
+    slices: &[i64],
+    atoms: &[u32],
+) -> Result<bool, AllocError>
+    requires { atoms.now ≡ words.sliced_atoms scope.now slices.now }
+    ensures { IfOk result (λ fit. fit ≡ words.fit_slices scope.now kind.now what slices.now) }
+{
+    if !slices.is_empty() && !may_be_sliced(scope, kind, what) {
+        return Ok(false);
+    }
+    Ok(first_repeat(alloc, atoms)?.is_none())
+}
+
+// A copy of a set.
+fn set_copy(alloc: Global, set: &FieldSet) -> Result<FieldSet, AllocError>
+    ensures { IfOk result (λ copy. copy ≡ set.now) }
+{
+    Ok(FieldSet {
+        atom_id: set.atom_id,
+        leaves: Seq::from_slice(alloc, set.leaves.as_slice())?,
+    })
+}
+
+// The fields for the state of an atom, where there is a link to it.
+fn slice_fields(
+    alloc: Global,
+    links: &[StateLinkSets],
+    atom: u32,
+) -> Result<Option<FieldSet>, AllocError>
+    ensures { IfOk result (λ fields. fields ≡ words.slice_fields links.now atom) }
+{
+    for sets in links {
+        if is_atom(atom, sets.atom_id) {
+            let fields = set_copy(alloc, &sets.in_what)?;
+            return Ok(Some(fields));
+        }
+    }
+    Ok(None)
+}
+
+// The slice by the state of an id.
+fn slice_in(
+    alloc: Global,
+    scope: &Scope,
+    links: &[StateLinkSets],
+    id: i64,
+) -> Result<LSlice, AllocError>
+    ensures { IfOk result (λ slice. slice ≡ words.linked_slice scope.now links.now id) }
+{
+    let in_what = slice_fields(alloc, links, scope.state_atom(id))?;
+    Ok(LSlice {
+        state: scope.ids.states.place_in(id),
+        in_what,
+    })
+}
+
+// The slices by the states of these ids.
+fn all_slices(
+    alloc: Global,
+    scope: &Scope,
+    links: &[StateLinkSets],
+    ids: &[i64],
+) -> Result<Seq<LSlice>, AllocError>
+    ensures { IfOk result (λ slices. slices ≡
+        map (words.linked_slice scope.now links.now) ids.now) }
+{
+    let mut slices = Seq::new(alloc);
+    for id in ids {
+        slices.push(slice_in(alloc, scope, links, *id)?)?;
+    }
+    Ok(slices)
+}
+
+/// Refuses what a duration of this id can't time, by reason 10 or 11.
+#[tactic(auto, unfolding(crate::specs::MetricSlices::bad_times))]
+pub fn refuse_times(
+    alloc: Global,
+    scope: &Scope,
+    id: Option<i64>,
+    kind: &Kind,
+    what: i64,
+    dims: &FieldSet,
+    links: &[LLink],
+    state_links: &[StateLinkSets],
+) -> Result<(), LinkError>
+    ensures { Links result (words.bad_times scope.now id kind.now what
+        dims.now links.now state_links.now) tt }
+{
+    if !times_simple(scope, kind, what) {
+        return Err(LinkError::Fault(type_fault(id, 10)));
+    }
+    if !is_timed_within(alloc, scope, kind, what, dims, links, state_links)? {
+        return Err(LinkError::Fault(type_fault(id, 11)));
+    }
+    Ok(())
+}
+
+/// The slices of a metric of this id, or its reason 12 or 13.
+#[tactic(auto, unfolding(crate::specs::MetricSlices::bad_slices))]
+pub fn slices_in(
+    alloc: Global,
+    scope: &Scope,
+    id: Option<i64>,
+    kind: &Kind,
+    what: i64,
+    slices: &[i64],
+    state_links: &[StateLinkSets],
+) -> Result<Seq<LSlice>, LinkError>
+    ensures { Links result
+        (words.bad_slices scope.now id kind.now what slices.now state_links.now)
+        (words.linked_slices scope.now state_links.now slices.now) }
+{
+    let atoms = sliced_atoms(alloc, scope, slices)?;
+    if !fit_states(alloc, atoms.as_slice(), state_links)? {
+        return Err(LinkError::Fault(type_fault(id, 12)));
+    }
+    if !fit_slices(alloc, scope, kind, what, slices, atoms.as_slice())? {
+        return Err(LinkError::Fault(type_fault(id, 13)));
+    }
+    let linked = all_slices(alloc, scope, state_links, slices)?;
+    Ok(linked)
+}

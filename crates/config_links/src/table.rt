@@ -1,0 +1,92 @@
+//! The leaves of a set in a hash table, so that each is found in one step.
+ghost use Rattle.std.specs.Prelude.{◌≡◌, map, None};
+ghost use Rattle.link_rules.specs.LinkFaults.{Links, PassesTest};
+ghost use Rattle.config_links.specs.LinkReasons.{type_fault};
+ghost use Rattle.config_links.specs.MetricLinks.{is_one_of, are_one_of, leaf_place};
+
+use crate::reasons::type_fault;
+use distinct::Distinct;
+use field_select::{FieldSet, LeafPath};
+use link_rules::LinkError;
+use sd_base::Seq;
+use std::alloc::Global;
+
+/// The dimensions of a predicate: the atom that they are of, and its leaves.
+#[derive(Drop)]
+pub struct DimsTable {
+    pub atom_id: u32,
+    pub leaves: Distinct<LeafPath>,
+}
+
+/// The leaves of a set, none of which comes twice, as a table.
+pub fn leaf_table(alloc: Global, leaves: &[LeafPath]) -> Result<Distinct<LeafPath>, LinkError>
+    ensures { Links result None leaves.now }
+{
+    let mut table = Distinct::new(alloc);
+    for leaf in leaves {
+        if !table.add(*leaf)? {
+            return Err(LinkError::Memory);
+        }
+    }
+    Ok(table)
+}
+
+impl DimsTable {
+    // Whether a leaf of an atom is one of these.
+    fn has(&self, atom_id: u32, leaf: &LeafPath) -> bool
+        ensures { result ≡ is_one_of self.now.atom_id self.now.leaves atom_id leaf.now }
+    {
+        atom_id == self.atom_id && self.leaves.contains(leaf)
+    }
+
+    /// Whether each leaf of a set is one of these, and of the same atom.
+    pub fn covers(&self, set: &FieldSet) -> bool
+        ensures { result ≡ are_one_of self.now.atom_id self.now.leaves set.now }
+    {
+        for leaf in set.leaves.as_slice() {
+            if !self.has(set.atom_id, leaf) {
+                return false;
+            }
+        }
+        true
+    }
+
+    // The place of a leaf.
+    fn place(&self, leaf: &LeafPath) -> Result<u32, LinkError>
+        ensures { Links result None (leaf_place self.now.leaves leaf.now) }
+    {
+        let place = self.leaves.place(leaf).unwrap_or(0);
+        // There are fewer leaves than fit.
+        match u32::try_from(place) {
+            Ok(place) => Ok(place),
+            Err(_) => Err(LinkError::Memory),
+        }
+    }
+
+    // The places of these leaves.
+    fn places(&self, alloc: Global, leaves: &[LeafPath]) -> Result<Seq<u32>, LinkError>
+        ensures { Links result None (map (leaf_place self.now.leaves) leaves.now) }
+    {
+        let mut places = Seq::new(alloc);
+        for leaf in leaves {
+            places.push(self.place(leaf)?)?;
+        }
+        Ok(places)
+    }
+
+    /// The places of a set's leaves, which are all among these, in an entity of this id.
+    pub fn places_in(
+        &self,
+        alloc: Global,
+        id: Option<i64>,
+        set: &FieldSet,
+    ) -> Result<Seq<u32>, LinkError>
+        ensures { PassesTest result (are_one_of self.now.atom_id self.now.leaves set.now)
+            (type_fault id 8) (map (leaf_place self.now.leaves) set.now.leaves) }
+    {
+        if !self.covers(set) {
+            return Err(LinkError::Fault(type_fault(id, 8)));
+        }
+        self.places(alloc, set.leaves.as_slice())
+    }
+}

@@ -1,0 +1,53 @@
+-- Worked calls of a producer of counts, by computing.
+use Rattle.std.proofs.Common.{◌≡◌, ℕ, pos, List, [], ◌∷◌, refl}
+use Rattle.atom_record.specs.declared.value.Value.TheVariants.{Int}
+use Rattle.atom_record.specs.declared.value.Leaf.TheVariants.{One}
+use Rattle.atom_record.specs.declared.value.MetricKey.{MetricKey}
+use Rattle.bucket_meaning.specs.Meaning.{report_by}
+use Rattle.bucket_meaning.specs.Kept.{Taken}
+use Rattle.call_rules.specs.Calls.{Got, Crossed, CutAt, Took}
+use Rattle.count_metric.specs.declared.row.Row.{Row}
+use Rattle.count_metric.specs.Collecting.{calls_mean}
+use Rattle.count_metric.specs.Counting.{CountCall, count_demands, count_collecting}
+
+-- a key with one number
+abbrev key : ℕ → MetricKey
+key number = record { dims = One (Int (pos number)) ∷ []; slices = [] }
+
+-- such a key comes at a time
+abbrev of : ℕ → ℕ → CountCall
+of at number = Got at (key number)
+
+-- a frame crosses an end, and so many full buckets of 10 after it
+abbrev cross : ℕ → ℕ → CountCall
+cross end more = Crossed (record { start = 0; first_end = end; full_buckets = more; size = 10 })
+
+-- a row of a key in a part
+abbrev row : ℕ → ℕ → ℕ → ℕ → Row ℕ
+row number start end value = record { key = key number; start = start; end = end; value = value }
+
+-- what is shown: rows, and how many were dropped
+abbrev shown : List (Row ℕ) → ℕ → Taken (Row ℕ)
+shown rows dropped = record { rows = rows; not_kept = 0; dropped = dropped; missing = 0 }
+
+-- what a report shows after these calls, where a part admits two keys
+abbrev after_calls : List CountCall → Taken (Row ℕ)
+after_calls calls =
+    report_by (calls_mean count_demands count_collecting) (record { base = 0; size = 10; bound = 2 }) calls
+
+-- two keys are admitted, and two arrivals of a third are dropped
+abbrev first_bucket : List CountCall
+first_bucket = of 1 1 ∷ of 2 2 ∷ of 3 3 ∷ of 4 1 ∷ of 5 3 ∷ cross 10 0 ∷ []
+
+-- which shows the two keys' rows
+guardrail : after_calls first_bucket ≡ shown (row 1 0 10 2 ∷ row 2 0 10 1 ∷ []) 2
+guardrail = refl
+
+-- in the next bucket the third comes first
+the_next_bucket : after_calls (of 5 3 ∷ cross 10 0 ∷ Took ∷ of 11 3 ∷ of 12 1 ∷ of 13 2 ∷ cross 20 0 ∷ [])
+    ≡ shown (row 3 10 20 1 ∷ row 1 10 20 1 ∷ []) 1
+the_next_bucket = refl
+
+-- full buckets without arrivals have no row
+a_jump : after_calls (of 0 1 ∷ cross 10 3 ∷ of 45 2 ∷ CutAt 46 ∷ []) ≡ shown (row 1 0 10 1 ∷ row 2 40 46 1 ∷ []) 0
+a_jump = refl

@@ -1,0 +1,4 @@
+pub mod Collecting
+pub mod Counting
+pub mod CountStands
+pub mod CountItems

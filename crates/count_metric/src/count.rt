@@ -1,0 +1,157 @@
+//! Counts by key.
+ghost use Rattle.std.specs.Prelude.{◌≡◌, ℕ, ◌+◌, ◌-◌, ◌^◌, ◌<◌, ◌≤◌, [], map, min, Some, slice_get, OnOk};
+ghost use Rattle.std.specs.Map.{values_of};
+ghost use Rattle.atom_record.specs.declared.value.MetricKey.{MetricKey};
+ghost use Rattle.bucket_meaning.specs.Limits.{longest_bucket, time_limit, most_keys};
+ghost use Rattle.dim_table.specs.Table.{with_value_at};
+ghost use Rattle.kept_rows.specs.KeptRows.{AddsRows};
+ghost use Rattle.count_metric.specs.Counting.{row_weight};
+ghost use Rattle.count_metric.specs.CountStands.{TakesKey, tally_row, CountStandsFor, ClosesPart};
+
+use crate::{Closed, Producer, Row};
+use atom_record::MetricKey;
+use bucket_clock::Crossings;
+use dim_table::{Admit, Guarded};
+use indexmap::map::IntoIter;
+use kept_rows::KeptRows;
+use std::alloc::{AllocError, Global};
+
+/// Counts of the events of one metric, by key.
+#[derive(Drop)]
+pub struct CountProducer {
+    pub(crate) start: u64,
+    pub(crate) table: Guarded<MetricKey, u64>,
+    pub(crate) kept: KeptRows<Row<u64>>,
+}
+
+impl CountProducer {
+    /// Of no events. Time begins at `base`, a full bucket is `size` long, and a part admits `bound` keys.
+    pub fn new(alloc: Global, base: u64, size: u64, bound: usize) -> CountProducer
+        requires base_fits { base < time_limit }
+        requires least_size { 1 ≤ size }
+        requires most_size { size ≤ longest_bucket }
+        requires least_bound { 1 ≤ bound }
+        requires most_bound { bound ≤ most_keys }
+        ensures { CountStandsFor result (record { base = base; size = size; bound = bound }) [] }
+    {
+        let _size = size;
+        CountProducer {
+            start: base,
+            table: Guarded::new(alloc, bound),
+            kept: KeptRows::new(alloc),
+        }
+    }
+
+    // Closes the open part at a time, and opens the next.
+    fn close(&mut self, end: u64) -> Result<(), AllocError>
+        ensures { OnOk result (ClosesPart self.old self.new end) }
+    {
+        let start = self.start;
+        self.start = end;
+        keep_all(&mut self.kept, start, end, self.table.move_out())
+    }
+}
+
+// Keeps a row for each key and number, in order, or counts it.
+fn keep_all(
+    kept: &mut KeptRows<Row<u64>>,
+    start: u64,
+    end: u64,
+    tally: IntoIter<MetricKey, u64>,
+) -> Result<(), AllocError>
+    ensures { OnOk result
+        (AddsRows row_weight kept.old kept.new (map (tally_row start end) tally)) }
+{
+    for (key, value) in tally {
+        let row = Row {
+            key,
+            start,
+            end,
+            value,
+        };
+        kept.put(row, 1)?;
+    }
+    Ok(())
+}
+
+// One more arrival of a key.
+fn arrive(table: &mut Guarded<MetricKey, u64>, key: MetricKey) -> Result<(), AllocError>
+    ensures { OnOk result (TakesKey table.old table.new key) }
+{
+    match table.admit(key, 0)? {
+        Admit::At(place) => raise(table, place),
+        Admit::Full => (),
+    }
+    Ok(())
+}
+
+// Counts one more in the row at a place.
+fn raise(table: &mut Guarded<MetricKey, u64>, place: usize)
+    ensures bound { table.new.bound ≡ table.old.bound }
+    ensures raised { (count : ℕ) → slice_get (values_of table.old.rows) place ≡ Some count
+        → table.new ≡ with_value_at table.old place (min (count + 1) (2 ^ 64 - 1)) }
+{
+    if let Some(count) = table.value_at(place) {
+        *count = count.saturating_add(1);
+    }
+}
+
+impl Producer for CountProducer {
+    ghost use Rattle.std.specs.Prelude.{ℕ};
+    ghost use Rattle.atom_record.specs.declared.value.MetricKey.{MetricKey};
+    ghost use Rattle.count_metric.specs.Counting.{CountParams, count_demands, count_collecting};
+    ghost use Rattle.count_metric.specs.CountStands.{CountStandsFor};
+
+    type Event = MetricKey;
+
+    type After = ();
+
+    type Value = u64;
+
+    ghost Params = { CountParams };
+
+    ghost What = { MetricKey × ℕ };
+
+    ghost Key = { MetricKey };
+
+    ghost Share = { ℕ };
+
+    ghost stands = { CountStandsFor };
+
+    ghost demands = { count_demands };
+
+    ghost collecting = { count_collecting };
+
+    fn event(&mut self, at: u64, ev: MetricKey) -> Result<(), AllocError> {
+        let _at = at;
+        arrive(&mut self.table, ev)
+    }
+
+    fn condition(&mut self, at: u64, now: ()) -> Result<(), AllocError> {
+        let _at = at;
+        let _now = now;
+        let _self = &*self;
+        Ok(())
+    }
+
+    fn cross(&mut self, crossings: Crossings) -> Result<(), AllocError> {
+        self.close(crossings.first_end)?;
+        let full = crossings.full_buckets.saturating_mul(crossings.size);
+        self.start = crossings.first_end.saturating_add(full);
+        Ok(())
+    }
+
+    fn cut(&mut self, at: u64) -> Result<(), AllocError> {
+        self.close(at)
+    }
+
+    fn take(&mut self) -> Closed<u64> {
+        let (rows, not_kept) = self.kept.take();
+        Closed {
+            rows,
+            not_kept,
+            dropped: self.table.take_dropped(),
+            missing: 0,
+        }
+    }
+}

@@ -1,0 +1,97 @@
+//! The flat forms of rows and of a producer of counts.
+ghost use Rattle.std.specs.Prelude.{◌≡◌};
+
+use crate::{CountProducer, Row};
+use atom_record::MetricKey;
+use dim_table::Guarded;
+use flat_form::{Flat, FlatError, Items};
+use kept_rows::KeptRows;
+use std::alloc::{AllocError, Global};
+
+impl<V: Flat + Drop> Flat for Row<V> {
+    ghost use Rattle.std.specs.Prelude.{◌+◌};
+    ghost use Rattle.count_metric.specs.CountItems.{row_items, IsRow, IsSavableRow, row_bounded, row_few, row_savable};
+
+    ghost flat = { row_items V.flat };
+
+    ghost valid = { IsRow V.valid };
+
+    ghost savable = { IsSavableRow V.savable };
+
+    ghost head = { 4 + V.head };
+
+    ghost entries = { λ row. V.entries row.value };
+
+    ghost bounded = { row_bounded V.flat V.valid V.head V.entries V.bounded };
+
+    ghost few = { row_few V.flat V.entries V.few };
+
+    ghost spells = { row_savable V.flat V.valid V.savable V.spells };
+
+    fn show_valid(&self) {
+        self.value.show_valid();
+    }
+
+    fn flatten(&self, alloc: Global, out: &mut Items) -> Result<(), AllocError> {
+        self.key.flatten(alloc, out)?;
+        (self.start, self.end).flatten(alloc, out)?;
+        self.value.flatten(alloc, out)
+    }
+
+    fn build(alloc: Global, items: &Items, place: usize) -> Result<(Row<V>, usize), FlatError> {
+        let (form, next) = <((MetricKey, (u64, u64)), V)>::build(alloc, items, place)?;
+        let ((key, (start, end)), value) = form;
+        let row = Row {
+            key,
+            start,
+            end,
+            value,
+        };
+        Ok((row, next))
+    }
+}
+
+/// The parts of a producer of counts.
+type Parts = (u64, (Guarded<MetricKey, u64>, KeptRows<Row<u64>>));
+
+impl Flat for CountProducer {
+    ghost use Rattle.count_metric.specs.CountItems.{count_items, HasBounds, IsSavableCount, count_entries, count_bounded, count_few, count_savable};
+
+    ghost flat = { count_items };
+
+    ghost valid = { HasBounds };
+
+    ghost savable = { IsSavableCount };
+
+    ghost head = { 7 };
+
+    ghost entries = { count_entries };
+
+    ghost bounded = { count_bounded };
+
+    ghost few = { count_few };
+
+    ghost spells = { count_savable };
+
+    fn show_valid(&self) {
+        self.table.show_valid();
+        self.kept.show_valid();
+    }
+
+    fn flatten(&self, alloc: Global, out: &mut Items) -> Result<(), AllocError> {
+        self.start.flatten(alloc, out)?;
+        self.table.flatten(alloc, out)?;
+        self.kept.flatten(alloc, out)
+    }
+
+    fn build(
+        alloc: Global,
+        items: &Items,
+        place: usize,
+    ) -> Result<(CountProducer, usize), FlatError> {
+        let (parts, next) = Parts::build(alloc, items, place)?;
+        let (start, (table, kept)) = parts;
+        let counts = CountProducer { start, table, kept };
+        Ok((counts, next))
+    }
+}

@@ -1,0 +1,3 @@
+mod Worked
+pub mod PlaceLemmas
+pub mod ApartLemmas

@@ -1,0 +1,625 @@
+-- What is held stands for what is live, from frame to frame.
+use Rattle.std.proofs.Common.{◌≡◌, ℕ, ◌+◌, ◌-◌, ◌<◌, ◌≤◌, ℤ, Bool, true, false, cond, List, [], ◌∷◌, ◌++◌, length, take, Option, Some, None, is_some, Result, Ok, Err, refl, sym, ap, subst, ◌∙◌, arith}
+use Rattle.std.specs.Prelude.{◌&&◌, nat_le}
+use Rattle.std.specs.Bool.{MatchBool}
+use Rattle.std.specs.Option.{MatchOption}
+use Rattle.std.specs.Map.{lookup}
+use Rattle.std.specs.Ordering.{int_eq}
+use Rattle.std.specs.Cmp.{signed_Decides}
+use Rattle.std.proofs.lemmas.List.{append-nil}
+use Rattle.std.proofs.lemmas.List.Sums.{length-filter}
+use Rattle.atom_record.specs.declared.atom.Atom.{Atom}
+use Rattle.atom_record.specs.declared.log.LogFrame.{LogFrame}
+use Rattle.config_types.specs.declared.config.Config.{Config}
+use Rattle.config_types.specs.declared.matcher.SimpleMatcher.{SimpleMatcher}
+use Rattle.config_decode.specs.Config.{config_of}
+use Rattle.session_frames.specs.declared.frame.Frame.{Frame}
+use Rattle.session_frames.specs.declared.frame.Frame.TheVariants.{Log, Install, Remove, Report}
+use Rattle.session_frames.specs.declared.reply.Refusal.{Refusal}
+use Rattle.session_frames.specs.declared.reply.Reply.{Reply}
+use Rattle.session_frames.specs.declared.reply.ReplyBody.{ReplyBody}
+use Rattle.session_frames.specs.declared.reply.ReplyBody.TheVariants as answers
+use Rattle.session_frames.specs.Frames.{log_time, clock_after}
+use Rattle.report_writer.specs.ReportSpelling.{report_message}
+use Rattle.config_links.specs.declared.linked.Linked.{Linked}
+use Rattle.config_links.specs.Verdict.{linked_form}
+use Rattle.metric_meaning.specs.Histories.{Step, History, with_steps}
+use Rattle.metric_meaning.specs.Reports.{report_of}
+use Rattle.hub_meaning.specs.SessionLog.{is_own, own, clock_of}
+use Rattle.hub_meaning.specs.Acceptance.{LiveConfig, most_configs, has_other_id, is_full, acceptance}
+use Rattle.hub_meaning.specs.LiveConfigs.{with_config, without_id, config_at, live_with, live_after, live, truths_at, step_at, history_of}
+use Rattle.hub_meaning.specs.ClientAnswers.{install_answer, remove_answer, report_answer, reply_of, reply_to}
+use Rattle.hub_meaning.proofs.SessionLogLaws.{own-push_own, own-push_other, clock_of-push, clock_of-own}
+use Rattle.hub_meaning.proofs.LiveConfigLaws.{live-push, live_placed, live_distinct, history_of-push, history_of-new, one_if, config_at-with_config, config_at-without_id, length-with_config, length-without_id, placed_at}
+use Rattle.client_engine.specs.TrackStands.{last_from, logged_step, reported_step}
+use Rattle.client_engine.specs.InstanceStands.{InstanceStandsFor, last_step_time}
+use Rattle.hub_core.specs.declared.live_id.LiveId.{LiveId}
+use Rattle.hub_core.specs.declared.live_instance.LiveInstance.{LiveInstance}
+use Rattle.hub_core.specs.declared.lives.Lives.{Lives}
+use Rattle.hub_core.specs.declared.hub.Hub.{Hub}
+use Rattle.hub_core.specs.InstallReading.{config_read, linked_read}
+use Rattle.hub_core.specs.SlotLogs.{SlotLogs, AllLog}
+use Rattle.hub_core.specs.Slots.{live_id, same_id, slot_at, count_at, ShowsAt}
+use Rattle.hub_core.specs.Commands.{held_at, others, Changes, Stays, StaysWith, PutsIn, InstallsLinked, Installs, TakesOut, Removes, ReportsLive}
+use Rattle.hub_core.specs.HubStands.{SlotStandsFor, LivesStandFor, HubStandsFor}
+use Rattle.hub_core.proofs.InstallReadingLemmas.{accepted_as, accepted_read, accepted, linked_is}
+
+-- two names are the same where their clients and their ids are
+same_id_is : (uid id n other : ℤ) → same_id (live_id uid id) (live_id n other) ≡ (int_eq uid n && int_eq id other)
+same_id_is uid id n other = refl
+
+-- a number is itself
+int_eq_refl : (n : ℤ) → int_eq n n ≡ true
+int_eq_refl n = (signed_Decides n n).1 refl
+
+-- no step leaves a history as it was
+no_step : (history : History) → with_steps history [] ≡ history
+no_step history = ap (λ (steps : List Step). record history { steps = steps }) (append-nil history.steps)
+
+-- the last of one more step
+last_from-push : (time : ℕ) (steps : List Step) (step : Step) → last_from time (steps ++ step ∷ []) ≡ step.at
+last_from-push time [] step = refl
+last_from-push time (first ∷ steps) step = last_from-push first.at steps step
+
+module _ (says : SimpleMatcher → Atom → Bool) where
+  -- what is found under a name before and after a frame of the log
+  abbrev pub FoundLogs : LogFrame → Option (Option LiveInstance) → Option (Option LiveInstance) → Type 0
+  FoundLogs frame None None = Unit {0}
+  FoundLogs frame (Some old) (Some new) = SlotLogs says frame old new
+  FoundLogs frame None (Some new) = ⊥
+  FoundLogs frame (Some old) None = ⊥
+
+  -- where each slot took a frame, what is found under a name took it
+  found_logs : (frame : LogFrame) (test : LiveId → Bool) (olds news : List (LiveId × Option LiveInstance))
+      → AllLog says frame olds news → FoundLogs frame (lookup test olds) (lookup test news)
+  found_logs frame test [] [] all = tt
+  found_logs frame test [] (new ∷ news) all = absurd all
+  found_logs frame test (old ∷ olds) [] all = absurd all
+  found_logs frame test (old ∷ olds) (new ∷ news) all =
+      subst (λ name. FoundLogs frame (lookup test (old ∷ olds)) (cond (test name) (Some new.1) (lookup test news)))
+      (sym all.0) (by_case (test old.0) (found_logs frame test olds news all.2)) where
+        by_case : (passes : Bool) → FoundLogs frame (lookup test olds) (lookup test news)
+            → FoundLogs frame (cond passes (Some old.1) (lookup test olds)) (cond passes (Some new.1)
+            (lookup test news))
+        by_case true rest = all.1
+        by_case false rest = rest
+
+  -- a frame of the log comes to what is found under a name
+  slot_logged : (uid : ℤ) (frames : List Frame) (frame : LogFrame) (old new : Option (Option LiveInstance))
+      (config : Option LiveConfig)
+      → ((c : LiveConfig) → config ≡ Some c → c.place < length frames) → clock_of frames ≤ log_time frame
+      → FoundLogs frame old new → SlotStandsFor says uid frames old config
+      → SlotStandsFor says uid (frames ++ Log frame ∷ []) new config
+  slot_logged uid frames frame None None None placed in_time logs h = tt
+  slot_logged uid frames frame (Some (Some old)) (Some (Some new)) (Some config) placed in_time logs h =
+      let before = history_of says uid frames config in
+      let step = logged_step frame (truths_at says (linked_form config.config uid) frame) in
+      let history : history_of says uid (frames ++ Log frame ∷ []) config
+      ≡ with_steps before (step ∷ []) = history_of-push says uid frames (Log frame) config (placed config refl) in
+      record {
+        instance = subst (InstanceStandsFor new.instance) (sym history) (logs before h.instance (omega
+            (arith, in_time, h.time)));
+        time = ap last_step_time history ∙ last_from-push before.base before.steps step
+            ∙ sym (clock_of-push frames (Log frame));
+      }
+  slot_logged uid frames frame (Some (Some old)) (Some None) (Some config) placed in_time logs h = absurd logs
+  slot_logged uid frames frame (Some None) new (Some config) placed in_time logs h = absurd h
+  slot_logged uid frames frame (Some slot) new None placed in_time logs h = absurd h
+  slot_logged uid frames frame None new (Some config) placed in_time logs h = absurd h
+  slot_logged uid frames frame None (Some new) None placed in_time logs h = absurd logs
+  slot_logged uid frames frame (Some (Some old)) None (Some config) placed in_time logs h = absurd logs
+
+  -- a frame that is no step to a configuration leaves what is held for it
+  slot_idle : (uid : ℤ) (frames : List Frame) (frame : Frame) (slot : Option (Option LiveInstance))
+      (config : Option LiveConfig) → clock_after (clock_of frames) frame ≡ clock_of frames
+      → ((c : LiveConfig) → config ≡ Some c → (c.place < length frames) × (step_at says c.id
+      (linked_form c.config uid) frames frame ≡ [])) → SlotStandsFor says uid frames slot config
+      → SlotStandsFor says uid (frames ++ frame ∷ []) slot config
+  slot_idle uid frames frame None None still idle h = tt
+  slot_idle uid frames frame (Some (Some it)) (Some config) still idle h =
+      let facts = idle config refl in
+      let same : history_of says uid (frames ++ frame ∷ []) config ≡ history_of says uid frames config =
+      history_of-push says uid frames frame config facts.0
+      ∙ ap (with_steps (history_of says uid frames config)) facts.1
+      ∙ no_step (history_of says uid frames config) in
+      record {
+        instance = subst (InstanceStandsFor it.instance) (sym same) h.instance;
+        time = ap last_step_time same ∙ h.time ∙ sym (clock_of-push frames frame ∙ still);
+      }
+  slot_idle uid frames frame (Some None) (Some config) still idle h = absurd h
+  slot_idle uid frames frame (Some slot) None still idle h = absurd h
+  slot_idle uid frames frame None (Some config) still idle h = absurd h
+
+  -- what is found is there where a configuration is live
+  both_there : (uid : ℤ) (frames : List Frame) (slot : Option (Option LiveInstance)) (config : Option LiveConfig)
+      → SlotStandsFor says uid frames slot config → is_some slot ≡ is_some config
+  both_there uid frames None None h = refl
+  both_there uid frames (Some (Some it)) (Some config) h = refl
+  both_there uid frames (Some None) (Some config) h = absurd h
+  both_there uid frames (Some slot) None h = absurd h
+  both_there uid frames None (Some config) h = absurd h
+
+  -- nothing is held where there is no frame
+  pub stands_new : (lives : Lives) → lives.slots.entries ≡ [] → lives.counts.entries ≡ [] → LivesStandFor says lives []
+  stands_new lives slots counts = record {
+    slots = λ uid id. subst (λ l. SlotStandsFor says uid [] (slot_at (live_id uid id) l) None) (sym slots) tt;
+    counts = λ uid. ap (count_at uid) counts;
+  }
+
+  -- a frame of the log comes to all
+  pub stands_log : (old new : Lives) (frames : List Frame) (frame : LogFrame) → clock_of frames ≤ log_time frame
+      → AllLog says frame old.slots.entries new.slots.entries → new.counts ≡ old.counts
+      → LivesStandFor says old frames → LivesStandFor says new (frames ++ Log frame ∷ [])
+  stands_log old new frames frame in_time all counts h = record {
+    slots = λ uid id.
+        let mine = own uid frames in
+        subst (λ l. SlotStandsFor says uid l (slot_at (live_id uid id) new.slots.entries) (config_at id (live l)))
+        (sym (own-push_own uid frames (Log frame) refl))
+        (subst (λ l. SlotStandsFor says uid (mine ++ Log frame ∷ []) (slot_at (live_id uid id) new.slots.entries)
+        (config_at id l)) (sym (live-push mine (Log frame)))
+        (slot_logged uid mine frame (slot_at (live_id uid id) old.slots.entries) (slot_at
+        (live_id uid id) new.slots.entries) (config_at id (live mine))
+        (λ c is. (placed_at (length mine) id (live mine) (live_placed mine) c is).0)
+        (omega (arith, in_time, clock_of-own uid frames))
+        (found_logs frame (same_id (live_id uid id)) old.slots.entries new.slots.entries all)
+        (h.slots uid id)));
+    counts = λ uid.
+        let mine = own uid frames in
+        ap (λ (c : _). count_at uid c.entries) counts ∙ h.counts uid
+        ∙ ap length (sym (live-push mine (Log frame)))
+        ∙ ap (λ l. length (live l)) (sym (own-push_own uid frames (Log frame) refl));
+  }
+
+  -- A command of a client comes behind these frames.
+  module _ (frames : List Frame) (frame : Frame) (uid id : ℤ) (mine : (n : ℤ)
+      → is_own n frame ≡ int_eq uid n) (still : (clock : ℕ)
+      → clock_after clock frame ≡ clock) (old new : Lives) (h : LivesStandFor says old frames) where
+    -- the client's own frames, and what is live by them
+    abbrev before : List Frame
+    before = own uid frames
+
+    -- what is live after the command
+    abbrev after : List LiveConfig
+    after = live_after before frame (live before)
+
+    -- the command is the last of the client's own frames
+    own_now : own uid (frames ++ frame ∷ []) ≡ before ++ frame ∷ []
+    own_now = own-push_own uid frames frame (mine uid ∙ int_eq_refl uid)
+
+    -- what is held at an id, if the client's own frames say so
+    at_own : (other : ℤ) → SlotStandsFor says uid (before ++ frame ∷ []) (slot_at
+        (live_id uid other) new.slots.entries) (config_at other after)
+        → SlotStandsFor says uid (own uid (frames ++ frame ∷ [])) (slot_at (live_id uid other) new.slots.entries)
+        (config_at other (live (own uid (frames ++ frame ∷ []))))
+    at_own other s =
+        subst (λ l. SlotStandsFor says uid l (slot_at (live_id uid other) new.slots.entries) (config_at other
+        (live l))) (sym own_now)
+        (subst (λ l. SlotStandsFor says uid (before ++ frame ∷ []) (slot_at (live_id uid other) new.slots.entries)
+        (config_at other l)) (sym (live-push before frame)) s)
+
+    -- the client's own slots, and those of all others, which stay
+    all_slots : ((other : ℤ) → SlotStandsFor says uid (before ++ frame ∷ []) (slot_at
+        (live_id uid other) new.slots.entries) (config_at other after))
+        → ((n other : ℤ) → int_eq uid n ≡ false → slot_at (live_id n other) new.slots.entries
+        ≡ slot_at (live_id n other) old.slots.entries)
+        → (n other : ℤ) → SlotStandsFor says n (own n (frames ++ frame ∷ [])) (slot_at
+        (live_id n other) new.slots.entries) (config_at other (live (own n (frames ++ frame ∷ []))))
+    all_slots own_slots others_stay n other = by_case (int_eq uid n) refl where
+      by_case : (same : Bool) → int_eq uid n ≡ same → SlotStandsFor says n (own n (frames ++ frame ∷ [])) (slot_at
+          (live_id n other) new.slots.entries) (config_at other (live (own n (frames ++ frame ∷ []))))
+      by_case true e =
+          subst (λ m. SlotStandsFor says m (own m (frames ++ frame ∷ [])) (slot_at
+          (live_id m other) new.slots.entries) (config_at other (live (own m (frames ++ frame ∷ [])))))
+          ((signed_Decides uid n).0 e)
+          (at_own other (own_slots other))
+      by_case false e =
+          subst (λ l. SlotStandsFor says n l (slot_at (live_id n other) new.slots.entries) (config_at other
+          (live l))) (sym (own-push_other n frames frame (mine n ∙ e)))
+          (subst (λ s. SlotStandsFor says n (own n frames) s (config_at other (live (own n frames)))) (sym
+          (others_stay n other e)) (h.slots n other))
+
+    -- the client's own count, and those of all others, which stay
+    all_counts : count_at uid new.counts.entries ≡ length after → ((n : ℤ) → int_eq uid n ≡ false
+        → count_at n new.counts.entries ≡ count_at n old.counts.entries)
+        → (n : ℤ) → count_at n new.counts.entries ≡ length (live (own n (frames ++ frame ∷ [])))
+    all_counts own_count others_stay n = by_case (int_eq uid n) refl where
+      by_case : (same : Bool) → int_eq uid n ≡ same → count_at n new.counts.entries
+          ≡ length (live (own n (frames ++ frame ∷ [])))
+      by_case true e =
+          subst (λ m. count_at m new.counts.entries ≡ length (live (own m (frames ++ frame ∷ []))))
+          ((signed_Decides uid n).0 e)
+          (own_count ∙ ap length (sym (live-push before frame)) ∙ ap (λ l. length (live l)) (sym own_now))
+      by_case false e = others_stay n e ∙ h.counts n ∙ ap (λ l. length (live l)) (sym (own-push_other n frames frame
+          (mine n ∙ e)))
+
+    -- a frame that is no step to what is live at an id
+    abbrev IsIdle : ℤ → Type 0
+    IsIdle other = (config : LiveConfig) → config_at other (live before) ≡ Some config
+        → step_at says config.id (linked_form config.config uid) before frame ≡ []
+
+    -- what was held at an id stays so, where the frame is no step to it
+    kept : (other : ℤ) → IsIdle other → slot_at (live_id uid other) new.slots.entries
+        ≡ slot_at (live_id uid other) old.slots.entries → config_at other after ≡ config_at other (live before)
+        → SlotStandsFor says uid (before ++ frame ∷ []) (slot_at (live_id uid other) new.slots.entries)
+        (config_at other after)
+    kept other idle same_slot same_config =
+        subst (λ s. SlotStandsFor says uid (before ++ frame ∷ []) s (config_at other after)) (sym same_slot)
+        (subst (SlotStandsFor says uid (before ++ frame ∷ []) (slot_at (live_id uid other) old.slots.entries))
+        (sym same_config)
+        (slot_idle uid before frame (slot_at (live_id uid other) old.slots.entries) (config_at other (live before))
+        (still (clock_of before))
+        (λ c is. ((placed_at (length before) other (live before) (live_placed before) c is).0, idle c is))
+        (h.slots uid other)))
+
+    -- nothing changed, on both sides
+    stays : Stays old new → ((other : ℤ) → IsIdle other) → ((other : ℤ)
+        → config_at other after ≡ config_at other (live before)) → length after ≡ length (live before)
+        → LivesStandFor says new (frames ++ frame ∷ [])
+    stays same idle same_configs same_len = record {
+      slots = all_slots (λ other. kept other (idle other) (ap (slot_at (live_id uid other)) same.slots)
+          (same_configs other)) (λ n other e. ap (slot_at (live_id n other)) same.slots);
+      counts = all_counts (ap (λ (c : _). count_at uid c.entries) same.counts ∙ h.counts uid
+          ∙ sym same_len) (λ n e. ap (λ (c : _). count_at n c.entries) same.counts);
+    }
+
+    -- one slot changed, on both sides
+    changed : (slot : Option (Option LiveInstance)) (count : ℕ) → Changes uid id slot count old new
+        → SlotStandsFor says uid (before ++ frame ∷ []) slot (config_at id after)
+        → ((other : ℤ) → int_eq id other ≡ false → IsIdle other) → ((other : ℤ) → int_eq id other ≡ false
+        → config_at other after ≡ config_at other (live before)) → count ≡ length after
+        → LivesStandFor says new (frames ++ frame ∷ [])
+    changed slot count c here idle same_configs is = record {
+      slots = all_slots own_slots (λ n other e. c.slots (live_id n other)
+          ∙ ap (λ b. cond (b && int_eq id other) slot (slot_at (live_id n other) old.slots.entries)) e);
+      counts = all_counts (c.counts uid ∙ ap (λ b. cond b count (count_at uid old.counts.entries))
+          (int_eq_refl uid) ∙ is) (λ n e. c.counts n ∙ ap (λ b. cond b count (count_at n old.counts.entries)) e);
+    } where
+      at_id : (other : ℤ) (same : Bool) → int_eq id other ≡ same
+          → slot_at (live_id uid other) new.slots.entries
+          ≡ cond same slot (slot_at (live_id uid other) old.slots.entries)
+      at_id other same e = c.slots (live_id uid other)
+          ∙ ap (λ b. cond (b && int_eq id other) slot (slot_at (live_id uid other) old.slots.entries))
+          (int_eq_refl uid) ∙ ap (λ b. cond b slot (slot_at (live_id uid other) old.slots.entries)) e
+
+      own_slot : (other : ℤ) (same : Bool) → int_eq id other ≡ same
+          → SlotStandsFor says uid (before ++ frame ∷ []) (slot_at (live_id uid other) new.slots.entries)
+          (config_at other after)
+      own_slot other true e =
+          subst (λ s. SlotStandsFor says uid (before ++ frame ∷ []) s (config_at other after)) (sym
+          (at_id other true e))
+          (subst (λ o. SlotStandsFor says uid (before ++ frame ∷ []) slot (config_at o after))
+          ((signed_Decides id other).0 e) here)
+      own_slot other false e = kept other (idle other e) (at_id other false e) (same_configs other e)
+
+      own_slots : (other : ℤ) → SlotStandsFor says uid (before ++ frame ∷ []) (slot_at
+          (live_id uid other) new.slots.entries) (config_at other after)
+      own_slots other = own_slot other (int_eq id other) refl
+
+  -- A client's command of an id, what it finds and what it leaves.
+  module _ (frames : List Frame) (uid id : ℤ) (old new : Lives) (body : ReplyBody)
+      (h : LivesStandFor says old frames) where
+    -- what is live by the client's own frames
+    abbrev lives_before : List LiveConfig
+    lives_before = live (own uid frames)
+
+    -- one is held where one is live
+    there : is_some (held_at uid id old) ≡ is_some (config_at id lives_before)
+    there = both_there uid (own uid frames) (held_at uid id old) (config_at id lives_before) (h.slots uid id)
+
+    -- the others that the table counts are the others that are live
+    others_are : others uid id old ≡ length (without_id id lives_before)
+    others_are = by_case (is_some (config_at id lives_before)) refl where
+      by_case : (is : Bool) → is_some (config_at id lives_before) ≡ is
+          → others uid id old ≡ length (without_id id lives_before)
+      by_case true e =
+          let found_it : others uid id old ≡ count_at uid old.counts.entries - 1 = ap
+          (λ b. count_at uid old.counts.entries - cond b 1 0) (there ∙ e) in
+          let one : length (without_id id lives_before) + 1 ≡ length lives_before =
+          ap (λ b. length (without_id id lives_before) + one_if b) (sym e)
+          ∙ length-without_id id lives_before (live_distinct (own uid frames)) in
+          omega (arith, found_it, one, h.counts uid)
+      by_case false e =
+          let found_none : others uid id old ≡ count_at uid old.counts.entries - 0 = ap
+          (λ b. count_at uid old.counts.entries - cond b 1 0) (there ∙ e) in
+          let none : length (without_id id lives_before) + 0 ≡ length lives_before =
+          ap (λ b. length (without_id id lives_before) + one_if b) (sym e)
+          ∙ length-without_id id lives_before (live_distinct (own uid frames)) in
+          omega (arith, found_none, none, h.counts uid)
+
+    remove_case : (slot : Option (Option LiveInstance)) (config : Option LiveConfig)
+        → config_at id lives_before ≡ config → SlotStandsFor says uid (own uid frames) slot config
+        → MatchOption slot (StaysWith answers.NoConfig old new body) (λ slot. TakesOut uid id old new body)
+        → LivesStandFor says new (frames ++ Remove uid id ∷ []) × (body ≡ remove_answer config)
+    remove_case None None none s r = (
+      stays frames (Remove uid id) uid id (λ n. refl) (λ clock. refl) old new h r.stays (λ other config is. refl)
+          (λ other. config_at-without_id id other lives_before ∙ absent other (int_eq id other) refl)
+          (let len : length (without_id id lives_before) + 0 ≡ length lives_before =
+          ap (λ c. length (without_id id lives_before) + one_if (is_some c)) (sym none)
+          ∙ length-without_id id lives_before (live_distinct (own uid frames)) in omega (arith, len)),
+      r.answer,
+    ) where
+      absent : (other : ℤ) (same : Bool) → int_eq id other ≡ same
+          → cond same None (config_at other lives_before) ≡ config_at other lives_before
+      absent other true e = sym (ap (λ n. config_at n lives_before) (sym ((signed_Decides id other).0 e)) ∙ none)
+      absent other false e = refl
+    remove_case (Some slot) (Some config) is s r = (
+      changed frames (Remove uid id) uid id (λ n. refl) (λ clock. refl) old new h None (others uid id old) r.changes
+          (subst (SlotStandsFor says uid (own uid frames ++ Remove uid id ∷ []) None) (sym
+          (config_at-without_id id id lives_before
+          ∙ ap (λ b. cond b None (config_at id lives_before)) (int_eq_refl id))) tt)
+          (λ other e config is. refl)
+          (λ other e. config_at-without_id id other lives_before
+          ∙ ap (λ b. cond b None (config_at other lives_before)) e)
+          others_are,
+      r.answer,
+    )
+    remove_case None (Some config) is s r = absurd s
+    remove_case (Some (Some it)) None is s r = absurd s
+    remove_case (Some None) None is s r = absurd s
+
+    -- what a remove makes of what is held, and its answer
+    pub serves_remove : Removes uid id old new body → LivesStandFor says new (frames ++ Remove uid id ∷ []) × (body
+        ≡ remove_answer (config_at id lives_before))
+    serves_remove r = remove_case (held_at uid id old) (config_at id lives_before) refl (h.slots uid id) r
+
+    same_count : (n : ℤ) (same : Bool) → int_eq uid n ≡ same
+        → count_at n old.counts.entries ≡ cond same (count_at uid old.counts.entries) (count_at n old.counts.entries)
+    same_count n true e = ap (λ m. count_at m old.counts.entries) (sym ((signed_Decides uid n).0 e))
+    same_count n false e = refl
+
+    -- by what is held and what is live
+    report_case : (clock : ℕ) (include_current : Bool) → clock ≡ clock_of frames
+        → (slot : Option (Option LiveInstance)) (config : Option LiveConfig) → config_at id lives_before ≡ config
+        → SlotStandsFor says uid (own uid frames) slot config
+        → new.counts ≡ old.counts
+        → MatchOption slot ((new.slots.entries ≡ old.slots.entries) × (body
+        ≡ answers.NoConfig)) (λ slot. MatchOption slot (Unit {0}) (λ instance. ShowsAt clock
+        (live_id uid id) include_current instance old.slots.entries new.slots.entries body))
+        → LivesStandFor says new (frames ++ Report uid id include_current ∷ []) × (body
+        ≡ report_answer says uid id (own uid frames) include_current config)
+    report_case clock include_current now None None none s counts r = (
+      stays frames (Report uid id include_current) uid id (λ n. refl) (λ clock. refl) old new h
+          (record { slots = r.0; counts = counts }) (λ other config is. idle other config is
+          (int_eq id config.id) refl) (λ other. refl) refl,
+      r.1,
+    ) where
+      idle : (other : ℤ) (config : LiveConfig) → config_at other lives_before ≡ Some config → (same : Bool)
+          → int_eq id config.id ≡ same → step_at says config.id (linked_form config.config uid) (own uid frames)
+          (Report uid id include_current) ≡ []
+      idle other config is true e =
+          let own_id : config.id ≡ other = (placed_at (length (own uid frames)) other lives_before (live_placed
+          (own uid frames)) config is).1 in
+          let two : None ≡ Some config = sym none ∙ ap (λ n. config_at n lives_before)
+          ((signed_Decides id config.id).0 e ∙ own_id) ∙ is in
+          absurd (cc)
+      idle other config is false e = ap (λ b. cond b (reported_step include_current (clock_of
+          (own uid frames)) ∷ []) []) e
+    report_case clock include_current now (Some (Some it)) (Some config) is s counts r =
+        let mine = own uid frames in
+        let at = placed_at (length mine) id lives_before (live_placed mine) config is in
+        let time : clock ≡ clock_of mine = now ∙ sym (clock_of-own uid frames) in
+        let same : int_eq id config.id ≡ true = ap (λ n. int_eq id n) at.1 ∙ int_eq_refl id in
+        let step : step_at says config.id (linked_form config.config uid) mine (Report uid id include_current)
+        ≡ reported_step include_current clock ∷ [] =
+        ap (λ b. cond b (reported_step include_current (clock_of mine) ∷ []) []) same
+        ∙ ap (λ t. reported_step include_current t ∷ []) (sym time) in
+        let history : history_of says uid (mine ++ Report uid id include_current ∷ []) config
+        ≡ with_steps (history_of says uid mine config) (reported_step include_current clock ∷ []) =
+        history_of-push says uid mine (Report uid id include_current) config at.0
+        ∙ ap (with_steps (history_of says uid mine config)) step in
+        let done = r.steps (history_of says uid mine config) s.instance (s.time ∙ sym time) in (
+          changed frames (Report uid id include_current) uid id (λ n. refl) (λ clock. refl) old new h (Some
+              (Some r.next)) (count_at uid old.counts.entries) (record {
+                slots = r.slots;
+                counts = λ n. ap (λ
+                    (c : _). count_at n c.entries) counts ∙ same_count n (int_eq uid n) refl;
+              })
+              (subst (SlotStandsFor says uid (mine ++ Report uid id include_current ∷ []) (Some (Some r.next)))
+              (sym is) (record {
+                instance = subst (InstanceStandsFor r.next.instance) (sym history) done.0;
+                time = ap last_step_time history ∙ last_from-push (clock_of (take config.place mine))
+                    (history_of says uid mine config).steps (reported_step include_current clock) ∙ time
+                    ∙ sym (clock_of-push mine (Report uid id include_current));
+              }))
+              (λ other e other_config other_is.
+              let other_id = (placed_at (length mine) other lives_before (live_placed mine) other_config other_is).1 in
+              ap (λ b. cond b (reported_step include_current (clock_of mine) ∷ []) []) (ap
+              (λ n. int_eq id n) other_id ∙ e))
+              (λ other e. refl)
+              (h.counts uid),
+          r.answer ∙ ap (λ t. answers.ReportBytes (report_message t)) done.1
+              ∙ ap (λ t. answers.ReportBytes (report_message (report_of
+              (history_of says uid mine config) uid id include_current t))) time,
+        )
+    report_case clock include_current now None (Some config) is s counts r = absurd s
+    report_case clock include_current now (Some None) (Some config) is s counts r = absurd s
+    report_case clock include_current now (Some (Some it)) None is s counts r = absurd s
+    report_case clock include_current now (Some None) None is s counts r = absurd s
+
+    -- what a report makes of what is held, and its answer
+    pub serves_report : (clock : ℕ) (include_current : Bool) → clock ≡ clock_of frames
+        → ReportsLive clock uid id include_current old new body
+        → LivesStandFor says new (frames ++ Report uid id include_current ∷ []) × (body
+        ≡ report_answer says uid id (own uid frames) include_current (config_at id lives_before))
+    serves_report clock include_current now r = report_case clock include_current now (held_at uid id old)
+        (config_at id lives_before) refl (h.slots uid id) r.counts r.slots
+
+    module _ (config : List ℕ) (clock : ℕ) (now : clock ≡ clock_of frames) where
+      -- what the install brings
+      abbrev brought : Result Config ReplyBody
+      brought = acceptance uid id config lives_before
+
+      -- it is refused with this answer
+      refused : (refusal : ReplyBody) → brought ≡ Err refusal → StaysWith refusal old new body
+          → LivesStandFor says new (frames ++ Install uid id config ∷ []) × (body
+          ≡ install_answer brought (config_at id lives_before))
+      refused refusal is r = (
+        stays frames (Install uid id config) uid id (λ n. refl) (λ clock. refl) old new h r.stays
+            (λ other config is. refl)
+            (λ other. ap (λ a. config_at other (live_with (length (own uid frames)) id a lives_before)) is)
+            (ap (λ a. length (live_with (length (own uid frames)) id a lives_before)) is),
+        r.answer ∙ sym (ap (λ a. install_answer a (config_at id lives_before)) is),
+      )
+
+      -- it is accepted
+      accepted_case : (decoded : Config) (linked : Linked) → linked ≡ linked_form decoded uid
+          → brought ≡ Ok decoded → PutsIn clock uid id linked old new body
+          → LivesStandFor says new (frames ++ Install uid id config ∷ []) × (body
+          ≡ install_answer brought (config_at id lives_before))
+      accepted_case decoded linked form is r =
+          let mine = own uid frames in
+          let put : LiveConfig = record { id = id; config = decoded; place = length mine } in
+          let after_is : live_after mine (Install uid id config) lives_before
+          ≡ with_config put lives_before = ap (λ a. live_with (length mine) id a lives_before) is in
+          let time : clock ≡ clock_of mine = now ∙ sym (clock_of-own uid frames) in
+          let history = history_of-new says uid mine (Install uid id config) put refl in
+          let fresh : InstanceStandsFor r.fresh.instance (history_of says uid
+          (mine ++ Install uid id config ∷ []) put) =
+          subst (InstanceStandsFor r.fresh.instance) (sym history)
+          (subst (λ t. InstanceStandsFor r.fresh.instance
+          (record { base = t; linked = linked_form decoded uid; steps = [] })) time
+          (subst (λ l. InstanceStandsFor r.fresh.instance
+          (record { base = clock; linked = l; steps = [] })) form r.is_fresh)) in
+          let at_id : config_at id (live_after mine (Install uid id config) lives_before) ≡ Some put =
+          ap (config_at id) after_is ∙ config_at-with_config put id lives_before
+          ∙ ap (λ b. cond b (Some put) (config_at id lives_before)) (int_eq_refl id) in
+          let with_len = length-with_config put lives_before in
+          let without_len = length-without_id id lives_before (live_distinct mine) in
+          let len : others uid id old + 1 ≡ length (with_config put lives_before) = omega
+          (arith, with_len, without_len, others_are) in (
+            changed frames (Install uid id config) uid id (λ n. refl) (λ clock. refl) old new h (Some
+                (Some r.fresh)) (others uid id old + 1) r.changes
+                (subst (SlotStandsFor says uid (mine ++ Install uid id config ∷ []) (Some (Some r.fresh)))
+                (sym at_id) (record {
+                  instance = fresh;
+                  time = ap last_step_time history
+                      ∙ sym (clock_of-push mine (Install uid id config));
+                }))
+                (λ other e other_config other_is. refl)
+                (λ other e. ap (config_at other) after_is ∙ config_at-with_config put other lives_before
+                ∙ ap (λ b. cond b (Some put) (config_at other lives_before)) e)
+                (len ∙ ap length (sym after_is)),
+            r.answer ∙ ap (λ b. cond b answers.Replaced answers.Installed) there
+                ∙ given_answer (config_at id lives_before)
+                ∙ sym (ap (λ a. install_answer a (config_at id lives_before)) is),
+          ) where
+            given_answer : (found : Option LiveConfig)
+                → cond (is_some found) answers.Replaced answers.Installed ≡ install_answer (Ok decoded) found
+            given_answer None = refl
+            given_answer (Some found) = refl
+
+      -- it was linked, or refused by a fault of its references or by its form
+      linked_case : (decoded : Config) (read : Result Linked Refusal) → linked_read uid decoded ≡ read
+          → brought ≡ accepted_as decoded read → InstallsLinked clock uid id read old new body
+          → LivesStandFor says new (frames ++ Install uid id config ∷ []) × (body
+          ≡ install_answer brought (config_at id lives_before))
+      linked_case decoded (Err refusal) read is r = refused (answers.Refused refusal) is r
+      linked_case decoded (Ok linked) read is r = accepted_case decoded linked (linked_is uid decoded linked read) is r
+
+      -- the client is full or not
+      full_case : (decoded : Config) (full : Bool) → brought ≡ accepted_read uid full (Ok decoded)
+          → MatchBool full (StaysWith (answers.ClientFull most_configs) old new body) (InstallsLinked clock uid id
+          (linked_read uid decoded) old new body)
+          → LivesStandFor says new (frames ++ Install uid id config ∷ []) × (body
+          ≡ install_answer brought (config_at id lives_before))
+      full_case decoded true is r = refused (answers.ClientFull most_configs) is r
+      full_case decoded false is r = linked_case decoded (linked_read uid decoded) refl is r
+
+      -- it was decoded or not
+      read_case : (read : Result Config Refusal) → brought
+          ≡ accepted_read uid (nat_le most_configs (others uid id old)) read → Installs clock uid id read old new body
+          → LivesStandFor says new (frames ++ Install uid id config ∷ []) × (body
+          ≡ install_answer brought (config_at id lives_before))
+      read_case (Err refusal) is r = refused (answers.Refused refusal) is r
+      read_case (Ok decoded) is r = full_case decoded (nat_le most_configs (others uid id old)) is r
+
+      -- what it brings, by what was read and by the others that are held
+      brought_is : (read : Result Config Refusal) → read ≡ config_read (config_of config)
+          → brought ≡ accepted_read uid (nat_le most_configs (others uid id old)) read
+      unfolding acceptance
+      brought_is read is =
+          accepted uid (is_full id lives_before) (config_of config)
+          ∙ ap (λ n. accepted_read uid (nat_le most_configs n) (config_read (config_of config))) (sym (length-filter
+          (has_other_id id) lives_before) ∙ sym others_are)
+          ∙ ap (accepted_read uid (nat_le most_configs (others uid id old))) (sym is)
+
+      pub serves_install : (read : Result Config Refusal) → read ≡ config_read (config_of config)
+          → Installs clock uid id read old new body
+          → LivesStandFor says new (frames ++ Install uid id config ∷ []) × (body
+          ≡ install_answer brought (config_at id lives_before))
+      serves_install read is r = read_case read (brought_is read is) r
+
+  -- The hub stands for the frames with this one, and this is their answer.
+  pub record Serves {J : Type 0} (new : Hub J) (frames : List Frame) (frame : Frame)
+      (reply : Option Reply) : Type 0 where
+    pub stands : HubStandsFor says new (frames ++ frame ∷ [])
+    pub answer : reply ≡ reply_to says frames frame
+
+  -- the hub serves a frame that is this one
+  pub serves_as : {J : Type 0} (new : Hub J) (frames : List Frame) (given frame : Frame) (reply : Option Reply)
+      → given ≡ frame → Serves new frames frame reply → HubStandsFor says new (frames ++ given ∷ []) × (reply
+      ≡ reply_to says frames given)
+  serves_as new frames given frame reply is s = subst (λ f. HubStandsFor says new (frames ++ f ∷ []) × (reply
+      ≡ reply_to says frames f)) (sym is) (s.stands, s.answer)
+
+  module _ {J : Type 0} (hub new : Hub J) (frames : List Frame) (h : HubStandsFor says hub frames) where
+    pub hub_log : (frame : LogFrame) → clock_of frames ≤ log_time frame → new.clock.time ≡ log_time frame
+        → AllLog says frame hub.lives.slots.entries new.lives.slots.entries → new.lives.counts ≡ hub.lives.counts
+        → Serves new frames (Log frame) None
+    unfolding reply_to
+    hub_log frame in_time clock all counts = record {
+      stands = record {
+        clock = clock ∙ sym (clock_of-push frames
+            (Log frame));
+        lives = stands_log hub.lives new.lives frames frame in_time all counts h.lives;
+      };
+      answer = refl;
+    }
+
+    module _ (uid id : ℤ) (body : ReplyBody) (same_clock : new.clock.time ≡ hub.clock.time) where
+      pub hub_remove : Removes uid id hub.lives new.lives body
+          → Serves new frames (Remove uid id) (reply_of uid id body)
+      unfolding reply_to
+      hub_remove r =
+          let done = serves_remove frames uid id hub.lives new.lives body h.lives r in
+          record {
+            stands = record {
+              clock = same_clock ∙ h.clock
+                  ∙ sym (clock_of-push frames (Remove uid id));
+              lives = done.0;
+            };
+            answer = ap (reply_of uid id) done.1;
+          }
+
+      pub hub_report : (include_current : Bool) → ReportsLive hub.clock.time uid id include_current hub.lives
+          new.lives body → Serves new frames (Report uid id include_current) (reply_of uid id body)
+      unfolding reply_to
+      hub_report include_current r =
+          let done = serves_report frames uid id hub.lives new.lives body h.lives hub.clock.time include_current
+          h.clock r in
+          record {
+            stands = record {
+              clock = same_clock ∙ h.clock
+                  ∙ sym (clock_of-push frames (Report uid id include_current));
+              lives = done.0;
+            };
+            answer = ap
+                (reply_of uid id) done.1;
+          }
+
+      pub hub_install : (config : List ℕ) (read : Result Config Refusal) → read ≡ config_read (config_of config)
+          → Installs hub.clock.time uid id read hub.lives new.lives body
+          → Serves new frames (Install uid id config) (reply_of uid id body)
+      unfolding reply_to
+      hub_install config read is r =
+          let done = serves_install frames uid id hub.lives new.lives body h.lives config hub.clock.time h.clock read
+          is r in
+          record {
+            stands = record {
+              clock = same_clock ∙ h.clock
+                  ∙ sym (clock_of-push frames (Install uid id config));
+              lives = done.0;
+            };
+            answer = ap
+                (reply_of uid id) done.1;
+          }

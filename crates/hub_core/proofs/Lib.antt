@@ -1,0 +1,7 @@
+mod HeldLemmas
+mod SlotLogsLemmas
+mod EvaluationLemmas
+mod InstallReadingLemmas
+mod CommandLemmas
+mod ShownLemmas
+mod HubStandsLemmas

@@ -1,0 +1,32 @@
+-- What a frame of the log makes of an instance, with the truths that a judge says.
+use Rattle.std.specs.Prelude.{ℕ, ◌≤◌, Bool, List, [], count_by}
+use Rattle.atom_record.specs.declared.atom.Atom.{Atom}
+use Rattle.atom_record.specs.declared.log.LogFrame.{LogFrame}
+use Rattle.atom_record.specs.declared.log.LogFrame.TheVariants.{AtomAt}
+use Rattle.config_types.specs.declared.matcher.SimpleMatcher.{SimpleMatcher}
+use Rattle.session_frames.specs.FrameReading.{log_time}
+use Rattle.config_links.specs.declared.linked.LMatcher.{LMatcher}
+use Rattle.matcher_truths.specs.MatcherTruths.{all_truths, is_question}
+use Rattle.metric_meaning.specs.Histories.{History, with_step}
+use Rattle.hub_meaning.specs.LiveConfigs.{truths_at}
+use Rattle.client_engine.specs.declared.instance.Instance.{Instance}
+use Rattle.client_engine.specs.InstanceStands.{InstanceStandsFor, last_step_time}
+use Rattle.client_engine.specs.TrackStands.{logged_step}
+
+-- how many questions of a judge these matchers are worth: one for each simple matcher of an atom's id
+abbrev pub asked_by : LogFrame → List LMatcher → ℕ
+asked_by (AtomAt at atom) matchers = count_by (is_question atom) matchers
+asked_by _ matchers = 0
+
+module _ (says : SimpleMatcher → Atom → Bool) where
+  -- the truths of these matchers, for an atom alone
+  abbrev pub truths_by : List LMatcher → LogFrame → List Bool
+  truths_by matchers (AtomAt at atom) = all_truths says atom matchers
+  truths_by matchers _ = []
+
+  -- whatever history the old stood for, if its last step isn't later, the new stands for that with this frame, by the
+  -- truths of the history's matchers
+  abbrev pub LogsBy : LogFrame → Instance → Instance → Type 0
+  LogsBy frame old new =
+      (history : History) → InstanceStandsFor old history → last_step_time history ≤ log_time frame
+      → InstanceStandsFor new (with_step history (logged_step frame (truths_at says history.linked frame)))

@@ -1,0 +1,50 @@
+-- What the hub of all clients stands for.
+use Rattle.std.specs.Prelude.{◌≡◌, ℕ, ℤ, Bool, List, length, Option, Some, None}
+use Rattle.atom_record.specs.declared.atom.Atom.{Atom}
+use Rattle.config_types.specs.declared.matcher.SimpleMatcher.{SimpleMatcher}
+use Rattle.session_frames.specs.declared.frame.Frame.{Frame}
+use Rattle.session_frames.specs.declared.frame.Frame.TheVariants.{Log}
+use Rattle.hub_meaning.specs.SessionLog.{own, clock_of}
+use Rattle.hub_meaning.specs.Acceptance.{LiveConfig}
+use Rattle.hub_meaning.specs.LiveConfigs.{config_at, live, history_of}
+use Rattle.client_engine.specs.InstanceStands.{InstanceStandsFor, last_step_time}
+use Rattle.hub_core.specs.declared.live_instance.LiveInstance.{LiveInstance}
+use Rattle.hub_core.specs.declared.lives.Lives.{Lives}
+use Rattle.hub_core.specs.declared.hub.Hub.{Hub}
+use Rattle.hub_core.specs.SlotLogs.{asked_by_all}
+use Rattle.hub_core.specs.Slots.{live_id, slot_at, count_at}
+
+-- the judge of a hub
+abbrev pub judge_of : {J : Type 0} → Hub J → J
+judge_of hub = hub.judge
+
+-- how many questions of the judge a frame takes: for an atom, instance by instance, one for each simple matcher of the
+-- atom's id, and none for another frame
+abbrev pub asked_in : {J : Type 0} → Frame → Hub J → ℕ
+asked_in (Log frame) hub = asked_by_all frame hub.lives.slots.entries
+asked_in _ hub = 0
+
+module _ (says : SimpleMatcher → Atom → Bool) where
+  -- A live configuration of a client with these own frames: its last step is at the clock.
+  pub record LiveStandsFor (uid : ℤ) (frames : List Frame) (it : LiveInstance) (config : LiveConfig) : Type 0 where
+    pub instance : InstanceStandsFor it.instance (history_of says uid frames config)
+    pub time : last_step_time (history_of says uid frames config) ≡ clock_of frames
+
+  -- what is held at an id of a client with these own frames is its live configuration of that id
+  abbrev pub SlotStandsFor : ℤ → List Frame → Option (Option LiveInstance) → Option LiveConfig → Type 0
+  SlotStandsFor uid frames None None = Unit {0}
+  SlotStandsFor uid frames (Some (Some it)) (Some config) = LiveStandsFor uid frames it config
+  SlotStandsFor uid frames (Some None) (Some config) = ⊥
+  SlotStandsFor uid frames (Some slot) None = ⊥
+  SlotStandsFor uid frames None (Some config) = ⊥
+
+  -- What is live is held under its client and id, and counted.
+  pub record LivesStandFor (lives : Lives) (frames : List Frame) : Type 0 where
+    pub slots : (uid id : ℤ) → SlotStandsFor uid (own uid frames)
+        (slot_at (live_id uid id) lives.slots.entries) (config_at id (live (own uid frames)))
+    pub counts : (uid : ℤ) → count_at uid lives.counts.entries ≡ length (live (own uid frames))
+
+  -- The hub is what these frames make of a new one, for every client. No field keeps the frames.
+  pub record HubStandsFor {J : Type 0} (hub : Hub J) (frames : List Frame) : Type 0 where
+    pub clock : hub.clock.time ≡ clock_of frames
+    pub lives : LivesStandFor hub.lives frames

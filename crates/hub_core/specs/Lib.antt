@@ -1,0 +1,6 @@
+pub mod InstallReading
+pub mod FrameTruths
+pub mod SlotLogs
+pub mod Slots
+pub mod Commands
+pub mod HubStands

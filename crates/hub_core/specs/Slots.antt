@@ -1,0 +1,54 @@
+-- Slots under names, and counts of them. Nothing here names what holds them.
+use Rattle.std.specs.Prelude.{◌≡◌, ℕ, ◌-◌, ℤ, Bool, List, Option, Some, unwrap_or, count_by, if◌then◌else◌}
+use Rattle.std.specs.Option.{MatchOption}
+use Rattle.std.specs.Map.{lookup}
+use Rattle.std.specs.Ordering.{int_eq}
+use Rattle.session_frames.specs.declared.reply.ReplyBody.{ReplyBody}
+use Rattle.session_frames.specs.declared.reply.ReplyBody.TheVariants as answers
+use Rattle.report_writer.specs.declared.tree.ReportTree.{ReportTree}
+use Rattle.report_writer.specs.ReportSpelling.{report_message}
+use Rattle.client_engine.specs.InstanceStands.{Reports}
+use Rattle.hub_core.specs.declared.live_id.LiveId.{LiveId}
+use Rattle.hub_core.specs.declared.live_instance.LiveInstance.{LiveInstance}
+use Rattle.hub_core.specs.contracts.live_id.LiveIdPartialEq.TheImpl as block
+
+-- a client's configuration of an id
+abbrev pub live_id : ℤ → ℤ → LiveId
+live_id uid id = record { uid = uid; id = id }
+
+-- two are of one client and one id
+abbrev pub same_id : LiveId → LiveId → Bool
+same_id = block.ghosts.eq
+
+-- what is held at a client's id
+abbrev pub slot_at : LiveId → List (LiveId × Option LiveInstance) → Option (Option LiveInstance)
+slot_at name slots = lookup (same_id name) slots
+
+-- how many a client has
+abbrev pub count_at : ℤ → List (ℤ × ℕ) → ℕ
+count_at uid counts = unwrap_or (lookup (int_eq uid) counts) 0
+
+-- how many of other ids a client has, where one of an id is there or not
+abbrev pub others_at : ℤ → Bool → List (ℤ × ℕ) → ℕ
+others_at uid there counts = count_at uid counts - (if there then 1 else 0)
+
+-- how many slots a client has
+abbrev pub held_by : ℤ → List (LiveId × Option LiveInstance) → ℕ
+held_by uid slots = count_by (λ (row : LiveId × Option LiveInstance). int_eq row.0.uid uid) slots
+
+-- A report of what stands under a name.
+pub record ShowsAt (clock : ℕ) (name : LiveId) (include_current : Bool) (live : LiveInstance)
+    (old new : List (LiveId × Option LiveInstance)) (body : ReplyBody) : Type 0 where
+  pub next : LiveInstance
+  pub tree : ReportTree
+  pub steps : Reports live.instance name.uid name.id include_current clock next.instance tree
+  pub slots : (other : LiveId) → slot_at other new ≡ (if same_id name other then Some
+      (Some next) else slot_at other old)
+  pub answer : body ≡ answers.ReportBytes (report_message tree)
+
+-- a report of what stands under a name; a slot that is found isn't empty
+abbrev pub ReportsAt : ℕ → LiveId → Bool → List (LiveId × Option LiveInstance) → List (LiveId × Option LiveInstance)
+    → ReplyBody → Type 0
+ReportsAt clock name include_current old new body =
+    MatchOption (slot_at name old) ((new ≡ old) × (body ≡ answers.NoConfig))
+    (λ slot. MatchOption slot (Unit {0}) (λ live. ShowsAt clock name include_current live old new body))

@@ -1,0 +1,126 @@
+//! The hub of all clients, one frame at a time.
+ghost use Rattle.std.specs.Prelude.{◌≡◌, List, [], ◌++◌, ◌∷◌, IfOk};
+ghost use Rattle.session_frames.specs.declared.frame.Frame.{Frame};
+ghost use Rattle.session_frames.specs.Frames.{log_time, IsFaultless, IsInTime};
+ghost use Rattle.matcher_truths.specs.QuestionCounts.{AreTicks};
+ghost use Rattle.hub_meaning.specs.SessionLog.{clock_of};
+ghost use Rattle.hub_meaning.specs.ClientAnswers.{reply_to};
+ghost use Rattle.hub_meaning.specs.ClientIsolation.{EqualOwnFramesEqualReplies};
+
+use crate::configs::read_config;
+use crate::live_id::LiveId;
+use crate::lives::Lives;
+use crate::log_clock::LogClock;
+use atom_record::LogFrame;
+use matcher_eval::Judge;
+use session_frames::{Frame, Reply};
+use std::alloc::{AllocError, Global};
+
+/// All clients with their live configurations, the clock, and the judge. It keeps no frame.
+#[derive(Drop)]
+pub struct Hub<J: Judge> {
+    alloc: Global,
+    judge: J,
+    clock: LogClock,
+    lives: Lives,
+    /// Room for the truths of one configuration.
+    truths: Vec<bool>,
+}
+
+impl<J: Judge> Hub<J> {
+    ghost use Rattle.hub_core.specs.HubStands.{judge_of, asked_in, HubStandsFor};
+
+    /// A hub that has seen no frame. It takes no memory yet.
+    pub fn new(alloc: Global, judge: J) -> Hub<J>
+        ensures stands { HubStandsFor J.says result [] }
+        ensures judge { judge_of result ≡ judge }
+    {
+        Hub {
+            alloc,
+            judge,
+            clock: LogClock { time: 0 },
+            lives: Lives::new(alloc),
+            truths: Vec::new(alloc),
+        }
+    }
+
+    /// The judge that it asks.
+    pub fn judge(&self) -> &J
+        ensures { result.now ≡ judge_of self.now }
+    {
+        &self.judge
+    }
+
+    /// Takes in a frame; a command is answered. After want of memory the hub is gone.
+    #[tactic(auto, using(hub_meaning::proofs::ClientIsolationLemmas::equal_own_frames))]
+    pub fn step(self, frame: Frame) -> Result<(Hub<J>, Option<Reply>), AllocError>
+        requires faultless { IsFaultless frame }
+
+        // The answer is what the frames so far mean, whatever they are, and the hub stands for them with this one.
+        ensures serves { (frames : List Frame) → HubStandsFor J.says self frames → IsInTime (clock_of frames) frame
+            → IfOk result (λ r. HubStandsFor J.says r.0 (frames ++ frame ∷ [])
+            × (r.1 ≡ reply_to J.says frames frame)) }
+
+        // The judge is asked at atoms alone, once for each simple matcher of the atom's id, instance by instance.
+        ensures asked { IfOk result (λ r. AreTicks (asked_in frame self)
+            (J.ticks (judge_of self)) (J.ticks (judge_of r.0))) }
+
+        // What other clients do is no matter: equal own frames of a client have equal replies.
+        ensures isolated { EqualOwnFramesEqualReplies J.says }
+    {
+        self.serve(frame)
+    }
+
+    // Takes in a frame of its kind.
+    #[tactic(auto, using(matcher_truths::proofs::QuestionCountsLemmas::rises_by_none))]
+    fn serve(mut self, frame: Frame) -> Result<(Hub<J>, Option<Reply>), AllocError>
+        requires faultless { IsFaultless frame }
+        ensures serves { (frames : List Frame) → HubStandsFor J.says self frames → IsInTime (clock_of frames) frame
+            → IfOk result (λ r. HubStandsFor J.says r.0 (frames ++ frame ∷ [])
+            × (r.1 ≡ reply_to J.says frames frame)) }
+        ensures asked { IfOk result (λ r. AreTicks (asked_in frame self)
+            (J.ticks (judge_of self)) (J.ticks (judge_of r.0))) }
+    {
+        match frame {
+            Frame::Log(frame) => {
+                self.clock = LogClock {
+                    time: time_of(&frame),
+                };
+                self.lives = self.lives.log(&mut self.judge, &frame, &mut self.truths)?;
+                Ok((self, None))
+            }
+            Frame::Install { uid, id, config } => {
+                let read = read_config(self.alloc, config.as_slice())?;
+                let name = LiveId { uid, id };
+                let (lives, body) = self.lives.install(self.alloc, self.clock.time, name, read)?;
+                self.lives = lives;
+                Ok((self, Some(Reply { uid, id, body })))
+            }
+            Frame::Remove { uid, id } => {
+                let (lives, body) = self.lives.remove(LiveId { uid, id })?;
+                self.lives = lives;
+                Ok((self, Some(Reply { uid, id, body })))
+            }
+            Frame::Report {
+                uid,
+                id,
+                include_current,
+            } => {
+                let name = LiveId { uid, id };
+                let now = self.clock.time;
+                let (lives, body) = self.lives.report(self.alloc, now, name, include_current)?;
+                self.lives = lives;
+                Ok((self, Some(Reply { uid, id, body })))
+            }
+        }
+    }
+}
+
+/// The time of a frame of the log, in nanoseconds.
+fn time_of(frame: &LogFrame) -> u64
+    ensures { result ≡ log_time frame.now }
+{
+    match frame {
+        LogFrame::Tick { at } | LogFrame::AtomAt { at, .. } | LogFrame::Pull { at, .. } => *at,
+    }
+}

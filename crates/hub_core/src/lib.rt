@@ -1,0 +1,13 @@
+//! All clients with their live configurations, one frame at a time, under any judge.
+#![tactic(auto)]
+
+mod configs;
+mod hub;
+mod live_id;
+mod live_instance;
+mod lives;
+mod log_clock;
+mod logging;
+mod slots;
+
+pub use hub::Hub;

@@ -1,0 +1,151 @@
+//! The live configurations of all clients, found by client and id, and how many each client has.
+ghost use Rattle.std.specs.Prelude.{◌≡◌, ◌≤◌, ◌<◌, ◌^◌, ℤ, [], OnOk, IfOk};
+ghost use Rattle.hub_core.specs.Slots.{held_by, count_at};
+
+use crate::configs::link_config;
+use crate::live_id::LiveId;
+use crate::live_instance::LiveInstance;
+use crate::logging::log_all;
+use crate::slots::{install_answer, others_of, put, report_at, set_count, take_out};
+use atom_record::LogFrame;
+use config_links::Linked;
+use config_types::Config;
+use indexmap::IndexMap;
+use matcher_eval::Judge;
+use session_frames::{Refusal, ReplyBody};
+use std::alloc::{AllocError, Global};
+
+/// How many live configurations a client may have.
+const MOST_CONFIGS: usize = 10;
+
+/// The live configurations. Their order says nothing.
+#[derive(Drop)]
+pub struct Lives {
+    /// A slot is empty only while its configuration takes a step.
+    slots: IndexMap<LiveId, Option<LiveInstance>>,
+    /// How many slots a client has; a client without any isn't here.
+    counts: IndexMap<i32, usize>,
+    ghost counted: { (uid : ℤ) → held_by uid slots.entries ≡ count_at uid counts.entries },
+    ghost few: { (uid : ℤ) → held_by uid slots.entries ≤ 10 },
+}
+
+impl Lives {
+    ghost use Rattle.session_frames.specs.Faultless.{IsFaultlessLog};
+    ghost use Rattle.matcher_truths.specs.QuestionCounts.{AreTicks};
+    ghost use Rattle.hub_core.specs.InstallReading.{MayRun};
+    ghost use Rattle.hub_core.specs.SlotLogs.{AllLog, asked_by_all};
+    ghost use Rattle.hub_core.specs.Commands.{others, Installs, PutsIn, Removes, ReportsLive};
+
+    /// Nothing is live. It takes no memory yet.
+    pub fn new(alloc: Global) -> Lives
+        ensures slots { result.slots.entries ≡ [] }
+        ensures counts { result.counts.entries ≡ [] }
+    {
+        Lives {
+            slots: IndexMap::new(alloc),
+            counts: IndexMap::new(alloc),
+        }
+    }
+
+    /// A frame of the log comes to every configuration.
+    pub fn log<J: Judge>(
+        self,
+        judge: &mut J,
+        frame: &LogFrame,
+        truths: &mut Vec<bool>,
+    ) -> Result<Lives, AllocError>
+        requires sound { IsFaultlessLog frame.now }
+        ensures slots { IfOk result (λ new. AllLog J.says frame.now self.slots.entries new.slots.entries) }
+        ensures counts { IfOk result (λ new. new.counts ≡ self.counts) }
+        ensures ticks { OnOk result (AreTicks (asked_by_all frame.now self.slots.entries)
+            (J.ticks judge.old) (J.ticks judge.new)) }
+    {
+        let Lives { mut slots, counts } = self;
+        log_all(judge, &mut slots, frame, truths)?;
+        Ok(Lives { slots, counts })
+    }
+
+    /// What was read of a configuration goes where the client's configuration of that id stands, or it is new.
+    pub fn install(
+        self,
+        alloc: Global,
+        clock: u64,
+        name: LiveId,
+        read: Result<Config, Refusal>,
+    ) -> Result<(Lives, ReplyBody), AllocError>
+        requires timely { clock < 2 ^ 63 }
+        ensures { IfOk result (λ r. Installs clock name.uid name.id read self r.0 r.1) }
+    {
+        let config = match read {
+            Ok(config) => config,
+            Err(refusal) => return Ok((self, ReplyBody::Refused(refusal))),
+        };
+        let there = self.slots.contains_key(&name);
+        if others_of(&self.counts, name.uid, there) >= MOST_CONFIGS {
+            return Ok((self, ReplyBody::ClientFull(MOST_CONFIGS as u32)));
+        }
+        match link_config(alloc, config, name.uid)? {
+            Ok(linked) => self.put_in(alloc, clock, name, linked),
+            Err(refusal) => Ok((self, ReplyBody::Refused(refusal))),
+        }
+    }
+
+    /// A configuration without faults goes where the client's configuration of that id stands, or it is new.
+    fn put_in(
+        self,
+        alloc: Global,
+        clock: u64,
+        name: LiveId,
+        linked: Linked,
+    ) -> Result<(Lives, ReplyBody), AllocError>
+        requires timely { clock < 2 ^ 63 }
+        requires may_run { MayRun linked }
+        requires room { others name.uid name.id self < 10 }
+        ensures { IfOk result (λ r. PutsIn clock name.uid name.id linked self r.0 r.1) }
+    {
+        let there = self.slots.contains_key(&name);
+        let others = others_of(&self.counts, name.uid, there);
+        let live = LiveInstance::new(alloc, linked, clock)?;
+        // From here on the two facts may be false.
+        let Lives {
+            mut slots,
+            mut counts,
+        } = self;
+        put(&mut slots, name, live)?;
+        set_count(&mut counts, name.uid, others + 1)?;
+        Ok((Lives { slots, counts }, install_answer(there)))
+    }
+
+    /// Takes a client's configuration out. The last slot of the table takes its place.
+    pub fn remove(self, name: LiveId) -> Result<(Lives, ReplyBody), AllocError>
+        ensures { IfOk result (λ r. Removes name.uid name.id self r.0 r.1) }
+    {
+        if !self.slots.contains_key(&name) {
+            return Ok((self, ReplyBody::NoConfig));
+        }
+        let others = others_of(&self.counts, name.uid, true);
+        let Lives {
+            mut slots,
+            mut counts,
+        } = self;
+        take_out(&mut slots, name);
+        set_count(&mut counts, name.uid, others)?;
+        Ok((Lives { slots, counts }, ReplyBody::Removed))
+    }
+
+    /// Reports a client's configuration.
+    pub fn report(
+        self,
+        alloc: Global,
+        clock: u64,
+        name: LiveId,
+        include_current: bool,
+    ) -> Result<(Lives, ReplyBody), AllocError>
+        requires timely { clock < 2 ^ 63 }
+        ensures { IfOk result (λ r. ReportsLive clock name.uid name.id include_current self r.0 r.1) }
+    {
+        let Lives { mut slots, counts } = self;
+        let body = report_at(&mut slots, alloc, clock, name, include_current)?;
+        Ok((Lives { slots, counts }, body))
+    }
+}

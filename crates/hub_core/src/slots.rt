@@ -1,0 +1,102 @@
+//! Slots under names, and counts of them.
+ghost use Rattle.std.specs.Prelude.{◌≡◌, ◌+◌, ◌<◌, ◌^◌, ℤ, not, ◌&&◌, Some, None, is_some, OnOk, IfOk, if◌then◌else◌};
+ghost use Rattle.std.specs.Ordering.{int_eq};
+ghost use Rattle.hub_core.specs.declared.live_id.LiveId.{LiveId};
+ghost use Rattle.hub_core.specs.Slots.{same_id, slot_at, count_at, others_at, held_by, ReportsAt};
+
+use crate::live_id::LiveId;
+use crate::live_instance::LiveInstance;
+use indexmap::IndexMap;
+use report_writer::write;
+use sd_base::Seq;
+use session_frames::ReplyBody;
+use std::alloc::{AllocError, Global};
+
+/// Puts a configuration under a name.
+pub fn put(
+    slots: &mut IndexMap<LiveId, Option<LiveInstance>>,
+    name: LiveId,
+    live: LiveInstance,
+) -> Result<(), AllocError>
+    ensures slots { OnOk result ((other : LiveId) → slot_at other slots.new.entries
+        ≡ (if same_id name other then Some (Some live) else slot_at other slots.old.entries)) }
+    ensures held { OnOk result ((uid : ℤ) → held_by uid slots.new.entries
+        ≡ held_by uid slots.old.entries
+        + (if int_eq name.uid uid && not (is_some (slot_at name slots.old.entries)) then 1 else 0)) }
+{
+    slots.insert(name, Some(live))?;
+    Ok(())
+}
+
+/// Takes what is under a name out; the last slot takes its place.
+pub fn take_out(slots: &mut IndexMap<LiveId, Option<LiveInstance>>, name: LiveId)
+    ensures slots { (other : LiveId) → slot_at other slots.new.entries
+        ≡ (if same_id name other then None else slot_at other slots.old.entries) }
+    ensures held { (uid : ℤ) → held_by uid slots.new.entries
+        + (if int_eq name.uid uid && is_some (slot_at name slots.old.entries) then 1 else 0)
+        ≡ held_by uid slots.old.entries }
+{
+    slots.swap_remove(&name);
+}
+
+/// Reports what is under a name, as the bytes of its message.
+pub fn report_at(
+    slots: &mut IndexMap<LiveId, Option<LiveInstance>>,
+    alloc: Global,
+    clock: u64,
+    name: LiveId,
+    include_current: bool,
+) -> Result<ReplyBody, AllocError>
+    requires timely { clock < 2 ^ 63 }
+    ensures reports { IfOk result (ReportsAt clock name include_current slots.old.entries slots.new.entries) }
+    ensures held { OnOk result ((uid : ℤ) → held_by uid slots.new.entries ≡ held_by uid slots.old.entries) }
+{
+    let Some(slot) = slots.get_mut(&name) else {
+        return Ok(ReplyBody::NoConfig);
+    };
+    let Some(live) = slot.take() else {
+        return Ok(ReplyBody::NoConfig);
+    };
+    let (live, tree) = live.report(name.uid, name.id, include_current, clock)?;
+    *slot = Some(live);
+    Ok(ReplyBody::ReportBytes(Seq::from_vec(write(alloc, &tree)?)))
+}
+
+/// How many slots of other ids a client has, where one of this id is there or not.
+pub fn others_of(counts: &IndexMap<i32, usize>, uid: i32, there: bool) -> usize
+    ensures { result ≡ others_at uid there counts.now.entries }
+{
+    let count = match counts.get(&uid) {
+        Some(count) => *count,
+        None => 0,
+    };
+    count.saturating_sub(usize::from(there))
+}
+
+/// Sets how many slots a client has.
+pub fn set_count(
+    counts: &mut IndexMap<i32, usize>,
+    uid: i32,
+    count: usize,
+) -> Result<(), AllocError>
+    ensures { OnOk result ((client : ℤ) → count_at client counts.new.entries
+        ≡ (if int_eq uid client then count else count_at client counts.old.entries)) }
+{
+    if count == 0 {
+        counts.swap_remove(&uid);
+    } else {
+        counts.insert(uid, count)?;
+    }
+    Ok(())
+}
+
+/// The answer to an install that wasn't refused.
+pub fn install_answer(there: bool) -> ReplyBody
+    ensures { result ≡ (if there then ReplyBody.Replaced else ReplyBody.Installed) }
+{
+    if there {
+        ReplyBody::Replaced
+    } else {
+        ReplyBody::Installed
+    }
+}

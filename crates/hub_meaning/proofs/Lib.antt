@@ -1,0 +1,4 @@
+pub mod SessionLogLaws
+pub mod LiveConfigLaws
+pub mod ClientAnswerLaws
+pub mod ClientIsolationLemmas

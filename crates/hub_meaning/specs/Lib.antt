@@ -1,0 +1,5 @@
+pub mod SessionLog
+pub mod Acceptance
+pub mod LiveConfigs
+pub mod ClientAnswers
+pub mod ClientIsolation

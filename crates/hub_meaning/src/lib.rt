@@ -1,0 +1,2 @@
+//! What a session means to each client: its own frames, what is live, and the replies, under any judge.
+#![tactic(auto)]

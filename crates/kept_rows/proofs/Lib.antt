@@ -1,0 +1,3 @@
+pub mod KeptRowsLemmas
+pub mod KeptItemsLemmas
+mod Worked

@@ -1,0 +1,7 @@
+//! Kept rows, by rows that were worked by hand. There is nothing here but tests.
+#![tactic(auto)]
+
+#[cfg(test)]
+mod rows;
+#[cfg(test)]
+mod saved;

@@ -1,0 +1,91 @@
+//! The steps of a lane, and what its reports show.
+use atom_record::{DimKey, Leaf, MetricKey, Value};
+use count_metric::{Closed, CountProducer, Row};
+use metric_lane::Lane;
+use sd_base::Seq;
+use std::alloc::{AllocError, Global};
+
+/// One step: a frame with an arrival of a key, a frame without one, a pull, or a report and what it shows.
+#[derive(Drop)]
+pub enum Step<'a> {
+    Came(u64, i32),
+    Passed(u64),
+    Pull(u64),
+    Report(u64, bool, Shown<'a>),
+}
+
+/// What a report shows: rows of key, start, end and count; how many weren't kept; how many were dropped.
+#[derive(Drop)]
+pub struct Shown<'a> {
+    pub rows: &'a [(i32, u64, u64, u64)],
+    pub not_kept: u64,
+    pub dropped: u64,
+}
+
+// The key of one number.
+fn key_of(alloc: Global, number: i32) -> Result<MetricKey, AllocError> {
+    let mut dims: DimKey = Seq::new(alloc);
+    dims.push(Leaf::One(Value::Int(number)))?;
+    Ok(MetricKey {
+        dims,
+        slices: Seq::new(alloc),
+    })
+}
+
+// Whether a row is of this key, these times and this count.
+fn is_row(row: &Row<u64>, wanted: (i32, u64, u64, u64)) -> bool {
+    let (number, start, end, count) = wanted;
+    let same_key = match row.key.dims.get(0) {
+        Some(Leaf::One(Value::Int(found))) => *found == number,
+        _ => false,
+    };
+    same_key && row.start == start && row.end == end && row.value == count
+}
+
+// Whether a report shows just this.
+fn shows(closed: &Closed<u64>, shown: &Shown) -> bool {
+    let mut same = closed.rows.len() == shown.rows.len();
+    for (row, wanted) in closed.rows.as_slice().iter().zip(shown.rows) {
+        same &= is_row(row, *wanted);
+    }
+    same && closed.not_kept == shown.not_kept
+        && closed.dropped == shown.dropped
+        && closed.missing == 0
+}
+
+// Takes one step; whether a report shows what it has to.
+fn goes(alloc: Global, lane: &mut Lane<CountProducer>, step: &Step) -> Result<bool, AllocError> {
+    match step {
+        Step::Came(at, number) => {
+            let key = key_of(alloc, *number)?;
+            lane.log(*at, false, Some(key))?;
+            Ok(true)
+        }
+        Step::Passed(at) => {
+            lane.log(*at, false, None)?;
+            Ok(true)
+        }
+        Step::Pull(at) => {
+            lane.log(*at, true, None)?;
+            Ok(true)
+        }
+        Step::Report(at, include_current, shown) => {
+            let closed = lane.report(*at, *include_current)?;
+            Ok(shows(&closed, shown))
+        }
+    }
+}
+
+/// How many of these steps go as they have to, up to the first that doesn't.
+pub fn run(
+    alloc: Global,
+    lane: &mut Lane<CountProducer>,
+    steps: &[Step],
+) -> Result<usize, AllocError> {
+    for (place, step) in steps.iter().enumerate() {
+        if !goes(alloc, lane, step)? {
+            return Ok(place);
+        }
+    }
+    Ok(steps.len())
+}

@@ -1,0 +1,8 @@
+pub mod Reaches
+pub mod Links
+pub mod Unrolled
+pub mod Depth
+pub mod Descent
+pub mod Search
+pub mod Within
+pub mod Ids

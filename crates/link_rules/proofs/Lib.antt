@@ -1,0 +1,4 @@
+pub mod LinkFaultLemmas
+pub mod LimitLemmas
+pub mod CycleLemmas
+pub mod ResolveLemmas

@@ -1,0 +1,19 @@
+//! Whether a configuration is within its limits, and whether its references lead somewhere.
+#![tactic(auto)]
+
+mod cycles;
+mod entities;
+mod entity;
+mod fault;
+mod ids;
+mod known;
+mod limits;
+mod names;
+mod rules;
+
+pub use entities::{Entities, GaugeParts, Kind, Metric, ValueParts, gather};
+pub use fault::{LinkError, LinkFault};
+pub use known::{Ids, Known};
+pub use limits::{number_or, samples_of};
+pub use names::first_unknown_child;
+pub use rules::{checked_ids, refuse};

@@ -1,0 +1,11 @@
+//! Tables of configurations.
+
+mod accepted;
+mod builds;
+mod compared;
+mod faults;
+mod forms;
+mod limits;
+mod orders;
+mod reasons;
+mod sizes;

@@ -1,0 +1,2 @@
+pub mod MatcherTruthsLemmas
+pub mod QuestionCountsLemmas

@@ -1,0 +1,128 @@
+-- One more frame, one more report: what the lane's clock and its producer do together.
+use Rattle.std.proofs.Common.{◌≡◌, ℕ, Bool, List, [], ◌∷◌, ◌++◌, Option, Some, None, sym, ap, subst, ◌∙◌, append_assoc, arith}
+use Rattle.bucket_meaning.specs.Ends.{Moment}
+use Rattle.bucket_clock.specs.declared.crossings.Crossings.{Crossings}
+use Rattle.bucket_clock.specs.Sound.{Times}
+use Rattle.bucket_clock.specs.Clock.{Told, Saw, Answers, boundaries, last_time, moments_told}
+use Rattle.call_rules.specs.Calls.{Call, Crossed, Took, Demands}
+use Rattle.call_rules.specs.Moves.{Moves, MovesAll}
+use Rattle.call_rules.specs.LaneCalls.{crossing, crossing_of, cutting, handed_on}
+use Rattle.call_rules.proofs.RuleLemmas.{admits-front, admits-back}
+use Rattle.call_rules.proofs.LaneReach.{no_ends}
+use Rattle.call_rules.proofs.ClockBehind.{handed_on_is}
+use Rattle.count_metric.specs.declared.row.Row.{Row}
+use Rattle.count_metric.specs.declared.row.Closed.{Closed}
+use Rattle.count_metric.specs.Collecting.{Collecting, Gives}
+use Rattle.metric_lane.specs.LaneClock.{HasClock, MayCross, ClockCrosses}
+use Rattle.metric_lane.specs.LaneStands.{LaneHas, GetsFrame, GetsCalls, GetsCut, GetsReport, told_at}
+use Rattle.metric_lane.specs.declared.lane.Lane.{Lane}
+
+-- a clock's base stays
+base_kept : (old new : Times) (moment : Moment) (answer : Option Crossings) → Answers old moment answer new
+    → new.base ≡ old.base
+base_kept old new moment None answers = ap (λ clock. clock.base) answers.1
+base_kept old new moment (Some crossings) answers = ap (λ clock. clock.base) answers.moved
+
+-- so does its size
+size_kept : (old new : Times) (moment : Moment) (answer : Option Crossings) → Answers old moment answer new
+    → new.size ≡ old.size
+size_kept old new moment None answers = ap (λ clock. clock.size) answers.1
+size_kept old new moment (Some crossings) answers = ap (λ clock. clock.size) answers.moved
+
+-- what a frame does to a clock: its answer is the crossing of the definition, and it was told of the frame
+record Answered (Event After : Type 0) (new : Option Times) (base size : ℕ) (told : List Told) (moment : Moment)
+    (answer : Option Crossings) : Type 0 where
+  crossed : (let calls : List (Call Event After) = handed_on answer in calls ≡ crossing base size told moment)
+  clock : HasClock new base size (told ++ Saw moment ∷ [])
+
+-- a clock answers a frame, if there is one
+answered : (Event After : Type 0) (old new : Option Times) (base size : ℕ) (told : List Told) (moment : Moment)
+    (answer : Option Crossings) → ClockCrosses old new moment answer → HasClock old base size told
+    → MayCross old moment.at → Answered Event After new base size told moment answer
+answered Event After None new base size told moment answer crosses has may = record {
+  crossed =
+      ap handed_on crosses.1
+      ∙ ap (crossing_of (last_time base (boundaries base size told)) size)
+      (sym (no_ends base size (moments_told told) moment (omega (arith, has))));
+  clock = subst (λ clock. HasClock clock base size (told ++ Saw moment ∷ [])) (sym crosses.0) has;
+}
+answered Event After (Some old) None base size told moment answer crosses has may = absurd (crosses may)
+answered Event After (Some old) (Some new) base size told moment answer crosses has may =
+    let both = crosses may in
+    let made = both.1 told has.stands in
+    record {
+      crossed =
+          handed_on_is old new told moment answer has.stands both.0 made.0
+          ∙ ap (λ b. crossing b old.size told moment) has.base_is ∙ ap (λ k. crossing base k told moment) has.size_is;
+      clock = record {
+        base_is = base_kept old new moment answer both.0 ∙ has.base_is;
+        size_is = size_kept old new moment answer both.0 ∙ has.size_is;
+        sized = has.sized;
+        stands = made.1;
+      };
+    }
+
+-- one call, as a list of calls
+pub moves_one : {P Params Event After : Type 0} (stands : P → Params → List (Call Event After) → Type 0)
+    (demands : Params → Demands Event) (old new : P) (call : Call Event After)
+    → Moves stands demands old new call → MovesAll stands demands old new (call ∷ [])
+moves_one stands demands old new call moves params calls has admitted = moves params calls has admitted.0
+
+module _ {P Params Event After Value : Type 0} (stands : P → Params → List (Call Event After) → Type 0)
+    (demands : Params → Demands Event) where
+  -- a frame: the producer was handed what the clock answered
+  pub frame_on : (old new : Lane P Event After Value) (moment : Moment) (answer : Option Crossings)
+      → ClockCrosses old.clock new.clock moment answer
+      → MovesAll stands demands old.producer new.producer (handed_on answer)
+      → GetsFrame stands demands old new moment
+  frame_on old new moment answer crosses moves params told calls has may admitted =
+      let base = (demands params).base in
+      let size = (demands params).size in
+      let both = answered Event After old.clock new.clock base size told moment answer crosses has.clock may in
+      record {
+        clock = both.clock;
+        producer = subst (λ crossed. MovesAll stands demands old.producer new.producer crossed) both.crossed moves
+            params calls has.producer admitted;
+      }
+
+  -- a frame that crosses ends: the producer was handed just that
+  pub crossing_on : (old new : Lane P Event After Value) (moment : Moment) (crossings : Crossings)
+      → ClockCrosses old.clock new.clock moment (Some crossings)
+      → Moves stands demands old.producer new.producer (Crossed crossings)
+      → GetsFrame stands demands old new moment
+  crossing_on old new moment crossings crosses moves =
+      frame_on old new moment (Some crossings) crosses
+      (moves_one stands demands old.producer new.producer (Crossed crossings) moves)
+
+  -- calls, and then others
+  pub calls_then : (old middle new : Lane P Event After Value) (first more : List (Call Event After))
+      → GetsCalls stands demands old middle first → GetsCalls stands demands middle new more
+      → GetsCalls stands demands old new (first ++ more)
+  calls_then old middle new first more one other params told calls has admitted =
+      subst (LaneHas stands demands new params told) (append_assoc calls first more)
+      (other params told (calls ++ first)
+      (one params told calls has (admits-front (demands params) calls first more admitted))
+      (admits-back (demands params) calls first more admitted))
+
+  -- a report: the cut first, and then what is kept
+  pub report_on : {X K C : Type 0} (collecting : Collecting Params Event After X K C (Row Value))
+      (old middle new : Lane P Event After Value) (at : ℕ) (include_current : Bool) (closed : Closed Value)
+      → GetsCut stands demands old middle at include_current → new.clock ≡ middle.clock
+      → Gives stands demands collecting middle.producer closed
+      → Moves stands demands middle.producer new.producer Took
+      → GetsReport stands demands collecting old new at include_current closed
+  report_on collecting old middle new at include_current closed cuts clock gives moves params told calls has may
+      admitted =
+      let cut : List (Call Event After) = cutting (demands params).size include_current at in
+      let took : List (Call Event After) = Took ∷ [] in
+      let after_cut = cuts params told calls has may (admits-front (demands params) calls cut took admitted) in
+      let taking = admits-back (demands params) calls cut took admitted in (
+        record {
+          clock = subst
+              (λ now. HasClock now (demands params).base (demands params).size (told ++ told_at include_current at))
+              (sym clock) after_cut.clock;
+          producer = subst (stands new.producer params) (append_assoc calls cut took)
+              (moves params (calls ++ cut) after_cut.producer taking.0);
+        },
+        gives params (calls ++ cut) after_cut.producer,
+      )

@@ -1,0 +1,174 @@
+-- What a lane stands for after one more step, for callers: for every kind of metric, by what it asks at a frame.
+use Rattle.std.proofs.Common.{◌≡◌, ℕ, ◌<◌, ◌≤◌, Bool, true, false, List, [], ◌∷◌, ◌++◌, Option, Some, None, sym, ap, subst, ◌∙◌, append_assoc, append-nil, arith, suc, ◌+◌, ◌*◌, ⊎_elim}
+use Rattle.std.specs.List.{list_any}
+use Rattle.std.proofs.lemmas.Bool.{cases_lt, true≢false}
+use Rattle.sd_base.proofs.OutputsLemmas.{outputs-push}
+use Rattle.bucket_meaning.specs.Limits.{time_limit}
+use Rattle.bucket_meaning.specs.Ends.{Moment, crosses}
+use Rattle.bucket_meaning.specs.Meaning.{report_by}
+use Rattle.bucket_clock.specs.Sound.{Times}
+use Rattle.bucket_clock.specs.Clock.{Told, Saw, IsNextEnd, ClockStandsFor, moments_told}
+use Rattle.call_rules.specs.Calls.{Call, Demands, Standing, standing_of, clock_behind}
+use Rattle.call_rules.specs.LaneCalls.{coming, event_asks, LaneStep, Logged, Reported, told_by, crossing, cutting, calls_at, calls_of, last_at, last_of, IsTimelyStep, AreTimely, AskWell}
+use Rattle.call_rules.proofs.RuleLemmas.{admits-front, admits-back}
+use Rattle.call_rules.proofs.LaneReach.{told_by-frame, told_by-cut, told_by-report}
+use Rattle.call_rules.proofs.LaneCrossing.{IsAlong}
+use Rattle.call_rules.proofs.LaneCallsLemmas.{all_along, step_admits}
+use Rattle.count_metric.specs.declared.row.Row.{Row}
+use Rattle.count_metric.specs.declared.row.Closed.{Closed}
+use Rattle.count_metric.specs.Collecting.{Collecting, calls_mean, closed_of}
+use Rattle.metric_lane.specs.LaneClock.{IsClockFor, HasClock, MayCross, MayCut}
+use Rattle.metric_lane.specs.LaneStands.{LaneHas, LaneStandsFor, GetsFrame, GetsCalls, GetsReport, LogsEvent, told_at}
+use Rattle.metric_lane.specs.declared.lane.Lane.{Lane}
+
+-- what one more frame tells the clock
+told_by-step : {News : Type 0} (steps : List (LaneStep News)) (at : ℕ) (include_current : Bool)
+    → told_by (steps ++ Reported at include_current ∷ []) ≡ told_by steps ++ told_at include_current at
+told_by-step steps at true = told_by-cut steps at
+told_by-step steps at false = told_by-report steps at ∙ sym (append-nil (told_by steps))
+
+-- there is one next full end
+not_passed : (base size : ℕ) (before : List Moment) (end other : ℕ) (one : IsNextEnd base size before end)
+    (another : IsNextEnd base size before other) → one.passed < another.passed → ⊥
+not_passed base size before end other one another less =
+    true≢false (sym (another.crossed one.passed less)
+    ∙ subst (λ e. list_any (λ moment. crosses moment e) before ≡ false) one.at one.uncrossed)
+
+-- two next full ends of the same frames are the same
+one_next_end : (base size : ℕ) (before : List Moment) (end other : ℕ) → IsNextEnd base size before end
+    → IsNextEnd base size before other → end ≡ other
+one_next_end base size before end other one another =
+    let same : one.passed ≡ another.passed = ⊎_elim
+    (λ (less : one.passed < another.passed). absurd (not_passed base size before end other one another less))
+    (λ (not_less : another.passed ≤ one.passed). ⊎_elim
+    (λ (more : another.passed < one.passed). absurd (not_passed base size before other end another one more))
+    (λ (not_more : one.passed ≤ another.passed). omega (arith, not_less, not_more))
+    (cases_lt another.passed one.passed))
+    (cases_lt one.passed another.passed) in
+    one.at ∙ ap (λ passed. base + suc passed * size) same ∙ sym another.at
+
+module _ {Event : Type 0} (demands : Demands Event) where
+  -- the clock of a lane has the start and the full end of what its calls come to
+  record IsSameAs (clock : Times) (standing : Standing) : Type 0 where
+    start : clock.start ≡ standing.start
+    next_end : clock.next_end ≡ standing.next_end
+
+  -- two clocks that were told the same stand alike
+  same_as : (clock : Times) (standing : Standing) (told : List Told)
+      → IsClockFor clock demands.base demands.size told → ClockStandsFor (clock_behind demands standing) told
+      → IsSameAs clock standing
+  same_as clock standing told has there =
+      let here : ClockStandsFor (record clock { base = demands.base; size = demands.size }) told =
+      subst (λ base. ClockStandsFor (record clock { base = base; size = demands.size }) told) has.base_is
+      (subst (λ size. ClockStandsFor
+      (record clock { base = clock.base; size = size }) told) has.size_is has.stands) in
+      record {
+        start = here.start ∙ sym there.start;
+        next_end = one_next_end demands.base demands.size (moments_told told) clock.next_end standing.next_end
+            here.next_end there.next_end;
+      }
+
+  module _ {News : Type 0} (steps : List (LaneStep News)) (last : ℕ) (standing : Standing)
+      (along : IsAlong demands steps last standing) where
+    -- a frame that isn't before the last one may cross
+    may_cross : (clock : Option Times) (at : ℕ) → HasClock clock demands.base demands.size (told_by steps) → last ≤ at
+        → at < time_limit → MayCross clock at
+    may_cross None at has later fits = tt
+    may_cross (Some clock) at has later fits =
+        let same = same_as clock standing (told_by steps) has (along.stands has.sized) in
+        (omega (arith, same.start, along.from_start, later), fits)
+
+    -- a report at the time of the last frame may cut
+    may_cut : (clock : Option Times) → HasClock clock demands.base demands.size (told_by steps) → MayCut clock last
+    may_cut None has = tt
+    may_cut (Some clock) has =
+        let same = same_as clock standing (told_by steps) has (along.stands has.sized) in (
+          omega (arith, same.start, along.from_start),
+          omega (arith, same.next_end, along.in_bucket has.sized),
+          along.fits,
+        )
+
+-- the last of timely steps comes in time
+last_step : {News : Type 0} (last : ℕ) (steps : List (LaneStep News)) (step : LaneStep News)
+    → AreTimely last (steps ++ step ∷ []) → AreTimely last steps × IsTimelyStep (last_of last steps) step
+last_step last [] step timely = (tt, timely.0)
+last_step last (first ∷ steps) step timely =
+    let rest = last_step (last_at last first) steps step timely.1 in ((timely.0, rest.0), rest.1)
+
+-- what a kind asks is well at the steps before the last
+asks_before : {News Event After : Type 0} (demands : Demands Event)
+    (asks : List (LaneStep News) → Moment → News → List (Call Event After)) (before steps : List (LaneStep News))
+    (step : LaneStep News) → AskWell demands asks before (steps ++ step ∷ []) → AskWell demands asks before steps
+asks_before demands asks before [] step well = tt
+asks_before demands asks before (Logged moment news ∷ steps) step well =
+    (well.0, asks_before demands asks (before ++ Logged moment news ∷ []) steps step well.1)
+asks_before demands asks before (Reported at include_current ∷ steps) step well =
+    asks_before demands asks (before ++ Reported at include_current ∷ []) steps step well
+
+module _ {P Params Event After Value : Type 0} (stands : P → Params → List (Call Event After) → Type 0)
+    (demands : Params → Demands Event) where
+  module _ {News : Type 0} (asks : List (LaneStep News) → Moment → News → List (Call Event After)) (params : Params)
+      (steps : List (LaneStep News)) (fits : (demands params).base < time_limit) where
+    -- one more frame: what it crosses, and then what the kind asks
+    pub lane_logs : (old middle new : Lane P Event After Value) (moment : Moment) (news : News)
+        → GetsFrame stands demands old middle moment → GetsCalls stands demands middle new (asks steps moment news)
+        → LaneStandsFor stands demands asks old params steps
+        → AreTimely (demands params).base (steps ++ Logged moment news ∷ [])
+        → AskWell (demands params) asks [] (steps ++ Logged moment news ∷ [])
+        → LaneStandsFor stands demands asks new params (steps ++ Logged moment news ∷ [])
+    lane_logs old middle new moment news crosses tells has timely well =
+        let step : LaneStep News = Logged moment news in
+        let base = (demands params).base in
+        let in_time = last_step base steps step timely in
+        let well_before = asks_before (demands params) asks [] steps step well in
+        let along = all_along (demands params) asks steps fits in_time.0 well_before in
+        let before = calls_of (demands params) asks steps in
+        let crossed : List (Call Event After) = crossing base (demands params).size (told_by steps) moment in
+        let own = asks steps moment news in
+        let admitted = step_admits (demands params) asks steps step fits timely well in
+        let may = may_cross (demands params) steps (last_of base steps) (standing_of (demands params) before) along
+        old.clock moment.at has.clock in_time.1.0 in_time.1.1 in
+        let middle_has = crosses params (told_by steps) before has may
+        (admits-front (demands params) before crossed own admitted) in
+        let new_has = tells params (told_by steps ++ Saw moment ∷ []) (before ++ crossed) middle_has
+        (admits-back (demands params) before crossed own admitted) in
+        subst (λ told. LaneHas stands demands new params told (calls_of (demands params) asks (steps ++ step ∷ [])))
+        (sym (told_by-frame steps moment news))
+        (subst (LaneHas stands demands new params (told_by steps ++ Saw moment ∷ []))
+        (append_assoc before crossed own ∙ sym (outputs-push (calls_at (demands params) asks) steps step)) new_has)
+
+    -- one more report: the cut, and then what is kept
+    pub lane_reports : {X K C : Type 0} (collecting : Collecting Params Event After X K C (Row Value))
+        (old new : Lane P Event After Value) (at : ℕ) (include_current : Bool) (closed : Closed Value)
+        → GetsReport stands demands collecting old new at include_current closed
+        → LaneStandsFor stands demands asks old params steps
+        → AreTimely (demands params).base (steps ++ Reported at include_current ∷ [])
+        → AskWell (demands params) asks [] (steps ++ Reported at include_current ∷ [])
+        → LaneStandsFor stands demands asks new params (steps ++ Reported at include_current ∷ [])
+        × (closed ≡ closed_of (report_by (calls_mean demands collecting) params
+        (calls_of (demands params) asks steps ++ cutting (demands params).size include_current at)))
+    lane_reports collecting old new at include_current closed reports has timely well =
+        let step : LaneStep News = Reported at include_current in
+        let base = (demands params).base in
+        let in_time = last_step base steps step timely in
+        let well_before = asks_before (demands params) asks [] steps step well in
+        let along = all_along (demands params) asks steps fits in_time.0 well_before in
+        let before = calls_of (demands params) asks steps in
+        let admitted = step_admits (demands params) asks steps step fits timely well in
+        let may = subst (MayCut old.clock) (sym in_time.1)
+        (may_cut (demands params) steps (last_of base steps) (standing_of (demands params) before) along old.clock
+        has.clock) in
+        let both = reports params (told_by steps) before has may admitted in (
+          subst (λ told. LaneHas stands demands new params told (calls_of (demands params) asks (steps ++ step ∷ [])))
+              (sym (told_by-step steps at include_current))
+              (subst (LaneHas stands demands new params (told_by steps ++ told_at include_current at))
+              (sym (outputs-push (calls_at (demands params) asks) steps step)) both.0),
+          both.1,
+        )
+
+  -- one more frame of a lane of events
+  pub event_logs : (old middle new : Lane P Event After Value) (moment : Moment) (event : Option Event)
+      → GetsFrame stands demands old middle moment → GetsCalls stands demands middle new (coming moment.at event)
+      → LogsEvent stands demands old new moment event
+  event_logs old middle new moment event crosses tells params steps has fits timely well =
+      lane_logs event_asks params steps fits old middle new moment event crosses tells has timely well

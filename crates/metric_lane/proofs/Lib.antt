@@ -1,0 +1,2 @@
+pub mod LaneStandsLemmas
+pub mod LaneStepsLemmas

@@ -1,0 +1,55 @@
+-- The clock of a lane, and what frames and cuts do to it. A metric without buckets has none.
+use Rattle.std.specs.Prelude.{◌≡◌, ℕ, ◌<◌, ◌≤◌, Bool, true, false, List, [], ◌∷◌, Option, Some, None}
+use Rattle.bucket_meaning.specs.Limits.{time_limit}
+use Rattle.bucket_meaning.specs.Ends.{Moment}
+use Rattle.bucket_clock.specs.declared.crossings.Crossings.{Crossings}
+use Rattle.bucket_clock.specs.Sound.{Times}
+use Rattle.bucket_clock.specs.Clock.{Told, Saw, Cut, ends_of, Answers, ClockStandsFor, TakesCall}
+
+-- a clock with this base and this size that was told this
+pub record IsClockFor (clock : Times) (base size : ℕ) (told : List Told) : Type 0 where
+  pub base_is : clock.base ≡ base
+  pub size_is : clock.size ≡ size
+  pub sized : 0 < size
+  pub stands : ClockStandsFor clock told
+
+-- the clock of a lane that was told this, or none where there are no buckets
+abbrev pub HasClock : Option Times → ℕ → ℕ → List Told → Type 0
+HasClock None base size told = size ≡ 0
+HasClock (Some clock) base size told = IsClockFor clock base size told
+
+-- a lane's clock at its beginning
+abbrev pub IsNewClock : ℕ → ℕ → Option Times → Type 0
+IsNewClock base size clock = HasClock clock base size []
+
+-- a frame may come at this time
+abbrev pub MayCross : Option Times → ℕ → Type 0
+MayCross None at = Unit {0}
+MayCross (Some clock) at = (clock.start ≤ at) × (at < time_limit)
+
+-- a report may come at this time: it lies in the open part
+abbrev pub MayCut : Option Times → ℕ → Type 0
+MayCut None at = Unit {0}
+MayCut (Some clock) at = (clock.start ≤ at) × (at ≤ clock.next_end) × (at < time_limit)
+
+-- the clock answered a frame, and was told of it
+abbrev pub ClockAnswers : Times → Option Times → Moment → Option Crossings → Type 0
+ClockAnswers old None moment answer = ⊥
+ClockAnswers old (Some new) moment answer = Answers old moment answer new
+    × TakesCall old new (Saw moment) (ends_of answer)
+
+-- a frame that may come makes the clock answer, if there is one
+abbrev pub ClockCrosses : Option Times → Option Times → Moment → Option Crossings → Type 0
+ClockCrosses None new moment answer = (new ≡ None) × (answer ≡ None)
+ClockCrosses (Some old) new moment answer = MayCross (Some old) moment.at → ClockAnswers old new moment answer
+
+-- the clock was cut
+abbrev pub ClockIsCut : Times → Option Times → ℕ → Bool → Type 0
+ClockIsCut old new at false = ⊥
+ClockIsCut old new at true = (new ≡ Some (record old { start = at }))
+    × TakesCall old (record old { start = at }) (Cut at) (at ∷ [])
+
+-- a report that may come cuts the clock, if there is one
+abbrev pub ClockCuts : Option Times → Option Times → ℕ → Bool → Type 0
+ClockCuts None new at was_cut = (new ≡ None) × (was_cut ≡ false)
+ClockCuts (Some old) new at was_cut = MayCut (Some old) at → ClockIsCut old new at was_cut

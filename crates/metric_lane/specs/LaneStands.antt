@@ -1,0 +1,83 @@
+-- What a lane stands for, and what one more step does to it.
+use Rattle.std.specs.Prelude.{◌≡◌, ℕ, ◌<◌, Bool, true, false, List, [], ◌∷◌, ◌++◌, Option}
+use Rattle.bucket_meaning.specs.Limits.{time_limit}
+use Rattle.bucket_meaning.specs.Ends.{Moment}
+use Rattle.bucket_meaning.specs.Meaning.{report_by}
+use Rattle.bucket_clock.specs.Clock.{Told, Saw, Cut}
+use Rattle.call_rules.specs.Calls.{Call, Took, Demands}
+use Rattle.call_rules.specs.Rules.{AreAdmitted}
+use Rattle.call_rules.specs.LaneCalls.{LaneStep, Logged, told_by, crossing, cutting, calls_of, event_asks, AreTimely, AskWell}
+use Rattle.count_metric.specs.declared.row.Row.{Row}
+use Rattle.count_metric.specs.declared.row.Closed.{Closed}
+use Rattle.count_metric.specs.Collecting.{Collecting, calls_mean, closed_of}
+use Rattle.metric_lane.specs.LaneClock.{HasClock, MayCross, MayCut}
+use Rattle.metric_lane.specs.declared.lane.Lane.{Lane}
+
+-- what a report tells a clock: the cut, if it asks for one
+abbrev pub told_at : Bool → ℕ → List Told
+told_at true at = Cut at ∷ []
+told_at false at = []
+
+module _ {P Params Event After Value : Type 0} (stands : P → Params → List (Call Event After) → Type 0)
+    (demands : Params → Demands Event) where
+  -- the clock was told this, and the producer got these calls
+  pub record LaneHas (lane : Lane P Event After Value) (params : Params) (told : List Told)
+      (calls : List (Call Event After)) : Type 0 where
+    pub clock : HasClock lane.clock (demands params).base (demands params).size told
+    pub producer : stands lane.producer params calls
+
+  -- The lane of these steps: its clock was told of their frames and cuts, and its producer got their calls. A kind of
+  -- metric says what it asks at a frame.
+  abbrev pub LaneStandsFor : {News : Type 0}
+      → (List (LaneStep News) → Moment → News → List (Call Event After))
+      → Lane P Event After Value → Params → List (LaneStep News) → Type 0
+  LaneStandsFor asks lane params steps =
+      LaneHas lane params (told_by steps) (calls_of (demands params) asks steps)
+
+  -- whatever a lane had, a frame that may come adds itself for the clock, and what it crosses for the producer
+  abbrev pub GetsFrame : Lane P Event After Value → Lane P Event After Value → Moment → Type 0
+  GetsFrame old new moment =
+      (params : Params) (told : List Told) (calls : List (Call Event After)) → LaneHas old params told calls
+      → MayCross old.clock moment.at
+      → let crossed : List (Call Event After) = crossing (demands params).base (demands params).size told moment in
+      AreAdmitted (demands params) calls crossed → LaneHas new params (told ++ Saw moment ∷ []) (calls ++ crossed)
+
+  -- whatever a lane had, calls that may come are added for the producer
+  abbrev pub GetsCalls : Lane P Event After Value → Lane P Event After Value → List (Call Event After) → Type 0
+  GetsCalls old new more =
+      (params : Params) (told : List Told) (calls : List (Call Event After)) → LaneHas old params told calls
+      → AreAdmitted (demands params) calls more → LaneHas new params told (calls ++ more)
+
+  -- the same of one call
+  abbrev pub GetsCall : Lane P Event After Value → Lane P Event After Value → Call Event After → Type 0
+  GetsCall old new call = GetsCalls old new (call ∷ [])
+
+  -- whatever a lane had, a report that may come adds its cut, if it asks for one
+  abbrev pub GetsCut : Lane P Event After Value → Lane P Event After Value → ℕ → Bool → Type 0
+  GetsCut old new at include_current =
+      (params : Params) (told : List Told) (calls : List (Call Event After)) → LaneHas old params told calls
+      → MayCut old.clock at
+      → let cut : List (Call Event After) = cutting (demands params).size include_current at in
+      AreAdmitted (demands params) calls cut → LaneHas new params (told ++ told_at include_current at) (calls ++ cut)
+
+  -- one more frame of the log, where times don't fall and the producer takes the events
+  abbrev pub LogsEvent : Lane P Event After Value → Lane P Event After Value → Moment → Option Event → Type 0
+  LogsEvent old new moment event =
+      (params : Params) (steps : List (LaneStep (Option Event))) → LaneStandsFor event_asks old params steps
+      → let all = steps ++ Logged moment event ∷ [] in
+      let asks : List (LaneStep (Option Event)) → Moment → Option Event → List (Call Event After) = event_asks in
+      (demands params).base < time_limit → AreTimely (demands params).base all → AskWell (demands params) asks [] all
+      → LaneStandsFor event_asks new params all
+
+  -- whatever a lane had, a report that may come adds its cut and the taking, and hands out what the calls up to the
+  -- cut
+  -- mean
+  abbrev pub GetsReport : {X K C : Type 0} → Collecting Params Event After X K C (Row Value)
+      → Lane P Event After Value → Lane P Event After Value → ℕ → Bool → Closed Value → Type 0
+  GetsReport collecting old new at include_current closed =
+      (params : Params) (told : List Told) (calls : List (Call Event After)) → LaneHas old params told calls
+      → MayCut old.clock at
+      → let cut : List (Call Event After) = cutting (demands params).size include_current at in
+      AreAdmitted (demands params) calls (cut ++ (Took ∷ []))
+      → LaneHas new params (told ++ told_at include_current at) (calls ++ (cut ++ (Took ∷ [])))
+      × (closed ≡ closed_of (report_by (calls_mean demands collecting) params (calls ++ cut)))

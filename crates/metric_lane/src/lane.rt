@@ -1,0 +1,153 @@
+//! A producer with its clock.
+ghost use Rattle.std.specs.Prelude.{◌≡◌, ◌<◌, ◌≤◌, [], OnOk, IfOk};
+ghost use Rattle.bucket_meaning.specs.Limits.{time_limit, longest_bucket};
+ghost use Rattle.bucket_clock.specs.Clock.{frame_at};
+ghost use Rattle.call_rules.specs.Calls.{Got, Learned};
+ghost use Rattle.call_rules.specs.LaneCalls.{coming};
+ghost use Rattle.metric_lane.specs.LaneClock.{IsNewClock, ClockCrosses, ClockCuts};
+ghost use Rattle.metric_lane.specs.LaneStands.{
+  LaneHas,
+  GetsFrame,
+  GetsCall,
+  GetsCalls,
+  GetsCut,
+  GetsReport,
+  LogsEvent,
+};
+
+use bucket_clock::{Clock, Crossings};
+use count_metric::{Closed, Producer};
+use std::alloc::AllocError;
+
+/// All times are below this, in nanoseconds.
+const TIME_LIMIT: u64 = 1 << 63;
+
+/// A producer, and where its buckets end; no clock where it has no buckets.
+///
+/// After want of memory nothing more is said of it: it can only be dropped.
+#[derive(Drop)]
+pub struct Lane<P: Producer> {
+    clock: Option<Clock>,
+    producer: P,
+}
+
+impl<P: Producer> Lane<P> {
+    /// A lane of a new producer, which begins at `base` with buckets of `size`, or with none where that is 0.
+    pub fn new(base: u64, size: u64, producer: P) -> Lane<P>
+        requires base_fits { base < time_limit }
+        requires most { size ≤ longest_bucket }
+        ensures { (params : P.Params) → (P.demands params).base ≡ base
+            → (P.demands params).size ≡ size → P.stands producer params []
+            → LaneHas P.stands P.demands result params [] [] }
+    {
+        Lane {
+            clock: clock_from(base, size),
+            producer,
+        }
+    }
+
+    /// A frame of the log comes: hands on what it crosses.
+    pub fn cross(&mut self, at: u64, is_pull: bool) -> Result<(), AllocError>
+        ensures { OnOk result
+            (GetsFrame P.stands P.demands self.old self.new (frame_at at is_pull)) }
+    {
+        match crossed(&mut self.clock, at, is_pull) {
+            None => Ok(()),
+            Some(crossings) => self.producer.cross(crossings),
+        }
+    }
+
+    /// An event comes at the last frame.
+    pub fn event(&mut self, at: u64, event: P::Event) -> Result<(), AllocError>
+        ensures { OnOk result (GetsCall P.stands P.demands self.old self.new (Got at event)) }
+    {
+        self.producer.event(at, event)
+    }
+
+    /// The condition after the last frame is told.
+    pub fn condition(&mut self, at: u64, now: P::After) -> Result<(), AllocError>
+        ensures { OnOk result (GetsCall P.stands P.demands self.old self.new (Learned at now)) }
+    {
+        self.producer.condition(at, now)
+    }
+
+    /// A frame of the log, with the event that it brings to a metric of events alone.
+    pub fn log(&mut self, at: u64, is_pull: bool, event: Option<P::Event>) -> Result<(), AllocError>
+        ensures { OnOk result (LogsEvent P.stands P.demands self.old self.new
+            (frame_at at is_pull) event) }
+    {
+        self.cross(at, is_pull)?;
+        self.tell(at, event)
+    }
+
+    /// A report at the time of the last frame: cuts the open part if that is wished, and hands out what is kept.
+    pub fn report(&mut self, at: u64, include_current: bool) -> Result<Closed<P::Value>, AllocError>
+        ensures { IfOk result (λ closed. GetsReport P.stands P.demands P.collecting
+            self.old self.new at include_current closed) }
+    {
+        self.close(at, include_current)?;
+        Ok(self.producer.take())
+    }
+}
+
+impl<P: Producer> Lane<P> {
+    // Hands the event on, if there is one.
+    fn tell(&mut self, at: u64, event: Option<P::Event>) -> Result<(), AllocError>
+        ensures { OnOk result (GetsCalls P.stands P.demands self.old self.new (coming at event)) }
+    {
+        match event {
+            None => Ok(()),
+            Some(event) => self.event(at, event),
+        }
+    }
+
+    // Cuts the open part, if that is wished and there is one.
+    fn close(&mut self, at: u64, include_current: bool) -> Result<(), AllocError>
+        ensures { OnOk result (GetsCut P.stands P.demands self.old self.new at include_current) }
+    {
+        if include_current && cut(&mut self.clock, at) {
+            self.producer.cut(at)
+        } else {
+            Ok(())
+        }
+    }
+}
+
+// The clock of a lane that begins so, or none where it has no buckets.
+fn clock_from(base: u64, size: u64) -> Option<Clock>
+    requires base_fits { base < time_limit }
+    requires most { size ≤ longest_bucket }
+    ensures { IsNewClock base size result }
+{
+    if size == 0 {
+        return None;
+    }
+    Some(Clock::new(base, size))
+}
+
+// What the frame crosses. A time outside of the open part's, which no frame has, crosses nothing.
+fn crossed(clock: &mut Option<Clock>, at: u64, is_pull: bool) -> Option<Crossings>
+    ensures { ClockCrosses clock.old clock.new (frame_at at is_pull) result }
+{
+    let Some(clock) = clock else {
+        return None;
+    };
+    if at < clock.start() || at >= TIME_LIMIT {
+        return None;
+    }
+    clock.crossings(at, is_pull)
+}
+
+// Cuts the clock's open part; whether there is one that has this time.
+fn cut(clock: &mut Option<Clock>, at: u64) -> bool
+    ensures { ClockCuts clock.old clock.new at result }
+{
+    let Some(clock) = clock else {
+        return false;
+    };
+    if at < clock.start() || at > clock.next_end() || at >= TIME_LIMIT {
+        return false;
+    }
+    clock.cut_at(at);
+    true
+}

@@ -1,0 +1,6 @@
+//! The lane of one metric: its clock and its producer, which gets just the calls that the metric's steps make.
+#![tactic(auto)]
+
+mod lane;
+
+pub use lane::Lane;

@@ -1,0 +1,4 @@
+mod WorkedHistories
+pub mod CrossedLemmas
+pub mod StepLemmas
+pub mod CountStepsLemmas

@@ -1,0 +1,151 @@
+-- Worked histories and what reports show of them, by computing.
+use Rattle.std.proofs.Common.{◌≡◌, ℕ, ℤ, pos, Bool, true, false, List, [], ◌∷◌, Some, None, refl}
+use Rattle.atom_record.specs.declared.value.Value.TheVariants.{Str}
+use Rattle.atom_record.specs.declared.value.Leaf.TheVariants.{Missing, One}
+use Rattle.atom_record.specs.declared.log.LogFrame.{LogFrame}
+use Rattle.atom_record.specs.declared.log.LogFrame.TheVariants.{Tick, AtomAt, Pull}
+use Rattle.atom_record.specs.declared.log.PullOutcome.TheVariants.{Failed}
+use Rattle.config_links.specs.declared.linked.LMetric.{LMetric}
+use Rattle.config_links.specs.declared.linked.LKind.TheVariants.{Count}
+use Rattle.count_metric.specs.declared.row.Row.{Row}
+use Rattle.metric_meaning.specs.Histories.{Logged, Reported, Step}
+use Rattle.metric_meaning.specs.CountSteps.{counts_shown}
+use Rattle.config_links.specs.declared.linked.Linked.{Linked}
+use Rattle.metric_meaning.specs.Forms.{is_built}
+use Rattle.report_writer.specs.declared.tree.LeafTree.{LeafTree}
+use Rattle.report_writer.specs.declared.tree.NumBucket.{NumBucket}
+use Rattle.report_writer.specs.declared.tree.MetricBody.TheVariants.{Counts}
+use Rattle.metric_meaning.specs.Reports.{report_of}
+
+-- the metric 100 counts what the matcher at 0 means, by field 1 of the atoms of id 5, in buckets of 1,000 with two keys
+abbrev guarded : LMetric
+guarded = record {
+  id = pos 100;
+  shown = true;
+  what = 0;
+  condition = None;
+  links = [];
+  dims = record { atom_id = 5; leaves = record { field = 1; position = None; sub = 0 } ∷ [] };
+  size = 1000;
+  bound = 2;
+  slices = [];
+  kind = Count;
+}
+
+-- a frame of the log, with the truth of the one matcher where it is an atom
+abbrev logged : ℕ → LogFrame → List Bool → Step
+logged at frame truths = record { at = at; what = Logged frame; truths = truths }
+
+-- an atom of id 5 whose field 1 is this text, which the matcher means
+abbrev texted : ℕ → ℕ → Step
+texted at letter =
+    logged at (AtomAt at (record {
+      id = 5;
+      fields = record { field = 1; index = 0; sub = 0; flags = 0; value = Str (letter ∷ []) } ∷ [];
+    })) (true ∷ [])
+
+-- a tick
+abbrev tick : ℕ → Step
+tick at = logged at (Tick at) []
+
+-- a failed pull, which is a frame of the log like others
+abbrev pull : ℕ → Step
+pull at = logged at (Pull at 10001 Failed) []
+
+-- a report at the clock
+abbrev asked : ℕ → Bool → Step
+asked at include_current = record { at = at; what = Reported include_current; truths = [] }
+
+-- a row of a letter
+abbrev row : ℕ → ℕ → ℕ → ℕ → Row ℕ
+row letter start end count = record {
+  key = record { dims = One (Str (letter ∷ [])) ∷ []; slices = [] };
+  start = start;
+  end = end;
+  value = count;
+}
+
+-- two keys have room, and the third is dropped at each of its arrivals
+abbrev crowd : List Step
+crowd = texted 1 65 ∷ texted 2 66 ∷ texted 3 67 ∷ texted 4 65 ∷ texted 5 67 ∷ tick 1000 ∷ []
+
+third_key_dropped : counts_shown 0 guarded crowd false 1000 ≡ record {
+  rows = row 65 0 1000 2 ∷ row 66 0 1000 1 ∷ [];
+  not_kept = 0;
+  dropped = 2;
+  missing = 0;
+}
+third_key_dropped = refl
+
+-- the next bucket admits anew, and its report has the drops since the report before alone
+next_bucket_admits_anew :
+    counts_shown 0 guarded
+    (texted 1 65 ∷ texted 2 66 ∷ texted 3 67 ∷ tick 1000 ∷ asked 1000 false
+    ∷ texted 1001 67 ∷ texted 1002 65 ∷ texted 1003 66 ∷ tick 2000 ∷ []) false 2000 ≡ record {
+      rows = row 67 1000 2000 1 ∷ row 65 1000 2000 1 ∷ [];
+      not_kept = 0;
+      dropped = 1;
+      missing = 0;
+    }
+next_bucket_admits_anew = refl
+
+-- a pull at a full end crosses nothing; a cut there closes the part, and the end is crossed by the next tick
+pull_at_an_end : counts_shown 0 guarded (texted 1 65 ∷ pull 1000 ∷ asked 1000 true ∷ tick 1000 ∷ []) true 1000
+    ≡ record { rows = []; not_kept = 0; dropped = 0; missing = 0 }
+pull_at_an_end = refl
+
+-- truths are taken as they are handed in, also where the atom says otherwise
+truths_are_handed_in : counts_shown 0 guarded
+    (logged 1 (AtomAt 1 (record { id = 6; fields = [] })) (true ∷ [])
+    ∷ logged 2 (AtomAt 2 (record { id = 5; fields = [] })) (false ∷ []) ∷ []) true 2
+    ≡ record {
+      rows = record { key = record { dims = Missing ∷ []; slices = [] }; start = 0; end = 2; value = 1 } ∷ [];
+      not_kept = 0;
+      dropped = 0;
+      missing = 0;
+    }
+truths_are_handed_in = refl
+
+-- the configuration of this one metric, with any matcher
+abbrev configured : Linked
+configured = record { matchers = []; predicates = []; states = []; metrics = guarded ∷ [] }
+
+-- it has the form that is acted on
+form_is_built : is_built configured ≡ true
+form_is_built = refl
+
+-- a leaf with a text
+abbrev text_leaf : ℕ → LeafTree
+text_leaf letter = record { place = 0; value = Some (Str (letter ∷ [])) }
+
+-- a bucket with a count
+abbrev bucket : ℕ → ℕ → ℤ → NumBucket
+bucket start end count = record { start = start; end = end; value = count }
+
+-- a report groups the rows of two buckets by their keys, and tells the clock at the report before
+two_buckets : report_of
+    (record { base = 0; linked = configured; steps = asked 0 false ∷ texted 1 65 ∷ texted 2 66 ∷ texted 1003 65 ∷ [] })
+    (pos 10) (pos 7) true 1003 ≡ record {
+      uid = pos 10;
+      id = pos 7;
+      last = 0;
+      now = 1003;
+      metrics = record {
+        id = pos 100;
+        base = 0;
+        size = 1000;
+        dropped = 0;
+        not_kept = 0;
+        missing = 0;
+        body = Counts (record {
+          leaves = text_leaf 65 ∷ [];
+          slices = [];
+          buckets = bucket 0 1000 (pos 1) ∷ bucket 1000 1003 (pos 1) ∷ [];
+        } ∷ record { leaves = text_leaf 66 ∷ []; slices = []; buckets = bucket 0 1000 (pos 1) ∷ [] } ∷ []);
+      } ∷ [];
+      predicate_drops = [];
+      state_drops = [];
+      state_atoms_dropped = 0;
+    }
+unfolding report_of
+two_buckets = refl

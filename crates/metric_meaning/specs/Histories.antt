@@ -1,0 +1,61 @@
+-- What an installed configuration has seen: one step for each later frame of the log, and for each report of it.
+use Rattle.std.specs.Prelude.{ℕ, zero, suc, Bool, true, false, List, [], ◌∷◌, ◌++◌}
+use Rattle.atom_record.specs.declared.log.LogFrame.{LogFrame}
+use Rattle.atom_record.specs.declared.log.LogFrame.TheVariants.{Tick, AtomAt, Pull}
+use Rattle.bucket_meaning.specs.Ends.{Moment}
+use Rattle.call_rules.specs.LaneCalls as lane
+use Rattle.config_links.specs.declared.linked.Linked.{Linked}
+
+-- What a step is: a frame of the log, or a report, with or without a cut.
+pub data What : Type 0 where
+  Logged : (frame : LogFrame) → What
+  Reported : (include_current : Bool) → What
+
+-- A step: its time, which for a report is the clock; what it is; and for an atom the truth of each matcher, in config
+-- order. The truths are handed in with the step, whatever they are.
+pub record Step : Type 0 where
+  pub at : ℕ
+  pub what : What
+  pub truths : List Bool
+
+-- A configuration: the clock at its installation, its parts with places in place of ids, and the steps since.
+pub record History : Type 0 where
+  pub base : ℕ
+  pub linked : Linked
+  pub steps : List Step
+
+-- a history with more steps
+abbrev pub with_steps : History → List Step → History
+with_steps history more = record history { steps = history.steps ++ more }
+
+-- a history with one step more
+abbrev pub with_step : History → Step → History
+with_step history step = with_steps history (step ∷ [])
+
+-- the truth at a place
+abbrev pub truth_at : ℕ → List Bool → Bool
+truth_at place [] = false
+truth_at zero (truth ∷ truths) = truth
+truth_at (suc place) (truth ∷ truths) = truth_at place truths
+
+-- a pull at the very end of a bucket still belongs to it, so ends of buckets have to know one
+abbrev pub is_pull : LogFrame → Bool
+is_pull (Tick at) = false
+is_pull (AtomAt at atom) = false
+is_pull (Pull at id outcome) = true
+
+-- a frame of the log as ends of buckets see it
+abbrev pub moment_of : LogFrame → ℕ → Moment
+moment_of frame time = record { at = time; is_pull = is_pull frame }
+
+-- the frames of the log among the steps, as ends of buckets see them: reports cross none
+abbrev pub moments_at : What → ℕ → List Moment
+moments_at (Logged frame) time = moment_of frame time ∷ []
+moments_at (Reported include_current) time = []
+
+-- a step as the lane of a metric sees it: a frame with what it brings to the metric, or a report
+abbrev pub lane_step : {News : Type 0} → (Step → News) → Step → lane.LaneStep News
+lane_step {News} news step = of_what step.what where
+  of_what : What → lane.LaneStep News
+  of_what (Logged frame) = lane.Logged (moment_of frame step.at) (news step)
+  of_what (Reported include_current) = lane.Reported step.at include_current

@@ -1,0 +1,73 @@
+-- The report of a history, as a tree.
+use Rattle.std.specs.Prelude.{ℕ, ℤ, pos, ◌-◌, ◌^◌, min, Bool, List, [], ◌∷◌, map, filter}
+use Rattle.bucket_meaning.specs.Kept.{Taken}
+use Rattle.config_links.specs.declared.linked.LMetric.{LMetric}
+use Rattle.config_links.specs.declared.linked.LKind.{LKind}
+use Rattle.config_links.specs.declared.linked.LKind.TheVariants.{Count}
+use Rattle.report_writer.specs.declared.tree.NumBucket.{NumBucket}
+use Rattle.report_writer.specs.declared.tree.NumTree.{NumTree}
+use Rattle.report_writer.specs.declared.tree.MetricBody.{MetricBody}
+use Rattle.report_writer.specs.declared.tree.MetricBody.TheVariants.{Events, Counts}
+use Rattle.report_writer.specs.declared.tree.MetricTree.{MetricTree}
+use Rattle.report_writer.specs.declared.tree.ReportTree.{ReportTree}
+use Rattle.count_metric.specs.declared.row.Row.{Row}
+use Rattle.metric_meaning.specs.Histories.{What, Logged, Reported, Step, History}
+use Rattle.metric_meaning.specs.KeyTrees.{groups_of}
+use Rattle.metric_meaning.specs.CountSteps.{counts_shown}
+
+-- a count in a report ends where a signed number of 64 bits does
+abbrev pub bucket_of : Row ℕ → NumBucket
+bucket_of row = record { start = row.start; end = row.end; value = pos (min row.value (2 ^ 63 - 1)) }
+
+-- rows of counts by their keys
+abbrev pub count_groups : List (Row ℕ) → List NumTree
+count_groups = groups_of (λ leaves slices buckets. record { leaves = leaves; slices = slices; buckets = buckets })
+    bucket_of
+
+-- a metric with what is shown of it, and its rows
+abbrev pub tree_with_body : {A : Type 0} → ℕ → LMetric → Taken A → MetricBody → MetricTree
+tree_with_body base metric shown body = record {
+  id = metric.id;
+  base = base;
+  size = metric.size;
+  dropped = shown.dropped;
+  not_kept = shown.not_kept;
+  missing = shown.missing;
+  body = body;
+}
+
+-- what is shown of a metric of a kind that isn't acted on yet
+abbrev pub nothing_shown : Taken (Row ℕ)
+nothing_shown = record { rows = []; not_kept = 0; dropped = 0; missing = 0 }
+
+-- what a report shows of a metric, by its kind
+abbrev pub metric_tree : ℕ → List Step → Bool → ℕ → LMetric → MetricTree
+metric_tree base steps include_current now metric = by_kind metric.kind where
+  by_kind : LKind → MetricTree
+  by_kind Count =
+      let shown = counts_shown base metric steps include_current now in
+      tree_with_body base metric shown (Counts (count_groups shown.rows))
+  by_kind _ = tree_with_body base metric nothing_shown (Events [])
+
+-- the clock at the last report, or the base
+abbrev pub last_report : ℕ → List Step → ℕ
+last_report last [] = last
+last_report last (step ∷ steps) = last_report (after step.what) steps where
+  after : What → ℕ
+  after (Logged frame) = last
+  after (Reported include_current) = step.at
+
+-- the report that is made after a history's steps at a time, with or without a cut, for a client's configuration
+unfoldable pub report_of : History → ℤ → ℤ → Bool → ℕ → ReportTree
+report_of history uid id include_current now = record {
+  uid = uid;
+  id = id;
+  last = last_report history.base history.steps;
+  now = now;
+  metrics =
+      map (metric_tree history.base history.steps include_current now)
+      (filter (λ (metric : LMetric). metric.shown) history.linked.metrics);
+  predicate_drops = [];
+  state_drops = [];
+  state_atoms_dropped = 0;
+}

@@ -1,0 +1,2 @@
+//! What one installed configuration reports, as definitions over its history: the steps that it has seen.
+#![tactic(auto)]

@@ -1,0 +1,5 @@
+pub mod PredicateStates
+pub mod PredicateTruths
+pub mod PredicateTable
+pub mod PredicateItems
+pub mod PredicateForm

@@ -1,0 +1,40 @@
+-- What a contract sees of a predicate's table: how it is kept, and what it knows.
+use Rattle.std.specs.Prelude.{◌≡◌, ℕ, Bool, List, [], ◌∷◌, ◌++◌, length, All}
+use Rattle.std.specs.Cmp.Lexicographic.{pointwise}
+use Rattle.config_types.specs.declared.parameters.PredSpec.{PredSpec}
+use Rattle.atom_record.specs.declared.value.Leaf.{Leaf}
+use Rattle.atom_record.specs.contracts.value.LeafPartialEq.TheImpl as leaf_test
+use Rattle.predicate_state.specs.declared.event.PredEvent.{PredEvent}
+use Rattle.predicate_state.specs.PredicateStates.{PredicateState, KeyEvent, predicate_after}
+
+-- A key is a list of leaves.
+abbrev pub LeafKey : Type 0
+LeafKey = List Leaf
+
+-- two keys are the same, leaf by leaf
+abbrev pub same_leaves : LeafKey → LeafKey → Bool
+same_leaves = pointwise leaf_test.ghosts.eq
+
+-- How a table is kept, and what it knows.
+pub record PredicateTable : Type 0 where
+  pub spec : PredSpec
+  pub state : PredicateState LeafKey
+
+-- the table with another state
+abbrev pub with_state : PredicateTable → PredicateState LeafKey → PredicateTable
+with_state table state = record table { state = state }
+
+-- every listed key has so many leaves
+abbrev pub HaveLeaves : ℕ → List (LeafKey × ℕ) → Type 0
+HaveLeaves leaves counts = All (λ (entry : LeafKey × ℕ). length entry.0 ≡ leaves) counts
+
+-- The table is kept as the spec says, and knows what these events make of it.
+pub record PredTableStandsFor (table : PredicateTable) (spec : PredSpec) (events : List (KeyEvent LeafKey)) : Type 0 where
+  pub spec_is : table.spec ≡ spec
+  pub state_is : table.state ≡ predicate_after same_leaves spec events
+
+-- whatever events the old table stood for, the new one stands for those and this one
+abbrev pub AppliesEvent : PredicateTable → PredicateTable → PredEvent → LeafKey → Type 0
+AppliesEvent old new event key =
+    (spec : PredSpec) (events : List (KeyEvent LeafKey)) → PredTableStandsFor old spec events
+    → PredTableStandsFor new spec (events ++ record { event = event; key = key } ∷ [])

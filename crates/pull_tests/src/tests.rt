@@ -1,0 +1,3 @@
+//! All rows were worked by hand.
+mod builds;
+mod pulls;

@@ -1,0 +1,4 @@
+//! All rows were worked by hand.
+mod atoms;
+mod slices;
+mod states;
