@@ -18,7 +18,7 @@ MarksOne place marks found marks' found' =
     ((mark_of marks place ≡ true) × (marks' ≡ marks) × (found' ≡ found))
     ⊎ ((mark_of marks place ≡ false) × (marks' ≡ slice_set marks place true) × (found' ≡ found ++ place ∷ []))
 
--- these places were marked, and those that were not yet marked were added to what was found
+-- these places were marked, and those of them that had no mark were added to what was found
 pub record MarksAll (children : List ℕ) (marks : List Bool) (found : List ℕ) (marks' : List Bool)
     (found' : List ℕ) : Type 0 where
   pub added : List ℕ

@@ -16,7 +16,7 @@ use dim_table::Guarded;
 use std::alloc::{AllocError, Global};
 use std::marker::Model;
 
-/// The keys of a simple predicate that were started or stopped, with the number of starts that were not yet stopped.
+/// The keys of a simple predicate that were started or stopped, with the number of starts that no stop has met.
 #[derive(Drop)]
 pub struct PredTable {
     pub(crate) spec: PredSpec,
