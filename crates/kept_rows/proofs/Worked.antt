@@ -1,6 +1,6 @@
 -- Worked cases of the definitions, by computing. A row is its own weight.
-use Rattle.std.proofs.Common.{◌≡◌, ℕ, List, [], ◌∷◌, refl}
-use Rattle.kept_rows.specs.KeptRows.{Keeping, IsKept}
+use Rattle.std.proofs.Common.{ℕ, [], ◌∷◌, refl}
+use Rattle.kept_rows.specs.KeptRows.{IsKept}
 
 abbrev own : ℕ → ℕ
 own row = row

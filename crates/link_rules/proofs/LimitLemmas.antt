@@ -1,5 +1,5 @@
 -- Where no number is past its limit there are few entities.
-use Rattle.std.proofs.Common.{◌≡◌, ℕ, ◌≤◌, nat_lt, Bool, true, false, Option, Some, None, if◌then◌else◌, refl}
+use Rattle.std.proofs.Common.{◌≡◌, ℕ, ◌≤◌, nat_lt, Bool, true, false, Some, None, if◌then◌else◌, refl}
 use Rattle.std.proofs.lemmas.Bool.{ltb-false}
 use Rattle.link_rules.specs.declared.entities.Entities.{Entities}
 use Rattle.link_rules.specs.declared.fault.LinkFault.{LinkFault}

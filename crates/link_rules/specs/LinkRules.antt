@@ -1,6 +1,6 @@
 -- What is asked of a configuration before its entities are looked at one by one: how many there are, their ids, and
 -- where their names lead.
-use Rattle.std.specs.Prelude.{ℤ, List, [], ◌∷◌, Option}
+use Rattle.std.specs.Prelude.{[], ◌∷◌, Option}
 use Rattle.link_rules.specs.declared.entities.Entities.{Entities}
 use Rattle.link_rules.specs.declared.fault.LinkFault.{LinkFault}
 use Rattle.link_rules.specs.declared.known.Ids.{Ids}

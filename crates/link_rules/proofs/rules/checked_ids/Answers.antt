@@ -1,4 +1,4 @@
-use Rattle.std.proofs.Common.{◌≡◌, None, Err}
+use Rattle.std.proofs.Common.{◌≡◌, None}
 use Rattle.std.proofs.lemmas.Result.{err_from_is_err_and}
 use Rattle.link_rules.specs.LinkRules.{rule_fault, id_fault, reference_fault}
 use Rattle.link_rules.proofs.LinkFaultLemmas.{breaks_second}
