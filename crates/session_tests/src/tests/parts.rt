@@ -44,8 +44,8 @@ const PARTS: [(&str, &str); 41] = [
         "four2",
         "16000000_02_0200000000000000_05000000_010000000104000000",
     ),
-    // Counts in buckets of a second by the string in the field 1, of which a bucket takes two; five atoms with A, B, C, A
-    // and C, and a second.
+    // Counts in buckets of a second by the string in the field 1, of which a bucket takes two. Then five atoms with the
+    // strings A, B, C, A and C, and a second.
     (
         "install-two-keys",
         "29000000_10 own 3a06080112020805 1a1208641001220608051a02080128e807c83e02",
