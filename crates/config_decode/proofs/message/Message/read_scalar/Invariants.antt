@@ -2,7 +2,7 @@
 use Rattle.std.proofs.Common.{◌≡◌, map, take}
 use Rattle.proto_wire.specs.Fields.{field_view}
 use Rattle.config_decode.specs.Values as values
-use Rattle.config_decode.proofs.message.Message.scalar.Given as goal
+use Rattle.config_decode.proofs.message.Message.read_scalar.Given as goal
 
 abbrev pub invariant-loop-field : goal.invariant-loop-field
 invariant-loop-field g l =

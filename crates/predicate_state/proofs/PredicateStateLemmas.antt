@@ -11,7 +11,7 @@ use Rattle.dim_table.proofs.KeyLemmas.{Contains-from_place}
 use Rattle.predicate_state.specs.declared.event.PredEvent.{PredEvent}
 use Rattle.predicate_state.specs.declared.event.PredEvent.TheVariants.{Start, Stop}
 use Rattle.predicate_state.specs.PredicateStates.{PredicateState, KeyEvent, count_after_start, count_after_stop, with_new_key, with_key_count, without_key, state_after_start, state_after_stop, state_after, state_from}
-use Rattle.predicate_state.proofs.CountLemmas.{set_at_position}
+use Rattle.predicate_state.proofs.KeyCountLemmas.{set_at_position}
 use Rattle.predicate_state.specs.PredicateTable.{PredicateTable, LeafKey, same_leaves, with_state, AppliesEvent}
 
 module _ {K : Type 0} (same : K → K → Bool) (spec : PredSpec) where

@@ -3,7 +3,7 @@ use Rattle.std.proofs.Common.{ap, ◌∙◌, arith}
 use Rattle.std.proofs.lemmas.List.{map-id}
 use Rattle.config_decode.specs.Values.{last}
 use Rattle.config_decode.proofs.ValuesLemmas.{last_taken}
-use Rattle.config_decode.proofs.message.Message.string.Goals as goal
+use Rattle.config_decode.proofs.message.Message.read_string.Goals as goal
 
 pub returns : goal.returns
 returns c =

@@ -1,7 +1,7 @@
 -- The payload is short, as all payloads of the records are.
 use Rattle.std.proofs.Common.{refl}
 use Rattle.config_decode.proofs.ValuesLemmas.{short_at}
-use Rattle.config_decode.proofs.message.Message.payloads.Goals as goal
+use Rattle.config_decode.proofs.message.Message.read_payloads.Goals as goal
 
 pub from_payload-requires : goal.from_payload-requires
 from_payload-requires g c =

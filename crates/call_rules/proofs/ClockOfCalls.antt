@@ -1,4 +1,4 @@
--- A clock stands behind all calls that are admitted, and its answers are their crossings.
+-- After all calls that are admitted a clock knows their crossings and cuts, and its answers are their crossings.
 use Rattle.std.proofs.Common.{if◌then◌else◌, ◌≡◌, ℕ, suc, ◌+◌, ◌-◌, ◌*◌, ◌/◌, ◌<◌, ◌≤◌, false, List, [], ◌∷◌, ◌++◌, Option, Some, None, nat_le, refl, sym, ap, subst, ◌∙◌, arith, append_assoc}
 use Rattle.std.proofs.lemmas.Bool.Decides.{nat_tests}
 use Rattle.std.proofs.lemmas.List.{append-nil}
@@ -8,7 +8,7 @@ use Rattle.bucket_clock.specs.declared.crossings.Crossings.{Crossings}
 use Rattle.bucket_clock.specs.Sound.{Times, times}
 use Rattle.bucket_clock.specs.Clock.{Told, Saw, Cut, frame_at, boundaries, boundaries_at, last_time, ClockStandsFor, Answers, ends_of, last_end}
 use Rattle.bucket_clock.proofs.ClockLemmas.{some_made, cut_made}
-use Rattle.call_rules.specs.Calls.{Call, Got, Learned, Crossed, CutAt, Took, Demands, Standing, standing_from, standing_of, begun, clock_behind, crossed_to}
+use Rattle.call_rules.specs.Calls.{Call, Got, Learned, Crossed, CutAt, Took, Demands, Standing, standing_from, standing_of, first_standing, clock_at, crossed_to}
 use Rattle.call_rules.specs.Rules.{IsAnswer, IsAdmitted, AreAdmitted}
 use Rattle.call_rules.specs.LaneCalls.{told_of, crossing, crossing_of, handed_on}
 use Rattle.call_rules.proofs.RuleLemmas.{MayComeAll, may_come}
@@ -29,10 +29,10 @@ module _ {Event : Type 0} (demands : Demands Event) (sized : 0 < demands.size) w
   -- a crossing is what the clock answers to a frame at its last end
   pub crossed_by : (standing : Standing) (crossings : Crossings) (told : List Told) → IsWithin standing
       → IsAnswer demands standing crossings
-      → ClockStandsFor (clock_behind demands standing) told
+      → ClockStandsFor (clock_at demands standing) told
       → (ends_of (Some crossings) ≡ boundaries_at demands.base demands.size told
       (Saw (frame_at (last_end crossings) false)))
-      × ClockStandsFor (clock_behind demands (crossed_to demands standing crossings))
+      × ClockStandsFor (clock_at demands (crossed_to demands standing crossings))
       (told ++ Saw (frame_at (last_end crossings) false) ∷ [])
   crossed_by standing crossings told within may stands =
       let n = crossings.full_buckets in
@@ -43,7 +43,7 @@ module _ {Event : Type 0} (demands : Demands Event) (sized : 0 < demands.size) w
       let count : (last_end crossings - standing.next_end) / demands.size ≡ n =
       ap (λ k. k / demands.size) (omega (arith, last_is)) ∙ mul-div_cancel n sized in
       let long : standing.next_end ≤ last_end crossings = omega (arith, last_is) in
-      let made = some_made (clock_behind demands standing) (frame_at (last_end crossings) false) sized within.bucket
+      let made = some_made (clock_at demands standing) (frame_at (last_end crossings) false) sized within.bucket
       (omega (arith, within.from_start, within.to_end, long)) (last_end crossings) within.some_end
       (crosses_at (last_end crossings)) long told stands in
       let end_is : standing.next_end + ((last_end crossings - standing.next_end) / demands.size) * demands.size
@@ -63,43 +63,43 @@ module _ {Event : Type 0} (demands : Demands Event) (sized : 0 < demands.size) w
       )
 
   -- such a clock was told of these calls, and the standing keeps what it has to
-  pub record IsBehind (standing : Standing) (told : List Told) : Type 0 where
+  pub record ClockKnows (standing : Standing) (told : List Told) : Type 0 where
     pub within : IsWithin standing
-    pub stands : ClockStandsFor (clock_behind demands standing) told
+    pub stands : ClockStandsFor (clock_at demands standing) told
 
-  -- such a clock stands behind further calls that may come
-  behind_from : {After : Type 0} (calls : List (Call Event After)) (standing : Standing) (told : List Told)
-      → IsBehind standing told → MayComeAll demands standing calls
-      → IsBehind (standing_from demands standing calls) (told ++ told_of calls)
-  behind_from [] standing told behind may = subst (λ l. IsBehind standing l) (sym (append-nil told)) behind
-  behind_from (Got at event ∷ calls) standing told behind may =
-      behind_from calls (record standing { last = at; owed = if demands.is_paired then Some at else None }) told
+  -- such a clock knows further calls that may come
+  clock_from : {After : Type 0} (calls : List (Call Event After)) (standing : Standing) (told : List Told)
+      → ClockKnows standing told → MayComeAll demands standing calls
+      → ClockKnows (standing_from demands standing calls) (told ++ told_of calls)
+  clock_from [] standing told known may = subst (λ l. ClockKnows standing l) (sym (append-nil told)) known
+  clock_from (Got at event ∷ calls) standing told known may =
+      clock_from calls (record standing { last = at; owed = if demands.is_paired then Some at else None }) told
       (record {
         within = record {
           from_start = may.0.timely.from_start;
           to_end = may.0.timely.in_bucket sized;
-          some_end = behind.within.some_end;
-          bucket = behind.within.bucket;
+          some_end = known.within.some_end;
+          bucket = known.within.bucket;
         };
-        stands = behind.stands;
+        stands = known.stands;
       }) may.1
-  behind_from (Learned at now ∷ calls) standing told behind may =
-      behind_from calls (record standing { last = at; owed = None }) told
+  clock_from (Learned at now ∷ calls) standing told known may =
+      clock_from calls (record standing { last = at; owed = None }) told
       (record {
         within = record {
           from_start = may.0.timely.from_start;
           to_end = may.0.timely.in_bucket sized;
-          some_end = behind.within.some_end;
-          bucket = behind.within.bucket;
+          some_end = known.within.some_end;
+          bucket = known.within.bucket;
         };
-        stands = behind.stands;
+        stands = known.stands;
       }) may.1
-  behind_from (Crossed crossings ∷ calls) standing told behind may =
+  clock_from (Crossed crossings ∷ calls) standing told known may =
       let size : crossings.size ≡ demands.size = may.0.answer.size in
-      let made = crossed_by standing crossings told behind.within may.0 behind.stands in
-      subst (λ l. IsBehind (standing_from demands (crossed_to demands standing crossings) calls) l)
+      let made = crossed_by standing crossings told known.within may.0 known.stands in
+      subst (λ l. ClockKnows (standing_from demands (crossed_to demands standing crossings) calls) l)
       (append_assoc told (Saw (frame_at (last_end crossings) false) ∷ []) (told_of calls))
-      (behind_from calls (crossed_to demands standing crossings)
+      (clock_from calls (crossed_to demands standing crossings)
       (told ++ Saw (frame_at (last_end crossings) false) ∷ [])
       (record {
         within = record {
@@ -110,27 +110,27 @@ module _ {Event : Type 0} (demands : Demands Event) (sized : 0 < demands.size) w
         };
         stands = made.1;
       }) may.1)
-  behind_from (CutAt at ∷ calls) standing told behind may =
+  clock_from (CutAt at ∷ calls) standing told known may =
       let next : Standing = record standing { start = at; last = at } in
       let bucket : next.next_end ≤ next.start + demands.size =
-      omega (arith, may.0.timely.from_start, behind.within.bucket) in
+      omega (arith, may.0.timely.from_start, known.within.bucket) in
       let start : next.start ≤ next.last = omega arith in
-      subst (λ l. IsBehind (standing_from demands next calls) l) (append_assoc told (Cut at ∷ []) (told_of calls))
-      (behind_from calls next (told ++ Cut at ∷ [])
+      subst (λ l. ClockKnows (standing_from demands next calls) l) (append_assoc told (Cut at ∷ []) (told_of calls))
+      (clock_from calls next (told ++ Cut at ∷ [])
       (record {
         within = record {
           from_start = start;
           to_end = may.0.timely.in_bucket sized;
-          some_end = behind.within.some_end;
+          some_end = known.within.some_end;
           bucket = bucket;
         };
-        stands = (cut_made (clock_behind demands standing) at told behind.stands).1;
+        stands = (cut_made (clock_at demands standing) at told known.stands).1;
       }) may.1)
-  behind_from (Took ∷ calls) standing told behind may = behind_from calls standing told behind may.1
+  clock_from (Took ∷ calls) standing told known may = clock_from calls standing told known may.1
 
-  -- and behind none
-  begun_behind : IsBehind (begun demands) []
-  begun_behind = record {
+  -- and it knows that there was none
+  first_clock : ClockKnows (first_standing demands) []
+  first_clock = record {
     within = record {
       from_start = omega arith;
       to_end = omega arith;
@@ -148,10 +148,10 @@ module _ {Event : Type 0} (demands : Demands Event) (sized : 0 < demands.size) w
     };
   }
 
-  -- behind admitted calls stands a clock that was told of the same crossings and cuts
+  -- after admitted calls there is a clock that was told of the same crossings and cuts
   pub a_clock : {After : Type 0} (calls : List (Call Event After)) → AreAdmitted demands [] calls
-      → IsBehind (standing_of demands calls) (told_of calls)
-  a_clock calls all = behind_from calls (begun demands) [] begun_behind (may_come demands [] calls all)
+      → ClockKnows (standing_of demands calls) (told_of calls)
+  a_clock calls all = clock_from calls (first_standing demands) [] first_clock (may_come demands [] calls all)
 
   -- a crossing that may come next is what that clock answers to the next frame that crosses an end
   pub is_answer : {After : Type 0} (calls : List (Call Event After)) (crossings : Crossings)

@@ -3,8 +3,8 @@ use Rattle.std.proofs.Common.{ap, sym, ◌∙◌}
 use Rattle.config_decode.specs.Values.{run_with}
 use Rattle.config_decode.proofs.ValuesLemmas.{short_at}
 use Rattle.config_decode.proofs.OneofLemmas.{run_more, run_same}
-use Rattle.config_decode.proofs.message.Message.oneof_run.Goals as goal
-use Rattle.config_decode.proofs.message.Message.oneof_run.Goals.{then-contains+in_ok-push_member, else-contains}
+use Rattle.config_decode.proofs.message.Message.read_oneof_run.Goals as goal
+use Rattle.config_decode.proofs.message.Message.read_oneof_run.Goals.{then-contains+in_ok-push_member, else-contains}
 
 pub push_member-requires : goal.push_member-requires
 push_member-requires c =
