@@ -85,10 +85,10 @@ const ROWS: [(&str, &str, &str, &str); 14] = [
         "statsd: bad session at 13: 7 time backwards 5 2\n",
     ),
     (
-        "an atom at an hour",
-        "0d000000_02_00a0b83046030000_05000000",
-        "",
-        "statsd: bad session at 0: 4 unknown kind 2\n",
+        "an atom at 2^63",
+        "0d000000_02_ffffffffffffff7f_05000000 report 0d000000_02_0000000000000080_05000000",
+        "no-config",
+        "statsd: bad session at 35: 5 bad body 4\n",
     ),
 ];
 
