@@ -85,6 +85,6 @@ def run(words, content, program=None):
     want = want_of_build()
     if not want:
         return run_built(PROGRAM, words, content)
-    tell(f"{want}: rt builds it from the sources as they are, without a proof, and runs that; this takes a minute or two")
+    tell(f"{want}: rt builds it from the sources as they are, without a proof, and runs that; it takes a minute or two")
     tell("to have it proved and built for all later runs: .ci/run")
     return run_unproved(words, content)

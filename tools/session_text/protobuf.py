@@ -21,8 +21,8 @@ def protoc(how, schema, content, name):
     except OSError:
         raise Fault(f"{name}: expected a program protoc (Debian: protobuf-compiler), and there is none") from None
     if ran.returncode:
-        said = ran.stderr.decode(errors="replace").replace("Failed to parse input.", "").strip()
-        raise Fault(f"{name}: expected what proto/{schema} has; {said.replace('input:', name + ':') or 'protoc failed'}")
+        said = ran.stderr.decode(errors="replace").replace("Failed to parse input.", "").replace("input:", name + ":")
+        raise Fault(f"{name}: expected what proto/{schema} has; {said.strip() or 'protoc failed'}")
     return ran.stdout
 
 

@@ -18,7 +18,7 @@ ESCAPED = {"\n": "\\n", "\t": "\\t", "\r": "\\r", '"': '\\"', "\\": "\\\\"}
 
 
 def words_of(line):
-    """The words of a line: parts between spaces, where a string in double quotes is kept whole. A # begins a comment."""
+    """The words of a line: parts between spaces. A string in double quotes is kept whole, and a # begins a comment."""
     words, at = [], SPACES.match(line).end()
     while at < len(line) and line[at] != "#":
         word = WORD.match(line, at)
