@@ -77,8 +77,8 @@ IsSoundPredicate matchers predicates predicate = IsSoundBody matchers predicates
 abbrev pub IsSoundState : LState → Type 0
 IsSoundState state = IsFromOne greatest_atom_id state.atom_id
 
--- a link of a metric with this condition: to a simple predicate that the condition is or reaches, with as many leaves on
--- both sides, which are among that predicate's dimensions
+-- a link of a metric with this condition: to a simple predicate that the condition is or reaches, with as many leaves
+-- on both sides, which are among that predicate's dimensions
 pub record IsSoundLink (predicates : List LPredicate) (condition : Option ℕ) (link : LLink) : Type 0 where
   pub within : link.predicate < length predicates
   pub simple : spec_in (slice_get predicates link.predicate) ≢ None
@@ -184,8 +184,8 @@ pub record IsSoundMetric (linked : Linked) (metric : LMetric) : Type 0 where
       metric.slices
   pub kind : IsSoundKind linked metric metric.kind
 
--- a configuration: each entity is sound, there are as few as may be, no combination is below itself, and no two of a kind
--- have the same id
+-- a configuration: each entity is sound, there are as few as may be, no combination is below itself, and no two of a
+-- kind have the same id
 pub record IsSoundConfig (linked : Linked) : Type 0 where
   pub few_matchers : length linked.matchers ≤ 800
   pub few_predicates : length linked.predicates ≤ 300

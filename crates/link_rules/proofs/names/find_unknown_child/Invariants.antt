@@ -1,6 +1,6 @@
 use Rattle.std.proofs.Common.{◌≡◌, drop, map, Some}
 use Rattle.link_rules.specs.EntityNames.{first_unknown}
-use Rattle.link_rules.proofs.names.first_unknown_child.Given as goal
+use Rattle.link_rules.proofs.names.find_unknown_child.Given as goal
 
 abbrev pub invariant-loop-id : goal.invariant-loop-id
 invariant-loop-id l =

@@ -1,7 +1,7 @@
 use Rattle.std.proofs.Common.{◌≡◌, drop}
 use Rattle.link_rules.specs.LinkFaults.{first_in}
 use Rattle.link_rules.specs.EntityLimits.{predicate_limit}
-use Rattle.link_rules.proofs.limits.predicates_limit.Given as goal
+use Rattle.link_rules.proofs.limits.judge_predicates.Given as goal
 
 -- the first fault of what is left is that of all
 abbrev pub invariant-loop-def : goal.invariant-loop-def

@@ -1,6 +1,6 @@
 use Rattle.std.proofs.Common.{◌≡◌, drop, map}
 use Rattle.link_rules.specs.EntityNames.{first_unknown, link_condition}
-use Rattle.link_rules.proofs.names.first_unknown_link.Given as goal
+use Rattle.link_rules.proofs.names.find_unknown_link.Given as goal
 
 abbrev pub invariant-loop-link : goal.invariant-loop-link
 invariant-loop-link l =

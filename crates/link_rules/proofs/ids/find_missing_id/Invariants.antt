@@ -1,6 +1,6 @@
 use Rattle.std.proofs.Common.{◌≡◌, drop, map}
 use Rattle.link_rules.specs.EntityIds.{no_id_from, no_id_in}
-use Rattle.link_rules.proofs.ids.no_id_in.Given as goal
+use Rattle.link_rules.proofs.ids.find_missing_id.Given as goal
 
 abbrev pub invariant-loop-place : goal.invariant-loop-place
 invariant-loop-place g l =

@@ -4,9 +4,9 @@ use Rattle.link_graph.specs.Links.{Refers}
 
 module _ {V : Type 0} where
   -- the function, followed so many references deep, and one value for what lies deeper
-  abbrev pub unrolled : ((ℕ → V) → ℕ → V) → V → ℕ → ℕ → V
-  unrolled step deeper zero x = deeper
-  unrolled step deeper (suc depth) x = step (unrolled step deeper depth) x
+  abbrev pub unroll : ((ℕ → V) → ℕ → V) → V → ℕ → ℕ → V
+  unroll step deeper zero x = deeper
+  unroll step deeper (suc depth) x = step (unroll step deeper depth) x
 
   -- a place's value comes from the values at the places that it names, and from no others
   abbrev pub LooksDown : List (List ℕ) → ((ℕ → V) → ℕ → V) → Type 0
@@ -17,7 +17,7 @@ module _ {V : Type 0} where
   abbrev pub MeetsItsStep : List (List ℕ) → ((ℕ → V) → ℕ → V) → V → Type 0
   MeetsItsStep links step deeper =
       (x : ℕ) → x < length links
-      → unrolled step deeper (length links) x ≡ step (unrolled step deeper (length links)) x
+      → unroll step deeper (length links) x ≡ step (unroll step deeper (length links)) x
 
 -- every such function has those values
 abbrev pub AllMeetTheirStep : (V : Type 0) → List (List ℕ) → Type 0
