@@ -13,7 +13,7 @@ const SECOND: u64 = 1_000_000_000;
 
 /// An atom at the begin of each second, one more than rows are kept; and a report at the end of the last one.
 fn session_of(alloc: Global) -> Result<Vec<u8>, AllocError> {
-    let mut session = bytes_of(alloc, "1d000000_10 own matcher 1a0608641001_2802")?;
+    let mut session = bytes_of(alloc, "1e000000_10 own matcher 1a0708641001_28e807")?;
     let mut at = 0_u64;
     for _ in 0..=MOST_ROWS {
         push_text(&mut session, "0d000000_02", TEN)?;
