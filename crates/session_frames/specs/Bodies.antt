@@ -4,7 +4,6 @@ use Rattle.std.specs.Io.KnownBytes.{Consumes, IsAtEnd}
 use Rattle.session_frames.specs.declared.body.BodyError.{BodyError}
 use Rattle.session_frames.specs.declared.body.BodyError.TheVariants.{Fault, Memory}
 use Rattle.session_frames.specs.declared.frame.Frame.{Frame}
-use Rattle.session_frames.specs.declared.frame.Frame.TheVariants.{Log}
 use Rattle.session_frames.specs.declared.frame.FrameError.{FrameError}
 use Rattle.session_frames.specs.declared.frame.FrameError.TheVariants as failed
 use Rattle.session_frames.specs.declared.frame.FrameFault.{FrameFault}

@@ -1,5 +1,6 @@
 //! As much as a configuration may have, and one more: matchers, metrics, predicates and states; the longest chain of
 //! matchers; and more ids of state atoms than are kept.
+use super::messages::{push_message, push_varint};
 use super::parts::{TEN, bytes_of, push_text};
 use super::run::{SOUND, assert_left, run};
 use std::alloc::{AllocError, Global};
@@ -55,26 +56,6 @@ const ROWS: [(&str, &str, Entity, u64, &str); 6] = [
         "unlinked 0103_1100000000000000",
     ),
 ];
-
-fn push_varint(bytes: &mut Vec<u8>, number: u64) -> Result<(), AllocError> {
-    let mut left = number;
-    for _ in 0..10 {
-        if left < 128 {
-            break;
-        }
-        bytes.push((left & 127) as u8 | 128)?;
-        left >>= 7;
-    }
-    bytes.push((left & 127) as u8)?;
-    Ok(())
-}
-
-/// Puts a message after its tag and its length.
-fn push_message(bytes: &mut Vec<u8>, tag: &[u8], message: &[u8]) -> Result<(), AllocError> {
-    bytes.extend_from_slice(tag)?;
-    push_varint(bytes, message.len() as u64)?;
-    bytes.extend_from_slice(message)
-}
 
 /// The operation `and` of the matcher of this id with itself.
 fn pair_of(alloc: Global, id: u64) -> Result<Vec<u8>, AllocError> {
