@@ -1,5 +1,5 @@
 -- Laws of "reaches", for any "refers to".
-use Rattle.std.proofs.Common.{◌≡◌, List, [], ◌∷◌}
+use Rattle.std.proofs.Common.{List, [], ◌∷◌}
 use Rattle.link_graph.specs.Reaches.{Leads, Reaches}
 
 module _ {A : Type 0} (refers : A → A → Type 0) where

@@ -14,7 +14,7 @@ use Rattle.count_metric.specs.declared.row.Row.{Row}
 use Rattle.count_metric.specs.declared.row.Closed.{Closed}
 use Rattle.count_metric.specs.Collecting.{Collecting, Gives}
 use Rattle.metric_lane.specs.LaneClock.{HasClock, MayCross, ClockCrosses}
-use Rattle.metric_lane.specs.LaneStands.{LaneHas, GetsFrame, GetsCalls, GetsCut, GetsReport, told_at}
+use Rattle.metric_lane.specs.LaneStands.{GetsFrame, GetsCut, GetsReport, told_at}
 use Rattle.metric_lane.specs.declared.lane.Lane.{Lane}
 
 -- a clock's base stays

@@ -4,8 +4,8 @@ use std::alloc::{AllocError, Global};
 
 /// Frames and replies by name.
 const PARTS: [(&str, &str); 25] = [
-    // The client 10 counts what its first matcher means. Its matchers: the atoms of id 5 with 3 in the field 1, those with
-    // 4, those of id 6, and all that the first doesn't mean.
+    // The client 10 counts what its first matcher means. Its matchers: the atoms of id 5 with 3 in the field 1, those
+    // with 4, those of id 6, and all that the first doesn't mean.
     (
         "install10",
         "41000000_10_0a000000_0700000000000000 3a0c_0801_1208_0805_1204_0801_2803 \
@@ -17,8 +17,8 @@ const PARTS: [(&str, &str); 25] = [
         "41000000_10_0a000000_0700000000000000 3a0c_0801_1208_0805_1204_0801_2803 \
             3a0c_0802_1208_0805_1204_0801_2804 3a06_0803_1202_0806 3a08_0804_1a04_0803_1001 1a04_0864_1004",
     ),
-    // The client 20 counts what its second matcher means. Its matchers: the atoms of id 5 with 4 in the field 1, and all
-    // atoms of id 5.
+    // The client 20 counts what its second matcher means. Its matchers: the atoms of id 5 with 4 in the field 1, and
+    // all atoms of id 5.
     (
         "install20",
         "29000000_10_14000000_0700000000000000 3a0c_0801_1208_0805_1204_0801_2804 3a06_0802_1202_0805 \

@@ -7,7 +7,7 @@ use matcher_eval::FieldJudge;
 use std::process::Abort;
 use std::test::Fail;
 
-/// Two configurations, three atoms of the id 5 with 3, 3 and 4 in the field 1, one without the field, one of another id.
+/// Two configurations; three atoms of the id 5 with 3, 3 and 4 in the field 1, one without it, and one of another id.
 const SESSION: &str = "install10 install20 three1 three2 four3 bare3 other3 cut10 cut20";
 
 /// The same with what the first matcher doesn't mean, which is counted for atoms of all ids.
