@@ -302,8 +302,8 @@ module _ (atoms : List Atom) (atom : Atom) where
   ids_more : map id_of atoms ++ atom.id ∷ [] ≡ map id_of more_atoms
   ids_more = sym (map-append id_of atoms (atom ∷ []))
 
-  abbrev ended : table_for same_atom_id ids_exact most_state_ids (states_in more_atoms) (map id_of atoms ++ atom.id ∷ [])
-      ≡ book_in more_atoms
+  abbrev ended : table_for same_atom_id ids_exact most_state_ids (states_in more_atoms)
+      (map id_of atoms ++ atom.id ∷ []) ≡ book_in more_atoms
   ended = ap (λ ids. table_for same_atom_id ids_exact most_state_ids (states_in more_atoms) ids) ids_more
 
   -- the book after an atom of an id that is there
@@ -352,12 +352,12 @@ module _ (atoms : List Atom) (atom : Atom) where
       ap (λ ks. table_for same_dims dims_exact most_state_keys (state_in atoms atom.id) ks) (sym none) in
       let after : it.0 ≡ states_in (atoms ++ atom ∷ []) atom.id =
       taken atoms atom it.0 (subst (λ old. TakesAtom old it.0 atom) empty it.1) in
-      now_new same_atom_id ids_exact most_state_ids (states_in atoms) (states_in (atoms ++ atom ∷ [])) (map id_of atoms)
-      atom.id others new (length (book_in atoms).rows)
+      now_new same_atom_id ids_exact most_state_ids (states_in atoms) (states_in (atoms ++ atom ∷ []))
+      (map id_of atoms) atom.id others new (length (book_in atoms).rows)
       (subst (λ s. IsNew (book_in atoms) new atom.id s (length (book_in atoms).rows)) after it.2) ∙ ended atoms atom)
       (λ (away : IsTurnedAway (book_in atoms) new atom.id).
-      now_away same_atom_id ids_exact most_state_ids (states_in atoms) (states_in (atoms ++ atom ∷ [])) (map id_of atoms)
-      atom.id others new away ∙ ended atoms atom)
+      now_away same_atom_id ids_exact most_state_ids (states_in atoms) (states_in (atoms ++ atom ∷ []))
+      (map id_of atoms) atom.id others new away ∙ ended atoms atom)
       first
 
 -- a book is what these atoms make of an empty one
@@ -497,6 +497,33 @@ set_same : {K V : Type 0} (rows : List (K × V)) (place : ℕ) (value : V) → S
 set_same [] place value was = refl
 set_same (row ∷ rows) zero value was = ap (λ v. (row.0, v) ∷ rows) (same_Some value row.1 was)
 set_same (row ∷ rows) (suc place) value was = ap (λ l. row ∷ l) (set_same rows place value was)
+
+-- a row by its key and its value
+row_at : {K V : Type 0} (rows : List (K × V)) (place : ℕ) (key : K) (value : V)
+    → slice_get (keys_of rows) place ≡ Some key → Some value ≡ slice_get (values_of rows) place
+    → slice_get rows place ≡ Some (key, value)
+row_at [] place key value at is = absurd (none-some key at)
+row_at (row ∷ rows) zero key value at is =
+    ap (λ v. Some (row.0, v)) (sym (same_Some value row.1 is)) ∙ ap (λ k. Some (k, value)) (same_Some row.0 key at)
+row_at (row ∷ rows) (suc place) key value at is = row_at rows place key value at is
+
+-- where the states of an id took an atom, it is taken at their place
+pub ok_taken_at : {X E : Type 0} (ids book : Table ℕ (Table (List Leaf) ℤ)) → ids ≡ book → (place : ℕ) (atom : Atom)
+    → slice_get (keys book) place ≡ Some atom.id → (before after : Table (List Leaf) ℤ)
+    → Some before ≡ slice_get (values_of ids.rows) place → (result : Result X E)
+    → OnOk result (TakesAtom before after atom)
+    → OnOk result (IsTakenAt book (with_value_at ids place after) place atom)
+ok_taken_at ids book same place atom there before after was (Ok x) takes =
+    let at : slice_get (keys ids) place ≡ Some atom.id =
+    ap (λ (table : Table ℕ (Table (List Leaf) ℤ)). slice_get (keys table) place) same ∙ there in (
+      before,
+      after,
+      ap (λ (table : Table ℕ (Table (List Leaf) ℤ)). slice_get table.rows place) (sym same)
+          ∙ row_at ids.rows place atom.id before at was,
+      takes,
+      ap (λ table. with_value_at table place after) same,
+    )
+ok_taken_at ids book same place atom there before after was (Err e) takes = tt
 
 -- where the states of an id could not take an atom, the table is as before
 pub err_same : {X E : Type 0} (ids book : Table ℕ (Table (List Leaf) ℤ)) → ids ≡ book → (place : ℕ)
