@@ -3,7 +3,7 @@ use Rattle.std.proofs.Common.{List, length, slice_get, sym, ap, ◌∙◌}
 use Rattle.predicate_state.specs.declared.bind.Bind.{Bind}
 use Rattle.condition_links.specs.LinkBinds.{with_next}
 use Rattle.condition_links.proofs.BindsLemmas.{binds_none, binds_more}
-use Rattle.condition_links.proofs.links.binds_of.Goals as goal
+use Rattle.condition_links.proofs.links.bind_places.Goals as goal
 
 pub loop-value-init : goal.loop-value-init
 loop-value-init c = c.new-binds.ensures ∙ binds_none c.args.places.now

@@ -3,7 +3,7 @@ use Rattle.std.proofs.Common.{ap}
 use Rattle.std.proofs.Common.{slice_get}
 use Rattle.std.specs.Option.{option_and_then}
 use Rattle.condition_links.specs.LinkBinds.{leaf_or_missing}
-use Rattle.condition_links.proofs.links.value_at_leaf.Goals as goal
+use Rattle.condition_links.proofs.links.read_value.Goals as goal
 
 pub returns-in-None : goal.returns-in-None
 returns-in-None c =
