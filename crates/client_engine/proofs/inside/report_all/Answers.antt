@@ -1,7 +1,7 @@
 use Rattle.std.proofs.Common.{◌≡◌, length, refl, sym, subst, arith}
 use Rattle.client_engine.specs.Tracks.{AllReport}
 use Rattle.client_engine.proofs.TracksLemmas.{one_reported, all_reported, whole}
-use Rattle.client_engine.proofs.instance.report_all.Goals as goal
+use Rattle.client_engine.proofs.inside.report_all.Goals as goal
 
 -- one more track was reported
 pub loop-track-preserved : goal.loop-track-preserved
