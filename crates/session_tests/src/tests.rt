@@ -2,6 +2,7 @@
 mod buckets;
 mod clients;
 mod commands;
+mod conditions;
 mod configs;
 mod faults;
 mod kept;
