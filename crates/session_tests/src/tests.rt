@@ -3,6 +3,7 @@ mod buckets;
 mod check;
 mod clients;
 mod commands;
+mod conditions;
 mod configs;
 mod faults;
 mod kept;

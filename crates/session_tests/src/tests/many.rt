@@ -24,7 +24,7 @@ enum Entity {
 
 /// A name, what stands first in a configuration, entities with the ids from 1 to the last one, and the answer to its
 /// install.
-const ROWS: [(&str, &str, Entity, u64, &str); 6] = [
+const ROWS: [(&str, &str, Entity, u64, &str); 7] = [
     ("800 matchers", "", Entity::Simple, 800, "installed"),
     (
         "801 matchers",
@@ -41,6 +41,7 @@ const ROWS: [(&str, &str, Entity, u64, &str); 6] = [
         101,
         "unlinked 0104_6500000000000000",
     ),
+    ("300 predicates", "", Entity::Predicate, 300, "installed"),
     (
         "301 predicates",
         "",
