@@ -1,5 +1,6 @@
 //! Sessions and what they leave, by tables of texts. All expected bytes were worked by hand.
 mod buckets;
+mod check;
 mod clients;
 mod commands;
 mod configs;
