@@ -26,7 +26,7 @@ found_first : (bytes : List ℕ) (left o n : Option (List ℕ)) (finding : Findi
     → finding ≡ finding_of (take most_taken bytes)
 found_first bytes None o n finding checks = absurd checks.consumes
 found_first bytes (Some rest) o n finding checks =
-    checks.outcome.1.0 ∙ ap finding_of (first_taken bytes checks.taken rest checks.consumes checks.outcome.0)
+    checks.outcome.1 ∙ ap finding_of (first_taken bytes checks.taken rest checks.consumes checks.outcome.0)
 
 -- A check ends by what is found of the first bytes, unless the outside fails or memory is wanting.
 module _ (left_new o n : Option (List ℕ)) (status read_before read_now write_before write_now : ℕ) where
