@@ -26,8 +26,8 @@ impl Flat for Clock {
     }
 
     fn flatten(&self, alloc: Global, out: &mut Items) -> Result<(), AllocError> {
-        let buckets = (self.base(), self.size());
-        let part = (self.start(), self.next_end());
+        let buckets = (self.base(), self.bucket_size());
+        let part = (self.part_start(), self.next_end());
         (buckets, part).flatten(alloc, out)
     }
 

@@ -8,7 +8,7 @@ use Rattle.bucket_meaning.specs.Ends.{Moment}
 use Rattle.bucket_clock.specs.Sound.{times}
 use Rattle.bucket_clock.specs.Clock.{ClockStandsFor}
 use Rattle.bucket_clock.proofs.ClockLemmas.{cut_made}
-use Rattle.call_rules.specs.Calls.{Call, CutAt, Took, Demands, Standing, standing_from, begun, clock_behind}
+use Rattle.call_rules.specs.Calls.{Call, CutAt, Took, Demands, Standing, standing_from, first_standing, clock_at}
 use Rattle.call_rules.specs.Rules.{AreAdmitted}
 use Rattle.call_rules.specs.LaneCalls.{LaneStep, Logged, Reported, told_by, crossing, calls_at, calls_of, AreTimely, last_of, AreAskedAt, AskWell, event_asks, coming, event_demands, run_asks, run_demands, AllTaken}
 use Rattle.call_rules.proofs.RuleLemmas.{MayComeAll, may_come-append, may_come-back, standing_from-append, admitted}
@@ -77,7 +77,7 @@ module _ {Event : Type 0} (demands : Demands Event) where
         in_bucket = along.in_bucket;
         some_end = along.some_end;
         bucket = along.bucket;
-        stands = λ sized. subst (λ told. ClockStandsFor (clock_behind demands standing) told)
+        stands = λ sized. subst (λ told. ClockStandsFor (clock_at demands standing) told)
             (sym (told_by-report before at)) (along.stands sized);
       };
     }
@@ -108,7 +108,7 @@ module _ {Event : Type 0} (demands : Demands Event) where
             some_end = along.some_end;
             bucket = omega (arith, is, along.from_start, along.bucket);
             stands = λ _. subst (λ told. ClockStandsFor (times demands.base demands.size at standing.next_end) told)
-                (sym (told_by-cut before at)) (cut_made (clock_behind demands standing) at (told_by before)
+                (sym (told_by-cut before at)) (cut_made (clock_at demands standing) at (told_by before)
                 (along.stands sized)).1;
           };
         }))
@@ -184,8 +184,9 @@ module _ {Event : Type 0} (demands : Demands Event) where
         (walk_on (before ++ step ∷ []) steps last middle (goes.along) timely.1 well))
 
     -- it holds at the beginning
-    begun_along : demands.base < time_limit → IsAlong demands {News = News} [] demands.base (begun demands)
-    begun_along fits = record {
+    first_along : demands.base < time_limit
+        → IsAlong demands {News = News} [] demands.base (first_standing demands)
+    first_along fits = record {
       settled = refl;
       not_before = omega arith;
       from_start = omega arith;
@@ -208,8 +209,9 @@ module _ {Event : Type 0} (demands : Demands Event) where
     pub all_along : (steps : List (LaneStep News)) → demands.base < time_limit → AreTimely demands.base steps
         → AskWell demands asks [] steps
         → IsAlong demands steps (last_of demands.base steps)
-        (standing_from demands (begun demands) (calls_of demands asks steps))
-    all_along steps fits timely well = walk_on [] steps demands.base (begun demands) (begun_along fits) timely well
+        (standing_from demands (first_standing demands) (calls_of demands asks steps))
+    all_along steps fits timely well =
+        walk_on [] steps demands.base (first_standing demands) (first_along fits) timely well
 
     -- the law: all calls that a lane makes of timely steps are admitted, each after those before it
     pub lane_admits : (steps : List (LaneStep News)) → demands.base < time_limit → AreTimely demands.base steps
@@ -217,7 +219,7 @@ module _ {Event : Type 0} (demands : Demands Event) where
         → AreAdmitted demands [] (calls_of demands asks steps)
     lane_admits steps fits timely well =
         admitted demands [] (calls_of demands asks steps)
-        (walk [] steps demands.base (begun demands) (begun_along fits) timely well)
+        (walk [] steps demands.base (first_standing demands) (first_along fits) timely well)
 
     -- the same of one step's calls, after those of the steps before
     pub step_admits : (steps : List (LaneStep News)) (step : LaneStep News) → demands.base < time_limit
@@ -225,9 +227,10 @@ module _ {Event : Type 0} (demands : Demands Event) where
         → AreAdmitted demands (calls_of demands asks steps) (calls_at demands asks steps step)
     step_admits steps step fits timely well =
         admitted demands (calls_of demands asks steps) (calls_at demands asks steps step)
-        (may_come-back demands (begun demands) (calls_of demands asks steps) (calls_at demands asks steps step)
-        (subst (λ calls. MayComeAll demands (begun demands) calls) (outputs-push (calls_at demands asks) steps step)
-        (walk [] (steps ++ step ∷ []) demands.base (begun demands) (begun_along fits) timely well)))
+        (may_come-back demands (first_standing demands) (calls_of demands asks steps) (calls_at demands asks steps step)
+        (subst (λ calls. MayComeAll demands (first_standing demands) calls)
+        (outputs-push (calls_at demands asks) steps step)
+        (walk [] (steps ++ step ∷ []) demands.base (first_standing demands) (first_along fits) timely well)))
 
 -- a lane of events asks well at a frame, whatever comes
 event_asked : (Event After : Type 0) (base size at : ℕ) (event : Option Event)

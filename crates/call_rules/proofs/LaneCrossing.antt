@@ -7,7 +7,7 @@ use Rattle.bucket_meaning.specs.Ends.{Moment, ends_from}
 use Rattle.bucket_clock.specs.Sound.{times}
 use Rattle.bucket_clock.specs.Clock.{moments_told, boundaries, last_time, ClockStandsFor}
 use Rattle.bucket_clock.proofs.ClockLemmas.{none_made, some_made}
-use Rattle.call_rules.specs.Calls.{Call, Got, Learned, Crossed, CutAt, Took, Demands, Standing, standing_from, clock_behind}
+use Rattle.call_rules.specs.Calls.{Call, Got, Learned, Crossed, CutAt, Took, Demands, Standing, standing_from, clock_at}
 use Rattle.call_rules.specs.LaneCalls.{LaneStep, Logged, told_by, crossing, crossing_of, TellsNext, IsFollowed, AreAskedAt}
 use Rattle.call_rules.proofs.RuleLemmas.{MayComeAll}
 use Rattle.call_rules.proofs.LaneReach.{told_by-frame, length-ends_from, reach_of, reaches, reach-le, short, no_ends}
@@ -22,7 +22,7 @@ module _ {Event : Type 0} (demands : Demands Event) where
     pub in_bucket : 0 < demands.size → last ≤ standing.next_end
     pub some_end : 0 < demands.size → 0 < standing.next_end
     pub bucket : standing.next_end ≤ standing.start + demands.size
-    pub stands : 0 < demands.size → ClockStandsFor (clock_behind demands standing) (told_by before)
+    pub stands : 0 < demands.size → ClockStandsFor (clock_at demands standing) (told_by before)
 
   -- these calls may come, and lead to a standing of which the same holds
   pub record Goes {News After : Type 0} (before : List (LaneStep News)) (last : ℕ) (standing : Standing)
@@ -150,7 +150,7 @@ module _ {Event : Type 0} (demands : Demands Event) where
             → Goes {After = After} (before ++ Logged moment news ∷ []) moment.at standing
             (crossing demands.base demands.size (told_by before) moment)
         none_goes less =
-            let made = none_made (clock_behind demands standing) moment sized along.bucket
+            let made = none_made (clock_at demands standing) moment sized along.bucket
             (omega (arith, along.from_start)) (reach_of moment) (along.some_end sized) (reaches moment) less
             (told_by before) (along.stands sized) in
             subst (λ ends. Goes {After = After} (before ++ Logged moment news ∷ []) moment.at standing
@@ -167,7 +167,7 @@ module _ {Event : Type 0} (demands : Demands Event) where
                 in_bucket = λ _. short moment standing.next_end less;
                 some_end = along.some_end;
                 bucket = along.bucket;
-                stands = λ _. subst (λ told. ClockStandsFor (clock_behind demands standing) told)
+                stands = λ _. subst (λ told. ClockStandsFor (clock_at demands standing) told)
                     (sym (told_by-frame before moment news)) made.1;
               };
             })
@@ -182,7 +182,7 @@ module _ {Event : Type 0} (demands : Demands Event) where
             let some_end = along.some_end sized in
             let in_bucket = along.in_bucket sized in
             let within = reach-le moment in
-            let made = some_made (clock_behind demands standing) moment sized along.bucket
+            let made = some_made (clock_at demands standing) moment sized along.bucket
             (omega (arith, along.from_start)) (reach_of moment) some_end (reaches moment) enough
             (told_by before) (along.stands sized) in
             let front : full * demands.size ≤ reach_of moment - standing.next_end =

@@ -2,5 +2,5 @@ pub mod RuleLemmas
 pub mod LaneReach
 pub mod LaneCrossing
 pub mod LaneCallsLemmas
-pub mod ClockBehind
+pub mod ClockOfCalls
 mod Worked

@@ -4,7 +4,7 @@ use Rattle.bucket_meaning.proofs.EndsLemmas.{crosses-le}
 use Rattle.bucket_meaning.specs.Limits.{time_limit}
 use Rattle.bucket_clock.specs.declared.crossings.Crossings.{Crossings}
 use Rattle.bucket_clock.specs.Clock.{last_end}
-use Rattle.call_rules.specs.Calls.{Call, Demands, Standing, after_call, standing_from, standing_of, begun}
+use Rattle.call_rules.specs.Calls.{Call, Demands, Standing, after_call, standing_from, standing_of, first_standing}
 use Rattle.call_rules.specs.Rules.{IsAnswer, MayCome, IsAdmitted, AreAdmitted}
 
 module _ {Event : Type 0} (demands : Demands Event) where
@@ -50,7 +50,8 @@ module _ {Event : Type 0} (demands : Demands Event) where
   admitted before (call ∷ calls) may = (
     may.0,
     admitted (before ++ call ∷ []) calls
-        (subst (λ s. MayComeAll s calls) (sym (standing_from-append (begun demands) before (call ∷ []))) may.1),
+        (subst (λ s. MayComeAll s calls)
+        (sym (standing_from-append (first_standing demands) before (call ∷ []))) may.1),
   )
 
   -- and the other way round
@@ -59,7 +60,7 @@ module _ {Event : Type 0} (demands : Demands Event) where
   may_come before [] all = tt
   may_come before (call ∷ calls) all = (
     all.0,
-    subst (λ s. MayComeAll s calls) (standing_from-append (begun demands) before (call ∷ []))
+    subst (λ s. MayComeAll s calls) (standing_from-append (first_standing demands) before (call ∷ []))
         (may_come (before ++ call ∷ []) calls all.1),
   )
 

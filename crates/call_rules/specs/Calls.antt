@@ -21,8 +21,7 @@ pub record Demands (Event : Type 0) : Type 0 where
   pub takes : Event → Bool
 
 -- How far the calls have come: where the open part began, its full end, the time before which nothing more may come,
--- and
--- the time of an event whose condition is still to be told.
+-- and the time of an event whose condition is still to be told.
 pub record Standing : Type 0 where
   pub start : ℕ
   pub next_end : ℕ
@@ -31,12 +30,17 @@ pub record Standing : Type 0 where
 
 module _ {Event : Type 0} (demands : Demands Event) where
   -- before all calls
-  abbrev pub begun : Standing
-  begun = record { start = demands.base; next_end = demands.base + demands.size; last = demands.base; owed = None }
+  abbrev pub first_standing : Standing
+  first_standing = record {
+    start = demands.base;
+    next_end = demands.base + demands.size;
+    last = demands.base;
+    owed = None;
+  }
 
   -- the clock that was told of the same crossings and cuts
-  abbrev pub clock_behind : Standing → Times
-  clock_behind standing = times demands.base demands.size standing.start standing.next_end
+  abbrev pub clock_at : Standing → Times
+  clock_at standing = times demands.base demands.size standing.start standing.next_end
 
   -- after a crossing the open part begins at the last end that was crossed
   abbrev pub crossed_to : Standing → Crossings → Standing
@@ -60,4 +64,4 @@ module _ {Event : Type 0} (demands : Demands Event) where
 
   -- how far these calls have come, from the beginning
   abbrev pub standing_of : {After : Type 0} → List (Call Event After) → Standing
-  standing_of calls = standing_from begun calls
+  standing_of calls = standing_from first_standing calls

@@ -4,7 +4,7 @@ use Rattle.bucket_meaning.specs.Limits.{time_limit}
 use Rattle.bucket_meaning.specs.Ends.{Moment}
 use Rattle.bucket_clock.specs.declared.crossings.Crossings.{Crossings}
 use Rattle.bucket_clock.specs.Clock.{CrossesEnds}
-use Rattle.call_rules.specs.Calls.{Call, Got, Learned, Crossed, CutAt, Took, Demands, Standing, clock_behind, crossed_to, standing_of}
+use Rattle.call_rules.specs.Calls.{Call, Got, Learned, Crossed, CutAt, Took, Demands, Standing, clock_at, crossed_to, standing_of}
 
 -- the condition that is told now is the one that was owed, if any was
 abbrev pub IsOwed : Option ℕ → ℕ → Type 0
@@ -25,8 +25,8 @@ module _ {Event : Type 0} (demands : Demands Event) where
     pub moment : Moment
     pub not_before : standing.last ≤ moment.at
     pub fits : moment.at < time_limit
-    pub answer : CrossesEnds (clock_behind demands standing) moment crossings
-        (clock_behind demands (crossed_to demands standing crossings))
+    pub answer : CrossesEnds (clock_at demands standing) moment crossings
+        (clock_at demands (crossed_to demands standing crossings))
     pub settled : standing.owed ≡ None
 
   -- An event may come now: no condition is owed, and the producer takes it.

@@ -1,5 +1,7 @@
 pub mod GroupsLemmas
 pub mod LeavesLemmas
+pub mod MatchedLemmas
+pub mod KeptPredicatesLemmas
 pub mod TrackLemmas
 pub mod TracksLemmas
-pub mod InstanceStandsLemmas
+pub mod InsidePartsLemmas

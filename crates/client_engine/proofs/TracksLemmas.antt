@@ -1,33 +1,38 @@
 -- The metrics of a configuration with their lanes, one by one.
 use Rattle.std.proofs.Common.{◌≡◌, ℕ, zero, suc, ◌+◌, ◌<◌, Bool, true, false, if◌then◌else◌, List, [], ◌∷◌, ◌++◌, length, set, get_or, take, drop, map, filter, All, refl, sym, ap, subst, ◌∙◌, arith}
 use Rattle.std.proofs.Math.Nat.{add-zero}
-use Rattle.std.proofs.lemmas.List.{append-nil, map-append, length-set, get_or-drop, take_more_set, take_more, drop-set-lt, drop-drop, take_all, drop_all}
+use Rattle.std.proofs.lemmas.List.{append-nil, map-append, length-set, length-map, get_or-map, get_or-drop, take_more_set, take_more, drop-set-lt, drop-drop, take_all, drop_all}
 use Rattle.std.proofs.lemmas.List.Elements.{All-nil, All-push, All-get_or}
+use Rattle.atom_record.specs.declared.log.LogFrame.{LogFrame}
 use Rattle.config_links.specs.declared.linked.LMetric.{LMetric}
+use Rattle.config_links.specs.declared.linked.LPredicate.{LPredicate}
 use Rattle.metric_meaning.specs.Histories.{Step}
 use Rattle.metric_meaning.specs.Reports.{metric_tree}
 use Rattle.report_writer.specs.Writable.{IsWritableMetric}
 use Rattle.report_writer.specs.declared.tree.MetricTree.{MetricTree}
-use Rattle.client_engine.specs.TrackStands.{ComeInTime, TrackStandsFor, TrackReports, reported_step}
-use Rattle.client_engine.specs.Tracks.{metric_in, AreNew, AllStandFor, AllStep, AllReport}
+use Rattle.client_engine.specs.TrackStands.{ComeInTime, TrackStandsFor, TrackLogs, TrackReports, logged_step, reported_step}
+use Rattle.client_engine.specs.Known.{Known, KnowsAfter}
+use Rattle.client_engine.specs.Tracks.{metric_in, AsksWithin, AreNew, AllStandFor, AllStep, AllReport}
 use Rattle.client_engine.specs.declared.track.Track.{Track}
 
 -- no metric has a track yet
 pub none_new : (base : ℕ) → AreNew base [] []
-none_new base = record { metrics_are = refl; stand = All-nil (TrackStandsFor base []) }
+none_new base = record { metrics_are = refl; stand = λ predicates. All-nil (TrackStandsFor predicates base []) }
 
 -- one more metric has its track
 pub one_new : (base : ℕ) (metrics : List LMetric) (tracks : List Track) (metric : LMetric) (track : Track)
-    → AreNew base metrics tracks → track.metric ≡ metric → TrackStandsFor base [] track
+    → AreNew base metrics tracks → track.metric ≡ metric
+    → ((predicates : List LPredicate) → TrackStandsFor predicates base [] track)
     → AreNew base (metrics ++ metric ∷ []) (tracks ++ track ∷ [])
 one_new base metrics tracks metric track are is stands = record {
   metrics_are = map-append metric_in tracks (track ∷ []) ∙ ap (λ l. l ++ track.metric ∷ []) are.metrics_are
       ∙ ap (λ m. metrics ++ m ∷ []) is;
-  stand = All-push (TrackStandsFor base []) tracks track are.stand stands;
+  stand = λ predicates. All-push (TrackStandsFor predicates base []) tracks track (are.stand predicates)
+      (stands predicates);
 }
 
 -- an element is replaced by one with the same image
-map-set_same : {X Y : Type 0} (f : X → Y) (xs : List X) (i : ℕ) (x none : X) → i < length xs
+pub map-set_same : {X Y : Type 0} (f : X → Y) (xs : List X) (i : ℕ) (x none : X) → i < length xs
     → f x ≡ f (get_or xs i none) → map f (set xs i x) ≡ map f xs
 map-set_same f [] i x none within same = absurd (omega arith)
 map-set_same f (first ∷ xs) zero x none within same = ap (λ y. y ∷ map f xs) same
@@ -35,58 +40,78 @@ map-set_same f (first ∷ xs) (suc i) x none within same =
     ap (λ l. f first ∷ l) (map-set_same f xs i x none (omega arith) same)
 
 -- where two lists have the same rest, they have the same element before it
-same_here : {X : Type 0} (now old : List X) (i : ℕ) (none : X) → drop i now ≡ drop i old
+pub same_here : {X : Type 0} (now old : List X) (i : ℕ) (none : X) → drop i now ≡ drop i old
     → get_or now i none ≡ get_or old i none
 same_here now old i none rest =
     ap (λ n. get_or now n none) (sym (add-zero i)) ∙ sym (get_or-drop i now 0 none) ∙ ap (λ l. get_or l 0 none) rest
     ∙ get_or-drop i old 0 none ∙ ap (λ n. get_or old n none) (add-zero i)
 
--- So many of the tracks took a step, and the others are as they were.
-pub record AreStepped (step : Step) (old now : List Track) (index : ℕ) : Type 0 where
+-- So many of the tracks took a frame of which predicates know already, and the others are as they were.
+pub record AreStepped (known : Known) (frame : LogFrame) (truths : List Bool) (old now : List Track) (index : ℕ)
+    : Type 0 where
   pub len : length now ≡ length old
   pub metrics : map metric_in now ≡ map metric_in old
   pub rest : drop index now ≡ drop index old
-  pub stand : (base : ℕ) (steps : List Step) → AllStandFor base steps old → ComeInTime base (steps ++ step ∷ [])
-      → AllStandFor base (steps ++ step ∷ []) (take index now)
+  pub stand : (base : ℕ) (steps : List Step) → AllStandFor known.predicates base steps old
+      → KnowsAfter (steps ++ logged_step frame truths ∷ []) known
+      → ComeInTime base (steps ++ logged_step frame truths ∷ [])
+      → AllStandFor known.predicates base (steps ++ logged_step frame truths ∷ []) (take index now)
 
--- none took it yet
-pub none_stepped : (step : Step) (tracks : List Track) → AreStepped step tracks tracks 0
-none_stepped step tracks = record {
-  len = refl;
-  metrics = refl;
-  rest = refl;
-  stand = λ base steps all in_time. All-nil (TrackStandsFor base (steps ++ step ∷ []));
-}
+module _ (known : Known) (frame : LogFrame) (truths : List Bool) where
+  -- none took it yet
+  pub none_stepped : (tracks : List Track) → AreStepped known frame truths tracks tracks 0
+  none_stepped tracks = record {
+    len = refl;
+    metrics = refl;
+    rest = refl;
+    stand = λ base steps all knows in_time.
+        All-nil (TrackStandsFor known.predicates base (steps ++ logged_step frame truths ∷ []));
+  }
 
--- one more took it
-pub one_stepped : (step : Step) (old now : List Track) (index : ℕ) (track none : Track) → index < length now
-    → AreStepped step old now index → track.metric ≡ (get_or now index none).metric
-    → ((base : ℕ) (steps : List Step) → TrackStandsFor base steps (get_or now index none)
-    → ComeInTime base (steps ++ step ∷ []) → TrackStandsFor base (steps ++ step ∷ []) track)
-    → AreStepped step old (set now index track) (index + 1)
-one_stepped step old now index track none within are metric steps_on = record {
-  len = length-set now index track ∙ are.len;
-  metrics = map-set_same metric_in now index track none within metric ∙ are.metrics;
-  rest = drop-set-lt (index + 1) now index track (omega arith) ∙ sym (drop-drop 1 index now) ∙ ap (drop 1) are.rest
-      ∙ drop-drop 1 index old;
-  stand = λ base steps all in_time.
-      let here : TrackStandsFor base steps (get_or now index none) =
-      subst (TrackStandsFor base steps) (sym (same_here now old index none are.rest))
-      (All-get_or (TrackStandsFor base steps) old index none (subst (λ n. index < n) are.len within) all) in
-      subst (AllStandFor base (steps ++ step ∷ [])) (sym (take_more_set now index track within))
-      (All-push (TrackStandsFor base (steps ++ step ∷ [])) (take index now) track (are.stand base steps all in_time)
-      (steps_on base steps here in_time));
-}
+  -- one more took it
+  pub one_stepped : (old now : List Track) (index : ℕ) (track none : Track) → index < length now
+      → AreStepped known frame truths old now index → track.metric ≡ (get_or now index none).metric
+      → (now_known : Known) → now_known ≡ known → TrackLogs now_known frame truths (get_or now index none) track
+      → AreStepped known frame truths old (set now index track) (index + 1)
+  one_stepped old now index track none within are metric now_known same logs = record {
+    len = length-set now index track ∙ are.len;
+    metrics = map-set_same metric_in now index track none within metric ∙ are.metrics;
+    rest = drop-set-lt (index + 1) now index track (omega arith) ∙ sym (drop-drop 1 index now)
+        ∙ ap (drop 1) are.rest ∙ drop-drop 1 index old;
+    stand = λ base steps all knows in_time.
+        let after = steps ++ logged_step frame truths ∷ [] in
+        let here : TrackStandsFor known.predicates base steps (get_or now index none) =
+        subst (TrackStandsFor known.predicates base steps) (sym (same_here now old index none are.rest))
+        (All-get_or (TrackStandsFor known.predicates base steps) old index none
+        (subst (λ n. index < n) are.len within) all) in
+        subst (AllStandFor known.predicates base after) (sym (take_more_set now index track within))
+        (All-push (TrackStandsFor known.predicates base after) (take index now) track
+        (are.stand base steps all knows in_time)
+        (subst (λ k. TrackLogs k frame truths (get_or now index none) track) same logs base steps here knows in_time));
+  }
 
--- all took it
-pub all_stepped : (step : Step) (old now : List Track) (index : ℕ) → length now ≡ index
-    → AreStepped step old now index → AllStep step old now
-all_stepped step old now index ends are = record {
-  metrics = are.metrics;
-  stand = λ base steps all in_time.
-      subst (AllStandFor base (steps ++ step ∷ [])) (take_all index now (omega (arith, ends)))
-      (are.stand base steps all in_time);
-}
+  -- all took it
+  pub all_stepped : (old now : List Track) (index : ℕ) → length now ≡ index
+      → AreStepped known frame truths old now index → AllStep known frame truths old now
+  all_stepped old now index ends are = record {
+    metrics = are.metrics;
+    stand = λ base steps all knows in_time.
+        subst (AllStandFor known.predicates base (steps ++ logged_step frame truths ∷ []))
+        (take_all index now (omega (arith, ends))) (are.stand base steps all knows in_time);
+  }
+
+-- what each metric asks of predicates stays where the metrics and the predicates do
+pub asks_here : (now_known known : Known) (old now : List Track) (index : ℕ) (none : Track) → now_known ≡ known
+    → index < length now → map metric_in now ≡ map metric_in old
+    → All (AsksWithin (length known.predicates)) (map metric_in old)
+    → AsksWithin (length now_known.predicates) (get_or now index none).metric
+asks_here now_known known old now index none same within metrics all =
+    let count = length known.predicates in
+    let len = length-map now metric_in in
+    subst (λ (k : Known). AsksWithin (length k.predicates) (get_or now index none).metric) (sym same)
+    (subst (AsksWithin count) (get_or-map metric_in now index none (metric_in none) within)
+    (All-get_or (AsksWithin count) (map metric_in now) index (metric_in none) (omega (arith, len, within))
+    (subst (All (AsksWithin count)) (sym metrics) all)))
 
 -- what a list of the same length as another leaves of it
 pub whole : {X : Type 0} (items old : List X) (len : ℕ) → length items ≡ length old → len ≡ length old
@@ -101,12 +126,12 @@ pub record AreReported (base : ℕ) (include_current : Bool) (at : ℕ) (old now
   pub len : length now ≡ length old
   pub metrics : map metric_in now ≡ map metric_in old
   pub rest : drop index now ≡ drop index old
-  pub stand : (steps : List Step) → AllStandFor base steps old
+  pub stand : (predicates : List LPredicate) (steps : List Step) → AllStandFor predicates base steps old
       → ComeInTime base (steps ++ reported_step include_current at ∷ [])
-      → AllStandFor base (steps ++ reported_step include_current at ∷ []) (take index now)
-  pub shown : (steps : List Step) → AllStandFor base steps old
+      → AllStandFor predicates base (steps ++ reported_step include_current at ∷ []) (take index now)
+  pub shown : (predicates : List LPredicate) (steps : List Step) → AllStandFor predicates base steps old
       → ComeInTime base (steps ++ reported_step include_current at ∷ [])
-      → trees ≡ map (metric_tree base steps include_current at)
+      → trees ≡ map (metric_tree base predicates steps include_current at)
       (filter (λ (metric : LMetric). metric.shown) (map metric_in (take index old)))
   pub writable : All IsWritableMetric trees
 
@@ -117,8 +142,9 @@ none_reported base include_current at tracks = record {
   len = refl;
   metrics = refl;
   rest = refl;
-  stand = λ steps all in_time. All-nil (TrackStandsFor base (steps ++ reported_step include_current at ∷ []));
-  shown = λ steps all in_time. refl;
+  stand = λ predicates steps all in_time.
+      All-nil (TrackStandsFor predicates base (steps ++ reported_step include_current at ∷ []));
+  shown = λ predicates steps all in_time. refl;
   writable = All-nil IsWritableMetric;
 }
 
@@ -155,7 +181,8 @@ pub one_reported : (base : ℕ) (include_current : Bool) (at : ℕ) (old now : L
     (trees more : List MetricTree) (track none : Track) (tree : MetricTree) (is_shown : Bool) → index < length now
     → AreReported base include_current at old now index trees → track.metric ≡ (get_or now index none).metric
     → is_shown ≡ (get_or now index none).metric.shown
-    → TrackReports base include_current at (get_or now index none) track tree → IsWritableMetric tree
+    → ((predicates : List LPredicate)
+    → TrackReports predicates base include_current at (get_or now index none) track tree) → IsWritableMetric tree
     → more ≡ trees ++ (if is_shown then tree ∷ [] else [])
     → AreReported base include_current at old (set now index track) (index + 1) more
 one_reported base include_current at old now index trees more track none tree is_shown within are metric shown_is
@@ -164,20 +191,20 @@ one_reported base include_current at old now index trees more track none tree is
       metrics = map-set_same metric_in now index track none within metric ∙ are.metrics;
       rest = drop-set-lt (index + 1) now index track (omega arith) ∙ sym (drop-drop 1 index now)
           ∙ ap (drop 1) are.rest ∙ drop-drop 1 index old;
-      stand = λ steps all in_time.
+      stand = λ predicates steps all in_time.
           let step = reported_step include_current at in
-          let here = stands_here steps all in
-          subst (AllStandFor base (steps ++ step ∷ [])) (sym (take_more_set now index track within))
-          (All-push (TrackStandsFor base (steps ++ step ∷ [])) (take index now) track (are.stand steps all in_time)
-          (reports steps here in_time).0);
-      shown = λ steps all in_time.
-          let here = stands_here steps all in
-          let show = metric_tree base steps include_current at in
+          let here = stands_here predicates steps all in
+          subst (AllStandFor predicates base (steps ++ step ∷ [])) (sym (take_more_set now index track within))
+          (All-push (TrackStandsFor predicates base (steps ++ step ∷ [])) (take index now) track
+          (are.stand predicates steps all in_time) (reports predicates steps here in_time).0);
+      shown = λ predicates steps all in_time.
+          let here = stands_here predicates steps all in
+          let show = metric_tree base predicates steps include_current at in
           let those = filter (λ (m : LMetric). m.shown) (map metric_in (take index old)) in
           let own = (get_or now index none).metric in
           more_is
-          ∙ ap (λ l. l ++ (if is_shown then tree ∷ [] else [])) (are.shown steps all in_time)
-          ∙ ap (λ t. map show those ++ (if is_shown then t ∷ [] else [])) (reports steps here in_time).1
+          ∙ ap (λ l. l ++ (if is_shown then tree ∷ [] else [])) (are.shown predicates steps all in_time)
+          ∙ ap (λ t. map show those ++ (if is_shown then t ∷ [] else [])) (reports predicates steps here in_time).1
           ∙ ap (λ b. map show those ++ (if b then show own ∷ [] else [])) shown_is
           ∙ ap (λ l. map show those ++ l) (sym (map_if show own.shown own))
           ∙ sym (map-append show those (if own.shown then own ∷ [] else []))
@@ -189,10 +216,12 @@ one_reported base include_current at old now index trees more track none tree is
       writable = subst (All IsWritableMetric) (sym more_is) (writable_if is_shown trees tree are.writable writable);
     }
   where
-    stands_here : (steps : List Step) → AllStandFor base steps old → TrackStandsFor base steps (get_or now index none)
-    stands_here steps all =
-        subst (TrackStandsFor base steps) (sym (same_here now old index none are.rest))
-        (All-get_or (TrackStandsFor base steps) old index none (subst (λ n. index < n) are.len within) all)
+    stands_here : (predicates : List LPredicate) (steps : List Step) → AllStandFor predicates base steps old
+        → TrackStandsFor predicates base steps (get_or now index none)
+    stands_here predicates steps all =
+        subst (TrackStandsFor predicates base steps) (sym (same_here now old index none are.rest))
+        (All-get_or (TrackStandsFor predicates base steps) old index none (subst (λ n. index < n) are.len within)
+        all)
 
 -- all were reported
 pub all_reported : (base : ℕ) (include_current : Bool) (at : ℕ) (old now : List Track) (index : ℕ)
@@ -200,11 +229,11 @@ pub all_reported : (base : ℕ) (include_current : Bool) (at : ℕ) (old now : L
     → AllReport base include_current at old now trees
 all_reported base include_current at old now index trees ends are = record {
   metrics = are.metrics;
-  stand = λ steps all in_time.
-      subst (AllStandFor base (steps ++ reported_step include_current at ∷ []))
-      (take_all index now (omega (arith, ends))) (are.stand steps all in_time);
-  shown = λ steps all in_time. are.shown steps all in_time
-      ∙ ap (λ l. map (metric_tree base steps include_current at)
+  stand = λ predicates steps all in_time.
+      subst (AllStandFor predicates base (steps ++ reported_step include_current at ∷ []))
+      (take_all index now (omega (arith, ends))) (are.stand predicates steps all in_time);
+  shown = λ predicates steps all in_time. are.shown predicates steps all in_time
+      ∙ ap (λ l. map (metric_tree base predicates steps include_current at)
       (filter (λ (metric : LMetric). metric.shown) (map metric_in l)))
       (take_all index old (let len = are.len in omega (arith, len, ends)));
   writable = are.writable;

@@ -1,40 +1,19 @@
 -- What history an instance stands for, and how it goes from step to step.
-use Rattle.std.specs.Prelude.{◌≡◌, ℕ, ◌≤◌, ℤ, Bool, List, [], length, map}
+use Rattle.std.specs.Prelude.{◌≡◌, ℕ, ◌≤◌, ℤ, Bool, List, [], length}
 use Rattle.atom_record.specs.declared.log.LogFrame.{LogFrame}
 use Rattle.atom_record.specs.declared.log.LogFrame.TheVariants.{AtomAt}
 use Rattle.session_frames.specs.FrameReading.{log_time}
 use Rattle.config_links.specs.declared.linked.Linked.{Linked}
 use Rattle.report_writer.specs.declared.tree.ReportTree.{ReportTree}
-use Rattle.report_writer.specs.declared.tree.MetricTree.{MetricTree}
 use Rattle.metric_meaning.specs.Histories.{History, with_step}
-use Rattle.metric_meaning.specs.Reports.{report_of, last_report}
-use Rattle.client_engine.specs.TrackStands.{ComeInTime}
+use Rattle.metric_meaning.specs.Reports.{report_of}
 pub use Rattle.client_engine.specs.TrackStands.{logged_step, reported_step, last_from}
-use Rattle.client_engine.specs.Tracks.{metric_in, AllStandFor, AllStep, AllReport}
-use Rattle.client_engine.specs.declared.instance.Inside.{Inside}
+pub use Rattle.client_engine.specs.InsideParts.{linked_of_inside, InsideStandsFor}
 use Rattle.client_engine.specs.declared.instance.Instance.{Instance}
-
--- the configuration that stands inside
-abbrev pub linked_of_inside : Inside → Linked
-linked_of_inside it = record {
-  matchers = it.matchers;
-  predicates = it.predicates;
-  states = it.states;
-  metrics = map metric_in it.tracks.items;
-}
 
 -- the configuration of an instance
 abbrev pub linked_in : Instance → Linked
 linked_in it = linked_of_inside it.inside.value
-
--- What an instance stands for, part by part: its configuration, the clock at its installation and at its last report,
--- steps whose times don't fall, and for each metric what these steps make of it.
-pub record InsideStandsFor (it : Inside) (history : History) : Type 0 where
-  pub linked : linked_of_inside it ≡ history.linked
-  pub base : it.base ≡ history.base
-  pub last : it.last ≡ last_report history.base history.steps
-  pub in_time : ComeInTime history.base history.steps
-  pub tracks : AllStandFor history.base history.steps it.tracks.items
 
 -- an instance is what its history makes of a new one
 abbrev pub InstanceStandsFor : Instance → History → Type 0
@@ -65,28 +44,3 @@ Reports old uid id include_current at new tree =
     (history : History) → InstanceStandsFor old history → last_step_time history ≡ at
     → InstanceStandsFor new (with_step history (reported_step include_current at))
     × (tree ≡ report_of history uid id include_current at)
-
--- the tree of a report, with what it shows of the metrics
-abbrev pub tree_with : ℤ → ℤ → ℕ → ℕ → List MetricTree → ReportTree
-tree_with uid id last now trees = record {
-  uid = uid;
-  id = id;
-  last = last;
-  now = now;
-  metrics = trees;
-  predicate_drops = [];
-  state_drops = [];
-  state_atoms_dropped = 0;
-}
-
--- a frame came to each metric, and nothing else changed
-pub record InsideLogs (frame : LogFrame) (truths : List Bool) (old new : Inside) : Type 0 where
-  pub same : new ≡ record old { tracks = new.tracks }
-  pub tracks : AllStep (logged_step frame truths) old.tracks.items new.tracks.items
-
--- each metric was reported, the clock of the report before was told, and nothing else changed
-pub record InsideReports (include_current : Bool) (at : ℕ) (old new : Inside) (trees : List MetricTree) (last : ℕ)
-    : Type 0 where
-  pub same : new ≡ record old { tracks = new.tracks; last = at }
-  pub last_is : last ≡ old.last
-  pub tracks : AllReport old.base include_current at old.tracks.items new.tracks.items trees

@@ -5,13 +5,13 @@ ghost use Rattle.metric_meaning.specs.Forms.{is_built, is_built_metric};
 
 use config_links::{LKind, LMetric, Linked};
 
-/// Whether a configuration is acted on: any matchers, no predicates and no states, and metrics that count without a
+/// Whether a configuration is acted on: any matchers and predicates, no states, and metrics that count, under any
 /// condition.
 pub fn built(linked: &Linked) -> bool
     ensures { result ≡ is_built linked.now }
 {
     let metrics = are_acted_on(linked.metrics.as_slice());
-    linked.predicates.is_empty() && linked.states.is_empty() && metrics
+    linked.states.is_empty() && metrics
 }
 
 // Whether all metrics are acted on.
@@ -26,9 +26,7 @@ fn is_acted_on(metric: &LMetric) -> bool
     ensures { result ≡ is_built_metric metric.now }
 {
     match metric.kind {
-        LKind::Count => {
-            metric.condition.is_none() && metric.links.is_empty() && metric.slices.is_empty()
-        }
+        LKind::Count => metric.slices.is_empty(),
         _ => false,
     }
 }

@@ -1,15 +1,19 @@
 //! A metric of a configuration, and the lane that collects for it.
-ghost use Rattle.std.specs.Prelude.{◌≡◌, ◌<◌, true, [], List, OnOk, IfOk};
+ghost use Rattle.std.specs.Prelude.{◌≡◌, ◌<◌, true, [], List, length, OnOk, IfOk};
 ghost use Rattle.bucket_meaning.specs.Limits.{time_limit};
 ghost use Rattle.config_links.specs.SoundConfig.{IsSize, IsBound};
 ghost use Rattle.session_frames.specs.FrameReading.{log_time};
-ghost use Rattle.metric_meaning.specs.Histories.{truth_at, is_pull};
+ghost use Rattle.config_links.specs.SoundConfig.{MayBeWithin};
+ghost use Rattle.config_links.specs.declared.linked.LPredicate.{LPredicate};
+ghost use Rattle.metric_meaning.specs.Histories.{is_pull};
 ghost use Rattle.metric_meaning.specs.Forms.{is_built_metric};
-ghost use Rattle.metric_meaning.specs.CountSteps.{arrival_at};
+ghost use Rattle.metric_meaning.specs.CountSteps.{arrival_by};
 ghost use Rattle.report_writer.specs.Writable.{IsWritableMetric};
 ghost use Rattle.client_engine.specs.TrackStands.{logged_step, TrackStandsFor, TrackLogs, TrackReports, closed_tree};
 
+use crate::conditions::Conditions;
 use crate::groups::groups_of;
+use crate::matched::is_true_at;
 use atom_record::{LogFrame, MetricKey};
 use config_links::LMetric;
 use count_metric::{Closed, CountProducer};
@@ -41,7 +45,7 @@ impl Track {
         requires sized { IsSize metric.size }
         requires bound { IsBound metric.bound }
         ensures metric { result.metric ≡ metric }
-        ensures stands { TrackStandsFor base [] result }
+        ensures stands { (predicates : List LPredicate) → TrackStandsFor predicates base [] result }
     {
         let bound = metric.bound as usize;
         let producer = CountProducer::new(alloc, base, metric.size, bound);
@@ -51,20 +55,24 @@ impl Track {
         }
     }
 
-    /// A frame of the log comes, with the truth of each matcher for an atom.
+    /// A frame of the log comes, with the truth of each matcher for an atom. Predicates know of it already.
     pub fn log(
         &mut self,
         alloc: Global,
         frame: &LogFrame,
         matched: &[bool],
+        conditions: &mut Conditions,
     ) -> Result<(), AllocError>
+        requires within { MayBeWithin (length conditions.old.predicates) self.old.metric.condition }
         ensures metric { OnOk result (self.new.metric ≡ self.old.metric) }
-        ensures logs { OnOk result (TrackLogs frame.now matched.now self.old self.new) }
+        ensures logs { OnOk result
+            (TrackLogs conditions.old frame.now matched.now self.old self.new) }
+        ensures known { conditions.new ≡ conditions.old }
     {
         let Track { metric, lane } = self;
         match lane {
             MetricLane::Counts(lane) => {
-                let key = arrival(alloc, metric, frame, matched)?;
+                let key = arrival(alloc, metric, frame, matched, conditions)?;
                 lane.log(time_of(frame), comes_by_pull(frame), key)
             }
         }
@@ -79,7 +87,8 @@ impl Track {
         at: u64,
     ) -> Result<MetricTree, AllocError>
         ensures metric { OnOk result (self.new.metric ≡ self.old.metric) }
-        ensures reports { IfOk result (TrackReports base include_current at self.old self.new) }
+        ensures reports { IfOk result (λ tree. (predicates : List LPredicate)
+            → TrackReports predicates base include_current at self.old self.new tree) }
         ensures writable { IfOk result IsWritableMetric }
     {
         let Track { metric, lane } = self;
@@ -113,15 +122,18 @@ fn counts_tree(
     })
 }
 
-// The key that arrives at a metric of counts with a frame, if one does.
+// The key that arrives at a metric of counts with a frame, if one does. The condition is asked last.
 fn arrival(
     alloc: Global,
     metric: &LMetric,
     frame: &LogFrame,
     matched: &[bool],
+    conditions: &mut Conditions,
 ) -> Result<Option<MetricKey>, AllocError>
-    ensures { IfOk result
-        (λ key. key ≡ arrival_at metric.now (logged_step frame.now matched.now)) }
+    requires within { MayBeWithin (length conditions.old.predicates) metric.now.condition }
+    ensures key { IfOk result (λ key. key ≡ arrival_by conditions.old.predicates
+        conditions.old.tables metric.now (logged_step frame.now matched.now)) }
+    ensures known { conditions.new ≡ conditions.old }
 {
     let LogFrame::AtomAt { atom, .. } = frame else {
         return Ok(None);
@@ -129,21 +141,14 @@ fn arrival(
     if !is_true_at(matched, metric.what) {
         return Ok(None);
     }
+    if !conditions.holds(alloc, metric, atom)? {
+        return Ok(None);
+    }
     let dims = key_of(alloc, &metric.dims, atom)?;
     Ok(Some(MetricKey {
         dims,
         slices: Seq::new(alloc),
     }))
-}
-
-// The truth at a place.
-fn is_true_at(matched: &[bool], place: u32) -> bool
-    ensures { result ≡ truth_at place matched.now }
-{
-    match matched.get(place as usize) {
-        Some(truth) => *truth,
-        None => false,
-    }
 }
 
 // The time of a frame of the log.

@@ -13,10 +13,10 @@ use Rattle.config_links.specs.declared.linked.LPredBody.TheVariants.{Simple, Com
 use Rattle.config_links.specs.LinkScopes.{named_predicates, body_children}
 use Rattle.condition_links.specs.Conditions.{predicate_names}
 use Rattle.link_graph.specs.Links.{Refers, AreInRange, HasNoCycle}
-use Rattle.link_graph.specs.Unrolled.{LooksDown}
+use Rattle.link_graph.specs.Unrolling.{LooksDown}
 use Rattle.link_graph.proofs.DepthLaws.{ends_from_no_cycle}
 use Rattle.link_graph.proofs.NodeLemmas.{map_same, children_of}
-use Rattle.link_graph.proofs.UnrolledLaws.{equation}
+use Rattle.link_graph.proofs.UnrollingLaws.{equation}
 use Rattle.field_select.specs.declared.leaf.FieldSet.{FieldSet}
 use Rattle.config_types.specs.declared.parameters.PredSpec.{PredSpec}
 use Rattle.predicate_state.specs.declared.bind.Bind.{Bind}

@@ -3,7 +3,7 @@ use Rattle.std.specs.Prelude.{◌≡◌, ℕ, ◌<◌, ◌≤◌, List, map, len
 use Rattle.std.specs.List.{slice_get}
 use Rattle.std.specs.Option.{IfSome}
 use Rattle.link_graph.specs.Links.{AreInRange, HasNoCycle}
-use Rattle.link_graph.specs.Unrolled.{unrolled}
+use Rattle.link_graph.specs.Unrolling.{unroll}
 use Rattle.config_links.specs.declared.linked.LPredicate.{LPredicate}
 use Rattle.config_links.specs.declared.linked.LPredBody.{LPredBody}
 use Rattle.config_links.specs.declared.linked.LPredBody.TheVariants.{Simple, Combo}
@@ -46,7 +46,7 @@ condition_step tables binds nodes truth at = truth_of_found (table_truth_at tabl
 
 -- the truth of the predicate at a place: references are followed as deep as there are predicates
 abbrev pub predicate_truth : List PredicateTable → List (List Bind) → List LPredicate → ℕ → Truth
-predicate_truth tables binds nodes = unrolled (condition_step tables binds nodes) Unknown (length nodes)
+predicate_truth tables binds nodes = unroll (condition_step tables binds nodes) Unknown (length nodes)
 
 -- no condition is true
 abbrev pub root_truth : (ℕ → Truth) → Option ℕ → Truth

@@ -35,7 +35,8 @@ impl Seen {
     };
 
     pub(crate) fn with(self, truth: Truth) -> Seen
-        ensures { (truths : List Truth) → self ≡ seen_of truths → result ≡ seen_of (truths ++ truth ∷ []) }
+        ensures { (truths : List Truth) → self ≡ seen_of truths
+            → result ≡ seen_of (truths ++ truth ∷ []) }
     {
         match truth {
             Truth::False => Seen { all: false, ..self },
@@ -62,7 +63,8 @@ impl Seen {
     }
 
     fn holds(self, op: Operation) -> bool
-        ensures { (truths : List Truth) → self ≡ seen_of truths → result ≡ combined_truth op (map is_true truths) }
+        ensures { (truths : List Truth) → self ≡ seen_of truths
+            → result ≡ combined_truth op (map is_true truths) }
     {
         match op {
             Operation::And => self.all,

@@ -14,10 +14,11 @@ use std::alloc::{AllocError, Global};
 
 /// What a link asks of its predicate for an atom that is counted.
 pub fn bind_atom(alloc: Global, link: &LLink, atom: &Atom) -> Result<BindList, AllocError>
-    ensures { IfOk result (λ binds. binds ≡ binds_of link.now.places (key_of link.now.in_what atom.now)) }
+    ensures { IfOk result (λ binds.
+        binds ≡ binds_of link.now.places (key_of link.now.in_what atom.now)) }
 {
     let key = key_of(alloc, &link.in_what, atom)?;
-    binds_of(alloc, link.places.as_slice(), key)
+    bind_places(alloc, link.places.as_slice(), key)
 }
 
 /// What a link asks of its predicate for a key of another predicate, whose values are those of the leaves of `inner`.
@@ -36,7 +37,7 @@ pub fn bind_key(
         key.as_slice(),
         link.in_what.leaves.as_slice(),
     )?;
-    binds_of(alloc, link.places.as_slice(), values)
+    bind_places(alloc, link.places.as_slice(), values)
 }
 
 // The values that a key of some leaves has at others.
@@ -51,14 +52,14 @@ fn values_at(
 {
     let mut key = Seq::new(alloc);
     for leaf in others {
-        let value = value_at_leaf(alloc, leaves, values, leaf)?;
+        let value = read_value(alloc, leaves, values, leaf)?;
         key.push(value)?;
     }
     Ok(key)
 }
 
 // Each place with the value that has its turn.
-fn binds_of(alloc: Global, places: &[u32], values: DimKey) -> Result<BindList, AllocError>
+fn bind_places(alloc: Global, places: &[u32], values: DimKey) -> Result<BindList, AllocError>
     ensures { IfOk result (λ binds. binds ≡ binds_of places.now values) }
 {
     let mut binds = Seq::new(alloc);
@@ -100,7 +101,7 @@ fn copy_of(alloc: Global, found: Option<&Leaf>) -> Result<Leaf, AllocError>
 }
 
 // The value that a key has at a leaf.
-fn value_at_leaf(
+fn read_value(
     alloc: Global,
     leaves: &[LeafPath],
     values: &[Leaf],

@@ -1,5 +1,5 @@
--- Lemmas on oneofs of `specs/Values.antt`, for `Message::oneof_run`: the last run of records with one number, while it
--- is built record by record.
+-- Lemmas on oneofs of `specs/Values.antt`, for `Message::read_oneof_run`: the last run of records with one number, made
+-- record by record.
 use Rattle.std.proofs.Common.{◌≡◌, ℕ, ◌+◌, ◌<◌, Bool, true, false, refl, sym, ap, ◌∙◌}
 use Rattle.std.proofs.Common.{List, [], ◌∷◌, ◌++◌, length, map, take, get_or}
 use Rattle.std.specs.Prelude.{◌==◌, ◌&&◌}

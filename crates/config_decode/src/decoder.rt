@@ -46,7 +46,7 @@ impl FromMessage for Config {
         let values = repeated(alloc, message, numbers::CONFIG_VALUE_METRIC)?;
         let gauges = repeated(alloc, message, numbers::CONFIG_GAUGE_METRIC)?;
         let durations = repeated(alloc, message, numbers::CONFIG_DURATION_METRIC)?;
-        let no_report = message.scalars(alloc, numbers::CONFIG_NO_REPORT_METRIC)?;
+        let no_report = message.read_scalars(alloc, numbers::CONFIG_NO_REPORT_METRIC)?;
         Ok(Config {
             matchers,
             predicates,

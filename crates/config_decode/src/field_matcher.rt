@@ -36,8 +36,8 @@ fn field_matcher(
 {
     let children = children(alloc, levels, message)?;
     Ok(FieldMatcher {
-        field: message.scalar(numbers::LEAF_FIELD),
-        position: message.scalar(numbers::LEAF_POSITION),
+        field: message.read_scalar(numbers::LEAF_FIELD),
+        position: message.read_scalar(numbers::LEAF_POSITION),
         children,
     })
 }
@@ -57,7 +57,7 @@ fn children(
     if levels == 0 {
         return Ok(children);
     }
-    let messages = message.messages(alloc, numbers::LEAF_CHILD)?;
+    let messages = message.read_messages(alloc, numbers::LEAF_CHILD)?;
     for inner in messages.iter() {
         children.push(field_matcher(alloc, levels - 1, inner)?)?;
     }

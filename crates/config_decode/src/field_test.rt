@@ -41,11 +41,11 @@ impl FromMessage for FieldTest {
 fn field_test(alloc: Global, levels: u32, message: &Message<'_>) -> Result<FieldTest, AllocError>
     ensures { IfOk result (λ read. read ≡ tree.field_test_in levels message.now) }
 {
-    let run = message.oneof_run(alloc, &MEMBERS)?;
+    let run = message.read_oneof_run(alloc, &MEMBERS)?;
     let test = test(alloc, levels, &run)?;
     Ok(FieldTest {
-        field: message.scalar(numbers::TEST_FIELD),
-        position: message.scalar(numbers::TEST_POSITION),
+        field: message.read_scalar(numbers::TEST_FIELD),
+        position: message.read_scalar(numbers::TEST_POSITION),
         test,
     })
 }
@@ -64,7 +64,9 @@ fn test(alloc: Global, levels: u32, run: &Message<'_>) -> Result<Option<Test>, A
         Some(number @ numbers::TEST_NEQ_ANY_STRING) => Ok(Some(Test::NoneOf(strings(
             alloc, run, number,
         )?))),
-        Some(number @ numbers::TEST_EQ_STRING) => Ok(run.string(alloc, number)?.map(Test::EqStr)),
+        Some(number @ numbers::TEST_EQ_STRING) => Ok(
+            run.read_string(alloc, number)?.map(Test::EqStr),
+        ),
         Some(number) => Ok(number_test(number, run)),
     }
 }
@@ -74,12 +76,12 @@ fn number_test(number: u32, run: &Message<'_>) -> Option<Test>
     ensures { result ≡ tree.number_test_of number run.now }
 {
     match number {
-        numbers::TEST_EQ_BOOL => run.scalar(number).map(Test::EqBool),
-        numbers::TEST_EQ_INT => run.scalar(number).map(Test::EqInt),
-        numbers::TEST_LT_INT => run.scalar(number).map(Test::LtInt),
-        numbers::TEST_GT_INT => run.scalar(number).map(Test::GtInt),
-        numbers::TEST_LTE_INT => run.scalar(number).map(Test::LteInt),
-        numbers::TEST_GTE_INT => run.scalar(number).map(Test::GteInt),
+        numbers::TEST_EQ_BOOL => run.read_scalar(number).map(Test::EqBool),
+        numbers::TEST_EQ_INT => run.read_scalar(number).map(Test::EqInt),
+        numbers::TEST_LT_INT => run.read_scalar(number).map(Test::LtInt),
+        numbers::TEST_GT_INT => run.read_scalar(number).map(Test::GtInt),
+        numbers::TEST_LTE_INT => run.read_scalar(number).map(Test::LteInt),
+        numbers::TEST_GTE_INT => run.read_scalar(number).map(Test::GteInt),
         _ => None,
     }
 }
@@ -94,8 +96,8 @@ fn tuple(alloc: Global, levels: u32, run: &Message<'_>) -> Result<Seq<FieldTest>
     if levels == 0 {
         return Ok(tests);
     }
-    let inside = run.merged_message(alloc, numbers::TEST_MATCHES_TUPLE)?;
-    let messages = inside.messages(alloc, numbers::TUPLE_TEST)?;
+    let inside = run.read_merged(alloc, numbers::TEST_MATCHES_TUPLE)?;
+    let messages = inside.read_messages(alloc, numbers::TUPLE_TEST)?;
     for inner in messages.iter() {
         tests.push(field_test(alloc, levels - 1, inner)?)?;
     }
@@ -106,6 +108,6 @@ fn tuple(alloc: Global, levels: u32, run: &Message<'_>) -> Result<Seq<FieldTest>
 fn strings(alloc: Global, run: &Message<'_>, number: u32) -> Result<Seq<Bytes>, AllocError>
     ensures { IfOk result (λ read. read ≡ tree.strings_of (values.payloads number run.now)) }
 {
-    let list = run.merged_message(alloc, number)?;
-    list.strings(alloc, numbers::STRINGS_STR_VALUE)
+    let list = run.read_merged(alloc, number)?;
+    list.read_strings(alloc, numbers::STRINGS_STR_VALUE)
 }

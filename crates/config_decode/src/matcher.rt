@@ -20,7 +20,7 @@ impl FromMessage for SimpleMatcher {
     fn from_message(alloc: Global, message: &Message<'_>) -> Result<SimpleMatcher, AllocError> {
         let tests = repeated(alloc, message, numbers::SIMPLE_MATCHER_TEST)?;
         Ok(SimpleMatcher {
-            atom_id: message.scalar(numbers::SIMPLE_MATCHER_ATOM_ID),
+            atom_id: message.read_scalar(numbers::SIMPLE_MATCHER_ATOM_ID),
             tests,
         })
     }
@@ -32,9 +32,9 @@ impl FromMessage for Combo {
     ghost tree = { combo_of };
 
     fn from_message(alloc: Global, message: &Message<'_>) -> Result<Combo, AllocError> {
-        let children = message.scalars(alloc, numbers::COMBINATION_OPERAND)?;
+        let children = message.read_scalars(alloc, numbers::COMBINATION_OPERAND)?;
         Ok(Combo {
-            op: message.scalar(numbers::COMBINATION_OPERATION),
+            op: message.read_scalar(numbers::COMBINATION_OPERATION),
             children,
         })
     }
@@ -46,10 +46,10 @@ impl FromMessage for MatcherDef {
     ghost tree = { matcher_of };
 
     fn from_message(alloc: Global, message: &Message<'_>) -> Result<MatcherDef, AllocError> {
-        let run = message.oneof_run(alloc, &MEMBERS)?;
+        let run = message.read_oneof_run(alloc, &MEMBERS)?;
         let body = body(alloc, &run)?;
         Ok(MatcherDef {
-            id: message.scalar(numbers::MATCHER_ID),
+            id: message.read_scalar(numbers::MATCHER_ID),
             body,
         })
     }
@@ -63,9 +63,9 @@ fn body(alloc: Global, run: &Message<'_>) -> Result<Option<MatcherBody>, AllocEr
         return Ok(None);
     };
     if number == numbers::MATCHER_SIMPLE {
-        let simple = run.merged_message(alloc, number)?;
+        let simple = run.read_merged(alloc, number)?;
         return Ok(Some(MatcherBody::Simple(SimpleMatcher::from_message(alloc, &simple)?)));
     }
-    let combo = run.merged_message(alloc, numbers::MATCHER_COMBINATION)?;
+    let combo = run.read_merged(alloc, numbers::MATCHER_COMBINATION)?;
     Ok(Some(MatcherBody::Combo(Combo::from_message(alloc, &combo)?)))
 }

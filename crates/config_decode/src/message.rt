@@ -82,7 +82,7 @@ impl<'a> Message<'a> {
     }
 
     /// A field that holds one number: what the last that means anything means.
-    pub fn scalar<T: Scalar>(&self, number: u32) -> Option<T>
+    pub fn read_scalar<T: Scalar>(&self, number: u32) -> Option<T>
         ensures { result ≡ values.scalar T.meaning number self.now }
     {
         let mut last = None;
@@ -97,7 +97,7 @@ impl<'a> Message<'a> {
     }
 
     /// A field that holds numbers: what they mean.
-    pub fn scalars<T: Scalar>(&self, alloc: Global, number: u32) -> Result<Seq<T>, AllocError>
+    pub fn read_scalars<T: Scalar>(&self, alloc: Global, number: u32) -> Result<Seq<T>, AllocError>
         ensures { IfOk result (λ scalars. scalars ≡ values.scalars T.meaning number self.now) }
     {
         let numbers = self.varints(alloc, number)?;
@@ -124,7 +124,11 @@ impl<'a> Message<'a> {
 
     /// What each payload of a field says.
     #[tactic(auto, using(crate::proofs::ValuesLemmas::payloads_more))]
-    fn payloads<T: FromPayload<'a>>(&self, alloc: Global, number: u32) -> Result<Vec<T>, AllocError>
+    fn read_payloads<T: FromPayload<'a>>(
+        &self,
+        alloc: Global,
+        number: u32,
+    ) -> Result<Vec<T>, AllocError>
         ensures { IfOk result (λ said. said.items ≡ map T.said (values.payloads number self.now)) }
     {
         let mut said = Vec::new(alloc);
@@ -137,44 +141,48 @@ impl<'a> Message<'a> {
     }
 
     /// A field of type string.
-    pub fn string(&self, alloc: Global, number: u32) -> Result<Option<Bytes>, AllocError>
+    pub fn read_string(&self, alloc: Global, number: u32) -> Result<Option<Bytes>, AllocError>
         ensures { IfOk result (λ string. string ≡ values.last (values.payloads number self.now)) }
     {
-        let mut strings: Vec<Bytes> = self.payloads(alloc, number)?;
+        let mut strings: Vec<Bytes> = self.read_payloads(alloc, number)?;
         Ok(strings.pop())
     }
 
     /// A repeated field of type string.
-    pub fn strings(&self, alloc: Global, number: u32) -> Result<Seq<Bytes>, AllocError>
+    pub fn read_strings(&self, alloc: Global, number: u32) -> Result<Seq<Bytes>, AllocError>
         ensures { IfOk result (λ strings. strings ≡ values.payloads number self.now) }
     {
-        Ok(Seq::from_vec(self.payloads(alloc, number)?))
+        Ok(Seq::from_vec(self.read_payloads(alloc, number)?))
     }
 
     /// A repeated field of messages.
-    pub fn messages(&self, alloc: Global, number: u32) -> Result<Vec<Message<'a>>, AllocError>
+    pub fn read_messages(&self, alloc: Global, number: u32) -> Result<Vec<Message<'a>>, AllocError>
         ensures { IfOk result (λ messages. messages.items ≡ values.messages number self.now) }
     {
-        self.payloads(alloc, number)
+        self.read_payloads(alloc, number)
     }
 
     /// A field that is a message: all its payloads, read as one.
     #[tactic(auto, using(crate::proofs::ValuesLemmas::all_records))]
-    pub fn merged_message(&self, alloc: Global, number: u32) -> Result<Message<'a>, AllocError>
+    pub fn read_merged(&self, alloc: Global, number: u32) -> Result<Message<'a>, AllocError>
         ensures { IfOk result (λ message.
             message ≡ values.records_of_all (values.payloads number self.now)) }
     {
-        let messages = self.messages(alloc, number)?;
+        let messages = self.read_messages(alloc, number)?;
         let message = Message::of_all(alloc, messages.as_slice())?;
         Ok(message)
     }
 
     /// A field that is a message, if there is any.
     #[tactic(auto, using(crate::proofs::ValuesLemmas::no_message, crate::proofs::ValuesLemmas::one_message))]
-    pub fn message(&self, alloc: Global, number: u32) -> Result<Option<Message<'a>>, AllocError>
+    pub fn read_message(
+        &self,
+        alloc: Global,
+        number: u32,
+    ) -> Result<Option<Message<'a>>, AllocError>
         ensures { IfOk result (λ message. message ≡ values.message number self.now) }
     {
-        let messages = self.messages(alloc, number)?;
+        let messages = self.read_messages(alloc, number)?;
         if messages.is_empty() {
             return Ok(None);
         }
@@ -203,7 +211,7 @@ impl<'a> Message<'a> {
     }
 
     /// The records of the member of a oneof that was set last, back to where another member was set.
-    pub fn oneof_run(&self, alloc: Global, members: &[u32]) -> Result<Message<'a>, AllocError>
+    pub fn read_oneof_run(&self, alloc: Global, members: &[u32]) -> Result<Message<'a>, AllocError>
         ensures { IfOk result (λ run. run ≡ values.oneof_run members.now self.now) }
     {
         let mut run = Message::new(alloc);

@@ -24,7 +24,7 @@ impl FromMessage for LinkDef {
         let in_what = optional(alloc, message, numbers::CONDITION_LINK_FIELDS_IN_WHAT)?;
         let in_condition = optional(alloc, message, numbers::CONDITION_LINK_FIELDS_IN_CONDITION)?;
         Ok(LinkDef {
-            condition: message.scalar(numbers::CONDITION_LINK_CONDITION),
+            condition: message.read_scalar(numbers::CONDITION_LINK_CONDITION),
             in_what,
             in_condition,
         })
@@ -40,7 +40,7 @@ impl FromMessage for StateLinkDef {
         let in_what = optional(alloc, message, numbers::STATE_LINK_FIELDS_IN_WHAT)?;
         let in_state = optional(alloc, message, numbers::STATE_LINK_FIELDS_IN_STATE)?;
         Ok(StateLinkDef {
-            atom_id: message.scalar(numbers::STATE_LINK_ATOM_ID),
+            atom_id: message.read_scalar(numbers::STATE_LINK_ATOM_ID),
             in_what,
             in_state,
         })
@@ -58,9 +58,9 @@ fn common(
 {
     let links = repeated(alloc, message, links)?;
     Ok(Common {
-        id: message.scalar(numbers::METRIC_ID),
-        what: message.scalar(numbers::METRIC_WHAT),
-        condition: message.scalar(condition),
+        id: message.read_scalar(numbers::METRIC_ID),
+        what: message.read_scalar(numbers::METRIC_WHAT),
+        condition: message.read_scalar(condition),
         links,
     })
 }
@@ -77,8 +77,8 @@ fn unsliced(
     let dims = optional(alloc, message, dims)?;
     Ok(Sliced {
         dims,
-        bucket: message.scalar(bucket),
-        bound: message.scalar(numbers::KEY_BOUND),
+        bucket: message.read_scalar(bucket),
+        bound: message.read_scalar(numbers::KEY_BOUND),
         slices: Seq::new(alloc),
         state_links: Seq::new(alloc),
     })
@@ -96,12 +96,12 @@ fn sliced(
     ensures { IfOk result (λ read. read ≡ metrics.sliced_of dims bucket slices links message.now) }
 {
     let dims = optional(alloc, message, dims)?;
-    let slices = message.scalars(alloc, slices)?;
+    let slices = message.read_scalars(alloc, slices)?;
     let state_links = repeated(alloc, message, links)?;
     Ok(Sliced {
         dims,
-        bucket: message.scalar(bucket),
-        bound: message.scalar(numbers::KEY_BOUND),
+        bucket: message.read_scalar(bucket),
+        bound: message.read_scalar(numbers::KEY_BOUND),
         slices,
         state_links,
     })
@@ -173,20 +173,20 @@ impl FromMessage for ValueDef {
             sliced,
             field,
             agg: message
-                .scalar(numbers::VALUE_AGGREGATION_TYPE)
+                .read_scalar(numbers::VALUE_AGGREGATION_TYPE)
                 .unwrap_or(Aggregation::Sum),
             abs_reset: message
-                .scalar(numbers::VALUE_USE_ABSOLUTE_VALUE_ON_RESET)
+                .read_scalar(numbers::VALUE_USE_ABSOLUTE_VALUE_ON_RESET)
                 .unwrap_or(false),
-            diff: message.scalar(numbers::VALUE_USE_DIFF),
+            diff: message.read_scalar(numbers::VALUE_USE_DIFF),
             direction: message
-                .scalar(numbers::VALUE_DIRECTION)
+                .read_scalar(numbers::VALUE_DIRECTION)
                 .unwrap_or(Direction::Increasing),
             skip_zero: message
-                .scalar(numbers::VALUE_SKIP_ZERO_DIFF_OUTPUT)
+                .read_scalar(numbers::VALUE_SKIP_ZERO_DIFF_OUTPUT)
                 .unwrap_or(true),
             zero_base: message
-                .scalar(numbers::VALUE_USE_ZERO_DEFAULT_BASE)
+                .read_scalar(numbers::VALUE_USE_ZERO_DEFAULT_BASE)
                 .unwrap_or(false),
         })
     }
@@ -197,7 +197,7 @@ fn filter<'a>(alloc: Global, message: &Message<'a>) -> Result<Message<'a>, Alloc
     ensures { IfOk result (λ read.
         read ≡ metrics.filter_of (values.message gauge_fields_filter message.now)) }
 {
-    match message.message(alloc, numbers::GAUGE_FIELDS_FILTER)? {
+    match message.read_message(alloc, numbers::GAUGE_FIELDS_FILTER)? {
         Some(filter) => Ok(filter),
         None => Ok(Message::new(alloc)),
     }
@@ -226,13 +226,15 @@ impl FromMessage for GaugeDef {
         Ok(GaugeDef {
             common,
             sliced,
-            include_all: filter.scalar(numbers::FILTER_INCLUDE_ALL).unwrap_or(false),
+            include_all: filter
+                .read_scalar(numbers::FILTER_INCLUDE_ALL)
+                .unwrap_or(false),
             fields,
             sampling: message
-                .scalar(numbers::GAUGE_SAMPLING_TYPE)
+                .read_scalar(numbers::GAUGE_SAMPLING_TYPE)
                 .unwrap_or(SamplingType::RandomOne),
-            max_samples: message.scalar(numbers::GAUGE_MAX_NUM_ATOMS),
-            trigger: message.scalar(numbers::GAUGE_TRIGGER_EVENT),
+            max_samples: message.read_scalar(numbers::GAUGE_MAX_NUM_ATOMS),
+            trigger: message.read_scalar(numbers::GAUGE_TRIGGER_EVENT),
         })
     }
 }
@@ -258,7 +260,7 @@ impl FromMessage for DurationDef {
             numbers::DURATION_STATE_LINK,
         )?;
         let runs = message
-            .scalar(numbers::DURATION_AGGREGATION_TYPE)
+            .read_scalar(numbers::DURATION_AGGREGATION_TYPE)
             .unwrap_or(Runs::Sum);
         Ok(DurationDef {
             common,

@@ -20,18 +20,18 @@ impl FromMessage for SimplePredicate {
     fn from_message(alloc: Global, message: &Message<'_>) -> Result<SimplePredicate, AllocError> {
         let dims = optional(alloc, message, numbers::SIMPLE_PREDICATE_DIMENSIONS)?;
         let initial = message
-            .scalar(numbers::SIMPLE_PREDICATE_INITIAL_VALUE)
+            .read_scalar(numbers::SIMPLE_PREDICATE_INITIAL_VALUE)
             .unwrap_or(InitialValue::False);
         Ok(SimplePredicate {
-            start: message.scalar(numbers::SIMPLE_PREDICATE_START),
-            stop: message.scalar(numbers::SIMPLE_PREDICATE_STOP),
-            stop_all: message.scalar(numbers::SIMPLE_PREDICATE_STOP_ALL),
+            start: message.read_scalar(numbers::SIMPLE_PREDICATE_START),
+            stop: message.read_scalar(numbers::SIMPLE_PREDICATE_STOP),
+            stop_all: message.read_scalar(numbers::SIMPLE_PREDICATE_STOP_ALL),
             nesting: message
-                .scalar(numbers::SIMPLE_PREDICATE_COUNT_NESTING)
+                .read_scalar(numbers::SIMPLE_PREDICATE_COUNT_NESTING)
                 .unwrap_or(true),
             unknown: initial == InitialValue::Unknown,
             dims,
-            bound: message.scalar(numbers::KEY_BOUND),
+            bound: message.read_scalar(numbers::KEY_BOUND),
         })
     }
 }
@@ -42,10 +42,10 @@ impl FromMessage for PredicateDef {
     ghost tree = { predicate_of };
 
     fn from_message(alloc: Global, message: &Message<'_>) -> Result<PredicateDef, AllocError> {
-        let run = message.oneof_run(alloc, &MEMBERS)?;
+        let run = message.read_oneof_run(alloc, &MEMBERS)?;
         let body = body(alloc, &run)?;
         Ok(PredicateDef {
-            id: message.scalar(numbers::PREDICATE_ID),
+            id: message.read_scalar(numbers::PREDICATE_ID),
             body,
         })
     }
@@ -59,9 +59,9 @@ fn body(alloc: Global, run: &Message<'_>) -> Result<Option<PredicateBody>, Alloc
         return Ok(None);
     };
     if number == numbers::PREDICATE_SIMPLE {
-        let simple = run.merged_message(alloc, number)?;
+        let simple = run.read_merged(alloc, number)?;
         return Ok(Some(PredicateBody::Simple(SimplePredicate::from_message(alloc, &simple)?)));
     }
-    let combo = run.merged_message(alloc, numbers::PREDICATE_COMBINATION)?;
+    let combo = run.read_merged(alloc, numbers::PREDICATE_COMBINATION)?;
     Ok(Some(PredicateBody::Combo(Combo::from_message(alloc, &combo)?)))
 }

@@ -317,7 +317,7 @@ impl Kind {
     }
 
     /// What stands in a field that has no row.
-    fn shape_without_row(self) -> Shape
+    fn judge_unlisted(self) -> Shape
         ensures { result ≡ profile.shape_without_row self }
     {
         match self {
@@ -330,12 +330,12 @@ impl Kind {
     pub fn shape(self, number: u32) -> Shape
         ensures { result ≡ profile.shape_of self number }
     {
-        shape_in(self.shape_without_row(), self.rows(), number)
+        find_shape(self.judge_unlisted(), self.rows(), number)
     }
 
     /// Whether a record of this message isn't supported: no field of its number, another wire type than that of its
     /// field, or a number outside an enum that is strict. At the top such a record is passed over, but for strict ones.
-    pub fn refuses(self, field: &Field<'_>) -> bool
+    pub fn rejects(self, field: &Field<'_>) -> bool
         ensures { result ≡ profile.refuses self (field_view field.now) }
     {
         match (self.shape(field.number), field.body) {
@@ -356,14 +356,14 @@ impl Kind {
 }
 
 /// The low 32 bits.
-pub fn low_half(number: u64) -> u32
+pub fn truncate_to_u32(number: u64) -> u32
     ensures { result ≡ profile.low_half number }
 {
     (number % (1 << 32)) as u32
 }
 
 // The shape in the row of a number, or another where there is no such row.
-fn shape_in(other: Shape, mut rows: &[Row], number: u32) -> Shape
+fn find_shape(other: Shape, mut rows: &[Row], number: u32) -> Shape
     ensures { result ≡ profile.shape_in other rows.entry.now number }
 {
     while let [row, rest @ ..] = rows {

@@ -1,7 +1,7 @@
 //! What the numbers of records stand for: integers, truth values, and the enums of the profile.
 ghost use Rattle.std.specs.Prelude.{◌≡◌, ℕ, Option};
 
-use crate::profile::low_half;
+use crate::profile::truncate_to_u32;
 use config_types::{Aggregation, Direction, Operation, Position, SamplingType, TimeUnit};
 
 /// A value that a number stands for.
@@ -29,7 +29,7 @@ impl Scalar for i32 {
     ghost meaning = { int32_of };
 
     fn from_varint(number: u64) -> Option<i32> {
-        Some(low_half(number).cast_signed())
+        Some(truncate_to_u32(number).cast_signed())
     }
 }
 
@@ -63,7 +63,7 @@ impl Scalar for Position {
     ghost meaning = { λ number. position_of (low_half number) };
 
     fn from_varint(number: u64) -> Option<Position> {
-        match low_half(number) {
+        match truncate_to_u32(number) {
             1 => Some(Position::First),
             2 => Some(Position::Last),
             3 => Some(Position::Any),
@@ -79,7 +79,7 @@ impl Scalar for Operation {
     ghost meaning = { λ number. operation_of (low_half number) };
 
     fn from_varint(number: u64) -> Option<Operation> {
-        match low_half(number) {
+        match truncate_to_u32(number) {
             1 => Some(Operation::And),
             2 => Some(Operation::Or),
             3 => Some(Operation::Not),
@@ -96,7 +96,7 @@ impl Scalar for TimeUnit {
     ghost meaning = { λ number. unit_of (low_half number) };
 
     fn from_varint(number: u64) -> Option<TimeUnit> {
-        match low_half(number) {
+        match truncate_to_u32(number) {
             1 => Some(TimeUnit::OneMinute),
             2 => Some(TimeUnit::FiveMinutes),
             3 => Some(TimeUnit::TenMinutes),
@@ -118,7 +118,7 @@ impl Scalar for Aggregation {
     ghost meaning = { λ number. aggregation_of (low_half number) };
 
     fn from_varint(number: u64) -> Option<Aggregation> {
-        match low_half(number) {
+        match truncate_to_u32(number) {
             1 => Some(Aggregation::Sum),
             2 => Some(Aggregation::Min),
             3 => Some(Aggregation::Max),
@@ -133,7 +133,7 @@ impl Scalar for Direction {
     ghost meaning = { λ number. direction_of (low_half number) };
 
     fn from_varint(number: u64) -> Option<Direction> {
-        match low_half(number) {
+        match truncate_to_u32(number) {
             1 => Some(Direction::Increasing),
             2 => Some(Direction::Decreasing),
             3 => Some(Direction::Any),
@@ -148,7 +148,7 @@ impl Scalar for SamplingType {
     ghost meaning = { λ number. sampling_of (low_half number) };
 
     fn from_varint(number: u64) -> Option<SamplingType> {
-        match low_half(number) {
+        match truncate_to_u32(number) {
             1 => Some(SamplingType::RandomOne),
             3 => Some(SamplingType::ChangeToTrue),
             4 => Some(SamplingType::FirstN),
@@ -163,7 +163,7 @@ impl Scalar for InitialValue {
     ghost meaning = { λ number. initial_value_of (low_half number) };
 
     fn from_varint(number: u64) -> Option<InitialValue> {
-        match low_half(number) {
+        match truncate_to_u32(number) {
             0 => Some(InitialValue::Unknown),
             1 => Some(InitialValue::False),
             _ => None,
@@ -177,7 +177,7 @@ impl Scalar for Runs {
     ghost meaning = { λ number. runs_of (low_half number) };
 
     fn from_varint(number: u64) -> Option<Runs> {
-        match low_half(number) {
+        match truncate_to_u32(number) {
             1 => Some(Runs::Sum),
             2 => Some(Runs::MaxSparse),
             _ => None,

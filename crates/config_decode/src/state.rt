@@ -18,9 +18,9 @@ impl FromMessage for GroupDef {
     ghost tree = { state_group_of };
 
     fn from_message(alloc: Global, message: &Message<'_>) -> Result<GroupDef, AllocError> {
-        let values = message.scalars(alloc, numbers::STATE_GROUP_VALUE)?;
+        let values = message.read_scalars(alloc, numbers::STATE_GROUP_VALUE)?;
         Ok(GroupDef {
-            group: message.scalar(numbers::STATE_GROUP_ID),
+            group: message.read_scalar(numbers::STATE_GROUP_ID),
             values,
         })
     }
@@ -34,8 +34,8 @@ impl FromMessage for StateDef {
     fn from_message(alloc: Global, message: &Message<'_>) -> Result<StateDef, AllocError> {
         let map = groups(alloc, message)?;
         Ok(StateDef {
-            id: message.scalar(numbers::STATE_ID),
-            atom_id: message.scalar(numbers::STATE_ATOM_ID),
+            id: message.read_scalar(numbers::STATE_ID),
+            atom_id: message.read_scalar(numbers::STATE_ATOM_ID),
             map,
         })
     }
@@ -46,7 +46,7 @@ fn groups(alloc: Global, state: &Message<'_>) -> Result<Option<Seq<GroupDef>>, A
     ensures { IfOk result (λ read.
         read ≡ option_map tree.state_groups_of (values.message state_map state.now)) }
 {
-    match state.message(alloc, numbers::STATE_MAP)? {
+    match state.read_message(alloc, numbers::STATE_MAP)? {
         Some(map) => Ok(Some(repeated(alloc, &map, numbers::STATE_MAP_GROUP)?)),
         None => Ok(None),
     }

@@ -25,7 +25,7 @@ pub fn optional<T: FromMessage>(
 ) -> Result<Option<T>, AllocError>
     ensures { IfOk result (λ read. read ≡ option_map T.tree (values.message number message.now)) }
 {
-    match message.message(alloc, number)? {
+    match message.read_message(alloc, number)? {
         Some(inner) => Ok(Some(T::from_message(alloc, &inner)?)),
         None => Ok(None),
     }
@@ -39,7 +39,7 @@ pub fn repeated<T: FromMessage>(
 ) -> Result<Seq<T>, AllocError>
     ensures { IfOk result (λ read. read ≡ map T.tree (values.messages number message.now)) }
 {
-    let messages = message.messages(alloc, number)?;
+    let messages = message.read_messages(alloc, number)?;
     let mut read = Seq::new(alloc);
     for inner in messages.iter() {
         read.push(T::from_message(alloc, inner)?)?;

@@ -77,7 +77,7 @@ impl Walker {
         ensures { OnOk result (GoesTo kind (field_view field.now) self.old self.new) }
     {
         self.path.push(field.number)?;
-        if self.unsupported.is_none() && kind.refuses(field) {
+        if self.unsupported.is_none() && kind.rejects(field) {
             self.unsupported = Some(Path::from_slice(self.alloc, self.path.as_slice())?);
         }
         Ok(())

@@ -13,8 +13,8 @@ use Rattle.config_types.specs.declared.metric.DurationDef.{DurationDef}
 use Rattle.config_types.specs.declared.metric.Sliced.{Sliced}
 use Rattle.distinct.specs.Places.{first_place}
 use Rattle.link_graph.specs.Ids.{reaches_by_id}
-use Rattle.link_rules.specs.Cycles.{cycle_fault, matcher_cycle_fault, predicate_cycle_fault}
-use Rattle.link_rules.specs.Entities.{unsliced}
+use Rattle.link_rules.specs.Cycles.{cycle_fault}
+use Rattle.link_rules.specs.Entities.{no_slicing}
 use Rattle.link_rules.specs.EntityIds.{no_id_fault, duplicate_id_fault, matcher_ids, predicate_ids, state_ids, metric_ids}
 use Rattle.link_rules.specs.EntityLimits.{limit_fault}
 use Rattle.link_rules.specs.EntityNames.{unknown_matcher_fault, unknown_predicate_fault, unknown_state_fault}
@@ -73,31 +73,31 @@ count id what sliced = record {
 abbrev duration : ℕ → ℕ → DurationDef
 duration id what = record {
   common = record { id = Some (pos id); what = Some (pos what); condition = None; links = [] };
-  sliced = unsliced;
+  sliced = no_slicing;
   max_sparse = false;
 }
 
 -- a count of a matcher has no fault
-fine : verdict (record nothing { matchers = atom 1 5 ∷ []; counts = count 100 1 unsliced ∷ [] })
+fine : verdict (record nothing { matchers = atom 1 5 ∷ []; counts = count 100 1 no_slicing ∷ [] })
     ≡ None
 unfolding verdict rule_fault id_fault reference_fault name_fault cycle_fault bad_type_fault bad_part_fault
     bad_metric_fault bad_links bad_rest bad_times bad_slices bad_kind matchers_linked predicates_linked states_linked
     limit_fault
     no_id_fault duplicate_id_fault matcher_ids predicate_ids state_ids metric_ids unknown_matcher_fault
-    unknown_predicate_fault unknown_state_fault matcher_cycle_fault predicate_cycle_fault reaches_by_id first_place
+    unknown_predicate_fault unknown_state_fault reaches_by_id first_place
 fine = refl
 
 -- a bound of 0
 bound_of_0 : verdict (record nothing {
   matchers = atom 1 5 ∷ [];
-  counts = count 100 1 (record unsliced { bound = Some (pos 0) }) ∷ [];
+  counts = count 100 1 (record no_slicing { bound = Some (pos 0) }) ∷ [];
 })
     ≡ Some (fault 1 6 (pos 0))
 unfolding verdict rule_fault id_fault reference_fault name_fault cycle_fault bad_type_fault bad_part_fault
     bad_metric_fault bad_links bad_rest bad_times bad_slices bad_kind matchers_linked predicates_linked states_linked
     limit_fault
     no_id_fault duplicate_id_fault matcher_ids predicate_ids state_ids metric_ids unknown_matcher_fault
-    unknown_predicate_fault unknown_state_fault matcher_cycle_fault predicate_cycle_fault reaches_by_id first_place
+    unknown_predicate_fault unknown_state_fault reaches_by_id first_place
 bound_of_0 = refl
 
 -- a matcher without id
@@ -107,7 +107,7 @@ unfolding verdict rule_fault id_fault reference_fault name_fault cycle_fault bad
     bad_metric_fault bad_links bad_rest bad_times bad_slices bad_kind matchers_linked predicates_linked states_linked
     limit_fault
     no_id_fault duplicate_id_fault matcher_ids predicate_ids state_ids metric_ids unknown_matcher_fault
-    unknown_predicate_fault unknown_state_fault matcher_cycle_fault predicate_cycle_fault reaches_by_id first_place
+    unknown_predicate_fault unknown_state_fault reaches_by_id first_place
 no_id = refl
 
 -- two matchers of the same id
@@ -117,7 +117,7 @@ unfolding verdict rule_fault id_fault reference_fault name_fault cycle_fault bad
     bad_metric_fault bad_links bad_rest bad_times bad_slices bad_kind matchers_linked predicates_linked states_linked
     limit_fault
     no_id_fault duplicate_id_fault matcher_ids predicate_ids state_ids metric_ids unknown_matcher_fault
-    unknown_predicate_fault unknown_state_fault matcher_cycle_fault predicate_cycle_fault reaches_by_id first_place
+    unknown_predicate_fault unknown_state_fault reaches_by_id first_place
 an_id_twice = refl
 
 -- of two ids that come twice, the one whose second stands first
@@ -127,17 +127,17 @@ unfolding verdict rule_fault id_fault reference_fault name_fault cycle_fault bad
     bad_metric_fault bad_links bad_rest bad_times bad_slices bad_kind matchers_linked predicates_linked states_linked
     limit_fault
     no_id_fault duplicate_id_fault matcher_ids predicate_ids state_ids metric_ids unknown_matcher_fault
-    unknown_predicate_fault unknown_state_fault matcher_cycle_fault predicate_cycle_fault reaches_by_id first_place
+    unknown_predicate_fault unknown_state_fault reaches_by_id first_place
 the_first_repeat = refl
 
 -- a count of nothing that is there
-no_matcher : verdict (record nothing { counts = count 100 9 unsliced ∷ [] })
+no_matcher : verdict (record nothing { counts = count 100 9 no_slicing ∷ [] })
     ≡ Some (fault 4 4 (pos 9))
 unfolding verdict rule_fault id_fault reference_fault name_fault cycle_fault bad_type_fault bad_part_fault
     bad_metric_fault bad_links bad_rest bad_times bad_slices bad_kind matchers_linked predicates_linked states_linked
     limit_fault
     no_id_fault duplicate_id_fault matcher_ids predicate_ids state_ids metric_ids unknown_matcher_fault
-    unknown_predicate_fault unknown_state_fault matcher_cycle_fault predicate_cycle_fault reaches_by_id first_place
+    unknown_predicate_fault unknown_state_fault reaches_by_id first_place
 no_matcher = refl
 
 -- the time of nothing that is there
@@ -147,20 +147,20 @@ unfolding verdict rule_fault id_fault reference_fault name_fault cycle_fault bad
     bad_metric_fault bad_links bad_rest bad_times bad_slices bad_kind matchers_linked predicates_linked states_linked
     limit_fault
     no_id_fault duplicate_id_fault matcher_ids predicate_ids state_ids metric_ids unknown_matcher_fault
-    unknown_predicate_fault unknown_state_fault matcher_cycle_fault predicate_cycle_fault reaches_by_id first_place
+    unknown_predicate_fault unknown_state_fault reaches_by_id first_place
 no_predicate = refl
 
 -- a slice by nothing that is there
 no_state : verdict (record nothing {
   matchers = atom 1 5 ∷ [];
-  counts = count 100 1 (record unsliced { slices = pos 3 ∷ [] }) ∷ [];
+  counts = count 100 1 (record no_slicing { slices = pos 3 ∷ [] }) ∷ [];
 })
     ≡ Some (fault 6 4 (pos 3))
 unfolding verdict rule_fault id_fault reference_fault name_fault cycle_fault bad_type_fault bad_part_fault
     bad_metric_fault bad_links bad_rest bad_times bad_slices bad_kind matchers_linked predicates_linked states_linked
     limit_fault
     no_id_fault duplicate_id_fault matcher_ids predicate_ids state_ids metric_ids unknown_matcher_fault
-    unknown_predicate_fault unknown_state_fault matcher_cycle_fault predicate_cycle_fault reaches_by_id first_place
+    unknown_predicate_fault unknown_state_fault reaches_by_id first_place
 no_state = refl
 
 -- a matcher that is below itself
@@ -170,7 +170,7 @@ unfolding verdict rule_fault id_fault reference_fault name_fault cycle_fault bad
     bad_metric_fault bad_links bad_rest bad_times bad_slices bad_kind matchers_linked predicates_linked states_linked
     limit_fault
     no_id_fault duplicate_id_fault matcher_ids predicate_ids state_ids metric_ids unknown_matcher_fault
-    unknown_predicate_fault unknown_state_fault matcher_cycle_fault predicate_cycle_fault reaches_by_id first_place
+    unknown_predicate_fault unknown_state_fault reaches_by_id first_place
 a_matcher_of_itself = refl
 
 -- two matchers name one another, and the first of three only refers to them: the second is named
@@ -183,7 +183,7 @@ unfolding verdict rule_fault id_fault reference_fault name_fault cycle_fault bad
     bad_metric_fault bad_links bad_rest bad_times bad_slices bad_kind matchers_linked predicates_linked states_linked
     limit_fault
     no_id_fault duplicate_id_fault matcher_ids predicate_ids state_ids metric_ids unknown_matcher_fault
-    unknown_predicate_fault unknown_state_fault matcher_cycle_fault predicate_cycle_fault reaches_by_id first_place
+    unknown_predicate_fault unknown_state_fault reaches_by_id first_place
 the_cycles_member = refl
 
 -- a predicate that is below itself
@@ -193,7 +193,7 @@ unfolding verdict rule_fault id_fault reference_fault name_fault cycle_fault bad
     bad_metric_fault bad_links bad_rest bad_times bad_slices bad_kind matchers_linked predicates_linked states_linked
     limit_fault
     no_id_fault duplicate_id_fault matcher_ids predicate_ids state_ids metric_ids unknown_matcher_fault
-    unknown_predicate_fault unknown_state_fault matcher_cycle_fault predicate_cycle_fault reaches_by_id first_place
+    unknown_predicate_fault unknown_state_fault reaches_by_id first_place
 a_predicate_of_itself = refl
 
 -- a matcher that says nothing
@@ -203,7 +203,7 @@ unfolding verdict rule_fault id_fault reference_fault name_fault cycle_fault bad
     bad_metric_fault bad_links bad_rest bad_times bad_slices bad_kind matchers_linked predicates_linked states_linked
     limit_fault
     no_id_fault duplicate_id_fault matcher_ids predicate_ids state_ids metric_ids unknown_matcher_fault
-    unknown_predicate_fault unknown_state_fault matcher_cycle_fault predicate_cycle_fault reaches_by_id first_place
+    unknown_predicate_fault unknown_state_fault reaches_by_id first_place
 no_body = refl
 
 -- an id without a metric, of those that no report shows
@@ -213,5 +213,5 @@ unfolding verdict rule_fault id_fault reference_fault name_fault cycle_fault bad
     bad_metric_fault bad_links bad_rest bad_times bad_slices bad_kind matchers_linked predicates_linked states_linked
     limit_fault
     no_id_fault duplicate_id_fault matcher_ids predicate_ids state_ids metric_ids unknown_matcher_fault
-    unknown_predicate_fault unknown_state_fault matcher_cycle_fault predicate_cycle_fault reaches_by_id first_place
+    unknown_predicate_fault unknown_state_fault reaches_by_id first_place
 hidden_nothing = refl

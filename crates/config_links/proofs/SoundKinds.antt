@@ -14,7 +14,7 @@ use Rattle.config_types.specs.declared.metric.SamplingType.{SamplingType}
 use Rattle.config_types.specs.declared.metric.SamplingType.TheVariants.{RandomOne, ChangeToTrue, FirstN}
 use Rattle.field_select.specs.declared.leaf.FieldSet.{FieldSet}
 use Rattle.field_select.specs.declared.leaf.LeafPath.{LeafPath}
-use Rattle.field_select.specs.FieldSets.{IsLeaf, IsFieldSet, is_all}
+use Rattle.field_select.specs.FieldSets.{IsLeaf, is_all}
 use Rattle.link_rules.specs.declared.fault.LinkFault.{LinkFault}
 use Rattle.link_rules.specs.EntityLimits.{count_limit, number_limit, most_samples, most_bucket_samples, number_or, default_samples, samples_by}
 use Rattle.link_rules.specs.EntityIds.{place_in}
@@ -29,7 +29,7 @@ use Rattle.config_links.specs.MetricSlices.{are_within, slice_fields, linked_sli
 use Rattle.config_links.specs.MetricKinds.{is_value_set, first_leaf, may_sample, no_spec, timed_spec, sampling_mode}
 use Rattle.config_links.specs.declared.linked.Linked.{Linked}
 use Rattle.config_links.specs.declared.linked.LMetric.{LMetric}
-use Rattle.config_links.specs.SoundConfig.{IsFromOne, IsSize, IsValueLeaf, IsFilter, HasMode, AreFieldsOf, MayBeFieldsOf, IsSoundDuration}
+use Rattle.config_links.specs.SoundConfig.{IsFromOne, IsSize, IsSoundSet, IsValueField, IsFilter, HasMode, AreFieldsOf, MayBeFieldsOf, IsSoundDuration}
 use Rattle.config_links.proofs.SoundParts.{left_holds, right_holds, number_from_one}
 use Rattle.config_links.proofs.SoundNames.{Known, led_to, place_below, all_pass, not_zero, nothing_found}
 
@@ -57,19 +57,30 @@ not_all true h = absurd (cc)
 not_all false h = refl
 
 -- one leaf, which picks one entry
-pub value_leaf : (leaves : List LeafPath) → All IsLeaf leaves → is_value_set leaves ≡ true
-    → IsValueLeaf (first_leaf leaves)
+value_leaf : (leaves : List LeafPath) → All IsLeaf leaves → is_value_set leaves ≡ true
+    → IsLeaf (first_leaf leaves) × (is_all (first_leaf leaves).position ≡ false)
 value_leaf [] each is = absurd (cc)
 value_leaf (leaf ∷ []) each is = (each 0 leaf (omega arith), not_all (is_all leaf.position) is)
 value_leaf (leaf ∷ other ∷ leaves) each is = absurd (cc)
 
-filter_by : (all : Bool) (set : FieldSet) → IsFieldSet set → (all || not (length set.leaves == 0)) ≡ true
+some_leaf : (leaves : List LeafPath) → is_value_set leaves ≡ true → 1 ≤ length leaves
+some_leaf [] is = absurd (cc)
+some_leaf (leaf ∷ leaves) is = omega arith
+
+-- a field of an atom, whose leaf picks one entry
+pub value_field : (set : FieldSet) → IsSoundSet set → is_value_set set.leaves ≡ true
+    → IsValueField set.atom_id (first_leaf set.leaves)
+value_field set sound is =
+    let leaf = value_leaf set.leaves sound.fields.each is in
+    (sound.atom (some_leaf set.leaves is), leaf.0, leaf.1)
+
+filter_by : (all : Bool) (set : FieldSet) → IsSoundSet set → (all || not (length set.leaves == 0)) ≡ true
     → IsFilter (if all then None else Some set)
 filter_by true set is some = tt
 filter_by false set is some = (is, not_zero (length set.leaves) some)
 
 -- all entries, or some that are named
-pub filter_sound : (all : Bool) (set : FieldSet) → IsFieldSet set → (all || not (length set.leaves == 0)) ≡ true
+pub filter_sound : (all : Bool) (set : FieldSet) → IsSoundSet set → (all || not (length set.leaves == 0)) ≡ true
     → IsFilter (if all then None else Some set)
 filter_sound all set is some = filter_by all set is some
 

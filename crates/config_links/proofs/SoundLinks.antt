@@ -23,7 +23,7 @@ use Rattle.config_links.specs.LinkScopes.{predicate_named, spec_in, dims_in}
 use Rattle.config_links.specs.MetricTrees.{link_stands, sets_of_link}
 use Rattle.config_links.specs.MetricLinks.{is_even, is_reached, condition_place, is_asked, named_condition, is_one_of, is_bound, leaf_place, linked_link}
 use Rattle.config_links.specs.SoundConfig.{AreWithin, IsSoundLink}
-use Rattle.config_links.proofs.SoundParts.{left_holds, right_holds, set_is_set, apart_mapped}
+use Rattle.config_links.proofs.SoundParts.{left_holds, right_holds, set_is_sound, apart_mapped}
 use Rattle.config_links.proofs.SoundNames.{Known, MayBeKnown, led_to, same_place, pairs_mapped, place_below, not_zero, something_found}
 
 module _ (scope : Scope) (many : length scope.ids.predicates ≤ length scope.predicates) (condition : Option ℤ) where
@@ -75,7 +75,7 @@ module _ (scope : Scope) (many : length scope.ids.predicates ≤ length scope.pr
             (is_reached scope.predicates (condition_place scope condition) place) asked));
         asked = right_holds (is_some (spec_in (predicate_named scope id)))
             (is_reached scope.predicates (condition_place scope condition) place) asked;
-        fields = set_is_set def.in_what (left_holds (may_stand def.in_what) (may_stand def.in_condition) stands);
+        fields = set_is_sound def.in_what (left_holds (may_stand def.in_what) (may_stand def.in_condition) stands);
         some = not_zero (length in_what.leaves) some;
         even = length-map in_condition.leaves (leaf_place dims.leaves) ∙ sym same;
         bound = subst (λ (found : Option LPredicate). AreWithin (length (dims_in found).leaves)

@@ -27,12 +27,12 @@ use Rattle.config_links.specs.MetricLinks.{is_even, is_asked, are_asked, is_boun
 use Rattle.config_links.specs.MetricSlices.{fit_states, fits_state, fit_slices, may_be_sliced, sliced_atoms, linked_slices, is_pulled_kind, time_reasons, bad_times, slice_reasons, bad_slices}
 use Rattle.config_links.specs.MetricKinds.{kind_reasons, bad_kind, value_form, gauge_form, duration_form, linked_kind, timed_spec, first_leaf, trigger_place, sampled_fields, may_sample}
 use Rattle.config_links.specs.LinkMetrics.{what_id, metric_parts, what_place, bucket_size, bucket_bound, bad_rest, bad_metric, linked_metric}
-use Rattle.config_links.specs.SoundConfig.{MayBeWithin, IsBound, IsSize, IsPulledAt, IsValueLeaf, IsFilter, AreSamples, IsSoundDuration, IsSoundKind, IsSoundMetric}
-use Rattle.config_links.proofs.SoundParts.{holds, left_holds, right_holds, no_test, set_is_set, bound_fits}
+use Rattle.config_links.specs.SoundConfig.{MayBeWithin, IsBound, IsSize, IsPulledAt, IsValueField, IsFilter, AreSamples, IsSoundDuration, IsSoundKind, IsSoundMetric}
+use Rattle.config_links.proofs.SoundParts.{holds, left_holds, right_holds, no_test, set_is_sound, bound_fits}
 use Rattle.config_links.proofs.SoundNames.{Known, MayBeKnown, place_below, names_known, is_zero, nothing_found}
 use Rattle.config_links.proofs.SoundLinks.{links_sound, links_apart}
 use Rattle.config_links.proofs.SoundSlices.{has_sets, slices_sound, slices_apart}
-use Rattle.config_links.proofs.SoundKinds.{size_fits, value_leaf, filter_sound, samples_fit, product_fits, mode_fits, may_sample_parts, first_or, second_fails, pulled_at, duration_sound}
+use Rattle.config_links.proofs.SoundKinds.{size_fits, value_field, filter_sound, samples_fit, product_fits, mode_fits, may_sample_parts, first_or, second_fails, pulled_at, duration_sound}
 
 -- a name that is there, and is known
 may_known : (known : List ℤ) (what : Option ℤ) → MayBeKnown known what → is_none what ≡ false
@@ -59,7 +59,7 @@ none_made f xs h = ap (map f) (is_zero xs h)
 module _ (linked : Linked) (metric : LMetric) where
   value_by : (pulled : Bool) (value : ValueParts) (set : FieldSet) → metric.what < length linked.matchers
       → IsSize metric.size
-      → IsPulledAt linked.matchers metric.what pulled → IsValueLeaf (first_leaf set.leaves)
+      → IsPulledAt linked.matchers metric.what pulled → IsValueField set.atom_id (first_leaf set.leaves)
       → (pulled ≡ true → metric.links ≡ []) → (pulled ≡ true → metric.slices ≡ [])
       → IsSoundKind linked metric (value_form pulled value set)
   value_by true value set within size at leaf no_links no_slices =
@@ -157,7 +157,7 @@ module _ (scope : Scope) (metrics : List LMetric)
       let set = set_or_none value.field in
       value_by whole (made def (Value value)) (names_pulled scope (what_id def)) value set
       (place_here (what_id def) known) (size_fits def.sliced.bucket uid) (pulled_at scope (what_id def) known)
-      (value_leaf set.leaves (set_is_set value.field own).each (holds _ tests.0))
+      (value_field set (set_is_sound value.field own) (holds _ tests.0))
       (λ is. no_links def (names_pulled scope (what_id def)) tests.1.1.0 is)
       (λ is. no_slices (metric_sets def).state_links def.sliced.slices (not (names_pulled scope (what_id def)))
       (left_holds ((length def.sliced.slices == 0) || not (names_pulled scope (what_id def))) _ fit) (ap not is))
@@ -170,7 +170,7 @@ module _ (scope : Scope) (metrics : List LMetric)
       ∷ count_limit 8 most_bucket_samples (bound_or_default def.sliced.bound * samples_of gauge) ∷ []) limit in
       gauge_by whole (made def (Gauge gauge)) scope (names_pulled scope (what_id def)) gauge set
       (place_here (what_id def) known) (size_fits def.sliced.bucket uid) (pulled_at scope (what_id def) known)
-      (filter_sound gauge.include_all set (set_is_set gauge.fields own) (holds _ tests.1.1.1.0))
+      (filter_sound gauge.include_all set (set_is_sound gauge.fields own) (holds _ tests.1.1.1.0))
       (record { few = samples_fit gauge.sampling gauge.max_samples limits.0; product = product_fits _ limits.1.0 })
       (may_be_within scope.ids.matchers (length scope.matchers) some gauge.trigger each.1.0)
       (holds _ tests.1.1.1.1.0)
@@ -288,7 +288,7 @@ module _ (scope : Scope) (metrics : List LMetric)
             bound;
         apart = links_apart scope many def.common.condition def.common.links conditions.1 each_asked
             (nothing_found _ once);
-        dims = set_is_set def.sliced.dims dims_stand;
+        dims = set_is_sound def.sliced.dims dims_stand;
         bound = bound_by def def.kind limits.0;
         slices = slices_sound scope several state_sets def.sliced.slices known_states has_set;
         atoms = slices_apart scope several state_sets def.sliced.slices known_states (nothing_found _ no_two);

@@ -27,8 +27,8 @@ finds_step true id first known same is later =
     let one : id ≡ first = (Decides-int_eq id first).0 same in
     cc
 finds_step false id first known same is later =
-    let behind : Known known id = cc in
-    let more = later behind in
+    let among : Known known id = cc in
+    let more = later among in
     cc
 
 finds_it : (known : List ℤ) (id : ℤ) → Known known id → find (int_eq id) known ≡ Some id

@@ -18,7 +18,7 @@ use Rattle.config_types.specs.declared.predicate.PredicateBody.TheVariants as pr
 use Rattle.config_types.specs.declared.state.StateDef.{StateDef}
 use Rattle.config_types.specs.Askable.{greatest_atom_id, is_set_up_to, is_askable_test}
 use Rattle.field_select.specs.FieldSets.{IsFieldSet}
-use Rattle.field_select.specs.WellFormed.{is_number_to, number_or_zero, set_of}
+use Rattle.field_select.specs.WellFormed.{is_number_to, number_in, number_or_zero, set_of}
 use Rattle.field_select.proofs.LeafLemmas.{answer_is_set}
 use Rattle.link_rules.specs.declared.fault.LinkFault.{LinkFault}
 use Rattle.link_rules.specs.LinkFaults.{first_reason}
@@ -30,7 +30,7 @@ use Rattle.link_rules.proofs.LinkFaultLemmas.{no_reason}
 use Rattle.config_links.specs.LinkReasons.{least_reason, type_fault, takes_children, is_combo, set_or_none, may_stand, matcher_reasons, bad_matcher, predicate_reasons, bad_predicate, state_reasons, bad_state}
 use Rattle.config_links.specs.LinkedForm.{operation_or_and, matcher_form, linked_matcher, linked_body, linked_predicate, linked_state}
 use Rattle.config_links.specs.LinkScopes.{named_predicates, body_children}
-use Rattle.config_links.specs.SoundConfig.{AreWithin, MayBeWithin, IsFromOne, IsBound, named_matchers, IsSoundMatcher, IsSoundBody, IsSoundPredicate, IsSoundState}
+use Rattle.config_links.specs.SoundConfig.{AreWithin, MayBeWithin, IsFromOne, IsBound, IsSoundSet, named_matchers, IsSoundMatcher, IsSoundBody, IsSoundPredicate, IsSoundState}
 use Rattle.config_links.proofs.ReadyLemmas.{place_within, all_within}
 
 -- a test that doesn't fail holds
@@ -79,14 +79,18 @@ set_from_one greatest (Some (pos n)) is = (
 set_from_one greatest (Some (negsuc n)) is = absurd (cc)
 set_from_one greatest None is = absurd (cc)
 
--- the leaves of a tree that isn't ill-formed are a set
-pub set_is_set : (tree : Option FieldMatcher) → may_stand tree ≡ true → IsFieldSet (set_or_none tree)
-set_is_set (Some tree) is = answer_is_set (Ok (set_of tree)) tree (is, refl)
-set_is_set None is = record {
-  each = λ k d within. absurd (omega arith);
-  once = λ i j d before within. absurd
-      (omega arith);
+-- no leaves are a set
+none_is_set : IsFieldSet (set_or_none None)
+none_is_set = record { each = λ k d within. absurd (omega arith); once = λ i j d before within. absurd (omega arith) }
+
+-- the leaves of a tree that isn't ill-formed are a set, of the tree's atom
+pub set_is_sound : (tree : Option FieldMatcher) → may_stand tree ≡ true → IsSoundSet (set_or_none tree)
+set_is_sound (Some tree) is = record {
+  fields = answer_is_set (Ok (set_of tree)) tree (is, refl);
+  atom = λ some. number_from_one greatest_atom_id (number_in tree)
+      (left_holds (is_number_to greatest_atom_id (number_in tree)) _ is);
 }
+set_is_sound None is = record { fields = none_is_set; atom = λ some. absurd (omega arith) }
 
 limit_step : (within : Bool) (found : LinkFault) → (if within then None else Some found) ≡ None → within ≡ true
 limit_step true found h = refl
@@ -179,7 +183,7 @@ module _ (matchers predicates : List ℤ) (some many : ℕ) (few : length matche
         starts = start.0;
         stops = stop.0;
         stops_all = stop_all.0;
-        fields = set_is_set simple.dims (holds _ tests.1.1.0);
+        fields = set_is_sound simple.dims (holds _ tests.1.1.0);
         leaves = refl;
         bound = bound_fits 5 simple.bound within;
       }

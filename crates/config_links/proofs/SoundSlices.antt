@@ -9,7 +9,6 @@ use Rattle.std.proofs.lemmas.List.Elements.{All-from_recursion}
 use Rattle.config_types.specs.declared.metric.StateLinkDef.{StateLinkDef}
 use Rattle.distinct.specs.Repeats.{repeat_in, AreApart}
 use Rattle.distinct.proofs.ApartLemmas.{apart_without_repeat}
-use Rattle.field_select.specs.FieldSets.{IsFieldSet}
 use Rattle.link_rules.specs.EntityIds.{place_in}
 use Rattle.config_links.specs.declared.linked.LSlice.{LSlice}
 use Rattle.config_links.specs.declared.scope.Scope.{Scope}
@@ -19,13 +18,13 @@ use Rattle.config_links.specs.LinkScopes.{state_atom, told_atom}
 use Rattle.config_links.specs.MetricTrees.{state_link_stands, sets_of_state_link}
 use Rattle.config_links.specs.MetricLinks.{are_as_many}
 use Rattle.config_links.specs.MetricSlices.{is_atom, fits_state, rise, sliced_atoms, slice_fields, linked_slice, linked_slices}
-use Rattle.config_links.specs.SoundConfig.{HasFields, IsSoundSlice, slice_atom}
-use Rattle.config_links.proofs.SoundParts.{left_holds, right_holds, set_is_set, apart_mapped}
+use Rattle.config_links.specs.SoundConfig.{IsSoundSet, HasFields, IsSoundSlice, slice_atom}
+use Rattle.config_links.proofs.SoundParts.{left_holds, right_holds, set_is_sound, apart_mapped}
 use Rattle.config_links.proofs.SoundNames.{Known, led_to, place_below, not_zero}
 
 -- the fields of a state link: a set with some leaves
 abbrev pub HasSet : StateLinkSets → Type 0
-HasSet sets = IsFieldSet sets.in_what × (1 ≤ length sets.in_what.leaves)
+HasSet sets = IsSoundSet sets.in_what × (1 ≤ length sets.in_what.leaves)
 
 fields_step : (is : Bool) (sets : StateLinkSets) (found : Option StateLinkSets) → HasSet sets
     → HasFields (option_map (λ (sets : StateLinkSets). sets.in_what) found)
@@ -55,7 +54,7 @@ sets_of (def ∷ defs) atoms stand fit =
     let even = left_holds (are_as_many in_what in_state) (is_atom in_state.atom_id def.atom_id && rise in_state.leaves)
     (right_holds (list_any (λ atom. is_atom atom def.atom_id) atoms) _ fits) in (
       (
-        set_is_set def.in_what (left_holds (may_stand def.in_what) (may_stand def.in_state) stands),
+        set_is_sound def.in_what (left_holds (may_stand def.in_what) (may_stand def.in_state) stands),
         not_zero (length in_what.leaves) (left_holds (not (length in_what.leaves == 0))
             (length in_what.leaves == length in_state.leaves) even),
       ),

@@ -53,12 +53,17 @@ IsSoundMatcher count (linked_matchers.Simple simple) = IsAskable simple
 IsSoundMatcher count (linked_matchers.Combo op children) =
     (takes_children op (length children) ≡ true) × AreWithin count children
 
+-- a set of fields: each is one, none comes twice, and where there is one they are those of an atom
+pub record IsSoundSet (set : FieldSet) : Type 0 where
+  pub fields : IsFieldSet set
+  pub atom : 1 ≤ length set.leaves → IsFromOne greatest_atom_id set.atom_id
+
 -- a simple predicate, where there are so many matchers
 pub record IsSoundSimple (count : ℕ) (start stop stop_all : Option ℕ) (dims : FieldSet) (spec : PredSpec) : Type 0 where
   pub starts : MayBeWithin count start
   pub stops : MayBeWithin count stop
   pub stops_all : MayBeWithin count stop_all
-  pub fields : IsFieldSet dims
+  pub fields : IsSoundSet dims
   pub leaves : spec.leaves ≡ length dims.leaves
   pub bound : IsBound spec.bound
 
@@ -77,20 +82,20 @@ IsSoundPredicate matchers predicates predicate = IsSoundBody matchers predicates
 abbrev pub IsSoundState : LState → Type 0
 IsSoundState state = IsFromOne greatest_atom_id state.atom_id
 
--- a link of a metric with this condition: to a simple predicate that the condition is or reaches, with as many leaves on
--- both sides, which are among that predicate's dimensions
+-- a link of a metric with this condition: to a simple predicate that the condition is or reaches, with as many leaves
+-- on both sides, which are among that predicate's dimensions
 pub record IsSoundLink (predicates : List LPredicate) (condition : Option ℕ) (link : LLink) : Type 0 where
   pub within : link.predicate < length predicates
   pub simple : spec_in (slice_get predicates link.predicate) ≢ None
   pub asked : is_reached predicates condition link.predicate ≡ true
-  pub fields : IsFieldSet link.in_what
+  pub fields : IsSoundSet link.in_what
   pub some : 1 ≤ length link.in_what.leaves
   pub even : length link.places ≡ length link.in_what.leaves
   pub bound : AreWithin (length (dims_in (slice_get predicates link.predicate)).leaves) link.places
 
 -- the fields of a slice, where it has some
 abbrev pub HasFields : Option FieldSet → Type 0
-HasFields (Some set) = IsFieldSet set × (1 ≤ length set.leaves)
+HasFields (Some set) = IsSoundSet set × (1 ≤ length set.leaves)
 HasFields None = Unit {0}
 
 -- a slice by one of so many states
@@ -121,7 +126,7 @@ MayBeFieldsOf predicate None = Unit {0}
 
 -- the entries of samples: all, or some that are named
 abbrev pub IsFilter : Option FieldSet → Type 0
-IsFilter (Some set) = IsFieldSet set × (1 ≤ length set.leaves)
+IsFilter (Some set) = IsSoundSet set × (1 ≤ length set.leaves)
 IsFilter None = Unit {0}
 
 -- so many samples of a key, and as many of all keys as there may be
@@ -147,9 +152,9 @@ pub record IsSoundDuration (linked : Linked) (metric : LMetric) (spec : PredSpec
   pub slices : All (λ (slice : LSlice). MayBeFieldsOf (slice_get linked.predicates metric.what) slice.in_what)
       metric.slices
 
--- a value's leaf picks one entry
-abbrev pub IsValueLeaf : LeafPath → Type 0
-IsValueLeaf leaf = IsLeaf leaf × (is_all leaf.position ≡ false)
+-- the field of a value: that of an atom, and its leaf picks one entry
+abbrev pub IsValueField : ℕ → LeafPath → Type 0
+IsValueField atom_id leaf = IsFromOne greatest_atom_id atom_id × IsLeaf leaf × (is_all leaf.position ≡ false)
 
 -- what a metric has by its kind, and where the kind may stand
 abbrev pub IsSoundKind : Linked → LMetric → LKind → Type 0
@@ -157,10 +162,10 @@ IsSoundKind linked metric kinds.Event = (metric.what < length linked.matchers) �
 IsSoundKind linked metric kinds.Count = (metric.what < length linked.matchers) × IsSize metric.size
 IsSoundKind linked metric (kinds.PushedValue atom_id leaf agg) =
     (metric.what < length linked.matchers) × IsSize metric.size × IsPulledAt linked.matchers metric.what false
-    × IsValueLeaf leaf
+    × IsValueField atom_id leaf
 IsSoundKind linked metric (kinds.PulledValue atom_id leaf spec) =
     (metric.what < length linked.matchers) × IsSize metric.size × IsPulledAt linked.matchers metric.what true
-    × IsValueLeaf leaf × (metric.links ≡ []) × (metric.slices ≡ [])
+    × IsValueField atom_id leaf × (metric.links ≡ []) × (metric.slices ≡ [])
 IsSoundKind linked metric (kinds.PushedGauge fields samples) =
     (metric.what < length linked.matchers) × IsSize metric.size × IsPulledAt linked.matchers metric.what false
     × IsFilter fields × AreSamples metric.bound samples
@@ -177,15 +182,15 @@ pub record IsSoundMetric (linked : Linked) (metric : LMetric) : Type 0 where
   pub condition : MayBeWithin (length linked.predicates) metric.condition
   pub links : All (IsSoundLink linked.predicates metric.condition) metric.links
   pub apart : AllPairs (λ (link later : LLink). link.predicate ≢ later.predicate) metric.links
-  pub dims : IsFieldSet metric.dims
+  pub dims : IsSoundSet metric.dims
   pub bound : IsBound metric.bound
   pub slices : All (IsSoundSlice (length linked.states)) metric.slices
   pub atoms : AllPairs (λ (slice later : LSlice). slice_atom linked.states slice ≢ slice_atom linked.states later)
       metric.slices
   pub kind : IsSoundKind linked metric metric.kind
 
--- a configuration: each entity is sound, there are as few as may be, no combination is below itself, and no two of a kind
--- have the same id
+-- a configuration: each entity is sound, there are as few as may be, no combination is below itself, and no two of a
+-- kind have the same id
 pub record IsSoundConfig (linked : Linked) : Type 0 where
   pub few_matchers : length linked.matchers ≤ 800
   pub few_predicates : length linked.predicates ≤ 300

@@ -19,7 +19,7 @@ fn names_field(field: Option<i32>) -> bool
 }
 
 // Whether a test inside a tuple may be asked.
-fn is_askable_inside(test: &FieldTest) -> bool
+fn can_ask_inside(test: &FieldTest) -> bool
     ensures { result ≡ is_askable_inside test.now }
 {
     if !names_field(test.field) || test.position.is_some() {
@@ -36,7 +36,7 @@ fn are_askable_inside(tests: &[FieldTest]) -> bool
     ensures { result ≡ list_all is_askable_inside tests.now }
 {
     for test in tests {
-        if !is_askable_inside(test) {
+        if !can_ask_inside(test) {
             return false;
         }
     }
@@ -44,7 +44,7 @@ fn are_askable_inside(tests: &[FieldTest]) -> bool
 }
 
 // Whether a test of a field of an atom may be asked.
-fn is_askable_test(test: &FieldTest) -> bool
+fn can_ask(test: &FieldTest) -> bool
     ensures { result ≡ is_askable_test test.now }
 {
     if !names_field(test.field) {
@@ -62,7 +62,7 @@ pub fn are_askable_tests(tests: &[FieldTest]) -> bool
     ensures { result ≡ list_all is_askable_test tests.now }
 {
     for test in tests {
-        if !is_askable_test(test) {
+        if !can_ask(test) {
             return false;
         }
     }

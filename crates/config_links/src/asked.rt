@@ -66,7 +66,7 @@ fn mark_at(marks: &[bool], place: u32) -> bool
 }
 
 // Whether the predicate at a place is that of a condition, or is reached by it.
-fn is_reached(scope: &Scope, from: Option<u32>, marks: &[bool], to: u32) -> bool
+fn reaches(scope: &Scope, from: Option<u32>, marks: &[bool], to: u32) -> bool
     requires marked { AreMarked scope.now.predicates from marks.now }
     requires within { to < length scope.now.predicates }
     ensures { result ≡ is_reached scope.now.predicates from to }
@@ -78,7 +78,7 @@ fn is_reached(scope: &Scope, from: Option<u32>, marks: &[bool], to: u32) -> bool
 }
 
 // Whether a link's condition is a simple predicate that the metric's condition is or reaches.
-fn is_asked(
+fn asks(
     scope: &Scope,
     condition: Option<i64>,
     from: Option<u32>,
@@ -95,7 +95,7 @@ fn is_asked(
     if scope.spec_of(link).is_none() {
         return false;
     }
-    is_reached(scope, from, marks, scope.ids.predicates.place_in(link))
+    reaches(scope, from, marks, scope.ids.predicates.locate(link))
 }
 
 // Whether the condition of each link is asked.
@@ -112,7 +112,7 @@ fn all_asked(
         is_asked scope.now condition sets.condition) links.now }
 {
     for sets in links {
-        if !is_asked(scope, condition, from, marks, sets.condition) {
+        if !asks(scope, condition, from, marks, sets.condition) {
             return false;
         }
     }
@@ -133,7 +133,7 @@ fn named_conditions(alloc: Global, links: &[LinkSets]) -> Result<Seq<i64>, Alloc
 }
 
 /// Whether the condition of each link is asked where that of the metric is, and no two links have the same.
-pub fn are_asked(
+pub fn judge_conditions(
     alloc: Global,
     scope: &Scope,
     condition: Option<i64>,

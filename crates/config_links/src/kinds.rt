@@ -9,11 +9,11 @@ ghost use Rattle.config_links.specs.MetricSlices.{is_pulled_kind};
 ghost use Rattle.config_links.specs.MetricKinds as words;
 
 use crate::LKind;
-use crate::reasons::{place_of_option, type_fault};
+use crate::reasons::{make_fault, place_of_option};
 use crate::scope::Scope;
 use config_types::{DiffSpec, Position, PredSpec, Sampling, SamplingType};
 use field_select::{FieldSet, LeafPath};
-use link_rules::{GaugeParts, Kind, LinkError, ValueParts, samples_of};
+use link_rules::{GaugeParts, Kind, LinkError, ValueParts, count_samples};
 
 // How no table is kept.
 const NO_SPEC: PredSpec = PredSpec {
@@ -35,7 +35,7 @@ fn value_leaf(leaves: &[LeafPath]) -> Option<LeafPath>
 }
 
 // Whether it may be said so whether differences are counted.
-fn may_diff(pulled: bool, diff: Option<bool>) -> bool
+fn accepts_diff(pulled: bool, diff: Option<bool>) -> bool
     ensures { result ≡ words.may_diff pulled diff }
 {
     match diff {
@@ -58,13 +58,13 @@ fn value_in(
         (words.value_form pulled value.now own) }
 {
     let Some(leaf) = value_leaf(own.leaves.as_slice()) else {
-        return Err(LinkError::Fault(type_fault(id, 14)));
+        return Err(LinkError::Fault(make_fault(id, 14)));
     };
-    if !may_diff(pulled, value.diff) {
-        return Err(LinkError::Fault(type_fault(id, 15)));
+    if !accepts_diff(pulled, value.diff) {
+        return Err(LinkError::Fault(make_fault(id, 15)));
     }
     if pulled && links != 0 {
-        return Err(LinkError::Fault(type_fault(id, 16)));
+        return Err(LinkError::Fault(make_fault(id, 16)));
     }
     if pulled {
         return Ok(LKind::PulledValue {
@@ -87,7 +87,7 @@ fn value_in(
 }
 
 // Whether a gauge may take its samples so.
-fn may_sample(pulled: bool, sampling: SamplingType, trigger: Option<i64>) -> bool
+fn accepts_sampling(pulled: bool, sampling: SamplingType, trigger: Option<i64>) -> bool
     ensures { result ≡ words.may_sample pulled sampling trigger }
 {
     match sampling {
@@ -98,7 +98,7 @@ fn may_sample(pulled: bool, sampling: SamplingType, trigger: Option<i64>) -> boo
 }
 
 // When a pulled gauge takes its samples.
-fn sampling_mode(sampling: SamplingType, trigger: Option<u32>) -> Sampling
+fn choose_mode(sampling: SamplingType, trigger: Option<u32>) -> Sampling
     ensures { result ≡ words.sampling_mode sampling trigger }
 {
     match sampling {
@@ -124,22 +124,22 @@ fn gauge_in(
         (words.gauge_form scope.now pulled gauge.now own) }
 {
     if pulled && links != 0 {
-        return Err(LinkError::Fault(type_fault(id, 16)));
+        return Err(LinkError::Fault(make_fault(id, 16)));
     }
     if !gauge.include_all && own.leaves.is_empty() {
-        return Err(LinkError::Fault(type_fault(id, 17)));
+        return Err(LinkError::Fault(make_fault(id, 17)));
     }
-    if !may_sample(pulled, gauge.sampling, gauge.trigger) {
-        return Err(LinkError::Fault(type_fault(id, 18)));
+    if !accepts_sampling(pulled, gauge.sampling, gauge.trigger) {
+        return Err(LinkError::Fault(make_fault(id, 18)));
     }
     let fields = if gauge.include_all { None } else { Some(own) };
-    let samples = samples_of(gauge) as u32;
+    let samples = count_samples(gauge) as u32;
     if pulled {
         let trigger = place_of_option(&scope.ids.matchers, gauge.trigger);
         return Ok(LKind::PulledGauge {
             fields,
             samples,
-            mode: sampling_mode(gauge.sampling, trigger),
+            mode: choose_mode(gauge.sampling, trigger),
             trigger,
         });
     }
@@ -177,8 +177,8 @@ pub fn kind_in(
     match kind {
         Kind::Event => Ok(LKind::Event),
         Kind::Count => Ok(LKind::Count),
-        Kind::Value(value) => value_in(id, scope.names_pulled(what), links, own, value),
-        Kind::Gauge(gauge) => gauge_in(scope, id, scope.names_pulled(what), links, own, gauge),
+        Kind::Value(value) => value_in(id, scope.is_of_pulled_atom(what), links, own, value),
+        Kind::Gauge(gauge) => gauge_in(scope, id, scope.is_of_pulled_atom(what), links, own, gauge),
         Kind::Duration { max_sparse } => {
             // What a duration times is a simple predicate: that was judged.
             let spec = scope.spec_of(what).unwrap_or(NO_SPEC);

@@ -21,7 +21,7 @@ use crate::states::states_in;
 use crate::{LMatcher, LMetric, LPredicate, LState, Linked};
 use config_types::{Config, MatcherDef, PredicateDef, StateDef};
 use link_rules::{
-    Entities, Ids, Known, LinkError, LinkFault, Metric, checked_ids, first_unknown_child, gather,
+    Entities, Ids, Known, LinkError, LinkFault, Metric, checked_ids, find_unknown_child, gather,
     refuse,
 };
 use sd_base::Seq;
@@ -49,10 +49,10 @@ fn parts_in(
 }
 
 // The first id without a metric, among those of metrics that no report shows.
-fn hidden_fault(known: &Known, no_report: &[i64]) -> Option<LinkFault>
+fn judge_hidden(known: &Known, no_report: &[i64]) -> Option<LinkFault>
     ensures { result ≡ hidden_fault known.now no_report.now }
 {
-    let value = first_unknown_child(known, no_report)?;
+    let value = find_unknown_child(known, no_report)?;
     Some(LinkFault {
         number: BAD_TYPE,
         reason: 19,
@@ -76,12 +76,12 @@ fn last_in(
         (map (linked_metric scope.now uid no_report.now) metrics.now) }
 {
     let linked = metrics_in(alloc, scope, uid, no_report, metrics)?;
-    refuse(hidden_fault(&scope.ids.metrics, no_report))?;
+    refuse(judge_hidden(&scope.ids.metrics, no_report))?;
     Ok(linked)
 }
 
 // The linked entities, or the first reason.
-#[tactic(auto, using(crate::proofs::ReadyLemmas::few_samples), unfolding(crate::specs::Verdict::bad_type_fault, crate::specs::Verdict::matchers_linked, crate::specs::Verdict::predicates_linked, crate::specs::Verdict::states_linked, crate::specs::Verdict::metrics_linked))]
+#[tactic(auto, using(crate::proofs::ReadyLemmas::few_samples), unfolding(crate::specs::Verdict::bad_type_fault))]
 fn entities_in(alloc: Global, ids: Ids, entities: Entities, uid: i32) -> Result<Linked, LinkError>
     requires ids { ids ≡ ids_in entities }
     requires ready { rule_fault entities ≡ None }

@@ -6,7 +6,7 @@ ghost use Rattle.config_links.specs.LinkReasons.{type_fault};
 ghost use Rattle.config_links.specs.MetricLinks.{is_even, is_bound, link_places, linked_link};
 
 use crate::LLink;
-use crate::reasons::type_fault;
+use crate::reasons::make_fault;
 use crate::scope::Scope;
 use crate::sets::LinkSets;
 use link_rules::LinkError;
@@ -52,7 +52,7 @@ fn link_in(
 {
     let places = bound_places(alloc, scope, id, &sets)?;
     Ok(LLink {
-        predicate: scope.ids.predicates.place_in(sets.condition.unwrap_or(0)),
+        predicate: scope.ids.predicates.locate(sets.condition.unwrap_or(0)),
         in_what: sets.in_what,
         places,
     })

@@ -6,7 +6,7 @@ ghost use Rattle.config_links.specs.LinkedForm.{linked_matcher};
 
 use crate::LMatcher;
 use crate::askable::are_askable_tests;
-use crate::reasons::{names_atom, operation_in, places_in, type_fault};
+use crate::reasons::{is_atom_id, make_fault, operation_in, places_in};
 use config_types::{MatcherBody, MatcherDef};
 use link_rules::{Known, LinkError};
 use sd_base::Seq;
@@ -18,18 +18,18 @@ fn matcher_in(alloc: Global, known: &Known, def: MatcherDef) -> Result<LMatcher,
 {
     let id = def.id;
     match def.body {
-        None => Err(LinkError::Fault(type_fault(id, 1))),
+        None => Err(LinkError::Fault(make_fault(id, 1))),
         Some(MatcherBody::Combo(combo)) => {
             let op = operation_in(id, combo.op, combo.children.len())?;
             let children = places_in(alloc, known, combo.children.as_slice())?;
             Ok(LMatcher::Combo { op, children })
         }
         Some(MatcherBody::Simple(simple)) => {
-            if !names_atom(simple.atom_id) {
-                return Err(LinkError::Fault(type_fault(id, 3)));
+            if !is_atom_id(simple.atom_id) {
+                return Err(LinkError::Fault(make_fault(id, 3)));
             }
             if !are_askable_tests(simple.tests.as_slice()) {
-                return Err(LinkError::Fault(type_fault(id, 4)));
+                return Err(LinkError::Fault(make_fault(id, 4)));
             }
             Ok(LMatcher::Simple(simple))
         }

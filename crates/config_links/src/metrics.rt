@@ -13,11 +13,11 @@ ghost use Rattle.config_links.specs.MetricSlices.{linked_slices};
 ghost use Rattle.config_links.specs.MetricKinds.{linked_kind, TakesFew};
 ghost use Rattle.config_links.specs.LinkMetrics as words;
 
-use crate::asked::are_asked;
+use crate::asked::judge_conditions;
 use crate::kinds::kind_in;
 use crate::links::{are_even, links_in};
-use crate::predicates::bound_or_default;
-use crate::reasons::{place_of_option, type_fault};
+use crate::predicates::choose_bound;
+use crate::reasons::{make_fault, place_of_option};
 use crate::scope::Scope;
 use crate::sets::{StateLinkSets, sets_in};
 use crate::slices::{refuse_times, slices_in};
@@ -52,14 +52,14 @@ fn parts_in(
     let id = metric.common.id;
     let sets = sets_in(alloc, metric)?;
     if !are_even(sets.links.as_slice()) {
-        return Err(LinkError::Fault(type_fault(id, 6)));
+        return Err(LinkError::Fault(make_fault(id, 6)));
     }
-    if !are_asked(alloc, scope, metric.common.condition, sets.links.as_slice())? {
-        return Err(LinkError::Fault(type_fault(id, 7)));
+    if !judge_conditions(alloc, scope, metric.common.condition, sets.links.as_slice())? {
+        return Err(LinkError::Fault(make_fault(id, 7)));
     }
     let links = links_in(alloc, scope, id, sets.links)?;
     let Some(what) = metric.common.what else {
-        return Err(LinkError::Fault(type_fault(id, 9)));
+        return Err(LinkError::Fault(make_fault(id, 9)));
     };
     let parts = MetricParts {
         what,
@@ -72,18 +72,18 @@ fn parts_in(
 
 // The place of what a metric counts, or of the predicate that a duration times.
 #[tactic(auto, unfolding(crate::specs::LinkMetrics::what_place))]
-fn what_place(scope: &Scope, kind: &Kind, what: i64) -> u32
+fn locate_what(scope: &Scope, kind: &Kind, what: i64) -> u32
     ensures { result ≡ words.what_place scope.now kind.now what }
 {
     match kind {
-        Kind::Duration { .. } => scope.ids.predicates.place_in(what),
-        _ => scope.ids.matchers.place_in(what),
+        Kind::Duration { .. } => scope.ids.predicates.locate(what),
+        _ => scope.ids.matchers.locate(what),
     }
 }
 
 // The length of a bucket in nanoseconds.
 #[tactic(auto, unfolding(crate::specs::LinkMetrics::bucket_size))]
-fn bucket_size(uid: i32, kind: &Kind, bucket: Option<TimeUnit>) -> u64
+fn measure_bucket(uid: i32, kind: &Kind, bucket: Option<TimeUnit>) -> u64
     ensures { result ≡ words.bucket_size uid kind.now bucket }
 {
     match kind {
@@ -94,12 +94,12 @@ fn bucket_size(uid: i32, kind: &Kind, bucket: Option<TimeUnit>) -> u64
 
 // How many keys a bucket admits.
 #[tactic(auto, unfolding(crate::specs::LinkMetrics::bucket_bound))]
-fn bucket_bound(kind: &Kind, bound: Option<i32>) -> u32
+fn bound_bucket(kind: &Kind, bound: Option<i32>) -> u32
     ensures { result ≡ words.bucket_bound kind.now bound }
 {
     match kind {
         Kind::Event => 1,
-        _ => bound_or_default(bound),
+        _ => choose_bound(bound),
     }
 }
 
@@ -123,12 +123,12 @@ fn metric_of(
     LMetric {
         id,
         shown: !no_report.contains(&id),
-        what: what_place(scope, &metric.kind, parts.what),
+        what: locate_what(scope, &metric.kind, parts.what),
         condition: place_of_option(&scope.ids.predicates, metric.common.condition),
         links: parts.links,
         dims: parts.dims,
-        size: bucket_size(uid, &metric.kind, metric.sliced.bucket),
-        bound: bucket_bound(&metric.kind, metric.sliced.bound),
+        size: measure_bucket(uid, &metric.kind, metric.sliced.bucket),
+        bound: bound_bucket(&metric.kind, metric.sliced.bound),
         slices,
         kind,
     }
@@ -167,7 +167,7 @@ fn rest_of(
     )?;
     let ids = metric.sliced.slices.as_slice();
     let slices = slices_in(alloc, scope, id, kind, what, ids, state_links)?;
-    let bound = bound_or_default(metric.sliced.bound);
+    let bound = choose_bound(metric.sliced.bound);
     let count = metric.common.links.as_slice().len();
     let linked = kind_in(scope, id, what, bound, count, own, kind)?;
     Ok((slices, linked))

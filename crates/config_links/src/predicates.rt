@@ -5,7 +5,7 @@ ghost use Rattle.link_rules.specs.EntityLimits.{bound_or_default};
 ghost use Rattle.config_links.specs.LinkReasons.{bad_predicate};
 ghost use Rattle.config_links.specs.LinkedForm.{linked_predicate};
 
-use crate::reasons::{operation_in, place_of_option, places_in, set_in, type_fault};
+use crate::reasons::{make_fault, operation_in, place_of_option, places_in, set_in};
 use crate::{LPredBody, LPredicate};
 use config_types::{PredSpec, PredicateBody, PredicateDef};
 use link_rules::{Known, LinkError};
@@ -16,7 +16,7 @@ use std::alloc::Global;
 const DEFAULT_BOUND: u32 = 800;
 
 /// The bound that is meant.
-pub fn bound_or_default(bound: Option<i32>) -> u32
+pub fn choose_bound(bound: Option<i32>) -> u32
     ensures { result ≡ bound_or_default bound }
 {
     match bound {
@@ -37,7 +37,7 @@ fn predicate_in(
 {
     let id = def.id;
     let body = match def.body {
-        None => return Err(LinkError::Fault(type_fault(id, 1))),
+        None => return Err(LinkError::Fault(make_fault(id, 1))),
         Some(PredicateBody::Combo(combo)) => {
             let op = operation_in(id, combo.op, combo.children.len())?;
             let children = places_in(alloc, predicates, combo.children.as_slice())?;
@@ -52,7 +52,7 @@ fn predicate_in(
             let spec = PredSpec {
                 nesting: simple.nesting,
                 unknown: simple.unknown,
-                bound: bound_or_default(simple.bound),
+                bound: choose_bound(simple.bound),
                 leaves,
             };
             LPredBody::Simple {

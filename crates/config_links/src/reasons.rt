@@ -16,7 +16,7 @@ use std::alloc::{AllocError, Global};
 pub const BAD_TYPE: u8 = 9;
 
 /// An entity of this id isn't what it should be.
-pub fn type_fault(id: Option<i64>, reason: u8) -> LinkFault
+pub fn make_fault(id: Option<i64>, reason: u8) -> LinkFault
     ensures { result ≡ type_fault id reason }
 {
     LinkFault {
@@ -27,7 +27,7 @@ pub fn type_fault(id: Option<i64>, reason: u8) -> LinkFault
 }
 
 /// Whether a number is the id of an atom.
-pub fn names_atom(id: Option<i32>) -> bool
+pub fn is_atom_id(id: Option<i32>) -> bool
     ensures { result ≡ names_atom id }
 {
     match id {
@@ -37,7 +37,7 @@ pub fn names_atom(id: Option<i32>) -> bool
 }
 
 // Whether an operation takes so many children.
-fn takes_children(op: Operation, count: usize) -> bool
+fn accepts_count(op: Operation, count: usize) -> bool
     ensures { result ≡ takes_children op count }
 {
     match op {
@@ -55,8 +55,8 @@ pub fn operation_in(
     ensures { PassesTest result (is_combo op count) (type_fault id 2) (operation_or_and op) }
 {
     match op {
-        Some(op) if takes_children(op, count) => Ok(op),
-        _ => Err(LinkError::Fault(type_fault(id, 2))),
+        Some(op) if accepts_count(op, count) => Ok(op),
+        _ => Err(LinkError::Fault(make_fault(id, 2))),
     }
 }
 
@@ -66,7 +66,7 @@ pub fn places_in(alloc: Global, known: &Known, ids: &[i64]) -> Result<Seq<u32>, 
 {
     let mut places = Seq::new(alloc);
     for id in ids {
-        places.push(known.place_in(*id))?;
+        places.push(known.locate(*id))?;
     }
     Ok(places)
 }
@@ -76,7 +76,7 @@ pub fn place_of_option(known: &Known, id: Option<i64>) -> Option<u32>
     ensures { result ≡ option_map (place_in known.now) id }
 {
     match id {
-        Some(id) => Some(known.place_in(id)),
+        Some(id) => Some(known.locate(id)),
         None => None,
     }
 }
@@ -97,7 +97,7 @@ pub fn set_in(
     };
     match field_set(alloc, tree) {
         Ok(set) => Ok(set),
-        Err(SelectError::BadForm) => Err(LinkError::Fault(type_fault(id, 5))),
+        Err(SelectError::BadForm) => Err(LinkError::Fault(make_fault(id, 5))),
         Err(SelectError::Memory) => Err(LinkError::Memory),
     }
 }

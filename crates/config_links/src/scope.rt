@@ -20,7 +20,7 @@ pub struct Scope {
 }
 
 // The id of an atom as a number, or 0.
-fn number_or_zero(id: Option<i32>) -> u32
+fn read_atom_id(id: Option<i32>) -> u32
     ensures { result ≡ number_or_zero id }
 {
     match id {
@@ -37,7 +37,7 @@ impl Scope {
     ghost use Rattle.config_links.specs.LinkScopes.{predicate_named, spec_in, dims_in, names_pulled, state_atom};
 
     /// The predicate of an id.
-    pub fn predicate_named(&self, id: i64) -> Option<&LPredicate>
+    pub fn find_predicate(&self, id: i64) -> Option<&LPredicate>
         ensures { option_copied result ≡ predicate_named self.now id }
     {
         match self.ids.predicates.place(id) {
@@ -50,7 +50,7 @@ impl Scope {
     pub fn spec_of(&self, id: i64) -> Option<PredSpec>
         ensures { result ≡ spec_in (predicate_named self.now id) }
     {
-        match self.predicate_named(id) {
+        match self.find_predicate(id) {
             None => None,
             Some(predicate) => match &predicate.body {
                 LPredBody::Simple { spec, .. } => Some(*spec),
@@ -63,7 +63,7 @@ impl Scope {
     pub fn dims_of(&self, alloc: Global, id: i64) -> Result<DimsTable, LinkError>
         ensures { Links result None (table_of (dims_in (predicate_named self.now id))) }
     {
-        if let Some(predicate) = self.predicate_named(id)
+        if let Some(predicate) = self.find_predicate(id)
             && let LPredBody::Simple { dims, .. } = &predicate.body
         {
             return Ok(DimsTable {
@@ -78,20 +78,20 @@ impl Scope {
     }
 
     /// Whether a matcher is a simple one of an atom that is pulled.
-    pub fn names_pulled(&self, id: i64) -> bool
+    pub fn is_of_pulled_atom(&self, id: i64) -> bool
         ensures { result ≡ names_pulled self.now id }
     {
         let Some(place) = self.ids.matchers.place(id) else {
             return false;
         };
         match self.matchers.get(place as usize) {
-            Some(LMatcher::Simple(simple)) => is_pulled(number_or_zero(simple.atom_id)),
+            Some(LMatcher::Simple(simple)) => is_pulled(read_atom_id(simple.atom_id)),
             _ => false,
         }
     }
 
     /// The atom of a state.
-    pub fn state_atom(&self, id: i64) -> u32
+    pub fn find_state_atom(&self, id: i64) -> u32
         ensures { result ≡ state_atom self.now id }
     {
         let Some(place) = self.ids.states.place(id) else {

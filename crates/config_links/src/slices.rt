@@ -6,7 +6,7 @@ ghost use Rattle.link_rules.specs.EntityIds.{set_ids};
 ghost use Rattle.config_links.specs.MetricLinks.{are_as_many, are_one_of};
 ghost use Rattle.config_links.specs.MetricSlices as words;
 
-use crate::reasons::type_fault;
+use crate::reasons::make_fault;
 use crate::scope::Scope;
 use crate::sets::StateLinkSets;
 use crate::table::DimsTable;
@@ -18,7 +18,7 @@ use sd_base::Seq;
 use std::alloc::{AllocError, Global};
 
 // Whether what a duration times is a simple predicate.
-fn times_simple(scope: &Scope, kind: &Kind, what: i64) -> bool
+fn can_time(scope: &Scope, kind: &Kind, what: i64) -> bool
     ensures { result ≡ words.times_simple scope.now kind.now what }
 {
     match kind {
@@ -70,7 +70,7 @@ fn cover_all(
 }
 
 // Whether the fields of what a duration times are among that predicate's dimensions.
-fn is_timed_within(
+fn covers_timed(
     alloc: Global,
     scope: &Scope,
     kind: &Kind,
@@ -92,7 +92,7 @@ fn is_timed_within(
 }
 
 // Whether a number is that of an atom.
-fn is_atom(atom: u32, number: Option<i32>) -> bool
+fn is_id_of(atom: u32, number: Option<i32>) -> bool
     ensures { result ≡ words.is_atom atom number }
 {
     match number {
@@ -106,7 +106,7 @@ fn is_sliced(atoms: &[u32], number: Option<i32>) -> bool
     ensures { result ≡ list_any (λ atom. words.is_atom atom number) atoms.now }
 {
     for atom in atoms {
-        if is_atom(*atom, number) {
+        if is_id_of(*atom, number) {
             return true;
         }
     }
@@ -114,19 +114,19 @@ fn is_sliced(atoms: &[u32], number: Option<i32>) -> bool
 }
 
 // A leaf without its position, as a number.
-fn leaf_number(leaf: &LeafPath) -> u32
+fn number_leaf(leaf: &LeafPath) -> u32
     ensures { result ≡ words.leaf_number leaf.now }
 {
     256 * u32::from(leaf.field) + u32::from(leaf.sub)
 }
 
 // Whether leaves rise strictly, by field and then by the field of a message.
-fn rise(leaves: &[LeafPath]) -> bool
+fn is_rising(leaves: &[LeafPath]) -> bool
     ensures { result ≡ words.rise leaves.now }
 {
     let mut last: Option<u32> = None;
     for leaf in leaves {
-        let number = leaf_number(leaf);
+        let number = number_leaf(leaf);
         if let Some(last) = last
             && last >= number
         {
@@ -138,7 +138,7 @@ fn rise(leaves: &[LeafPath]) -> bool
 }
 
 // Whether two sets have as many leaves, and not none.
-fn are_as_many(one: &FieldSet, other: &FieldSet) -> bool
+fn have_same_count(one: &FieldSet, other: &FieldSet) -> bool
     ensures { result ≡ are_as_many one.now other.now }
 {
     let leaves = one.leaves.len();
@@ -146,13 +146,13 @@ fn are_as_many(one: &FieldSet, other: &FieldSet) -> bool
 }
 
 // Whether a state link is of a sliced state's atom and has two fitting sides.
-fn fits_state(atoms: &[u32], sets: &StateLinkSets) -> bool
+fn is_fit_link(atoms: &[u32], sets: &StateLinkSets) -> bool
     ensures { result ≡ words.fits_state atoms.now sets.now }
 {
-    if !is_sliced(atoms, sets.atom_id) || !are_as_many(&sets.in_what, &sets.in_state) {
+    if !is_sliced(atoms, sets.atom_id) || !have_same_count(&sets.in_what, &sets.in_state) {
         return false;
     }
-    is_atom(sets.in_state.atom_id, sets.atom_id) && rise(sets.in_state.leaves.as_slice())
+    is_id_of(sets.in_state.atom_id, sets.atom_id) && is_rising(sets.in_state.leaves.as_slice())
 }
 
 // Whether each state link fits.
@@ -160,7 +160,7 @@ fn each_fits(atoms: &[u32], links: &[StateLinkSets]) -> bool
     ensures { result ≡ list_all (words.fits_state atoms.now) links.now }
 {
     for sets in links {
-        if !fits_state(atoms, sets) {
+        if !is_fit_link(atoms, sets) {
             return false;
         }
     }
@@ -168,7 +168,7 @@ fn each_fits(atoms: &[u32], links: &[StateLinkSets]) -> bool
 }
 
 // The atoms that state links name.
-fn linked_atoms(alloc: Global, links: &[StateLinkSets]) -> Result<Seq<i32>, AllocError>
+fn collect_linked_atoms(alloc: Global, links: &[StateLinkSets]) -> Result<Seq<i32>, AllocError>
     ensures { IfOk result (λ atoms. atoms ≡ set_ids (map words.linked_atom links.now)) }
 {
     let mut atoms = Seq::new(alloc);
@@ -181,40 +181,48 @@ fn linked_atoms(alloc: Global, links: &[StateLinkSets]) -> Result<Seq<i32>, Allo
 }
 
 // Whether each state link fits, and no two name the same atom.
-fn fit_states(alloc: Global, atoms: &[u32], links: &[StateLinkSets]) -> Result<bool, AllocError>
+fn judge_state_links(
+    alloc: Global,
+    atoms: &[u32],
+    links: &[StateLinkSets],
+) -> Result<bool, AllocError>
     ensures { IfOk result (λ fit. fit ≡ words.fit_states atoms.now links.now) }
 {
     if !each_fits(atoms, links) {
         return Ok(false);
     }
-    let named = linked_atoms(alloc, links)?;
+    let named = collect_linked_atoms(alloc, links)?;
     Ok(first_repeat(alloc, named.as_slice())?.is_none())
 }
 
 // The atoms of the states by which a metric is sliced.
-fn sliced_atoms(alloc: Global, scope: &Scope, slices: &[i64]) -> Result<Seq<u32>, AllocError>
+fn collect_sliced_atoms(
+    alloc: Global,
+    scope: &Scope,
+    slices: &[i64],
+) -> Result<Seq<u32>, AllocError>
     ensures { IfOk result (λ atoms. atoms ≡ words.sliced_atoms scope.now slices.now) }
 {
     let mut atoms = Seq::new(alloc);
     for id in slices {
-        atoms.push(scope.state_atom(*id))?;
+        atoms.push(scope.find_state_atom(*id))?;
     }
     Ok(atoms)
 }
 
 // Whether a kind of metric may be sliced by states.
-fn may_be_sliced(scope: &Scope, kind: &Kind, what: i64) -> bool
+fn takes_slices(scope: &Scope, kind: &Kind, what: i64) -> bool
     ensures { result ≡ words.may_be_sliced scope.now kind.now what }
 {
     match kind {
         Kind::Duration { max_sparse } => !*max_sparse,
-        Kind::Value(_) => !scope.names_pulled(what),
+        Kind::Value(_) => !scope.is_of_pulled_atom(what),
         _ => true,
     }
 }
 
 // Whether a metric has no slices, or may have these.
-fn fit_slices(
+fn judge_slices(
     alloc: Global,
     scope: &Scope,
     kind: &Kind,
@@ -225,7 +233,7 @@ fn fit_slices(
     requires { atoms.now ≡ words.sliced_atoms scope.now slices.now }
     ensures { IfOk result (λ fit. fit ≡ words.fit_slices scope.now kind.now what slices.now) }
 {
-    if !slices.is_empty() && !may_be_sliced(scope, kind, what) {
+    if !slices.is_empty() && !takes_slices(scope, kind, what) {
         return Ok(false);
     }
     Ok(first_repeat(alloc, atoms)?.is_none())
@@ -242,7 +250,7 @@ fn set_copy(alloc: Global, set: &FieldSet) -> Result<FieldSet, AllocError>
 }
 
 // The fields for the state of an atom, where there is a link to it.
-fn slice_fields(
+fn find_slice_fields(
     alloc: Global,
     links: &[StateLinkSets],
     atom: u32,
@@ -250,7 +258,7 @@ fn slice_fields(
     ensures { IfOk result (λ fields. fields ≡ words.slice_fields links.now atom) }
 {
     for sets in links {
-        if is_atom(atom, sets.atom_id) {
+        if is_id_of(atom, sets.atom_id) {
             let fields = set_copy(alloc, &sets.in_what)?;
             return Ok(Some(fields));
         }
@@ -267,9 +275,9 @@ fn slice_in(
 ) -> Result<LSlice, AllocError>
     ensures { IfOk result (λ slice. slice ≡ words.linked_slice scope.now links.now id) }
 {
-    let in_what = slice_fields(alloc, links, scope.state_atom(id))?;
+    let in_what = find_slice_fields(alloc, links, scope.find_state_atom(id))?;
     Ok(LSlice {
-        state: scope.ids.states.place_in(id),
+        state: scope.ids.states.locate(id),
         in_what,
     })
 }
@@ -306,11 +314,11 @@ pub fn refuse_times(
     ensures { Links result (words.bad_times scope.now id kind.now what
         dims.now links.now state_links.now) tt }
 {
-    if !times_simple(scope, kind, what) {
-        return Err(LinkError::Fault(type_fault(id, 10)));
+    if !can_time(scope, kind, what) {
+        return Err(LinkError::Fault(make_fault(id, 10)));
     }
-    if !is_timed_within(alloc, scope, kind, what, dims, links, state_links)? {
-        return Err(LinkError::Fault(type_fault(id, 11)));
+    if !covers_timed(alloc, scope, kind, what, dims, links, state_links)? {
+        return Err(LinkError::Fault(make_fault(id, 11)));
     }
     Ok(())
 }
@@ -330,12 +338,12 @@ pub fn slices_in(
         (words.bad_slices scope.now id kind.now what slices.now state_links.now)
         (words.linked_slices scope.now state_links.now slices.now) }
 {
-    let atoms = sliced_atoms(alloc, scope, slices)?;
-    if !fit_states(alloc, atoms.as_slice(), state_links)? {
-        return Err(LinkError::Fault(type_fault(id, 12)));
+    let atoms = collect_sliced_atoms(alloc, scope, slices)?;
+    if !judge_state_links(alloc, atoms.as_slice(), state_links)? {
+        return Err(LinkError::Fault(make_fault(id, 12)));
     }
-    if !fit_slices(alloc, scope, kind, what, slices, atoms.as_slice())? {
-        return Err(LinkError::Fault(type_fault(id, 13)));
+    if !judge_slices(alloc, scope, kind, what, slices, atoms.as_slice())? {
+        return Err(LinkError::Fault(make_fault(id, 13)));
     }
     let linked = all_slices(alloc, scope, state_links, slices)?;
     Ok(linked)

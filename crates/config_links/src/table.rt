@@ -4,7 +4,7 @@ ghost use Rattle.link_rules.specs.LinkFaults.{Links, PassesTest};
 ghost use Rattle.config_links.specs.LinkReasons.{type_fault};
 ghost use Rattle.config_links.specs.MetricLinks.{is_one_of, are_one_of, leaf_place};
 
-use crate::reasons::type_fault;
+use crate::reasons::make_fault;
 use distinct::Distinct;
 use field_select::{FieldSet, LeafPath};
 use link_rules::LinkError;
@@ -85,7 +85,7 @@ impl DimsTable {
             (type_fault id 8) (map (leaf_place self.now.leaves) set.now.leaves) }
     {
         if !self.covers(set) {
-            return Err(LinkError::Fault(type_fault(id, 8)));
+            return Err(LinkError::Fault(make_fault(id, 8)));
         }
         self.places(alloc, set.leaves.as_slice())
     }

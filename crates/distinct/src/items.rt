@@ -47,7 +47,7 @@ impl<T: Exact + Hash + Drop> Distinct<T> {
     #[tactic(auto, unfolding(crate::specs::Places::first_place))]
     pub fn place(&self, item: &T) -> Option<usize>
         ensures place { result ≡ first_place (T.eq item.now) self.now }
-        ensures within { IfSome result (λ place. place < length self.now) }
+        ensures within { IfSome result (λ at. at < length self.now) }
     {
         self.items.get_index_of(item)
     }

@@ -1,8 +1,8 @@
 -- Lemmas on specs/FieldEnds.antt: tables of ends, and which entries they say are picked.
-use Rattle.std.proofs.Common.{◌≡◌, ◌≢◌, ℕ, ◌+◌, ◌<◌, ◌≤◌, ◌==◌, nat_lt, cond, Bool, true, false, ◌&&◌, ◌||◌, List, [], ◌∷◌, map, filter, length, drop, get_or, replicate, slice_index, slice_set, Option, Some, None, refl, sym, ap, ◌∙◌, subst}
+use Rattle.std.proofs.Common.{◌≡◌, ◌≢◌, ℕ, ◌+◌, ◌<◌, ◌==◌, nat_lt, cond, Bool, true, false, ◌&&◌, ◌||◌, List, [], ◌∷◌, map, filter, length, drop, get_or, replicate, slice_index, slice_set, Option, Some, None, refl, sym, ap, ◌∙◌, subst}
 use Rattle.std.specs.List.{list_any}
 use Rattle.std.proofs.lemmas.Bool.{eqb-false, eqb-true}
-use Rattle.std.proofs.lemmas.List.{drop_all, drop_more, get_or-replicate, get_or-set_same, get_or-set_other}
+use Rattle.std.proofs.lemmas.List.{drop_more, get_or-replicate, get_or-set_same, get_or-set_other}
 use Rattle.config_types.specs.declared.fields.Position.{Position}
 use Rattle.config_types.specs.declared.fields.Position.TheVariants as positions
 use Rattle.atom_record.specs.declared.atom.AtomField.{AtomField}
@@ -11,7 +11,7 @@ use Rattle.field_select.specs.declared.ends.End.TheVariants.{First, Last}
 use Rattle.field_select.specs.declared.leaf.LeafPath.{LeafPath}
 use Rattle.field_select.specs.LeafValues.{is_repeated_at, field_indexes, picks_index, picks_entry, some_leaf_picks}
 use Rattle.field_select.specs.FieldEnds.{nearer_index, end_index, ends_after, picks_index_by, picks_by_ends}
-use Rattle.field_select.proofs.EndLemmas.{none_nearer, nearer_none, end_of_none, end_moves_on}
+use Rattle.field_select.proofs.EndLemmas.{none_nearer, end_moves_on}
 
 -- the ends of a field say which indexes a position picks
 by_ends : (position : Option Position) (indexes : List ℕ) (index : ℕ)
@@ -148,14 +148,3 @@ none_noted end entries field within =
     ap (λ index. nearer_index end index (end_index end (field_indexes field entries)))
     (get_or-replicate 256 field 0 0 within)
     ∙ none_nearer end (end_index end (field_indexes field entries))
-
--- for `ends_of`: with no entry left the table is whole
-pub all_noted : (end : End) (ends : List ℕ) (entries : List AtomField) (at : ℕ) → length entries ≤ at
-    → AreEnds end ends (drop at entries) (λ field. end_index end (field_indexes field entries))
-    → (field : ℕ) → field < 256 → slice_index ends field ≡ end_index end (field_indexes field entries)
-all_noted end ends entries at past are field within =
-    sym (nearer_none end (slice_index ends field))
-    ∙ ap (nearer_index end (slice_index ends field)) (sym (end_of_none end))
-    ∙ ap (λ rest. nearer_index end (slice_index ends field) (end_index end (field_indexes field rest)))
-    (sym (drop_all at entries past))
-    ∙ are field within

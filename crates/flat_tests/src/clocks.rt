@@ -22,14 +22,14 @@ fn closed(start: u64, first_end: u64, full_buckets: u64, size: u64) -> Option<Cr
 
 // The clock sees a frame, and answers this.
 fn sees(rt: &impl Abort, clock: &mut Clock, time: u64, is_pull: bool, answer: Option<Crossings>) {
-    assert!(rt; clock.start() <= time && time < 1 << 63);
+    assert!(rt; clock.part_start() <= time && time < 1 << 63);
     let crossed = clock.crossings(time, is_pull);
     assert!(rt; crossed == answer, "at {time}");
 }
 
 // A cut at this time closes a part from this start.
 fn cuts(rt: &impl Abort, clock: &mut Clock, time: u64, start: u64) {
-    assert!(rt; clock.start() <= time && time < 1 << 63 && time <= clock.next_end());
+    assert!(rt; clock.part_start() <= time && time < 1 << 63 && time <= clock.next_end());
     let (from, to) = clock.cut_at(time);
     assert!(rt; from == start && to == time, "at {time}");
 }
@@ -37,8 +37,8 @@ fn cuts(rt: &impl Abort, clock: &mut Clock, time: u64, start: u64) {
 // Whether these are the numbers of the clock.
 fn is_at(clock: &Clock, base: u64, size: u64, start: u64, next_end: u64) -> bool {
     clock.base() == base
-        && clock.size() == size
-        && clock.start() == start
+        && clock.bucket_size() == size
+        && clock.part_start() == start
         && clock.next_end() == next_end
 }
 

@@ -57,8 +57,8 @@ had_order links order is = record {
   in_range = ∥∥₁_elim is (hlevel props) (λ o. o.in_range);
   each = λ x within. had_number order x (∥∥₁_map is (λ (o : IsOrder links order). o.each x within));
   once = ∥∥₁_elim is (hlevel props) (λ o. o.once);
-  behind = λ i y within refers.
-      had_number (take i order) y (∥∥₁_map is (λ (o : IsOrder links order). o.behind i y within refers));
+  after = λ i y within refers.
+      had_number (take i order) y (∥∥₁_map is (λ (o : IsOrder links order). o.after i y within refers));
 }
 
 module _ (says : SimpleMatcher → Atom → Bool) where

@@ -196,6 +196,7 @@ module _ (uid id : ℤ) (olds news : List (LiveId × Option LiveInstance)) (coun
         by_case : (same : Bool) → int_eq uid n ≡ same → held_by n news + one_if (same && true) ≡ held_by n olds
             → count_at n afters ≡ cond same others (count_at n counts) → IsCounted n news afters
         by_case true e h s =
-            let own : count_at uid counts ≡ count_at n counts = ap (λ m. count_at m counts) ((signed_Decides uid n).0 e) in
+            let own : count_at uid counts ≡ count_at n counts =
+            ap (λ m. count_at m counts) ((signed_Decides uid n).0 e) in
             (omega (arith, h, s, is, own, counted n), omega (arith, h, few n))
         by_case false e h s = (omega (arith, h, s, counted n), omega (arith, h, few n))

@@ -44,10 +44,6 @@ use Rattle.hub_core.specs.Commands.{held_at, others, Changes, Stays, StaysWith, 
 use Rattle.hub_core.specs.HubStands.{SlotStandsFor, LivesStandFor, HubStandsFor}
 use Rattle.hub_core.proofs.InstallReadingLemmas.{accepted_as, accepted_read, accepted, linked_is}
 
--- two names are the same where their clients and their ids are
-same_id_is : (uid id n other : ℤ) → same_id (live_id uid id) (live_id n other) ≡ (int_eq uid n && int_eq id other)
-same_id_is uid id n other = refl
-
 -- a number is itself
 int_eq_refl : (n : ℤ) → int_eq n n ≡ true
 int_eq_refl n = (signed_Decides n n).1 refl
@@ -139,13 +135,6 @@ module _ (says : SimpleMatcher → Atom → Bool) where
   both_there uid frames (Some slot) None h = absurd h
   both_there uid frames None (Some config) h = absurd h
 
-  -- nothing is held where there is no frame
-  pub stands_new : (lives : Lives) → lives.slots.entries ≡ [] → lives.counts.entries ≡ [] → LivesStandFor says lives []
-  stands_new lives slots counts = record {
-    slots = λ uid id. subst (λ l. SlotStandsFor says uid [] (slot_at (live_id uid id) l) None) (sym slots) tt;
-    counts = λ uid. ap (count_at uid) counts;
-  }
-
   -- a frame of the log comes to all
   pub stands_log : (old new : Lives) (frames : List Frame) (frame : LogFrame) → clock_of frames ≤ log_time frame
       → AllLog says frame old.slots.entries new.slots.entries → new.counts ≡ old.counts
@@ -170,7 +159,7 @@ module _ (says : SimpleMatcher → Atom → Bool) where
         ∙ ap (λ l. length (live l)) (sym (own-push_own uid frames (Log frame) refl));
   }
 
-  -- A command of a client comes behind these frames.
+  -- A command of a client comes after these frames.
   module _ (frames : List Frame) (frame : Frame) (uid id : ℤ) (mine : (n : ℤ)
       → is_own n frame ≡ int_eq uid n) (still : (clock : ℕ)
       → clock_after clock frame ≡ clock) (old new : Lives) (h : LivesStandFor says old frames) where

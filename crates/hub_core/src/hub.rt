@@ -57,8 +57,8 @@ impl<J: Judge> Hub<J> {
         requires faultless { IsFaultless frame }
 
         // The answer is what the frames so far mean, whatever they are, and the hub stands for them with this one.
-        ensures serves { (frames : List Frame) → HubStandsFor J.says self frames → IsInTime (clock_of frames) frame
-            → IfOk result (λ r. HubStandsFor J.says r.0 (frames ++ frame ∷ [])
+        ensures serves { (frames : List Frame) → HubStandsFor J.says self frames
+            → IsInTime (clock_of frames) frame → IfOk result (λ r. HubStandsFor J.says r.0 (frames ++ frame ∷ [])
             × (r.1 ≡ reply_to J.says frames frame)) }
 
         // The judge is asked at atoms alone, once for each simple matcher of the atom's id, instance by instance.
@@ -75,8 +75,8 @@ impl<J: Judge> Hub<J> {
     #[tactic(auto, using(matcher_truths::proofs::QuestionCountsLemmas::rises_by_none))]
     fn serve(mut self, frame: Frame) -> Result<(Hub<J>, Option<Reply>), AllocError>
         requires faultless { IsFaultless frame }
-        ensures serves { (frames : List Frame) → HubStandsFor J.says self frames → IsInTime (clock_of frames) frame
-            → IfOk result (λ r. HubStandsFor J.says r.0 (frames ++ frame ∷ [])
+        ensures serves { (frames : List Frame) → HubStandsFor J.says self frames
+            → IsInTime (clock_of frames) frame → IfOk result (λ r. HubStandsFor J.says r.0 (frames ++ frame ∷ [])
             × (r.1 ≡ reply_to J.says frames frame)) }
         ensures asked { IfOk result (λ r. AreTicks (asked_in frame self)
             (J.ticks (judge_of self)) (J.ticks (judge_of r.0))) }

@@ -51,8 +51,10 @@ impl LiveInstance {
         truths: &mut Vec<bool>,
     ) -> Result<LiveInstance, AllocError>
         requires sound { IsFaultlessLog frame.now }
-        ensures logs { IfOk result (λ new. LogsBy J.says frame.now self.instance new.instance) }
-        ensures ticks { OnOk result (AreTicks (asked_by frame.now (linked_in self.instance).matchers)
+        ensures logs { IfOk result (λ new.
+            LogsBy J.says frame.now self.instance new.instance) }
+        ensures ticks { OnOk result
+            (AreTicks (asked_by frame.now (linked_in self.instance).matchers)
             (J.ticks judge.old) (J.ticks judge.new)) }
     {
         let LiveInstance { instance, order } = self;
@@ -73,7 +75,8 @@ impl LiveInstance {
         at: u64,
     ) -> Result<(LiveInstance, ReportTree), AllocError>
         requires timely { at < 2 ^ 63 }
-        ensures reports { IfOk result (λ r. Reports self.instance uid id include_current at r.0.instance r.1) }
+        ensures reports { IfOk result (λ r.
+            Reports self.instance uid id include_current at r.0.instance r.1) }
         ensures writable { IfOk result (λ r. IsWritableReport r.1) }
     {
         let LiveInstance { instance, order } = self;
@@ -95,7 +98,8 @@ fn judge_all<J: Judge>(
     requires in_order { IsOrder (named_places matchers.now) order.now }
     requires askable { All MayBeAsked matchers.now }
     ensures truths { OnOk result (truths.new.items ≡ truths_by J.says matchers.now frame.now) }
-    ensures ticks { OnOk result (AreTicks (asked_by frame.now matchers.now) (J.ticks judge.old) (J.ticks judge.new)) }
+    ensures ticks { OnOk result (AreTicks (asked_by frame.now matchers.now)
+        (J.ticks judge.old) (J.ticks judge.new)) }
 {
     truths.clear();
     if let LogFrame::AtomAt { atom, .. } = frame {

@@ -55,7 +55,8 @@ impl Lives {
         truths: &mut Vec<bool>,
     ) -> Result<Lives, AllocError>
         requires sound { IsFaultlessLog frame.now }
-        ensures slots { IfOk result (λ new. AllLog J.says frame.now self.slots.entries new.slots.entries) }
+        ensures slots { IfOk result (λ new.
+            AllLog J.says frame.now self.slots.entries new.slots.entries) }
         ensures counts { IfOk result (λ new. new.counts ≡ self.counts) }
         ensures ticks { OnOk result (AreTicks (asked_by_all frame.now self.slots.entries)
             (J.ticks judge.old) (J.ticks judge.new)) }
@@ -142,7 +143,8 @@ impl Lives {
         include_current: bool,
     ) -> Result<(Lives, ReplyBody), AllocError>
         requires timely { clock < 2 ^ 63 }
-        ensures { IfOk result (λ r. ReportsLive clock name.uid name.id include_current self r.0 r.1) }
+        ensures { IfOk result (λ r.
+            ReportsLive clock name.uid name.id include_current self r.0 r.1) }
     {
         let Lives { mut slots, counts } = self;
         let body = report_at(&mut slots, alloc, clock, name, include_current)?;

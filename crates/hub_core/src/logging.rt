@@ -41,7 +41,8 @@ fn log_slot<J: Judge>(
 ) -> Result<(), AllocError>
     requires sound { IsFaultlessLog frame.now }
     ensures logs { OnOk result (SlotLogs J.says frame.now slot.old slot.new) }
-    ensures ticks { OnOk result (AreTicks (asked_of frame.now slot.old) (J.ticks judge.old) (J.ticks judge.new)) }
+    ensures ticks { OnOk result (AreTicks (asked_of frame.now slot.old)
+        (J.ticks judge.old) (J.ticks judge.new)) }
 {
     if let Some(live) = slot.take() {
         *slot = Some(live.log(judge, frame, truths)?);

@@ -48,8 +48,10 @@ pub fn report_at(
     include_current: bool,
 ) -> Result<ReplyBody, AllocError>
     requires timely { clock < 2 ^ 63 }
-    ensures reports { IfOk result (ReportsAt clock name include_current slots.old.entries slots.new.entries) }
-    ensures held { OnOk result ((uid : ℤ) → held_by uid slots.new.entries ≡ held_by uid slots.old.entries) }
+    ensures reports { IfOk result
+        (ReportsAt clock name include_current slots.old.entries slots.new.entries) }
+    ensures held { OnOk result ((uid : ℤ) →
+        held_by uid slots.new.entries ≡ held_by uid slots.old.entries) }
 {
     let Some(slot) = slots.get_mut(&name) else {
         return Ok(ReplyBody::NoConfig);

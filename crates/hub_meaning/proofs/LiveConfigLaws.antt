@@ -1,11 +1,10 @@
 -- The live configurations and their histories after one more own frame.
 use Rattle.std.proofs.Common.{◌≡◌, ℕ, suc, ◌+◌, ◌<◌, ℤ, Bool, true, false, not, cond, List, [], ◌∷◌, ◌++◌, length, take, drop, Some, None, Result, Ok, Err, is_some, true≢false, refl, sym, ap, subst, ◌∙◌, append_assoc, arith}
-use Rattle.std.specs.Prelude.{◌||◌, count_by}
+use Rattle.std.specs.Prelude.{◌||◌}
 use Rattle.std.specs.List.{list_any}
 use Rattle.std.specs.Ordering.{int_eq}
 use Rattle.std.specs.Cmp.{signed_Decides}
 use Rattle.std.proofs.lemmas.List.{append-nil, take-append-drop, take-append-le, drop-append-le, take_at, drop_all, length-append}
-use Rattle.std.proofs.lemmas.List.Sums.{length-filter}
 use Rattle.sd_base.specs.Outputs.{outputs_after}
 use Rattle.sd_base.proofs.OutputsLemmas.{outputs_after-push}
 use Rattle.atom_record.specs.declared.atom.Atom.{Atom}
@@ -17,7 +16,7 @@ use Rattle.session_frames.specs.declared.reply.ReplyBody.{ReplyBody}
 use Rattle.config_links.specs.Verdict.{linked_form}
 use Rattle.metric_meaning.specs.Histories.{with_steps}
 use Rattle.hub_meaning.specs.SessionLog.{clock_of}
-use Rattle.hub_meaning.specs.Acceptance.{LiveConfig, has_other_id, acceptance}
+use Rattle.hub_meaning.specs.Acceptance.{LiveConfig, acceptance}
 use Rattle.hub_meaning.specs.LiveConfigs.{with_config, without_id, config_at, live_with, live_after, live_from, live, step_at, history_of}
 
 live_from-push : (before : List Frame) (configs : List LiveConfig) (frames : List Frame) (frame : Frame)
@@ -344,12 +343,6 @@ length-without_id id (config ∷ others) distinct = by_case (int_eq config.id id
           (sym ((signed_Decides config.id id).0 e)) ∙ distinct.0 in
           omega (arith, no_config id others none)
       by_case false e rest = omega (arith, rest)
-
--- a client's live configurations are those of other ids, and the one of the id if there is one
-pub others_and_one : (id : ℤ) (configs : List LiveConfig) → AreDistinct configs
-    → count_by (has_other_id id) configs + one_if (is_some (config_at id configs)) ≡ length configs
-others_and_one id configs distinct = ap (λ n. n + one_if (is_some (config_at id configs)))
-    (sym (length-filter (has_other_id id) configs)) ∙ length-without_id id configs distinct
 
 -- what stands at an id was installed before the frames ended, and has that id
 pub placed_at : (count : ℕ) (id : ℤ) (configs : List LiveConfig) → ArePlaced count configs → (config : LiveConfig)

@@ -30,7 +30,7 @@ impl<R: Flat + Drop> Flat for KeptRows<R> {
     }
 
     fn flatten(&self, alloc: Global, out: &mut Items) -> Result<(), AllocError> {
-        (self.used(), self.others()).flatten(alloc, out)?;
+        (self.weight(), self.not_kept()).flatten(alloc, out)?;
         self.rows().flatten(alloc, out)
     }
 

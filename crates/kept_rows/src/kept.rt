@@ -127,14 +127,14 @@ impl<R: Drop> KeptRows<R> {
     }
 
     /// The weight of the kept rows.
-    pub fn used(&self) -> u64
+    pub fn weight(&self) -> u64
         ensures { result ≡ self.now.used }
     {
         self.used
     }
 
     /// The number of the rows that weren't kept. It stands still at the end of its type.
-    pub fn others(&self) -> u64
+    pub fn not_kept(&self) -> u64
         ensures { result ≡ self.now.others }
     {
         self.others

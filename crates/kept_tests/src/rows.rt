@@ -24,7 +24,7 @@ fn put_many(kept: &mut KeptRows<u64>, count: u64) -> Result<(), AllocError> {
 
 // Whether these rows are kept, and so many others were counted.
 fn has(kept: &KeptRows<u64>, rows: &[u64], used: u64, others: u64) -> bool {
-    kept.rows().as_slice() == rows && kept.used() == used && kept.others() == others
+    kept.rows().as_slice() == rows && kept.weight() == used && kept.not_kept() == others
 }
 
 // Whether these rows and this number were handed out.
@@ -58,9 +58,9 @@ fn keeps_the_first_rows_that_fit_together(rt: HostRuntime) -> Result<(), Fail> {
 fn keeps_16384_rows_and_not_one_more(rt: HostRuntime) -> Result<(), Fail> {
     let mut kept = KeptRows::new(rt.alloc());
     put_many(&mut kept, 16_384)?;
-    assert!(rt; kept.rows().len() == 16_384 && kept.others() == 0 && !kept.is_full());
+    assert!(rt; kept.rows().len() == 16_384 && kept.not_kept() == 0 && !kept.is_full());
     kept.put(0, 1)?;
-    assert!(rt; kept.rows().len() == 16_384 && kept.others() == 1 && kept.is_full());
+    assert!(rt; kept.rows().len() == 16_384 && kept.not_kept() == 1 && kept.is_full());
     assert!(rt; kept.rows().get(16_383) == Some(&16_383));
     Ok(())
 }

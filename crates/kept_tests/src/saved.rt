@@ -45,9 +45,9 @@ fn full_rows_are_rebuilt_with_the_number_of_the_others(rt: HostRuntime) -> Resul
     kept.flatten(rt.alloc(), &mut items)?;
     assert!(rt; items.len() == 16_387);
     let mut copy = rebuild(rt.alloc(), &kept)?;
-    assert!(rt; copy.rows() == kept.rows() && copy.used() == 16_384 && copy.others() == 1);
+    assert!(rt; copy.rows() == kept.rows() && copy.weight() == 16_384 && copy.not_kept() == 1);
     copy.put(0, 1)?;
-    assert!(rt; copy.rows().len() == 16_384 && copy.others() == 2);
+    assert!(rt; copy.rows().len() == 16_384 && copy.not_kept() == 2);
     Ok(())
 }
 
@@ -64,10 +64,10 @@ fn builds_the_kept_rows_that_may_be(rt: HostRuntime) -> Result<(), Fail> {
         let items = numbers(rt.alloc(), row)?;
         let (kept, next) = KeptRows::<u64>::build(rt.alloc(), &items, 0)?;
         assert!(rt;
-            kept.rows().len() == len && kept.others() == others,
+            kept.rows().len() == len && kept.not_kept() == others,
             "at {row:?}"
         );
-        assert!(rt; kept.used() == row[0] && next == row.len(), "at {row:?}");
+        assert!(rt; kept.weight() == row[0] && next == row.len(), "at {row:?}");
     }
     Ok(())
 }

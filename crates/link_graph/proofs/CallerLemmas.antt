@@ -43,8 +43,8 @@ find_first test (n ∷ es) (suc x) e at passes first =
     let later = find_first test es x e at passes (λ y m lower there. first (suc y) m (omega arith) there) in
     cc
 
-find_none : (test : IdNode → Bool) (es : List IdNode) → ((y : ℕ) (n : IdNode) → slice_get es y ≡ Some n → test n ≡ false)
-    → find test es ≡ None
+find_none : (test : IdNode → Bool) (es : List IdNode)
+    → ((y : ℕ) (n : IdNode) → slice_get es y ≡ Some n → test n ≡ false) → find test es ≡ None
 find_none test [] none = refl
 find_none test (n ∷ es) none =
     let here : test n ≡ false = none 0 n refl in

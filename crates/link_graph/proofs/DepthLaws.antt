@@ -118,7 +118,7 @@ module _ (links : List (List ℕ)) (order : List ℕ) (is_order : IsOrder links 
   ends_in_order : (most i : ℕ) → i < most → i < length order → EndsWithin links (suc i) (get_or order i 0)
   ends_in_order zero i least here = absurd (omega arith)
   ends_in_order (suc most) i least here = λ y r.
-      let before = is_order.behind i y here r in
+      let before = is_order.after i y here r in
       let k = before.0 in
       let lower : k < i = omega (arith, before.1, length-take i order) in
       let in_order : k < length order = omega (arith, before.1, length-take i order) in

@@ -75,7 +75,7 @@ module _ (links : List (List ℕ)) (marks : List Mark) (next way order : List �
     in_order = walk.in_order;
     done = walk.done;
     still_open = walk.still_open;
-    behind = walk.behind;
+    after = walk.after;
     line = walk.line;
     all = walk.all;
     passed = λ x k lower named. elim (cases_eq x p) [
@@ -151,7 +151,7 @@ module _ (links : List (List ℕ)) (marks : List Mark) (next way order : List �
           | inl at ↦ subst (λ (y : ℕ). Contains (way ++ c ∷ []) y) (sym at.0) (Contains-push way c)
           | inr off ↦ Contains-append_left way (c ∷ []) x (walk.still_open x below (sym off.1 ∙ e))
         ];
-        behind = walk.behind;
+        after = walk.after;
         line = all_pairs_push (Reaches (Refers links)) way c walk.line reaches;
         passed = λ x k lower named.
             let old : mark_at marks (child_at links x k) ≡ Done = walk.passed x k lower named in
@@ -202,14 +202,14 @@ module _ (links : List (List ℕ)) (marks : List Mark) (next way order : List �
                 | inr is_last ↦ absurd (off.0 (sym is_last))
               ]
         ];
-        behind = λ i y lower r. elim (cases_lt i (length order)) [
+        after = λ i y lower r. elim (cases_lt i (length order)) [
           | inl old ↦
               let same_place : get_or (order ++ last ∷ []) i 0 ≡ get_or order i 0 =
               get_or_append_left order (last ∷ []) 0 i old in
               let same_front : take i (order ++ last ∷ []) ≡ take i order =
               take-append-le i order (last ∷ []) (omega arith) in
               subst (λ (xs : List ℕ). Contains xs y) (sym same_front)
-              (walk.behind i y old (subst (λ (x : ℕ). Refers links x y) same_place r))
+              (walk.after i y old (subst (λ (x : ℕ). Refers links x y) same_place r))
           | inr fresh ↦
               let at_end : length order ≡ i = omega (arith, length_push order last) in
               let is_last : get_or (order ++ last ∷ []) i 0 ≡ last = get_or_push order last 0 i at_end in

@@ -1,6 +1,6 @@
 pub mod ReachesLaws
 pub mod DepthLaws
-pub mod UnrolledLaws
+pub mod UnrollingLaws
 pub mod NodeLemmas
 pub mod DescentLemmas
 pub mod DescentSteps

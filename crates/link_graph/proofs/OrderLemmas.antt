@@ -33,7 +33,7 @@ module _ (links : List (List ℕ)) (marks : List Mark) (next way order : List �
     in_range = walk.in_order;
     each = λ x here. listed back x here (mark_at marks x) refl (came x here);
     once = omega (arith, walk.all, none_new marks (λ k h. came k (omega (arith, h, walk.marked))), ap length back);
-    behind = walk.behind;
+    after = walk.after;
   }
 
 -- a place that is open isn't new, and no other place became new

@@ -1,5 +1,5 @@
 -- Laws of "reaches", for any "refers to".
-use Rattle.std.proofs.Common.{◌≡◌, List, [], ◌∷◌, sym, subst}
+use Rattle.std.proofs.Common.{List, [], ◌∷◌}
 use Rattle.link_graph.specs.Reaches.{Leads, Reaches}
 
 module _ {A : Type 0} (refers : A → A → Type 0) where
@@ -33,18 +33,3 @@ module _ {A B : Type 0} (R : A → A → Type 0) (S : B → B → Type 0) (f : A
 
   pub reaches_mapped : ((x y : A) → R x y → S (f x) (f y)) → (x y : A) → Reaches R x y → Reaches S (f x) (f y)
   reaches_mapped keeps x y w = leads_mapped keeps x w.0 y w.1
-
-  abbrev pub Lifts : Type 0
-  Lifts = (x : A) (b : B) → S (f x) b → (y : A) × R x y × (f y ≡ b)
-
-  leads_lifted : Lifts → (x : A) (via : List B) (b : B) → Leads S (f x) via b → (y : A) × Reaches R x y × (f y ≡ b)
-  leads_lifted lifts x [] b r = let one = lifts x b r in (one.0, reaches_once R x one.0 one.1, one.2)
-  leads_lifted lifts x (next ∷ via) b r =
-      let one = lifts x next r.0 in
-      let on : Leads S (f one.0) via b = subst (λ (at : B). Leads S at via b) (sym one.2) r.1 in
-      let rest = leads_lifted lifts one.0 via b on in
-      (rest.0, reaches_first R x one.0 rest.0 one.1 rest.1, rest.2)
-
-  -- a list of references among the images is one among the sources
-  pub reaches_lifted : Lifts → (x : A) (b : B) → Reaches S (f x) b → (y : A) × Reaches R x y × (f y ≡ b)
-  reaches_lifted lifts x b w = leads_lifted lifts x w.0 b w.1

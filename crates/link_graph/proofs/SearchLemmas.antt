@@ -1,8 +1,8 @@
 -- The steps of a search.
-use Rattle.std.proofs.Common.{◌≡◌, ℕ, zero, suc, ◌+◌, ◌<◌, ◌≤◌, ◌⊎◌, Bool, true, false, not, cond, List, [], ◌∷◌, ◌++◌, length, get_or, set, refl, sym, ap, subst, inl, inr, arith, ◌∙◌}
+use Rattle.std.proofs.Common.{◌≡◌, ℕ, zero, suc, ◌+◌, ◌<◌, ◌≤◌, ◌⊎◌, Bool, true, false, not, cond, List, [], ◌∷◌, ◌++◌, length, get_or, set, sym, ap, subst, inl, inr, arith, ◌∙◌}
 use Rattle.std.specs.List.{Contains}
 use Rattle.std.proofs.lemmas.Bool.{cases_eq, cases_lt, false≢true}
-use Rattle.std.proofs.lemmas.List.{get_or-set_same, get_or-set_other, length-set, length_push, append_assoc, get_or_append_left, append-nil, get_or_default, get_or_past, length-replicate}
+use Rattle.std.proofs.lemmas.List.{get_or-set_same, get_or-set_other, length-set, length_push, append_assoc, get_or_append_left, get_or_default, get_or_past, length-replicate}
 use Rattle.std.proofs.lemmas.List.Elements.{Contains-push, Contains-push_cases, Contains-append_left, Contains-append_right, Contains-append_cases, Contains-get_or}
 use Rattle.std.proofs.lemmas.List.Sums.{sum_by-set}
 use Rattle.std.proofs.Math.ListN.{replicate}
@@ -10,24 +10,8 @@ use Rattle.std.proofs.Math.Nat.{mul-one}
 use Rattle.std.proofs.lemmas.List.Folds.{sum_by-replicate}
 use Rattle.link_graph.specs.Reaches.{Leads}
 use Rattle.link_graph.specs.Links.{children_at, Refers, MarksReached}
-use Rattle.link_graph.specs.Search.{mark_of, unmarked, MarksOne, MarksAll, IsSearch}
+use Rattle.link_graph.specs.Search.{mark_of, unmarked_count, MarksOne, MarksAll, IsSearch}
 use Rattle.link_graph.proofs.ReachesLaws.{reaches_once, reaches_last}
-
-nothing_in : (y : ℕ) → Contains [] y → ⊥
-nothing_in y c = omega (arith, c.1)
-
-pub marks_none : (marks : List Bool) (found : List ℕ) → MarksAll [] marks found marks found
-marks_none marks found = record {
-  added = [];
-  front = sym (append-nil found);
-  named = λ y c. absurd (nothing_in y c);
-  same = refl;
-  kept = λ y e. e;
-  fresh = λ y e. inl e;
-  now = λ y c. absurd (nothing_in y c);
-  all = λ y c. absurd (nothing_in y c);
-  count = refl;
-}
 
 module _ (children : List ℕ) (marks : List Bool) (found : List ℕ) (marks' : List Bool) (found' : List ℕ)
     (so_far : MarksAll children marks found marks' found') (c : ℕ) where
@@ -105,7 +89,7 @@ none_marked zero y e = false≢true e
 none_marked (suc n) zero e = false≢true e
 none_marked (suc n) (suc y) e = none_marked n y e
 
-all_unmarked : (n : ℕ) → unmarked (replicate n false) ≡ n
+all_unmarked : (n : ℕ) → unmarked_count (replicate n false) ≡ n
 all_unmarked n = sum_by-replicate (λ b. cond (not b) 1 0) n false ∙ mul-one n
 
 -- a mark stands within the marks

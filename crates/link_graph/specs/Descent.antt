@@ -44,7 +44,7 @@ pub record IsWalk (links : List (List ℕ)) (marks : List Mark) (next way order 
   pub in_order : All (λ x. x < length links) order
   pub done : (x : ℕ) → x < length links → mark_at marks x ≡ Done → Contains order x
   pub still_open : (x : ℕ) → x < length links → mark_at marks x ≡ Open → Contains way x
-  pub behind : (i y : ℕ) → i < length order → Refers links (slice_index_or order i 0) y → Contains (take i order) y
+  pub after : (i y : ℕ) → i < length order → Refers links (slice_index_or order i 0) y → Contains (take i order) y
   pub line : AllPairs (Reaches (Refers links)) way
   pub passed : (x k : ℕ) → k < slice_index_or next x 0 → k < length (children_at links x)
       → mark_at marks (child_at links x k) ≡ Done

@@ -1,6 +1,6 @@
 pub mod Reaches
 pub mod Links
-pub mod Unrolled
+pub mod Unrolling
 pub mod Depth
 pub mod Descent
 pub mod Search

@@ -28,12 +28,12 @@ pub record IsFirstOnCycle (links : List (List ℕ)) (x : ℕ) : Type 0 where
 abbrev pub AreBothFirst : List (List ℕ) → ℕ → ℕ → Type 0
 AreBothFirst links x y = IsFirstOnCycle links x × IsFirstOnCycle links y
 
--- each place stands once in this order, behind all that it names
+-- each place stands once in this order, after all that it names
 pub record IsOrder (links : List (List ℕ)) (order : List ℕ) : Type 0 where
   pub in_range : All (λ x. x < length links) order
   pub each : (x : ℕ) → x < length links → Contains order x
   pub once : length order ≡ length links
-  pub behind : (i y : ℕ) → i < length order → Refers links (slice_index_or order i 0) y → Contains (take i order) y
+  pub after : (i y : ℕ) → i < length order → Refers links (slice_index_or order i 0) y → Contains (take i order) y
 
 -- some place reaches itself
 abbrev pub HasCycle : List (List ℕ) → Type 0

@@ -9,8 +9,8 @@ abbrev pub mark_of : List Bool → ℕ → Bool
 mark_of marks y = slice_index_or marks y false
 
 -- how many places have no mark
-abbrev pub unmarked : List Bool → ℕ
-unmarked marks = count_by not marks
+abbrev pub unmarked_count : List Bool → ℕ
+unmarked_count marks = count_by not marks
 
 -- a place has its mark already, or gets it and is added to what was found
 abbrev pub MarksOne : ℕ → List Bool → List ℕ → List Bool → List ℕ → Type 0
@@ -29,7 +29,7 @@ pub record MarksAll (children : List ℕ) (marks : List Bool) (found : List ℕ)
   pub fresh : (y : ℕ) → mark_of marks' y ≡ true → (mark_of marks y ≡ true) ⊎ Contains added y
   pub now : (y : ℕ) → Contains added y → mark_of marks' y ≡ true
   pub all : (y : ℕ) → Contains children y → mark_of marks' y ≡ true
-  pub count : length found' + unmarked marks' ≡ length found + unmarked marks
+  pub count : length found' + unmarked_count marks' ≡ length found + unmarked_count marks
 
 -- the search so far: what was found is reached and marked, and the children of its first places are found too
 pub record IsSearch (links : List (List ℕ)) (from : ℕ) (marks : List Bool) (found : List ℕ) (passed : ℕ) : Type 0 where
@@ -40,4 +40,4 @@ pub record IsSearch (links : List (List ℕ)) (from : ℕ) (marks : List Bool) (
   pub start : (y : ℕ) → Refers links from y → mark_of marks y ≡ true
   pub below : (k y : ℕ) → k < passed → k < length found → Refers links (slice_index_or found k 0) y
       → mark_of marks y ≡ true
-  pub count : length found + unmarked marks ≡ length links
+  pub count : length found + unmarked_count marks ≡ length links

@@ -2,7 +2,7 @@
 ghost use Rattle.std.specs.Prelude.{◌≡◌, ℕ, List};
 ghost use Rattle.link_graph.specs.Links.{AreInRange, HasNoCycle, IsFirstOnCycle, AreBothFirst, IsOrder};
 ghost use Rattle.link_graph.specs.Depth.{AllEnd};
-ghost use Rattle.link_graph.specs.Unrolled.{AllMeetTheirStep};
+ghost use Rattle.link_graph.specs.Unrolling.{AllMeetTheirStep};
 ghost use Rattle.link_graph.specs.Within.{FindsReached};
 ghost use Rattle.link_graph.specs.Ids.{IdNode, FindsReachedById, FirstResolves, NoneResolves};
 

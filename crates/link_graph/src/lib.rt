@@ -1,4 +1,4 @@
-//! References between places: an order in which each stands behind what it names, what a place reaches, and the first
+//! References between places: an order in which each stands after what it names, what a place reaches, and the first
 //! place on a cycle.
 #![tactic(auto)]
 

@@ -9,7 +9,7 @@ use crate::walk::{Mark, Walk};
 use sd_base::Seq;
 use std::alloc::{AllocError, Global};
 
-/// An order in which each place stands behind all that it names, or none where some place reaches itself.
+/// An order in which each place stands after all that it names, or none where some place reaches itself.
 pub fn order_of<N: Node>(alloc: Global, nodes: &[N]) -> Result<Option<Seq<u32>>, AllocError>
     requires few { length nodes.now < 2 ^ 32 }
     requires in_range { AreInRange (map N.names nodes.now) }

@@ -59,8 +59,8 @@ impl Walk {
         Ok(())
     }
 
-    /// One step: past children that are done, and then down to the next child or back. `false` where that child is on the
-    /// way down already.
+    /// One step: past children that are done, and then down to the next child or back. `false` where that child is on
+    /// the way down already.
     pub fn step<N: Node>(&mut self, nodes: &[N]) -> Result<bool, AllocError>
         requires in_range { AreInRange (map N.names nodes.now) }
         requires walk { HoldsWalk (map N.names nodes.now) self.old }

@@ -40,8 +40,8 @@ finds_step true id first known same is later =
     let one : id ≡ first = (Decides-int_eq id first).0 same in
     cc
 finds_step false id first known same is later =
-    let behind : IsKnown known id = cc in
-    let more = later behind in
+    let among : IsKnown known id = cc in
+    let more = later among in
     cc
 
 finds_it : (known : List ℤ) (id : ℤ) → IsKnown known id → find (int_eq id) known ≡ Some id
@@ -91,7 +91,7 @@ node_known known (first ∷ nodes) all (suc x) node at = node_known known nodes 
 only : (x y : ℕ) → Contains (x ∷ []) y → x ≡ y
 only x y c = elim (Contains-push_cases [] x y c) [ inl none ↦ absurd (omega (arith, none.1)) | inr last ↦ last ]
 
--- what stands in a list is its first, or stands behind it
+-- what stands in a list is its first, or stands after it
 first_or_later : (x : ℕ) (xs : List ℕ) (y : ℕ) → Contains (x ∷ xs) y → (x ≡ y) ⊎ Contains xs y
 first_or_later x xs y c =
     elim (Contains-append_cases (x ∷ []) xs y c) [
@@ -131,9 +131,6 @@ module _ (nodes : List IdNode) (known : List ℤ) (are : known ≡ ids_of nodes)
         subst (λ (ys : List ℕ). Contains ys y) (children_of (places_of known) nodes x node at) r in
         let below : y < length known = place_below known node.named (node_known known nodes all x node at) y named in
         omega (arith, below, as_many)
-
-  pub links_in_range : AreInRange links
-  links_in_range x y r = omega (arith, named_below x y r, length-map nodes (places_of known))
 
   -- where no two ids are equal, the entities have their places
   pub resolves : repeat_in int_eq known ≡ None → ResolvesIn known nodes

@@ -1,5 +1,5 @@
 -- Lemmas on the first fault: where there is none, none of the parts has one.
-use Rattle.std.proofs.Common.{◌≡◌, ℕ, ◌+◌, Bool, true, false, List, [], ◌∷◌, drop, drop-drop, Option, Some, None, Err, refl, sym, ap, ◌∙◌}
+use Rattle.std.proofs.Common.{◌≡◌, ℕ, Bool, true, false, List, [], ◌∷◌, Option, Some, None, Err, refl}
 use Rattle.std.specs.Option.{option_or}
 use Rattle.std.specs.List.{AllByRecursion}
 use Rattle.link_rules.specs.declared.fault.LinkFault.{LinkFault}
@@ -17,15 +17,6 @@ module _ {A B : Type 0} (gives : A → Option B) where
   pub none_in : (xs : List A) → first_in gives xs ≡ None → AllByRecursion (λ x. gives x ≡ None) xs
   none_in [] h = tt
   none_in (x ∷ xs) h = let both = neither (gives x) (first_in gives xs) h in (both.0, none_in xs both.1)
-
-  -- where none gives anything, none of what is behind the first does
-  none_behind : (xs : List A) → first_in gives xs ≡ None → first_in gives (drop 1 xs) ≡ None
-  none_behind [] h = refl
-  none_behind (x ∷ xs) h = (neither (gives x) (first_in gives xs) h).1
-
-  -- where none of what is left gives anything, none behind its first does
-  pub none_after : (xs : List A) (i : ℕ) → first_in gives (drop i xs) ≡ None → first_in gives (drop (i + 1) xs) ≡ None
-  none_after xs i h = ap (first_in gives) (sym (drop-drop 1 i xs)) ∙ none_behind (drop i xs) h
 
 -- each part of a table has none
 pub none_of : {A : Type 0} (parts : List (Option A)) → first_of parts ≡ None

@@ -11,7 +11,7 @@ use Rattle.config_types.specs.declared.predicate.PredicateDef.{PredicateDef}
 use Rattle.config_types.specs.declared.predicate.PredicateBody.{PredicateBody}
 use Rattle.config_types.specs.declared.predicate.PredicateBody.TheVariants as predicate
 use Rattle.distinct.specs.Repeats.{repeat_in}
-use Rattle.link_graph.specs.Links.{AreInRange, HasNoCycle}
+use Rattle.link_graph.specs.Links.{HasNoCycle}
 use Rattle.link_graph.specs.Ids.{IdNode}
 use Rattle.link_rules.specs.declared.entities.Entities.{Entities}
 use Rattle.link_rules.specs.LinkFaults.{fault, duplicate_id, matcher_kind, predicate_kind, unknown_matcher, unknown_predicate}
@@ -23,7 +23,7 @@ use Rattle.link_rules.specs.Cycles.{child_matchers, child_predicates, matcher_no
 use Rattle.link_rules.specs.CycleNodes.{ResolvesIn}
 use Rattle.link_rules.proofs.LinkFaultLemmas.{none_of, none_in}
 use Rattle.link_rules.proofs.LimitLemmas.{few}
-use Rattle.link_rules.proofs.CycleLemmas.{AreKnown, links_in_range, resolves, no_cycle_of}
+use Rattle.link_rules.proofs.CycleLemmas.{AreKnown, resolves, no_cycle_of}
 
 -- what was mapped was there
 unmapped : {A B : Type 0} (f : A → B) (found : Option A) → option_map f found ≡ None → found ≡ None
@@ -175,22 +175,10 @@ module _ (entities : Entities) where
   pub few_entities : id_fault entities ≡ None → AreFew entities
   few_entities h = few entities (id_parts h).0
 
-  -- each place that is named is there
-  pub matchers_in_range : id_fault entities ≡ None → name_fault entities ≡ None → AreInRange (matcher_links entities)
-  matchers_in_range numbered named =
-      links_in_range (map matcher_node entities.matchers) (matcher_ids entities) (matcher_ids_are numbered)
-      (matcher_names named)
-
-  pub predicates_in_range : id_fault entities ≡ None → name_fault entities ≡ None
-      → AreInRange (predicate_links entities)
-  predicates_in_range numbered named =
-      links_in_range (map predicate_node entities.predicates) (predicate_ids entities) (predicate_ids_are numbered)
-      (predicate_names named)
-
-  -- and where there is no fault of cycles, none reaches itself
+  -- where there is no fault of cycles, none reaches itself
   pub matchers_have_no_cycle : id_fault entities ≡ None → name_fault entities ≡ None → cycle_fault entities ≡ None
       → HasNoCycle (matcher_links entities)
-  unfolding cycle_fault matcher_cycle_fault
+  unfolding cycle_fault
   matchers_have_no_cycle numbered named none =
       let parts = none_of (matcher_cycle_fault entities ∷ predicate_cycle_fault entities ∷ []) none in
       no_cycle_of (map matcher_node entities.matchers) (matcher_ids entities) (matchers_resolve numbered named)
@@ -198,7 +186,7 @@ module _ (entities : Entities) where
 
   pub predicates_have_no_cycle : id_fault entities ≡ None → name_fault entities ≡ None → cycle_fault entities ≡ None
       → HasNoCycle (predicate_links entities)
-  unfolding cycle_fault predicate_cycle_fault
+  unfolding cycle_fault
   predicates_have_no_cycle numbered named none =
       let parts = none_of (matcher_cycle_fault entities ∷ predicate_cycle_fault entities ∷ []) none in
       no_cycle_of (map predicate_node entities.predicates) (predicate_ids entities) (predicates_resolve numbered named)

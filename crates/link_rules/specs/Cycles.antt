@@ -44,11 +44,11 @@ abbrev pub cycle_in : ℕ → List IdNode → Option LinkFault
 cycle_in number nodes = option_map (λ (node : IdNode). fault number 0 node.id) (first_to_reach_itself nodes)
 
 -- number 7: the first matcher that reaches itself
-unfoldable pub matcher_cycle_fault : Entities → Option LinkFault
+abbrev pub matcher_cycle_fault : Entities → Option LinkFault
 matcher_cycle_fault entities = cycle_in matcher_cycle (map matcher_node entities.matchers)
 
 -- number 8: the first predicate that reaches itself
-unfoldable pub predicate_cycle_fault : Entities → Option LinkFault
+abbrev pub predicate_cycle_fault : Entities → Option LinkFault
 predicate_cycle_fault entities = cycle_in predicate_cycle (map predicate_node entities.predicates)
 
 -- numbers 7 and 8

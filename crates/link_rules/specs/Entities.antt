@@ -12,12 +12,12 @@ use Rattle.link_rules.specs.declared.entities.Entities.{Entities}
 use Rattle.link_rules.specs.declared.entities.Kind.TheVariants.{Event, Count, Value, Gauge, Duration}
 
 -- an event metric has no buckets, and so nothing that buckets have
-abbrev pub unsliced : Sliced
-unsliced = record { dims = None; bucket = None; bound = None; slices = []; state_links = [] }
+abbrev pub no_slicing : Sliced
+no_slicing = record { dims = None; bucket = None; bound = None; slices = []; state_links = [] }
 
 -- a metric that keeps atoms
 abbrev pub metric_of_event : EventDef → Metric
-metric_of_event def = record { common = def.common; sliced = unsliced; kind = Event }
+metric_of_event def = record { common = def.common; sliced = no_slicing; kind = Event }
 
 -- a metric that counts atoms
 abbrev pub metric_of_count : CountDef → Metric

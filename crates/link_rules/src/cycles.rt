@@ -38,7 +38,7 @@ trait Linking {
     fn own_id(&self) -> i64
         ensures { result ≡ (node self.now).id };
 
-    fn named(&self) -> &[i64]
+    fn child_ids(&self) -> &[i64]
         ensures { result.now ≡ (node self.now).named };
 }
 
@@ -49,7 +49,7 @@ impl Linking for MatcherDef {
         self.id.unwrap_or(0)
     }
 
-    fn named(&self) -> &[i64] {
+    fn child_ids(&self) -> &[i64] {
         match &self.body {
             Some(MatcherBody::Combo(combo)) => combo.children.as_slice(),
             _ => &[],
@@ -64,7 +64,7 @@ impl Linking for PredicateDef {
         self.id.unwrap_or(0)
     }
 
-    fn named(&self) -> &[i64] {
+    fn child_ids(&self) -> &[i64] {
         match &self.body {
             Some(PredicateBody::Combo(combo)) => combo.children.as_slice(),
             _ => &[],
@@ -78,7 +78,7 @@ fn children_of(alloc: Global, known: &Known, ids: &[i64]) -> Result<Children, Al
 {
     let mut places = Seq::new(alloc);
     for id in ids {
-        places.push(known.place_in(*id))?;
+        places.push(known.locate(*id))?;
     }
     Ok(Children { places })
 }
@@ -93,7 +93,7 @@ fn nodes_of<E: Linking>(
 {
     let mut nodes = Seq::new(alloc);
     for entity in entities {
-        nodes.push(children_of(alloc, known, entity.named())?)?;
+        nodes.push(children_of(alloc, known, entity.child_ids())?)?;
     }
     Ok(nodes)
 }
@@ -121,7 +121,7 @@ fn refuse_cycle<E: Linking>(
 }
 
 /// Refuses by the first matcher, or else the first predicate, that reaches itself.
-#[tactic(auto, unfolding(crate::specs::Cycles::cycle_fault, crate::specs::Cycles::matcher_cycle_fault, crate::specs::Cycles::predicate_cycle_fault))]
+#[tactic(auto, unfolding(crate::specs::Cycles::cycle_fault))]
 pub fn refuse_cycles(alloc: Global, ids: &Ids, entities: &Entities) -> Result<(), LinkError>
     requires ids { ids.now ≡ ids_in entities.now }
     requires numbered { id_fault entities.now ≡ None }

@@ -153,7 +153,7 @@ impl MetricDef for DurationDef {
     }
 }
 
-/// Moves the metrics of one kind behind others.
+/// Moves the metrics of one kind after others.
 fn append<D: MetricDef>(
     alloc: Global,
     metrics: &mut Seq<Metric>,

@@ -4,7 +4,7 @@ ghost use Rattle.link_rules.specs.EntityNames.{first_unknown, matchers_of_matche
 
 use crate::entities::{Kind, Metric};
 use crate::known::Known;
-use crate::names::{first_unknown, first_unknown_child, first_unknown_link};
+use crate::names::{find_unknown, find_unknown_child, find_unknown_link};
 use config_types::{MatcherBody, MatcherDef, PredicateBody, PredicateDef, StateDef};
 
 /// An entity: it has an id, and may name matchers and predicates by theirs.
@@ -19,7 +19,7 @@ pub trait Entity {
     /// By which ids it names predicates, in the order in which these are judged.
     ghost predicates: { Self → List (Option ℤ) };
 
-    fn id(&self) -> Option<i64>
+    fn given_id(&self) -> Option<i64>
         ensures { result ≡ id self.now };
 
     /// The first name of a matcher that isn't among these.
@@ -40,16 +40,13 @@ impl Entity for MatcherDef {
 
     ghost predicates = { λ _. [] };
 
-    fn id(&self) -> Option<i64> {
+    fn given_id(&self) -> Option<i64> {
         self.id
     }
 
     fn unknown_matcher(&self, known: &Known) -> Option<i64> {
         match &self.body {
-            Some(MatcherBody::Combo(combo)) => first_unknown_child(
-                known,
-                combo.children.as_slice(),
-            ),
+            Some(MatcherBody::Combo(combo)) => find_unknown_child(known, combo.children.as_slice()),
             _ => None,
         }
     }
@@ -68,14 +65,14 @@ impl Entity for PredicateDef {
 
     ghost predicates = { predicates_of_predicate };
 
-    fn id(&self) -> Option<i64> {
+    fn given_id(&self) -> Option<i64> {
         self.id
     }
 
     fn unknown_matcher(&self, known: &Known) -> Option<i64> {
         match &self.body {
             Some(PredicateBody::Simple(simple)) => {
-                first_unknown(known, &[simple.start, simple.stop, simple.stop_all])
+                find_unknown(known, &[simple.start, simple.stop, simple.stop_all])
             }
             _ => None,
         }
@@ -83,7 +80,7 @@ impl Entity for PredicateDef {
 
     fn unknown_predicate(&self, known: &Known) -> Option<i64> {
         match &self.body {
-            Some(PredicateBody::Combo(combo)) => first_unknown_child(
+            Some(PredicateBody::Combo(combo)) => find_unknown_child(
                 known,
                 combo.children.as_slice(),
             ),
@@ -101,7 +98,7 @@ impl Entity for StateDef {
 
     ghost predicates = { λ _. [] };
 
-    fn id(&self) -> Option<i64> {
+    fn given_id(&self) -> Option<i64> {
         self.id
     }
 
@@ -123,27 +120,27 @@ impl Entity for Metric {
 
     ghost predicates = { predicates_of_metric };
 
-    fn id(&self) -> Option<i64> {
+    fn given_id(&self) -> Option<i64> {
         self.common.id
     }
 
     fn unknown_matcher(&self, known: &Known) -> Option<i64> {
         match &self.kind {
-            Kind::Gauge(gauge) => first_unknown(known, &[self.common.what, gauge.trigger]),
+            Kind::Gauge(gauge) => find_unknown(known, &[self.common.what, gauge.trigger]),
             Kind::Duration { .. } => None,
-            _ => first_unknown(known, &[self.common.what]),
+            _ => find_unknown(known, &[self.common.what]),
         }
     }
 
     fn unknown_predicate(&self, known: &Known) -> Option<i64> {
         if let Kind::Duration { .. } = &self.kind
-            && let Some(id) = first_unknown(known, &[self.common.what])
+            && let Some(id) = find_unknown(known, &[self.common.what])
         {
             return Some(id);
         }
-        if let Some(id) = first_unknown(known, &[self.common.condition]) {
+        if let Some(id) = find_unknown(known, &[self.common.condition]) {
             return Some(id);
         }
-        first_unknown_link(known, self.common.links.as_slice())
+        find_unknown_link(known, self.common.links.as_slice())
     }
 }

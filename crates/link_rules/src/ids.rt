@@ -10,12 +10,12 @@ use crate::known::Known;
 use std::alloc::Global;
 
 /// The first entity of a kind that has no id.
-fn no_id_in<E: Entity>(kind: u8, entities: &[E]) -> Option<LinkFault>
+fn find_missing_id<E: Entity>(kind: u8, entities: &[E]) -> Option<LinkFault>
     requires { length entities.now < 2 ^ 63 }
     ensures { result ≡ no_id_in kind (map E.id entities.now) }
 {
     for (place, entity) in entities.iter().enumerate() {
-        if entity.id().is_none() {
+        if entity.given_id().is_none() {
             return Some(LinkFault {
                 number: NO_ID,
                 reason: kind,
@@ -28,13 +28,13 @@ fn no_id_in<E: Entity>(kind: u8, entities: &[E]) -> Option<LinkFault>
 
 /// The first entity that has no id.
 #[tactic(auto, unfolding(crate::specs::EntityIds::no_id_fault))]
-pub fn no_id_fault(entities: &Entities) -> Option<LinkFault>
+pub fn judge_missing_ids(entities: &Entities) -> Option<LinkFault>
     ensures { result ≡ no_id_fault entities.now }
 {
-    no_id_in(MATCHER, entities.matchers.as_slice())
-        .or_else(|| no_id_in(PREDICATE, entities.predicates.as_slice()))
-        .or_else(|| no_id_in(STATE, entities.states.as_slice()))
-        .or_else(|| no_id_in(METRIC, entities.metrics.as_slice()))
+    find_missing_id(MATCHER, entities.matchers.as_slice())
+        .or_else(|| find_missing_id(PREDICATE, entities.predicates.as_slice()))
+        .or_else(|| find_missing_id(STATE, entities.states.as_slice()))
+        .or_else(|| find_missing_id(METRIC, entities.metrics.as_slice()))
 }
 
 /// The ids of a kind, in config order, or the first that stood before.
@@ -45,7 +45,7 @@ pub fn ids_of<E: Entity>(alloc: Global, kind: u8, entities: &[E]) -> Result<Know
 {
     let mut ids = Known::new(alloc);
     for entity in entities {
-        if let Some(id) = entity.id()
+        if let Some(id) = entity.given_id()
             && !ids.add(id)?
         {
             return Err(LinkError::Fault(LinkFault {

@@ -61,7 +61,7 @@ impl Known {
     }
 
     /// The place of an id that is there.
-    pub fn place_in(&self, id: i64) -> u32
+    pub fn locate(&self, id: i64) -> u32
         ensures { result ≡ place_in self.now id }
     {
         self.place(id).unwrap_or(0)

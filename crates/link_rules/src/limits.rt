@@ -23,7 +23,7 @@ const MOST_SAMPLES: i64 = 100;
 const MOST_KEPT: usize = 16_384;
 
 /// There are more than so many.
-fn count_limit(reason: u8, most: usize, count: usize) -> Option<LinkFault>
+fn judge_count(reason: u8, most: usize, count: usize) -> Option<LinkFault>
     requires { count < 2 ^ 63 }
     ensures { result ≡ count_limit reason most count }
 {
@@ -38,7 +38,7 @@ fn count_limit(reason: u8, most: usize, count: usize) -> Option<LinkFault>
 }
 
 /// A number is set that isn't from 1 to so many.
-fn number_limit(reason: u8, most: i64, number: Option<i64>) -> Option<LinkFault>
+fn judge_number(reason: u8, most: i64, number: Option<i64>) -> Option<LinkFault>
     requires { pos 0 ≤ℤ most }
     ensures { result ≡ number_limit reason (number_or 0 (Some most)) number }
 {
@@ -62,17 +62,17 @@ fn wide(number: Option<i32>) -> Option<i64>
     }
 }
 
-fn predicate_limit(def: &PredicateDef) -> Option<LinkFault>
+fn judge_predicate(def: &PredicateDef) -> Option<LinkFault>
     ensures { result ≡ predicate_limit def.now }
 {
     match &def.body {
-        Some(PredicateBody::Simple(simple)) => number_limit(5, MOST_BOUND, wide(simple.bound)),
+        Some(PredicateBody::Simple(simple)) => judge_number(5, MOST_BOUND, wide(simple.bound)),
         _ => None,
     }
 }
 
 /// A number that is set, or the one that an absent one stands for.
-pub fn number_or(absent: usize, number: Option<i64>) -> usize
+pub fn choose_number(absent: usize, number: Option<i64>) -> usize
     ensures { result ≡ number_or absent number }
 {
     match number {
@@ -82,53 +82,53 @@ pub fn number_or(absent: usize, number: Option<i64>) -> usize
 }
 
 /// How many samples a key of a gauge keeps in a bucket.
-pub fn samples_of(gauge: &GaugeParts) -> usize
+pub fn count_samples(gauge: &GaugeParts) -> usize
     ensures { result ≡ samples_of gauge.now }
 {
     match gauge.sampling {
         SamplingType::RandomOne => 1,
-        _ => number_or(10, gauge.max_samples),
+        _ => choose_number(10, gauge.max_samples),
     }
 }
 
-fn samples_limit(bound: usize, kind: &Kind) -> Option<LinkFault>
+fn judge_samples(bound: usize, kind: &Kind) -> Option<LinkFault>
     requires { bound ≤ 3000 }
     ensures { result ≡ samples_limit bound kind.now }
 {
     let Kind::Gauge(gauge) = kind else {
         return None;
     };
-    if let Some(fault) = number_limit(7, MOST_SAMPLES, gauge.max_samples) {
+    if let Some(fault) = judge_number(7, MOST_SAMPLES, gauge.max_samples) {
         return Some(fault);
     }
-    count_limit(8, MOST_KEPT, bound * samples_of(gauge))
+    judge_count(8, MOST_KEPT, bound * count_samples(gauge))
 }
 
-fn metric_limit(metric: &Metric) -> Option<LinkFault>
+fn judge_metric(metric: &Metric) -> Option<LinkFault>
     ensures { result ≡ metric_limit metric.now }
 {
-    if let Some(fault) = number_limit(6, MOST_BOUND, wide(metric.sliced.bound)) {
+    if let Some(fault) = judge_number(6, MOST_BOUND, wide(metric.sliced.bound)) {
         return Some(fault);
     }
-    samples_limit(number_or(800, wide(metric.sliced.bound)), &metric.kind)
+    judge_samples(choose_number(800, wide(metric.sliced.bound)), &metric.kind)
 }
 
-fn predicates_limit(defs: &[PredicateDef]) -> Option<LinkFault>
+fn judge_predicates(defs: &[PredicateDef]) -> Option<LinkFault>
     ensures { result ≡ first_in predicate_limit defs.now }
 {
     for def in defs {
-        if let Some(fault) = predicate_limit(def) {
+        if let Some(fault) = judge_predicate(def) {
             return Some(fault);
         }
     }
     None
 }
 
-fn metrics_limit(metrics: &[Metric]) -> Option<LinkFault>
+fn judge_metrics(metrics: &[Metric]) -> Option<LinkFault>
     ensures { result ≡ first_in metric_limit metrics.now }
 {
     for metric in metrics {
-        if let Some(fault) = metric_limit(metric) {
+        if let Some(fault) = judge_metric(metric) {
             return Some(fault);
         }
     }
@@ -137,23 +137,23 @@ fn metrics_limit(metrics: &[Metric]) -> Option<LinkFault>
 
 /// The first number that is past its limit.
 #[tactic(auto, unfolding(crate::specs::EntityLimits::limit_fault))]
-pub fn limit_fault(entities: &Entities) -> Option<LinkFault>
+pub fn judge_limits(entities: &Entities) -> Option<LinkFault>
     ensures { result ≡ limit_fault entities.now }
 {
-    if let Some(fault) = count_limit(1, MOST_MATCHERS, entities.matchers.as_slice().len()) {
+    if let Some(fault) = judge_count(1, MOST_MATCHERS, entities.matchers.as_slice().len()) {
         return Some(fault);
     }
-    if let Some(fault) = count_limit(2, MOST_PREDICATES, entities.predicates.as_slice().len()) {
+    if let Some(fault) = judge_count(2, MOST_PREDICATES, entities.predicates.as_slice().len()) {
         return Some(fault);
     }
-    if let Some(fault) = count_limit(3, MOST_STATES, entities.states.as_slice().len()) {
+    if let Some(fault) = judge_count(3, MOST_STATES, entities.states.as_slice().len()) {
         return Some(fault);
     }
-    if let Some(fault) = count_limit(4, MOST_METRICS, entities.metrics.as_slice().len()) {
+    if let Some(fault) = judge_count(4, MOST_METRICS, entities.metrics.as_slice().len()) {
         return Some(fault);
     }
-    if let Some(fault) = predicates_limit(entities.predicates.as_slice()) {
+    if let Some(fault) = judge_predicates(entities.predicates.as_slice()) {
         return Some(fault);
     }
-    metrics_limit(entities.metrics.as_slice())
+    judge_metrics(entities.metrics.as_slice())
 }

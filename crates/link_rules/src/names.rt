@@ -14,7 +14,7 @@ use crate::known::Known;
 use config_types::LinkDef;
 
 /// The first of these names that isn't known.
-pub fn first_unknown(known: &Known, names: &[Option<i64>]) -> Option<i64>
+pub fn find_unknown(known: &Known, names: &[Option<i64>]) -> Option<i64>
     ensures { result ≡ first_unknown known.now names.now }
 {
     for name in names {
@@ -28,7 +28,7 @@ pub fn first_unknown(known: &Known, names: &[Option<i64>]) -> Option<i64>
 }
 
 /// The same of the children of a combination.
-pub fn first_unknown_child(known: &Known, children: &[i64]) -> Option<i64>
+pub fn find_unknown_child(known: &Known, children: &[i64]) -> Option<i64>
     ensures { result ≡ first_unknown known.now (map Some children.now) }
 {
     for id in children {
@@ -40,11 +40,11 @@ pub fn first_unknown_child(known: &Known, children: &[i64]) -> Option<i64>
 }
 
 /// The first condition of these links that isn't known.
-pub fn first_unknown_link(known: &Known, links: &[LinkDef]) -> Option<i64>
+pub fn find_unknown_link(known: &Known, links: &[LinkDef]) -> Option<i64>
     ensures { result ≡ first_unknown known.now (map link_condition links.now) }
 {
     for link in links {
-        if let Some(id) = first_unknown(known, &[link.condition]) {
+        if let Some(id) = find_unknown(known, &[link.condition]) {
             return Some(id);
         }
     }
@@ -85,7 +85,7 @@ fn unknown_predicate_in<E: Entity>(kind: u8, known: &Known, entities: &[E]) -> O
 
 /// The first name that leads to no matcher.
 #[tactic(auto, unfolding(crate::specs::EntityNames::unknown_matcher_fault))]
-pub fn unknown_matcher_fault(known: &Known, entities: &Entities) -> Option<LinkFault>
+pub fn judge_matcher_names(known: &Known, entities: &Entities) -> Option<LinkFault>
     requires { known.now ≡ matcher_ids entities.now }
     ensures { result ≡ unknown_matcher_fault entities.now }
 {
@@ -96,7 +96,7 @@ pub fn unknown_matcher_fault(known: &Known, entities: &Entities) -> Option<LinkF
 
 /// The first name that leads to no predicate.
 #[tactic(auto, unfolding(crate::specs::EntityNames::unknown_predicate_fault))]
-pub fn unknown_predicate_fault(known: &Known, entities: &Entities) -> Option<LinkFault>
+pub fn judge_predicate_names(known: &Known, entities: &Entities) -> Option<LinkFault>
     requires { known.now ≡ predicate_ids entities.now }
     ensures { result ≡ unknown_predicate_fault entities.now }
 {
@@ -111,7 +111,7 @@ fn unknown_state_in(known: &Known, metrics: &[Metric]) -> Option<LinkFault>
         unknown_in unknown_state metric_kind known.now states_of_metric metrics.now }
 {
     for metric in metrics {
-        if let Some(value) = first_unknown_child(known, metric.sliced.slices.as_slice()) {
+        if let Some(value) = find_unknown_child(known, metric.sliced.slices.as_slice()) {
             return Some(LinkFault {
                 number: UNKNOWN_STATE,
                 reason: METRIC,
@@ -124,7 +124,7 @@ fn unknown_state_in(known: &Known, metrics: &[Metric]) -> Option<LinkFault>
 
 /// The first name that leads to no state.
 #[tactic(auto, unfolding(crate::specs::EntityNames::unknown_state_fault))]
-pub fn unknown_state_fault(known: &Known, entities: &Entities) -> Option<LinkFault>
+pub fn judge_state_names(known: &Known, entities: &Entities) -> Option<LinkFault>
     requires { known.now ≡ state_ids entities.now }
     ensures { result ≡ unknown_state_fault entities.now }
 {

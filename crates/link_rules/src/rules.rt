@@ -8,10 +8,10 @@ ghost use Rattle.link_rules.specs.LinkRules.{ids_in, id_fault, name_fault, refer
 use crate::cycles::refuse_cycles;
 use crate::entities::Entities;
 use crate::fault::{LinkError, LinkFault, MATCHER, METRIC, PREDICATE, STATE};
-use crate::ids::{ids_of, no_id_fault};
+use crate::ids::{ids_of, judge_missing_ids};
 use crate::known::Ids;
-use crate::limits::limit_fault;
-use crate::names::{unknown_matcher_fault, unknown_predicate_fault, unknown_state_fault};
+use crate::limits::judge_limits;
+use crate::names::{judge_matcher_names, judge_predicate_names, judge_state_names};
 use std::alloc::Global;
 
 /// Refuses by a fault, where there is one.
@@ -25,7 +25,7 @@ pub fn refuse(fault: Option<LinkFault>) -> Result<(), LinkError>
 }
 
 // The ids of all kinds, or the first that stood before.
-#[tactic(auto, unfolding(crate::specs::EntityIds::duplicate_id_fault, crate::specs::EntityIds::matcher_ids, crate::specs::EntityIds::predicate_ids, crate::specs::EntityIds::state_ids, crate::specs::EntityIds::metric_ids))]
+#[tactic(auto, unfolding(crate::specs::EntityIds::duplicate_id_fault))]
 fn all_ids(alloc: Global, entities: &Entities) -> Result<Ids, LinkError>
     requires { AreFew entities.now }
     ensures { Links result (duplicate_id_fault entities.now) (ids_in entities.now) }
@@ -47,8 +47,8 @@ fn all_ids(alloc: Global, entities: &Entities) -> Result<Ids, LinkError>
 fn known_ids(alloc: Global, entities: &Entities) -> Result<Ids, LinkError>
     ensures { Links result (id_fault entities.now) (ids_in entities.now) }
 {
-    refuse(limit_fault(entities))?;
-    refuse(no_id_fault(entities))?;
+    refuse(judge_limits(entities))?;
+    refuse(judge_missing_ids(entities))?;
     all_ids(alloc, entities)
 }
 
@@ -58,9 +58,9 @@ fn refuse_names(ids: &Ids, entities: &Entities) -> Result<(), LinkError>
     requires { ids.now ≡ ids_in entities.now }
     ensures { Links result (name_fault entities.now) tt }
 {
-    refuse(unknown_matcher_fault(&ids.matchers, entities))?;
-    refuse(unknown_predicate_fault(&ids.predicates, entities))?;
-    refuse(unknown_state_fault(&ids.states, entities))
+    refuse(judge_matcher_names(&ids.matchers, entities))?;
+    refuse(judge_predicate_names(&ids.predicates, entities))?;
+    refuse(judge_state_names(&ids.states, entities))
 }
 
 // Refuses by the first name that leads nowhere, or by what is below itself.

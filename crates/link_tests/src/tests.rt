@@ -5,6 +5,7 @@ mod builds;
 mod compared;
 mod faults;
 mod forms;
+mod kinds;
 mod limits;
 mod orders;
 mod reasons;

@@ -13,10 +13,10 @@ use Rattle.config_links.specs.declared.linked.LMatcher.TheVariants.{Simple, Comb
 use Rattle.config_links.specs.SoundConfig.{named_matchers}
 use Rattle.matcher_truths.specs.MatcherTruths.{named_places}
 use Rattle.link_graph.specs.Links.{Refers, AreInRange, HasNoCycle, IsOrder}
-use Rattle.link_graph.specs.Unrolled.{LooksDown}
+use Rattle.link_graph.specs.Unrolling.{LooksDown}
 use Rattle.link_graph.proofs.DepthLaws.{ends_from_order, ends_from_no_cycle}
 use Rattle.link_graph.proofs.NodeLemmas.{map_same, children_of}
-use Rattle.link_graph.proofs.UnrolledLaws.{equation}
+use Rattle.link_graph.proofs.UnrollingLaws.{equation}
 use Rattle.matcher_eval.specs.Combined.{combined_truth}
 use Rattle.matcher_truths.specs.MatcherTruths.{simple_truth, truth_from, truth_step, matches, all_truths}
 use Rattle.matcher_truths.specs.JoinedTruths.{joined_truth}
@@ -90,7 +90,7 @@ module _ (says : SimpleMatcher → Atom → Bool) (atom : Atom) (matchers : List
           subst (λ (xs : List ℕ). Contains xs y) (sym (children_of named_matchers matchers p m is_m)) named in
           let below : Refers (named_places matchers) (get_or order i 0) y =
           subst (λ (x : ℕ). Refers (named_places matchers) x y) is_p listed in
-          before y (is_order.behind i y in_order below)
+          before y (is_order.after i y in_order below)
 
       written : b ≡ matches says atom matchers p
       written =

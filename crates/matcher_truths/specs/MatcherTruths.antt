@@ -6,7 +6,7 @@ use Rattle.config_types.specs.declared.matcher.SimpleMatcher.{SimpleMatcher}
 use Rattle.config_types.specs.Askable.{IsAskable}
 use Rattle.matcher_eval.specs.AtomTests.{number_set}
 use Rattle.matcher_eval.specs.Combined.{combined_truth}
-use Rattle.link_graph.specs.Unrolled.{unrolled}
+use Rattle.link_graph.specs.Unrolling.{unroll}
 use Rattle.config_links.specs.declared.linked.LMatcher.{LMatcher}
 use Rattle.config_links.specs.declared.linked.LMatcher.TheVariants.{Simple, Combo}
 use Rattle.config_links.specs.SoundConfig.{named_matchers}
@@ -37,7 +37,7 @@ module _ (says : SimpleMatcher → Atom → Bool) (atom : Atom) where
 
     -- the truth of the matcher at a place: references are followed as deep as there are matchers
     abbrev pub matches : ℕ → Bool
-    matches = unrolled truth_step false (length matchers)
+    matches = unroll truth_step false (length matchers)
 
     -- the truth of each matcher, in config order
     abbrev pub all_truths : List Bool

@@ -8,7 +8,8 @@ use config_types::Operation;
 /// The truth of a combination whose children stand at these places.
 pub(crate) fn joined_at(op: Operation, children: &[u32], truths: &[bool]) -> bool
     requires { All (λ at. at < length truths.now) children.now }
-    ensures { result ≡ combined_truth op (map (λ at. slice_index_or truths.now at false) children.now) }
+    ensures { result
+        ≡ combined_truth op (map (λ at. slice_index_or truths.now at false) children.now) }
 {
     match op {
         Operation::And => all_at(children, truths),

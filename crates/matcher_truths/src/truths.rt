@@ -50,7 +50,8 @@ pub fn evaluate<J: Judge>(
 fn join(matcher: &LMatcher, at: usize, truths: &[bool]) -> bool
     requires at { at < length truths.now }
     requires children { All (λ place. place < length truths.now) (named_matchers matcher.now) }
-    ensures { result ≡ joined_truth (λ place. slice_index_or truths.now place false) at matcher.now }
+    ensures { result
+        ≡ joined_truth (λ place. slice_index_or truths.now place false) at matcher.now }
 {
     match matcher {
         LMatcher::Simple(_) => truths[at],

@@ -9,12 +9,12 @@ use Rattle.call_rules.specs.Moves.{Moves, MovesAll}
 use Rattle.call_rules.specs.LaneCalls.{crossing, crossing_of, cutting, handed_on}
 use Rattle.call_rules.proofs.RuleLemmas.{admits-front, admits-back}
 use Rattle.call_rules.proofs.LaneReach.{no_ends}
-use Rattle.call_rules.proofs.ClockBehind.{handed_on_is}
+use Rattle.call_rules.proofs.ClockOfCalls.{handed_on_is}
 use Rattle.count_metric.specs.declared.row.Row.{Row}
 use Rattle.count_metric.specs.declared.row.Closed.{Closed}
 use Rattle.count_metric.specs.Collecting.{Collecting, Gives}
 use Rattle.metric_lane.specs.LaneClock.{HasClock, MayCross, ClockCrosses}
-use Rattle.metric_lane.specs.LaneStands.{LaneHas, GetsFrame, GetsCalls, GetsCut, GetsReport, told_at}
+use Rattle.metric_lane.specs.LaneStands.{GetsFrame, GetsCut, GetsReport, told_at}
 use Rattle.metric_lane.specs.declared.lane.Lane.{Lane}
 
 -- a clock's base stays
@@ -93,16 +93,6 @@ module _ {P Params Event After Value : Type 0} (stands : P → Params → List (
   crossing_on old new moment crossings crosses moves =
       frame_on old new moment (Some crossings) crosses
       (moves_one stands demands old.producer new.producer (Crossed crossings) moves)
-
-  -- calls, and then others
-  pub calls_then : (old middle new : Lane P Event After Value) (first more : List (Call Event After))
-      → GetsCalls stands demands old middle first → GetsCalls stands demands middle new more
-      → GetsCalls stands demands old new (first ++ more)
-  calls_then old middle new first more one other params told calls has admitted =
-      subst (LaneHas stands demands new params told) (append_assoc calls first more)
-      (other params told (calls ++ first)
-      (one params told calls has (admits-front (demands params) calls first more admitted))
-      (admits-back (demands params) calls first more admitted))
 
   -- a report: the cut first, and then what is kept
   pub report_on : {X K C : Type 0} (collecting : Collecting Params Event After X K C (Row Value))

@@ -8,7 +8,7 @@ use Rattle.bucket_meaning.specs.Ends.{Moment, crosses}
 use Rattle.bucket_meaning.specs.Meaning.{report_by}
 use Rattle.bucket_clock.specs.Sound.{Times}
 use Rattle.bucket_clock.specs.Clock.{Told, Saw, IsNextEnd, ClockStandsFor, moments_told}
-use Rattle.call_rules.specs.Calls.{Call, Demands, Standing, standing_of, clock_behind}
+use Rattle.call_rules.specs.Calls.{Call, Demands, Standing, standing_of, clock_at}
 use Rattle.call_rules.specs.LaneCalls.{coming, event_asks, LaneStep, Logged, Reported, told_by, crossing, cutting, calls_at, calls_of, last_at, last_of, IsTimelyStep, AreTimely, AskWell}
 use Rattle.call_rules.proofs.RuleLemmas.{admits-front, admits-back}
 use Rattle.call_rules.proofs.LaneReach.{told_by-frame, told_by-cut, told_by-report}
@@ -55,7 +55,7 @@ module _ {Event : Type 0} (demands : Demands Event) where
 
   -- two clocks that were told the same stand alike
   same_as : (clock : Times) (standing : Standing) (told : List Told)
-      → IsClockFor clock demands.base demands.size told → ClockStandsFor (clock_behind demands standing) told
+      → IsClockFor clock demands.base demands.size told → ClockStandsFor (clock_at demands standing) told
       → IsSameAs clock standing
   same_as clock standing told has there =
       let here : ClockStandsFor (record clock { base = demands.base; size = demands.size }) told =

@@ -58,10 +58,10 @@ impl<P: Producer> Lane<P> {
     }
 
     /// An event comes at the last frame.
-    pub fn event(&mut self, at: u64, event: P::Event) -> Result<(), AllocError>
-        ensures { OnOk result (GetsCall P.stands P.demands self.old self.new (Got at event)) }
+    pub fn event(&mut self, at: u64, what: P::Event) -> Result<(), AllocError>
+        ensures { OnOk result (GetsCall P.stands P.demands self.old self.new (Got at what)) }
     {
-        self.producer.event(at, event)
+        self.producer.event(at, what)
     }
 
     /// The condition after the last frame is told.
@@ -132,7 +132,7 @@ fn crossed(clock: &mut Option<Clock>, at: u64, is_pull: bool) -> Option<Crossing
     let Some(clock) = clock else {
         return None;
     };
-    if at < clock.start() || at >= TIME_LIMIT {
+    if at < clock.part_start() || at >= TIME_LIMIT {
         return None;
     }
     clock.crossings(at, is_pull)
@@ -145,7 +145,7 @@ fn cut(clock: &mut Option<Clock>, at: u64) -> bool
     let Some(clock) = clock else {
         return false;
     };
-    if at < clock.start() || at > clock.next_end() || at >= TIME_LIMIT {
+    if at < clock.part_start() || at > clock.next_end() || at >= TIME_LIMIT {
         return false;
     }
     clock.cut_at(at);

@@ -1,4 +1,6 @@
 mod WorkedHistories
+mod WorkedConditions
 pub mod CrossedLemmas
 pub mod StepLemmas
+pub mod PredicateStepsLemmas
 pub mod CountStepsLemmas

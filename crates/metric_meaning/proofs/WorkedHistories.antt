@@ -33,7 +33,7 @@ guarded = record {
 }
 
 -- a frame of the log, with the truth of the one matcher where it is an atom
-abbrev logged : ℕ → LogFrame → List Bool → Step
+abbrev pub logged : ℕ → LogFrame → List Bool → Step
 logged at frame truths = record { at = at; what = Logged frame; truths = truths }
 
 -- an atom of id 5 whose field 1 is this text, which the matcher means
@@ -45,7 +45,7 @@ texted at letter =
     })) (true ∷ [])
 
 -- a tick
-abbrev tick : ℕ → Step
+abbrev pub tick : ℕ → Step
 tick at = logged at (Tick at) []
 
 -- a failed pull, which is a frame of the log like others
@@ -53,7 +53,7 @@ abbrev pull : ℕ → Step
 pull at = logged at (Pull at 10001 Failed) []
 
 -- a report at the clock
-abbrev asked : ℕ → Bool → Step
+abbrev pub asked : ℕ → Bool → Step
 asked at include_current = record { at = at; what = Reported include_current; truths = [] }
 
 -- a row of a letter
@@ -69,7 +69,7 @@ row letter start end count = record {
 abbrev crowd : List Step
 crowd = texted 1 65 ∷ texted 2 66 ∷ texted 3 67 ∷ texted 4 65 ∷ texted 5 67 ∷ tick 1000 ∷ []
 
-third_key_dropped : counts_shown 0 guarded crowd false 1000 ≡ record {
+third_key_dropped : counts_shown 0 [] guarded crowd false 1000 ≡ record {
   rows = row 65 0 1000 2 ∷ row 66 0 1000 1 ∷ [];
   not_kept = 0;
   dropped = 2;
@@ -79,7 +79,7 @@ third_key_dropped = refl
 
 -- the next bucket admits anew, and its report has the drops since the report before alone
 next_bucket_admits_anew :
-    counts_shown 0 guarded
+    counts_shown 0 [] guarded
     (texted 1 65 ∷ texted 2 66 ∷ texted 3 67 ∷ tick 1000 ∷ asked 1000 false
     ∷ texted 1001 67 ∷ texted 1002 65 ∷ texted 1003 66 ∷ tick 2000 ∷ []) false 2000 ≡ record {
       rows = row 67 1000 2000 1 ∷ row 65 1000 2000 1 ∷ [];
@@ -90,12 +90,12 @@ next_bucket_admits_anew :
 next_bucket_admits_anew = refl
 
 -- a pull at a full end crosses nothing; a cut there closes the part, and the end is crossed by the next tick
-pull_at_an_end : counts_shown 0 guarded (texted 1 65 ∷ pull 1000 ∷ asked 1000 true ∷ tick 1000 ∷ []) true 1000
+pull_at_an_end : counts_shown 0 [] guarded (texted 1 65 ∷ pull 1000 ∷ asked 1000 true ∷ tick 1000 ∷ []) true 1000
     ≡ record { rows = []; not_kept = 0; dropped = 0; missing = 0 }
 pull_at_an_end = refl
 
 -- truths are taken as they are handed in, also where the atom says otherwise
-truths_are_handed_in : counts_shown 0 guarded
+truths_are_handed_in : counts_shown 0 [] guarded
     (logged 1 (AtomAt 1 (record { id = 6; fields = [] })) (true ∷ [])
     ∷ logged 2 (AtomAt 2 (record { id = 5; fields = [] })) (false ∷ []) ∷ []) true 2
     ≡ record {

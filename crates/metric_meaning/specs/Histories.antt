@@ -1,5 +1,6 @@
 -- What an installed configuration has seen: one step for each later frame of the log, and for each report of it.
 use Rattle.std.specs.Prelude.{ℕ, zero, suc, Bool, true, false, List, [], ◌∷◌, ◌++◌}
+use Rattle.sd_base.specs.Outputs.{outputs}
 use Rattle.atom_record.specs.declared.log.LogFrame.{LogFrame}
 use Rattle.atom_record.specs.declared.log.LogFrame.TheVariants.{Tick, AtomAt, Pull}
 use Rattle.bucket_meaning.specs.Ends.{Moment}
@@ -59,3 +60,7 @@ lane_step {News} news step = of_what step.what where
   of_what : What → lane.LaneStep News
   of_what (Logged frame) = lane.Logged (moment_of frame step.at) (news step)
   of_what (Reported include_current) = lane.Reported step.at include_current
+
+-- all steps as the lane of a metric sees them, where what a frame brings hangs on the steps before it
+abbrev pub lane_steps : {News : Type 0} → (List Step → Step → News) → List Step → List (lane.LaneStep News)
+lane_steps news steps = outputs (λ before step. lane_step (news before) step ∷ []) steps

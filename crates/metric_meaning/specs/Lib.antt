@@ -1,4 +1,6 @@
 pub mod Histories
+pub mod PredicateSteps
+pub mod MetricConditions
 pub mod StepMarks
 pub mod CountSteps
 pub mod KeyTrees

@@ -2,6 +2,7 @@
 use Rattle.std.specs.Prelude.{ℕ, ℤ, pos, ◌-◌, ◌^◌, min, Bool, List, [], ◌∷◌, map, filter}
 use Rattle.bucket_meaning.specs.Kept.{Taken}
 use Rattle.config_links.specs.declared.linked.LMetric.{LMetric}
+use Rattle.config_links.specs.declared.linked.LPredicate.{LPredicate}
 use Rattle.config_links.specs.declared.linked.LKind.{LKind}
 use Rattle.config_links.specs.declared.linked.LKind.TheVariants.{Count}
 use Rattle.report_writer.specs.declared.tree.NumBucket.{NumBucket}
@@ -12,6 +13,7 @@ use Rattle.report_writer.specs.declared.tree.MetricTree.{MetricTree}
 use Rattle.report_writer.specs.declared.tree.ReportTree.{ReportTree}
 use Rattle.count_metric.specs.declared.row.Row.{Row}
 use Rattle.metric_meaning.specs.Histories.{What, Logged, Reported, Step, History}
+use Rattle.metric_meaning.specs.PredicateSteps.{predicate_drops}
 use Rattle.metric_meaning.specs.KeyTrees.{groups_of}
 use Rattle.metric_meaning.specs.CountSteps.{counts_shown}
 
@@ -41,11 +43,11 @@ abbrev pub nothing_shown : Taken (Row ℕ)
 nothing_shown = record { rows = []; not_kept = 0; dropped = 0; missing = 0 }
 
 -- what a report shows of a metric, by its kind
-abbrev pub metric_tree : ℕ → List Step → Bool → ℕ → LMetric → MetricTree
-metric_tree base steps include_current now metric = by_kind metric.kind where
+abbrev pub metric_tree : ℕ → List LPredicate → List Step → Bool → ℕ → LMetric → MetricTree
+metric_tree base predicates steps include_current now metric = by_kind metric.kind where
   by_kind : LKind → MetricTree
   by_kind Count =
-      let shown = counts_shown base metric steps include_current now in
+      let shown = counts_shown base predicates metric steps include_current now in
       tree_with_body base metric shown (Counts (count_groups shown.rows))
   by_kind _ = tree_with_body base metric nothing_shown (Events [])
 
@@ -65,9 +67,9 @@ report_of history uid id include_current now = record {
   last = last_report history.base history.steps;
   now = now;
   metrics =
-      map (metric_tree history.base history.steps include_current now)
+      map (metric_tree history.base history.linked.predicates history.steps include_current now)
       (filter (λ (metric : LMetric). metric.shown) history.linked.metrics);
-  predicate_drops = [];
+  predicate_drops = predicate_drops history.linked.predicates history.steps;
   state_drops = [];
   state_atoms_dropped = 0;
 }

@@ -15,7 +15,8 @@ pub one_unbound : (binds : List Bind) (leaves place : ℕ) → place < leaves �
 one_unbound binds zero place within unbound = absurd (omega arith)
 one_unbound binds (suc leaves) place within unbound = elim (cases_eq place leaves) [
   | inl same ↦
-      ap (λ b. are_leaves_bound binds leaves && b) (ap (is_place_bound binds) (omega (arith, same)) ∙ unbound) ∙ grind arith
+      ap (λ b. are_leaves_bound binds leaves && b) (ap (is_place_bound binds) (omega (arith, same)) ∙ unbound)
+      ∙ grind arith
   | inr other ↦ ap (λ b. b && is_place_bound binds leaves)
       (one_unbound binds leaves place (omega (arith, other)) unbound)
 ]
@@ -63,7 +64,8 @@ no_entries unknown false = refl
 
 module _ (is_one unknown : Bool) (binds : List Bind) where
   module _ (rows : List (List Leaf × ℕ)) (place : ℕ)
-      (walked : truth_of_entries is_one unknown binds (drop place rows) ≡ truth_of_entries is_one unknown binds rows) where
+      (walked : truth_of_entries is_one unknown binds (drop place rows)
+      ≡ truth_of_entries is_one unknown binds rows) where
     here : (row : List Leaf × ℕ) → slice_get rows place ≡ Some row
         → truth_of_entries is_one unknown binds (row ∷ drop (place + 1) rows)
         ≡ truth_of_entries is_one unknown binds rows
@@ -96,4 +98,6 @@ module _ (is_one unknown : Bool) (binds : List Bind) where
     -- or past the last
     pub walk_over : length rows ≤ place → default_truth unknown ≡ truth_of_entries is_one unknown binds rows
     walk_over past =
-        sym (no_entries unknown is_one) ∙ sym (ap (truth_of_entries is_one unknown binds) (drop_all place rows past)) ∙ walked
+        sym (no_entries unknown is_one)
+        ∙ sym (ap (truth_of_entries is_one unknown binds) (drop_all place rows past))
+        ∙ walked

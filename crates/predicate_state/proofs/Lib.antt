@@ -1,5 +1,5 @@
-pub mod CountLemmas
-pub mod StateLemmas
+pub mod KeyCountLemmas
+pub mod PredicateStateLemmas
 pub mod BindLemmas
 pub mod FormLemmas
 mod Worked

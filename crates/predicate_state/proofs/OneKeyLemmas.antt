@@ -28,7 +28,8 @@ same_there (bind ∷ binds) one other place a b bound =
     let rest_other : agrees binds other ≡ true = grind arith in
     elim (cases_eq bind.place place) [
       | inl same ↦
-          let at : (n : ℕ) → n ≡ place → slice_get one n ≡ slice_get other n → slice_get one place ≡ slice_get other place =
+          let at : (n : ℕ) → n ≡ place → slice_get one n ≡ slice_get other n
+          → slice_get one place ≡ slice_get other place =
           λ n e h. subst (λ m. slice_get one m ≡ slice_get other m) e h in
           at bind.place same (agreed_leaf (slice_get one bind.place) bind.value here_one
           ∙ sym (agreed_leaf (slice_get other bind.place) bind.value here_other))
@@ -57,7 +58,8 @@ same_lists_of [] (y ∷ ys) e h = absurd (omega (arith, e))
 same_lists_of (x ∷ xs) [] e h = absurd (omega (arith, e))
 same_lists_of (x ∷ xs) (y ∷ ys) e h =
     let first : x ≡ y = same_Some x y (h 0 (omega arith)) in
-    let rest : xs ≡ ys = same_lists_of xs ys (omega (arith, e)) (λ place within. h (suc place) (omega (arith, within))) in
+    let rest : xs ≡ ys =
+    same_lists_of xs ys (omega (arith, e)) (λ place within. h (suc place) (omega (arith, within))) in
     ap (λ l. x ∷ l) rest ∙ ap (λ v. v ∷ ys) first
 
 -- a test that can't pass fails

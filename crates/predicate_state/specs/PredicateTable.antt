@@ -29,7 +29,8 @@ abbrev pub HaveLeaves : ℕ → List (LeafKey × ℕ) → Type 0
 HaveLeaves leaves counts = All (λ (entry : LeafKey × ℕ). length entry.0 ≡ leaves) counts
 
 -- The table is kept as the spec says, and knows what these events make of it.
-pub record PredTableStandsFor (table : PredicateTable) (spec : PredSpec) (events : List (KeyEvent LeafKey)) : Type 0 where
+pub record PredTableStandsFor (table : PredicateTable) (spec : PredSpec) (events : List (KeyEvent LeafKey))
+    : Type 0 where
   pub spec_is : table.spec ≡ spec
   pub state_is : table.state ≡ predicate_after same_leaves spec events
 

@@ -15,14 +15,14 @@ use std::alloc::{AllocError, Global};
 type Form = (((u64, u64), (u64, u64)), Guarded<DimKey, u64>);
 
 // A truth as a number.
-fn flag_number(flag: bool) -> u64
+fn encode_flag(flag: bool) -> u64
     ensures { result ≡ flag_number flag }
 {
     if flag { 1 } else { 0 }
 }
 
 // The truth that a number is, or none where it is another number.
-fn flag_of(number: u64) -> Option<bool>
+fn decode_flag(number: u64) -> Option<bool>
     ensures { MatchOption result ((flag : Bool) → ¬ (flag_number flag ≡ number))
         (λ flag. flag_number flag ≡ number) }
 {
@@ -53,9 +53,9 @@ fn restore(form: Form) -> Option<PredTable>
     ensures { IsMadeOf form result }
 {
     let (((nesting, at_first), (leaves, now)), counts) = form;
-    let nesting = flag_of(nesting)?;
-    let at_first = flag_of(at_first)?;
-    let unknown = flag_of(now)?;
+    let nesting = decode_flag(nesting)?;
+    let at_first = decode_flag(at_first)?;
+    let unknown = decode_flag(now)?;
     if leaves > u32::MAX as u64 {
         return None;
     }
@@ -102,10 +102,10 @@ impl Flat for PredTable {
 
     fn flatten(&self, alloc: Global, out: &mut Items) -> Result<(), AllocError> {
         let kept = (
-            flag_number(self.spec.nesting),
-            flag_number(self.spec.unknown),
+            encode_flag(self.spec.nesting),
+            encode_flag(self.spec.unknown),
         );
-        let known = (self.spec.leaves as u64, flag_number(self.unknown));
+        let known = (self.spec.leaves as u64, encode_flag(self.unknown));
         (kept, known).flatten(alloc, out)?;
         self.counts.flatten(alloc, out)
     }

@@ -83,7 +83,7 @@ impl PredTable {
     {
         match self.row_of(&key) {
             Some((place, count)) => {
-                let more = count_after_start(self.spec.nesting, count);
+                let more = add_start(self.spec.nesting, count);
                 self.set_count(place, more);
                 Ok(())
             }
@@ -100,7 +100,7 @@ impl PredTable {
     {
         match self.row_of(&key) {
             Some((place, count)) => {
-                let less = count_after_stop(self.spec.nesting, count);
+                let less = add_stop(self.spec.nesting, count);
                 if less == 0 && !self.unknown {
                     self.remove(&key);
                     return Ok(());
@@ -167,7 +167,7 @@ impl PredTable {
     {
         match self.row_of(key) {
             Some((_place, count)) => truth_of(count),
-            None => self.default_truth(),
+            None => self.judge_absent(),
         }
     }
 
@@ -186,20 +186,20 @@ impl PredTable {
     fn first_that_decides(&self, binds: &[Bind]) -> Truth
         ensures { result ≡ binds_truth self.now.spec.leaves self.now.state binds.now }
     {
-        let is_one = are_leaves_bound(binds, self.spec.leaves);
+        let is_one = binds_every_leaf(binds, self.spec.leaves);
         for place in 0..self.counts.len() {
             let Some((key, count)) = self.counts.pair(place) else {
-                return self.default_truth();
+                return self.judge_absent();
             };
             if decides(key.as_slice(), *count, binds, is_one) {
                 return truth_of(*count);
             }
         }
-        self.default_truth()
+        self.judge_absent()
     }
 
     // The truth of a key that isn't listed.
-    fn default_truth(&self) -> Truth
+    fn judge_absent(&self) -> Truth
         ensures { result ≡ default_truth self.now.state.unknown }
     {
         if self.unknown {
@@ -221,7 +221,8 @@ impl PredTable {
 
     /// The key at a place and its count, or none past the end.
     pub fn entry(&self, place: usize) -> Option<(&DimKey, u64)>
-        ensures { option_map (λ entry. (entry.0.now, entry.1)) result ≡ slice_get self.now.state.counts place }
+        ensures { option_map (λ found. (found.0.now, found.1)) result
+            ≡ slice_get self.now.state.counts place }
     {
         let (key, count) = self.counts.pair(place)?;
         Some((key, *count))
@@ -236,14 +237,14 @@ impl PredTable {
 }
 
 // A key's count after one more start.
-fn count_after_start(nesting: bool, count: u64) -> u64
+fn add_start(nesting: bool, count: u64) -> u64
     ensures { result ≡ count_after_start nesting count }
 {
     if nesting { count.saturating_add(1) } else { 1 }
 }
 
 // A key's count after one more stop.
-fn count_after_stop(nesting: bool, count: u64) -> u64
+fn add_stop(nesting: bool, count: u64) -> u64
     ensures { result ≡ count_after_stop nesting count }
 {
     if nesting { count.saturating_sub(1) } else { 0 }
@@ -260,11 +261,11 @@ fn truth_of(count: u64) -> Truth
 fn decides(key: &[Leaf], count: u64, binds: &[Bind], is_one: bool) -> bool
     ensures { result ≡ (agrees binds.now key.now && (is_one || nat_lt 0 count)) }
 {
-    agrees(key, binds) && (is_one || count > 0)
+    has_leaves(key, binds) && (is_one || count > 0)
 }
 
 // Whether a key has what every bind asks for.
-fn agrees(key: &[Leaf], binds: &[Bind]) -> bool
+fn has_leaves(key: &[Leaf], binds: &[Bind]) -> bool
     ensures { result ≡ agrees binds.now key.now }
 {
     binds.iter().all(|bind| has_leaf(key, bind))
@@ -281,11 +282,11 @@ fn has_leaf(key: &[Leaf], bind: &Bind) -> bool
 }
 
 // Whether each of the first so many places is bound.
-fn are_leaves_bound(binds: &[Bind], leaves: u32) -> bool
+fn binds_every_leaf(binds: &[Bind], leaves: u32) -> bool
     ensures { result ≡ are_leaves_bound binds.now leaves }
 {
     for place in 0..leaves {
-        if !is_place_bound(binds, place) {
+        if !binds_place(binds, place) {
             return false;
         }
     }
@@ -293,7 +294,7 @@ fn are_leaves_bound(binds: &[Bind], leaves: u32) -> bool
 }
 
 // Whether some bind asks for the leaf at a place. Binds that stand in the order of the leaves are found at once.
-fn is_place_bound(binds: &[Bind], place: u32) -> bool
+fn binds_place(binds: &[Bind], place: u32) -> bool
     ensures { result ≡ is_place_bound binds.now place }
 {
     if let Some(bind) = binds.get(place as usize)

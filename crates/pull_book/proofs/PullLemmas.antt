@@ -101,14 +101,14 @@ module _ (pulls : List (ℕ × PullOutcome)) (id : ℕ) (outcome : PullOutcome) 
       → set_value_at (rows_in pulls) place outcome ≡ rows_in more
   rows_present place at =
       ap (set_value_at (rows_in pulls) place) (sym last_here)
-      ∙ set_value_at-rows_by same_atom_id same_atom_id-exact (outcome_in pulls) (outcome_in more) (ids_in pulls) place id
-      (admitted-distinct same_atom_id most_pulled_ids (map arrival_key pulls)) at others_keep
+      ∙ set_value_at-rows_by same_atom_id same_atom_id-exact (outcome_in pulls) (outcome_in more) (ids_in pulls)
+      place id (admitted-distinct same_atom_id most_pulled_ids (map arrival_key pulls)) at others_keep
       ∙ ap (rows_by (outcome_in more)) (sym (ids_present (Contains-from_place (ids_in pulls) place id at)))
 
   module _ (absent : ¬ Contains (ids_in pulls) id) where
     old_rows : rows_in pulls ≡ rows_by (outcome_in more) (ids_in pulls)
-    old_rows = rows_by-absent same_atom_id same_atom_id-exact (outcome_in pulls) (outcome_in more) id (ids_in pulls) absent
-        others_keep
+    old_rows = rows_by-absent same_atom_id same_atom_id-exact (outcome_in pulls) (outcome_in more) id (ids_in pulls)
+        absent others_keep
 
     rows_new : length (ids_in pulls) < most_pulled_ids → rows_in pulls ++ (id, outcome) ∷ [] ≡ rows_in more
     rows_new room =

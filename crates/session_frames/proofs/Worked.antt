@@ -86,15 +86,16 @@ tick_backwards : next_frame 4 (9 ∷ 0 ∷ 0 ∷ 0 ∷ 1 ∷ 3 ∷ 0 ∷ 0 ∷ 0
 unfolding next_frame time_at tick_body
 tick_backwards = refl
 
--- times stay below the hour
-tick_hour : next_frame 0 (9 ∷ 0 ∷ 0 ∷ 0 ∷ 1 ∷ 0 ∷ 160 ∷ 184 ∷ 48 ∷ 70 ∷ 3 ∷ 0 ∷ 0 ∷ []) ≡ Broken (UnknownKind 1)
+-- times go to 2^63 - 1
+tick_hour : next_frame 0 (9 ∷ 0 ∷ 0 ∷ 0 ∷ 1 ∷ 0 ∷ 160 ∷ 184 ∷ 48 ∷ 70 ∷ 3 ∷ 0 ∷ 0 ∷ [])
+    ≡ Whole (Log (Tick 3600000000000)) []
 unfolding next_frame time_at tick_body
 tick_hour = refl
 
-last_of_the_hour : next_frame 0 (9 ∷ 0 ∷ 0 ∷ 0 ∷ 1 ∷ 255 ∷ 159 ∷ 184 ∷ 48 ∷ 70 ∷ 3 ∷ 0 ∷ 0 ∷ [])
-    ≡ Whole (Log (Tick 3599999999999)) []
+last_tick : next_frame 0 (9 ∷ 0 ∷ 0 ∷ 0 ∷ 1 ∷ 255 ∷ 255 ∷ 255 ∷ 255 ∷ 255 ∷ 255 ∷ 255 ∷ 127 ∷ [])
+    ≡ Whole (Log (Tick 9223372036854775807)) []
 unfolding next_frame time_at tick_body
-last_of_the_hour = refl
+last_tick = refl
 
 -- an atom with an entry; a late time is told before the id 0, and the id before time that falls
 an_atom : next_frame 0 (22 ∷ 0 ∷ 0 ∷ 0 ∷ 2 ∷ 2 ∷ 0 ∷ 0 ∷ 0 ∷ 0 ∷ 0 ∷ 0 ∷ 0 ∷ 5 ∷ 0 ∷ 0 ∷ 0 ∷ 1 ∷ 0 ∷ 0 ∷ 0 ∷ 1 ∷ 7 ∷ 0

@@ -4,11 +4,9 @@ use Rattle.std.specs.Io.KnownBytes.{Consumes, IsAtEnd}
 use Rattle.session_frames.specs.declared.body.BodyError.{BodyError}
 use Rattle.session_frames.specs.declared.body.BodyError.TheVariants.{Fault, Memory}
 use Rattle.session_frames.specs.declared.frame.Frame.{Frame}
-use Rattle.session_frames.specs.declared.frame.Frame.TheVariants.{Log}
 use Rattle.session_frames.specs.declared.frame.FrameError.{FrameError}
 use Rattle.session_frames.specs.declared.frame.FrameError.TheVariants as failed
 use Rattle.session_frames.specs.declared.frame.FrameFault.{FrameFault}
-use Rattle.session_frames.specs.Faultless.{HasSoundAtoms}
 use Rattle.session_frames.specs.Frames.{Next, Ended, Broken, Whole, next_frame, past, BreaksBy}
 use Rattle.session_frames.specs.Reader.{Reading, FitsSession}
 
@@ -16,11 +14,6 @@ use Rattle.session_frames.specs.Reader.{Reading, FitsSession}
 abbrev pub fault_in : BodyError → Option FrameFault
 fault_in (Fault fault) = Some fault
 fault_in Memory = None
-
--- the atoms of a frame have no fault: commands have none
-abbrev pub HasSoundBody : Frame → Type 0
-HasSoundBody (Log frame) = HasSoundAtoms frame
-HasSoundBody _ = Unit {0}
 
 -- the call answers what stands next in what is left
 abbrev pub FindsNext : {Slice : Type 0}

@@ -9,7 +9,7 @@ use Rattle.atom_record.specs.Id.{IsAtomId}
 use Rattle.atom_record.specs.AtomSound.{HasNoFault}
 use Rattle.session_frames.specs.declared.frame.Frame.{Frame}
 use Rattle.session_frames.specs.declared.frame.Frame.TheVariants.{Log}
-use Rattle.session_frames.specs.FrameLimits.{hour, most_atoms}
+use Rattle.session_frames.specs.FrameLimits.{first_late_time, most_atoms}
 use Rattle.session_frames.specs.FrameReading.{log_time}
 
 -- an atom that a recorded pull of an id may hold
@@ -29,7 +29,7 @@ HasSoundAtoms (Pull at id outcome) = IsAtomId id × IsOutcome id outcome
 
 -- A frame of the log has no fault, but for times that fall.
 pub record IsFaultlessLog (frame : LogFrame) : Type 0 where
-  pub timely : log_time frame < hour
+  pub timely : log_time frame < first_late_time
   pub atoms : HasSoundAtoms frame
 
 -- a frame has no fault, but for times that fall

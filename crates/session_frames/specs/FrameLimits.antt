@@ -9,10 +9,6 @@ most_body = 1048576
 abbrev pub most_input : ℕ
 most_input = 1073741824
 
--- log times stay below an hour, in nanoseconds
-abbrev pub hour : ℕ
-hour = 3600000000000
-
 -- the first number of nanoseconds that is too late to be a time
 abbrev pub first_late_time : ℕ
 first_late_time = 2 ^ 63

@@ -18,7 +18,7 @@ use Rattle.session_frames.specs.declared.frame.FrameFault.{FrameFault}
 use Rattle.session_frames.specs.declared.frame.FrameFault.TheVariants.{BadLength, UnknownKind, BadBody, BadAtom, TimeBackwards}
 use Rattle.session_frames.specs.BodyReasons.{body_too_short, body_left_over, body_bad_flag, body_late, body_too_many_atoms}
 use Rattle.session_frames.specs.FrameKinds.{kind_tick, kind_atom, kind_pull, kind_install, kind_remove, kind_report}
-use Rattle.session_frames.specs.FrameLimits.{hour, first_late_time, most_atoms}
+use Rattle.session_frames.specs.FrameLimits.{first_late_time, most_atoms}
 
 -- the time of a frame of the log
 abbrev pub log_time : LogFrame → ℕ
@@ -145,15 +145,13 @@ frame_of_kind kind bytes =
     else if kind == kind_report then report_body bytes
     else Err (UnknownKind kind)
 
--- a frame of the log doesn't come before the clock, and stays below the hour
-abbrev pub in_time : ℕ → ℕ → Frame → Result Frame FrameFault
-in_time clock kind (Log frame) =
-    if nat_lt (log_time frame) clock then Err (TimeBackwards clock (log_time frame))
-    else if not (nat_lt (log_time frame) hour) then Err (UnknownKind kind)
-    else Ok (Log frame)
-in_time clock kind frame = Ok frame
+-- a frame of the log doesn't come before the clock
+abbrev pub in_time : ℕ → Frame → Result Frame FrameFault
+in_time clock (Log frame) =
+    if nat_lt (log_time frame) clock then Err (TimeBackwards clock (log_time frame)) else Ok (Log frame)
+in_time clock frame = Ok frame
 
 -- the frame that is a kind byte and its body, where the clock stands at a time
 abbrev pub frame_of : ℕ → List ℕ → Result Frame FrameFault
 frame_of clock [] = Err BadLength
-frame_of clock (kind ∷ body) = frame_of_kind kind body >>= in_time clock kind
+frame_of clock (kind ∷ body) = frame_of_kind kind body >>= in_time clock

@@ -9,7 +9,7 @@ use Rattle.session_frames.specs.declared.frame.SessionFault.{SessionFault}
 use Rattle.session_frames.specs.declared.frame.SessionFault.TheVariants.{TooManyFrames}
 use Rattle.session_frames.specs.FrameReading.{frame_of}
 use Rattle.session_frames.specs.SessionFaults.{session_fault}
-pub use Rattle.session_frames.specs.FrameLimits.{most_body, most_input, hour, most_atoms}
+pub use Rattle.session_frames.specs.FrameLimits.{most_body, most_input, first_late_time, most_atoms}
 pub use Rattle.session_frames.specs.FrameReading.{log_time}
 pub use Rattle.session_frames.specs.Faultless.{IsPulledAtom, IsOutcome, HasSoundAtoms, IsFaultlessLog, IsFaultless, IsInTime}
 

@@ -1,5 +1,5 @@
 //! One frame, read from the bytes of its content.
-ghost use Rattle.std.specs.Prelude.{◌≡◌, ◌≤◌, length, All, IfOk};
+ghost use Rattle.std.specs.Prelude.{◌≡◌, ◌<◌, ◌≤◌, length, All, IfOk};
 ghost use Rattle.std.specs.Int.{w16, w32, w64};
 ghost use Rattle.sd_base.specs.Reads.{GivesBy, many};
 ghost use Rattle.atom_record.specs.Id.{IsAtomId};
@@ -8,7 +8,8 @@ ghost use Rattle.atom_record.specs.AtomReading.{atom_at};
 ghost use Rattle.session_frames.specs.Faultless.{IsFaultless, IsInTime, IsPulledAtom, IsOutcome};
 ghost use Rattle.session_frames.specs.FrameReading as frames;
 ghost use Rattle.session_frames.specs.Frames.{clock_after};
-ghost use Rattle.session_frames.specs.Bodies.{fault_in, HasSoundBody};
+ghost use Rattle.session_frames.specs.FrameLimits.{first_late_time};
+ghost use Rattle.session_frames.specs.Bodies.{fault_in};
 
 use crate::frame::{
     ATOM, BAD_FLAG, INSTALL, LATE, LEFT_OVER, PULL, REMOVE, REPORT, TICK, TOO_MANY_ATOMS, TOO_SHORT,
@@ -19,9 +20,6 @@ use atom_record::{
 };
 use sd_base::{Seq, split_counted, split_u16, split_u32, split_u64};
 use std::alloc::{AllocError, Global};
-
-// Log times stay below an hour.
-const HOUR: u64 = 3_600_000_000_000;
 
 // The first time that is too late to be one.
 const FIRST_LATE_TIME: u64 = 1 << 63;
@@ -85,7 +83,8 @@ fn read_u64(bytes: &[u8]) -> Result<(u64, &[u8]), BodyError>
 // A time in nanoseconds.
 #[tactic(auto, unfolding(crate::specs::FrameReading::time_at))]
 fn read_time(bytes: &[u8]) -> Result<(u64, &[u8]), BodyError>
-    ensures { GivesBy fault_in (λ x. (x.0, x.1.now)) result (frames.time_at bytes.now) }
+    ensures exact { GivesBy fault_in (λ x. (x.0, x.1.now)) result (frames.time_at bytes.now) }
+    ensures early { IfOk result (λ x. x.0 < first_late_time) }
 {
     let (at, rest) = read_u64(bytes)?;
     if at >= FIRST_LATE_TIME {
@@ -120,7 +119,7 @@ fn expect_end(frame: Frame, rest: &[u8]) -> Result<Frame, BodyError>
 #[tactic(auto, unfolding(crate::specs::FrameReading::tick_body))]
 fn read_tick(body: &[u8]) -> Result<Frame, BodyError>
     ensures exact { GivesBy fault_in (λ frame. frame) result (frames.tick_body body.now) }
-    ensures sound { IfOk result HasSoundBody }
+    ensures sound { IfOk result IsFaultless }
 {
     let (at, rest) = read_time(body)?;
     expect_end(Frame::Log(LogFrame::Tick { at }), rest)
@@ -143,7 +142,7 @@ fn atom_of(alloc: Global, payload: &[u8]) -> Result<Atom, BodyError>
 #[tactic(auto, unfolding(crate::specs::FrameReading::atom_body))]
 fn read_atom(alloc: Global, body: &[u8]) -> Result<Frame, BodyError>
     ensures exact { GivesBy fault_in (λ frame. frame) result (frames.atom_body body.now) }
-    ensures sound { IfOk result HasSoundBody }
+    ensures sound { IfOk result IsFaultless }
 {
     let (at, rest) = read_time(body)?;
     let atom = atom_of(alloc, rest)?;
@@ -263,7 +262,7 @@ fn read_pull_id(bytes: &[u8]) -> Result<(u32, &[u8]), BodyError>
 #[tactic(auto, unfolding(crate::specs::FrameReading::pull_body))]
 fn read_pull(alloc: Global, body: &[u8]) -> Result<Frame, BodyError>
     ensures exact { GivesBy fault_in (λ frame. frame) result (frames.pull_body body.now) }
-    ensures sound { IfOk result HasSoundBody }
+    ensures sound { IfOk result IsFaultless }
 {
     let (at, rest) = read_time(body)?;
     let (id, rest) = read_pull_id(rest)?;
@@ -276,7 +275,7 @@ fn read_pull(alloc: Global, body: &[u8]) -> Result<Frame, BodyError>
 #[tactic(auto, unfolding(crate::specs::FrameReading::install_body))]
 fn read_install(alloc: Global, body: &[u8]) -> Result<Frame, BodyError>
     ensures exact { GivesBy fault_in (λ frame. frame) result (frames.install_body body.now) }
-    ensures sound { IfOk result HasSoundBody }
+    ensures sound { IfOk result IsFaultless }
 {
     let (uid, rest) = read_u32(body)?;
     let (id, rest) = read_u64(rest)?;
@@ -292,7 +291,7 @@ fn read_install(alloc: Global, body: &[u8]) -> Result<Frame, BodyError>
 #[tactic(auto, unfolding(crate::specs::FrameReading::remove_body))]
 fn read_remove(body: &[u8]) -> Result<Frame, BodyError>
     ensures exact { GivesBy fault_in (λ frame. frame) result (frames.remove_body body.now) }
-    ensures sound { IfOk result HasSoundBody }
+    ensures sound { IfOk result IsFaultless }
 {
     let (uid, rest) = read_u32(body)?;
     let (id, rest) = read_u64(rest)?;
@@ -307,7 +306,7 @@ fn read_remove(body: &[u8]) -> Result<Frame, BodyError>
 #[tactic(auto, unfolding(crate::specs::FrameReading::report_body))]
 fn read_report(body: &[u8]) -> Result<Frame, BodyError>
     ensures exact { GivesBy fault_in (λ frame. frame) result (frames.report_body body.now) }
-    ensures sound { IfOk result HasSoundBody }
+    ensures sound { IfOk result IsFaultless }
 {
     let (uid, rest) = read_u32(body)?;
     let (id, rest) = read_u64(rest)?;
@@ -323,7 +322,7 @@ fn read_report(body: &[u8]) -> Result<Frame, BodyError>
 // The frame of a kind that has this body.
 fn read_body(alloc: Global, kind: u8, body: &[u8]) -> Result<Frame, BodyError>
     ensures exact { GivesBy fault_in (λ frame. frame) result (frames.frame_of_kind kind body.now) }
-    ensures sound { IfOk result HasSoundBody }
+    ensures sound { IfOk result IsFaultless }
 {
     match kind {
         TICK => read_tick(body),
@@ -345,19 +344,16 @@ fn time_of(frame: &LogFrame) -> u64
     }
 }
 
-// The same frame, unless it is of the log and comes before the clock or after the hour.
-fn check_time(clock: u64, kind: u8, frame: Frame) -> Result<Frame, BodyError>
-    ensures exact { GivesBy fault_in (λ frame. frame) result (frames.in_time clock kind frame) }
-    ensures sound { HasSoundBody frame → IfOk result (λ f. IsFaultless f × IsInTime clock f) }
+// The same frame, unless it is of the log and comes before the clock.
+fn check_time(clock: u64, frame: Frame) -> Result<Frame, BodyError>
+    ensures exact { GivesBy fault_in (λ frame. frame) result (frames.in_time clock frame) }
+    ensures sound { IsFaultless frame → IfOk result (λ f. IsFaultless f × IsInTime clock f) }
 {
     match frame {
         Frame::Log(log) => {
             let at = time_of(&log);
             if at < clock {
                 return Err(BodyError::Fault(FrameFault::TimeBackwards(clock, at)));
-            }
-            if at >= HOUR {
-                return Err(BodyError::Fault(FrameFault::UnknownKind(kind)));
             }
             Ok(Frame::Log(log))
         }
@@ -374,7 +370,7 @@ pub fn read_frame(alloc: Global, clock: u64, content: &[u8]) -> Result<Frame, Bo
         return Err(BodyError::Fault(FrameFault::BadLength));
     };
     let frame = read_body(alloc, *kind, body)?;
-    check_time(clock, *kind, frame)
+    check_time(clock, frame)
 }
 
 /// The clock after a frame, where it stood at a time before it.

@@ -53,7 +53,7 @@ pub enum FrameFault {
     /// The frame's length is 0.
     #[error("bad length")]
     BadLength,
-    /// There is no such kind of frame, or a frame of this kind has a time of an hour or more.
+    /// There is no such kind of frame.
     #[error("unknown kind {0}")]
     UnknownKind(u8),
     /// The frame's body isn't of its kind's form, for one of the reasons below.
@@ -94,7 +94,7 @@ pub enum SessionFault {
     /// A frame's length is 0.
     #[error("bad length")]
     BadLength,
-    /// There is no such kind of frame, or a frame of this kind has a time of an hour or more.
+    /// There is no such kind of frame.
     #[error("unknown kind {0}")]
     UnknownKind(u8),
     /// A frame's body isn't of its kind's form, for one of the reasons above.

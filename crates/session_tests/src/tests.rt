@@ -1,9 +1,18 @@
 //! Sessions and what they leave, by tables of texts. All expected bytes were worked by hand.
+mod buckets;
+mod check;
+mod clients;
 mod commands;
+mod conditions;
 mod configs;
 mod faults;
+mod kept;
 mod large;
 mod limits;
+mod links;
+mod many;
+mod matchers;
+mod messages;
 mod notes;
 mod parts;
 mod run;

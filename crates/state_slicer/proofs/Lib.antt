@@ -1,2 +1,3 @@
 pub mod StampLemmas
-pub mod StateLemmas
+pub mod StateBookLemmas
+pub mod StateItemsLemmas

@@ -12,7 +12,7 @@ use Rattle.dim_table.specs.Table.{Table, keys, with_value_at, IsThere, IsNew, Ad
 use Rattle.dim_table.proofs.KeyLemmas.{Contains-from_place}
 use Rattle.book_meaning.specs.States.{no_state_known}
 use Rattle.state_slicer.specs.declared.states.Stamped.{Stamped}
-use Rattle.state_slicer.specs.StateTables.{current, current_table, IsStamped, blank, forgotten, put_back, IsTold}
+use Rattle.state_slicer.specs.StateTables.{current, current_table, IsStamped, blank, with_blanks, put_back, IsTold}
 
 module _ {K V W : Type 0} (value_of : V → W) where
   -- each row with what is made of its value
@@ -154,19 +154,19 @@ blank_front-there zero (row ∷ rows) less none = none-some row.1 none
 blank_front-there (suc n) [] less none = absurd (omega (arith, less))
 blank_front-there (suc n) (row ∷ rows) less none = blank_front-there n rows (omega (arith, less)) none
 
--- states that are forgotten are unknown
-put_back-forgotten_rows : {K : Type 0} (resets : ℕ) (rows : List (K × Stamped))
+-- blank states are unknown
+put_back-blank_rows : {K : Type 0} (resets : ℕ) (rows : List (K × Stamped))
     → valued (current 0) (map (λ row. (row.0, blank)) rows)
     ≡ map (λ row. (row.0, no_state_known)) (valued (current resets) rows)
-put_back-forgotten_rows resets [] = refl
-put_back-forgotten_rows resets (row ∷ rows) =
-    ap (λ l. (row.0, no_state_known) ∷ l) (put_back-forgotten_rows resets rows)
+put_back-blank_rows resets [] = refl
+put_back-blank_rows resets (row ∷ rows) =
+    ap (λ l. (row.0, no_state_known) ∷ l) (put_back-blank_rows resets rows)
 
-pub put_back-forgotten : (resets : ℕ) (table : Table (List Leaf) Stamped)
-    → current_table 0 (forgotten table) ≡ put_back (current_table resets table)
-put_back-forgotten resets table =
+pub put_back-with_blanks : (resets : ℕ) (table : Table (List Leaf) Stamped)
+    → current_table 0 (with_blanks table) ≡ put_back (current_table resets table)
+put_back-with_blanks resets table =
     ap (λ rows. record { rows = rows; bound = table.bound; dropped = table.dropped })
-    (put_back-forgotten_rows resets table.rows)
+    (put_back-blank_rows resets table.rows)
 
 -- a row was stamped before any reset
 abbrev is_first : {K : Type 0} → K × Stamped → Type 0
@@ -177,9 +177,9 @@ all_blank [] = All-nil is_first
 all_blank (row ∷ rows) = All-cons is_first (row.0, blank) (map (λ r. (r.0, blank)) rows) (omega arith)
     (all_blank rows)
 
-pub stamped-forgotten : (resets : ℕ) (table : Table (List Leaf) Stamped) → IsStamped resets table
-    → IsStamped 0 (forgotten table)
-stamped-forgotten resets table stamped = record { bound = stamped.bound; before = all_blank table.rows }
+pub stamped-with_blanks : (resets : ℕ) (table : Table (List Leaf) Stamped) → IsStamped resets table
+    → IsStamped 0 (with_blanks table)
+stamped-with_blanks resets table stamped = record { bound = stamped.bound; before = all_blank table.rows }
 
 -- one more reset makes all states unknown
 unknown-later : (resets : ℕ) (stamped : Stamped) → stamped.resets ≤ resets
@@ -202,13 +202,6 @@ pub put_back-later : (resets : ℕ) (table : Table (List Leaf) Stamped) → IsSt
 put_back-later resets table stamped =
     ap (λ rows. record { rows = rows; bound = table.bound; dropped = table.dropped })
     (put_back-later_rows resets table.rows stamped.before)
-
-pub stamped-later : (resets : ℕ) (table : Table (List Leaf) Stamped) → IsStamped resets table
-    → IsStamped (resets + 1) table
-stamped-later resets table stamped = record {
-  bound = stamped.bound;
-  before = λ k d less. let one = stamped.before k d less in omega (arith, one);
-}
 
 -- where a key stands, so does its row
 pub row_there : {K V : Type 0} (rows : List (K × V)) (place : ℕ) (key : K) → slice_get (keys_of rows) place ≡ Some key

@@ -29,8 +29,8 @@ abbrev pub blank : Stamped
 blank = record { state = no_state_known; resets = 0 }
 
 -- the table with all stamped states blank
-abbrev pub forgotten : Table (List Leaf) Stamped → Table (List Leaf) Stamped
-forgotten table = record table { rows = map (λ row. (row.0, blank)) table.rows }
+abbrev pub with_blanks : Table (List Leaf) Stamped → Table (List Leaf) Stamped
+with_blanks table = record table { rows = map (λ row. (row.0, blank)) table.rows }
 
 -- the table with all states unknown, and the same keys
 abbrev pub put_back : Table (List Leaf) ℤ → Table (List Leaf) ℤ

@@ -1,13 +1,13 @@
 //! The states that the log last gave, for the first ids of state atoms that come.
 ghost use Rattle.std.specs.Prelude.{◌≡◌, ◌≢◌, ◌<◌, ◌≤◌, ℕ, false, List, [], length, All, AllPairs, slice_get, Some, IfSome, IfNone, Contains, IsOk, OnOk, OnErr};
 ghost use Rattle.atom_record.specs.declared.log.LogFrame.{LogFrame};
-ghost use Rattle.dim_table.specs.Table.{keys, with_value_at, IsNew, IsTurnedAway};
+ghost use Rattle.dim_table.specs.Table.{keys};
 ghost use Rattle.bucket_meaning.specs.Kept.{count_in_u64};
-ghost use Rattle.book_meaning.specs.BookLimits.{most_state_ids, most_state_keys};
+ghost use Rattle.book_meaning.specs.BookLimits.{most_state_ids};
 ghost use Rattle.book_meaning.specs.States.{state_value, state_drops, dropped_state_atoms, state_atom_ids, tells_state};
 
 use crate::states::IdStates;
-use crate::told::{UNKNOWN, tells_state};
+use crate::told::{UNKNOWN, has_state};
 use atom_record::{Atom, DimKey};
 use dim_table::Guarded;
 use std::alloc::{AllocError, Global};
@@ -19,25 +19,24 @@ pub const MAX_IDS: usize = 256;
 /// For each of the first ids of state atoms, the state that was last told for each of its first keys.
 #[derive(Drop)]
 pub struct StateBook {
-    ids: Guarded<u64, IdStates>,
-    alloc: Global,
+    pub(crate) ids: Guarded<u64, IdStates>,
+    pub(crate) alloc: Global,
 }
 
 impl Model for StateBook {
     ghost use Rattle.std.specs.Prelude.{◌≡◌, ℕ, ℤ, List};
     ghost use Rattle.atom_record.specs.declared.value.Leaf.{Leaf};
     ghost use Rattle.dim_table.specs.Table.{Table};
-    ghost use Rattle.book_meaning.specs.BookLimits.{most_state_ids};
+    ghost use Rattle.state_slicer.specs.StateItems.{IsStateTable};
 
     ghost Value = { Table ℕ (Table (List Leaf) ℤ) };
 
     ghost view = { λ b. b.ids };
 
-    ghost invariant = { λ b. b.ids.bound ≡ most_state_ids };
+    ghost invariant = { λ b. IsStateTable b.ids };
 }
 
 impl StateBook {
-    ghost use Rattle.state_slicer.specs.StateTables.{TakesAtom};
     ghost use Rattle.state_slicer.specs.StateBooks.{StateBookStandsFor, AppliesAtom, IsTakenAt, IsTakenFirst, IsAtId};
 
     /// A book with no state. It takes no memory yet.
@@ -58,7 +57,7 @@ impl StateBook {
         ensures no_state { tells_state atom.now ≡ false → IsOk result }
         ensures err { OnErr result (self.new ≡ self.old) }
     {
-        if !tells_state(atom) {
+        if !has_state(atom) {
             return Ok(());
         }
         match self.ids.place_of(&u64::from(atom.id)) {
@@ -116,7 +115,7 @@ impl StateBook {
         let Some(states) = self.states_of(atom_id) else {
             return 0;
         };
-        states.dropped()
+        states.drops()
     }
 
     /// How many state atoms have had an id that finds no room. The count stands still at the end of its type.

@@ -2,6 +2,7 @@
 #![tactic(auto)]
 
 mod book;
+mod flat;
 mod slices;
 mod states;
 mod told;

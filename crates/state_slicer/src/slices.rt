@@ -11,7 +11,7 @@ use config_links::{LGroup, LState};
 const NO_GROUP: i32 = -1;
 
 // Whether a group lists a value.
-fn lists_value(group: &LGroup, value: i32) -> bool
+fn has_value(group: &LGroup, value: i32) -> bool
     ensures { result ≡ lists_value value group.now }
 {
     group
@@ -26,7 +26,7 @@ fn first_group(groups: &[LGroup], value: i32) -> Option<&LGroup>
     ensures { option_copied result ≡ find (lists_value value) groups.now }
 {
     for group in groups {
-        if lists_value(group, value) {
+        if has_value(group, value) {
             return Some(group);
         }
     }

@@ -1,12 +1,12 @@
 //! The states of one id: a state for each key, for the first keys that came.
-ghost use Rattle.std.specs.Prelude.{◌≡◌, ◌≤◌, ℕ, [], length, map, slice_get, Some, All, IsOk, OnOk, OnErr, Contains};
-ghost use Rattle.atom_record.specs.Flags.{is_primary};
+ghost use Rattle.std.specs.Prelude.{◌≡◌, ◌≢◌, ◌≤◌, ◌↔◌, [], length, map, slice_get, Some, All, AllPairs, IsTrue, OnOk, OnErr, Contains};
+ghost use Rattle.std.specs.Option.{option_map};
 ghost use Rattle.dim_table.specs.Table.{keys, with_value_at};
 ghost use Rattle.book_meaning.specs.BookLimits.{most_state_keys};
 ghost use Rattle.book_meaning.specs.States.{no_state_known};
-ghost use Rattle.state_slicer.specs.StateTables.{current, forgotten};
+ghost use Rattle.state_slicer.specs.StateTables.{current, with_blanks};
 
-use crate::told::{UNKNOWN, primary_key, puts_back, told_state};
+use crate::told::{UNKNOWN, key_of, read_state, resets_states};
 use atom_record::{Atom, DimKey};
 use dim_table::Guarded;
 use std::alloc::{AllocError, Global};
@@ -44,7 +44,7 @@ impl Model for IdStates {
 }
 
 // The state that is still known after so many resets.
-fn current(stamped: &Stamped, resets: u16) -> i32
+fn known_state(stamped: &Stamped, resets: u16) -> i32
     ensures { result ≡ current resets stamped.now }
 {
     if stamped.resets == resets {
@@ -56,7 +56,7 @@ fn current(stamped: &Stamped, resets: u16) -> i32
 
 // Makes the state of each key unknown, as after no reset.
 fn forget_all(table: &mut Guarded<DimKey, Stamped>)
-    ensures { table.new ≡ forgotten table.old }
+    ensures { table.new ≡ with_blanks table.old }
 {
     let count = table.len();
     for place in 0..count {
@@ -77,8 +77,15 @@ impl IdStates {
     pub fn new(alloc: Global) -> IdStates
         ensures { result ≡ record { rows = []; bound = most_state_keys; dropped = 0 } }
     {
+        IdStates::restore(alloc, 0)
+    }
+
+    /// No key, and so many atoms whose key found no room. It takes no memory yet.
+    pub fn restore(alloc: Global, dropped: u64) -> IdStates
+        ensures { result ≡ record { rows = []; bound = most_state_keys; dropped = dropped } }
+    {
         IdStates {
-            keys: Guarded::new(alloc, MAX_STATE_KEYS),
+            keys: Guarded::restore(alloc, MAX_STATE_KEYS, dropped),
             resets: 0,
         }
     }
@@ -88,12 +95,12 @@ impl IdStates {
         ensures taken { OnOk result (TakesAtom self.old self.new atom.now) }
         ensures err { OnErr result (self.new ≡ self.old) }
     {
-        if puts_back(atom) {
+        if resets_states(atom) {
             self.reset();
             return Ok(());
         }
-        let key = primary_key(alloc, atom)?;
-        self.tell(key, told_state(atom))
+        let key = key_of(alloc, atom)?;
+        self.tell(key, read_state(atom))
     }
 
     // Makes the states of all keys unknown.
@@ -133,8 +140,8 @@ impl IdStates {
         *stamped = Stamped { state, resets };
     }
 
-    // Gives a new key a place after the others, or counts it.
-    fn append(&mut self, key: DimKey, state: i32) -> Result<(), AllocError>
+    /// Gives a new key a place after the others, or counts it.
+    pub fn append(&mut self, key: DimKey, state: i32) -> Result<(), AllocError>
         requires { ¬ Contains (keys self.old) key }
         ensures told { OnOk result (IsTold self.old self.new key state) }
         ensures err { OnErr result (self.new ≡ self.old) }
@@ -155,11 +162,36 @@ impl IdStates {
         let Some((_key, stamped)) = self.keys.pair(place) else {
             return UNKNOWN;
         };
-        current(stamped, self.resets)
+        known_state(stamped, self.resets)
+    }
+
+    /// Whether a key is there.
+    pub fn has(&self, key: &DimKey) -> bool
+        ensures { IsTrue result ↔ Contains (keys self.now) key.now }
+    {
+        self.keys.place_of(key).is_some()
+    }
+
+    /// The key at a place with its state, or none past the end.
+    pub fn pair(&self, place: usize) -> Option<(&DimKey, i32)>
+        ensures { option_map (λ row. (row.0.now, row.1)) result ≡ slice_get self.now.rows place }
+    {
+        let (key, stamped) = self.keys.pair(place)?;
+        Some((key, known_state(stamped, self.resets)))
+    }
+
+    /// The number of keys.
+    pub fn len(&self) -> usize
+        ensures value { result ≡ length self.now.rows }
+        ensures bound { self.now.bound ≡ most_state_keys }
+        ensures within { result ≤ most_state_keys }
+        ensures distinct { AllPairs (λ one other. one ≢ other) (keys self.now) }
+    {
+        self.keys.len()
     }
 
     /// How many atoms had a key that found no room.
-    pub fn dropped(&self) -> u64
+    pub fn drops(&self) -> u64
         ensures { result ≡ self.now.dropped }
     {
         self.keys.dropped()

@@ -13,7 +13,7 @@ use std::alloc::{AllocError, Global};
 pub const UNKNOWN: i32 = -1;
 
 // The number that a value holds, if it is an Int.
-fn int_or_unknown(value: &Value) -> i32
+fn read_int(value: &Value) -> i32
     ensures { result ≡ int_or_unknown value.now }
 {
     match value {
@@ -35,24 +35,24 @@ fn exclusive_entry(entries: &[AtomField]) -> Option<&AtomField>
 }
 
 /// Whether an atom tells a state: it has an exclusive entry. One look at the flags of each entry.
-pub fn tells_state(atom: &Atom) -> bool
+pub fn has_state(atom: &Atom) -> bool
     ensures { result ≡ tells_state atom.now }
 {
     exclusive_entry(atom.fields.as_slice()).is_some()
 }
 
 /// The state that an atom tells.
-pub fn told_state(atom: &Atom) -> i32
+pub fn read_state(atom: &Atom) -> i32
     ensures { result ≡ told_state atom.now }
 {
     match exclusive_entry(atom.fields.as_slice()) {
-        Some(entry) => int_or_unknown(&entry.value),
+        Some(entry) => read_int(&entry.value),
         None => UNKNOWN,
     }
 }
 
 /// Whether an atom puts all states of its id back.
-pub fn puts_back(atom: &Atom) -> bool
+pub fn resets_states(atom: &Atom) -> bool
     ensures { result ≡ puts_back atom.now }
 {
     atom.fields
@@ -77,7 +77,7 @@ fn primary_values(alloc: Global, entries: &[AtomField], room: usize) -> Result<D
 }
 
 /// The key of a state atom: the values of its primary entries. It takes no more room than these.
-pub fn primary_key(alloc: Global, atom: &Atom) -> Result<DimKey, AllocError>
+pub fn key_of(alloc: Global, atom: &Atom) -> Result<DimKey, AllocError>
     ensures { IfOk result (λ key. key ≡ primary_key atom.now) }
 {
     let entries = atom.fields.as_slice();

@@ -1,4 +1,5 @@
 //! All rows were worked by hand.
 mod atoms;
+mod bounds;
 mod slices;
 mod states;

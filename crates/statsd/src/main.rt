@@ -6,7 +6,7 @@ ghost use Rattle.std.specs.Process.{exit_status};
 ghost use Rattle.std.specs.Vec.Iter.{into_iter_items};
 ghost use Rattle.std.specs.IoError.{error_kind};
 ghost use Rattle.sd_io.specs.Causes.{Rose};
-ghost use Rattle.statsd_cli.specs.Run.{status_read_fault, status_write_fault};
+ghost use Rattle.statsd_cli.specs.Endings.{status_read_fault, status_write_fault};
 ghost use Rattle.statsd.specs.Program.{streams, EndsOn, IsRefused};
 
 use atom_record::Bytes;

@@ -23,10 +23,11 @@ use Rattle.matcher_eval.specs.AtomTests.{matcher_holds}
 use Rattle.hub_meaning.specs.ClientAnswers.{reply_to, text}
 use Rattle.hub_meaning.proofs.ClientAnswerLaws.{text-push}
 use Rattle.hub_core.specs.declared.hub.Hub.{Hub}
-use Rattle.statsd_cli.specs.declared.top.Ending.{Ending}
-use Rattle.statsd_cli.specs.declared.top.Ending.TheVariants.{Done, BadSession, ReadFault, WriteFault, NoMemory}
+use Rattle.statsd_cli.specs.declared.ending.Ending.{Ending}
+use Rattle.statsd_cli.specs.declared.ending.Ending.TheVariants.{Done, Refused, BadSession, ReadFault, WriteFault, NoMemory}
 use Rattle.hub_core.specs.HubStands.{HubStandsFor}
-use Rattle.statsd_cli.specs.Run.{IsBadSession, IsRun, status_of, reply_text, IsServed, ending_by}
+use Rattle.statsd_cli.specs.Endings.{status_of}
+use Rattle.statsd_cli.specs.Run.{IsBadSession, IsRun, reply_text, IsServed, ending_by}
 
 -- A run under way: these frames were served, of the bytes taken.
 pub record IsAlong (left_old left_new old new : Option (List ℕ)) (reader : Reading) (hub : Hub FieldJudge) : Type 0
@@ -140,8 +141,8 @@ module _ (lo ln o n : Option (List ℕ)) (reader : Reading) (hub : Hub FieldJudg
         frames = a.frames;
         session = frames_of-Reads (a.taken ++ taken) a.frames (Bad at fault) (within_all taken h.within)
             (subst (λ all. Reads start (a.taken ++ taken) all (Bad at fault)) (append-nil a.frames)
-            (Reads-from_Begins start (a.taken ++ taken) a.frames reader.place (reader.pending ++ taken) [] (Bad at fault)
-            (further taken) (h.placed, h.broken)));
+            (Reads-from_Begins start (a.taken ++ taken) a.frames reader.place (reader.pending ++ taken) []
+            (Bad at fault) (further taken) (h.placed, h.broken)));
         whole = inr h.at_end;
         written = a.written;
       };
@@ -263,6 +264,7 @@ module _ (lo ln o n : Option (List ℕ)) (reader : Reading) (hub : Hub FieldJudg
       -- the frame wasn't served
       pub ends_in_serve : (ending : Ending) → IsServed n m a.frames frame (Err ending) → IsRun lo lm o m ending
       ends_in_serve Done served = absurd served
+      ends_in_serve Refused served = absurd served
       ends_in_serve (BadSession at fault) served = absurd served
       ends_in_serve ReadFault served = absurd served
       ends_in_serve WriteFault served =
@@ -362,6 +364,7 @@ module _ (left_new o n : Option (List ℕ)) (status read_before read_now write_b
       → (frames : List Frame) → frames_of bytes frames Clean → (Rose read_before read_now → ⊥)
       → (Rose write_before write_now → ⊥) → (status ≡ 0) ⊎ (status ≡ 6)
   complete_at bytes Done is run reads writes frames good no_read no_write = inl is
+  complete_at bytes Refused is run reads writes frames good no_read no_write = absurd run.outcome
   complete_at bytes (BadSession at fault) is run reads writes frames good no_read no_write =
       absurd (good_isnt_bad bytes left_new o n at fault frames run good)
   complete_at bytes ReadFault is run reads writes frames good no_read no_write = absurd (no_read (reads refl))

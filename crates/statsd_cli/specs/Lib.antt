@@ -1,2 +1,5 @@
 pub mod Note
+pub mod Endings
+pub mod Words
 pub mod Run
+pub mod Check

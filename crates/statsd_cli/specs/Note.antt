@@ -3,7 +3,7 @@ use Rattle.std.specs.Prelude.{ℕ, List, ◌++◌, codes, decimal}
 use Rattle.session_frames.specs.declared.frame.SessionFault.{SessionFault}
 use Rattle.session_frames.specs.declared.frame.SessionFault.TheVariants.{Cut, TooLong, BadLength, UnknownKind, BadBody, BadAtom, TimeBackwards, TooManyFrames}
 use Rattle.statsd_cli.specs.declared.note.Note.{Note}
-use Rattle.statsd_cli.specs.declared.note.Note.TheVariants.{Usage, BadSession, ReadFault, WriteFault, NoMemory}
+use Rattle.statsd_cli.specs.declared.note.Note.TheVariants.{Usage, Refused, BadSession, ReadFault, WriteFault, NoMemory}
 
 -- a fault of a session: its number, its name, and the values that it has
 abbrev pub fault_text : SessionFault → List ℕ
@@ -19,6 +19,7 @@ fault_text TooManyFrames = codes "8 too many frames"
 -- a note, with its newline
 abbrev pub note_line : Note → List ℕ
 note_line Usage = codes "statsd: usage: replay | check | load SEED FRAMES\n"
+note_line Refused = codes "statsd: configuration refused\n"
 note_line (BadSession at fault) =
     codes "statsd: bad session at " ++ decimal at ++ codes ": " ++ fault_text fault ++ codes "\n"
 note_line ReadFault = codes "statsd: read fault\n"

@@ -13,6 +13,8 @@ use session_frames::SessionFault;
 pub enum Note {
     /// The words are none that the program takes.
     Usage,
+    /// The configuration that was checked is refused.
+    Refused,
     /// The session has this fault, at a frame whose first byte has this offset.
     BadSession { at: u64, fault: SessionFault },
     /// The input failed.
@@ -39,6 +41,7 @@ fn line_of(note: &Note) -> Line
 {
     match note {
         Note::Usage => line("statsd: usage: replay | check | load SEED FRAMES\n"),
+        Note::Refused => line("statsd: configuration refused\n"),
         Note::BadSession { at, fault } => bad_session(*at, fault),
         Note::ReadFault => line("statsd: read fault\n"),
         Note::WriteFault => line("statsd: write fault\n"),

@@ -1,5 +1,5 @@
-//! The top call, and the run of a session.
-ghost use Rattle.std.specs.Prelude.{◌≡◌, ◌≤◌, ◌⊎◌, ◌↔◌, List, IfSome, IsTrue, Err};
+//! The top call, the run of a session, and the check of a configuration.
+ghost use Rattle.std.specs.Prelude.{◌≡◌, ◌≤◌, ◌⊎◌, ◌↔◌, [], ◌∷◌, List, take, IfSome, IsTrue, Result, Ok, Err};
 ghost use Rattle.sd_io.specs.Causes.{Rose};
 ghost use Rattle.session_frames.specs.declared.frame.Frame.{Frame};
 ghost use Rattle.session_frames.specs.Frames.{Clean, frames_of, IsFaultless, IsInTime};
@@ -7,53 +7,29 @@ ghost use Rattle.matcher_eval.specs.AtomTests.{matcher_holds};
 ghost use Rattle.hub_meaning.specs.SessionLog.{clock_of};
 ghost use Rattle.hub_core.specs.HubStands.{HubStandsFor};
 ghost use Rattle.statsd_cli.specs.declared.note.Note.TheVariants as notes_told;
-ghost use Rattle.statsd_cli.specs.declared.top.Ending.{Ending};
-ghost use Rattle.statsd_cli.specs.Run.{IsReplay, status_of, status_done, status_usage, status_read_fault, status_write_fault, status_no_memory, note_of, IsNoted, IsRun, IsServed, ending_by};
+ghost use Rattle.config_check.specs.declared.error.CheckError.{CheckError};
+ghost use Rattle.config_check.specs.declared.finding.Finding.{Finding};
+ghost use Rattle.config_check.specs.Findings.{finding_of};
+ghost use Rattle.config_check.specs.Checks.{most_taken, Checks};
+ghost use Rattle.statsd_cli.specs.declared.ending.Ending.{Ending};
+ghost use Rattle.statsd_cli.specs.Words.{IsReplay, IsCheck, IsCommand};
+ghost use Rattle.statsd_cli.specs.Endings.{status_of, status_done, status_usage, status_read_fault, status_write_fault, status_no_memory, note_of, IsNoted};
+ghost use Rattle.statsd_cli.specs.Run.{IsRun, IsServed, ending_by};
+ghost use Rattle.statsd_cli.specs.Check.{ending_found, check_ending};
 
+use crate::ending::{Ending, STATUS_USAGE, finish};
 use crate::note::{Note, write_note};
 use atom_record::Bytes;
+use config_check::{CheckError, Finding, check_config};
 use hub_core::Hub;
 use matcher_eval::FieldJudge;
 use sd_io::{Sink, Source};
-use session_frames::{Frame, FrameError, FrameReader, SessionFault, write_reply};
+use session_frames::{Frame, FrameError, FrameReader, write_reply};
 use std::alloc::Global;
 
-/// How the run of a session ended.
-#[derive(Clone, Copy, Debug, PartialEq, Eq)]
-pub enum Ending {
-    /// The input ended at a frame's end.
-    Done,
-    /// The session has this fault, at a frame whose first byte has this offset.
-    BadSession { at: u64, fault: SessionFault },
-    /// The input failed.
-    ReadFault,
-    /// The output failed.
-    WriteFault,
-    /// Memory was wanting.
-    NoMemory,
-}
-
-/// The session was answered to its end.
-pub const STATUS_DONE: u8 = 0;
-
-/// The words are none that the program takes.
-pub const STATUS_USAGE: u8 = 2;
-
-/// The session has a fault.
-pub const STATUS_BAD_SESSION: u8 = 3;
-
-/// The input failed.
-pub const STATUS_READ_FAULT: u8 = 4;
-
-/// The output failed.
-pub const STATUS_WRITE_FAULT: u8 = 5;
-
-/// Memory was wanting.
-pub const STATUS_NO_MEMORY: u8 = 6;
-
 /// Runs what the words ask for, and gives the program's status. The words are those of the command line without the
-/// program's name; the one command is `replay`, which answers the session on `input` on `out`. Why it ended with
-/// another status than 0 is told in one line on `notes`.
+/// program's name. `replay` answers the session on `input` on `out`; `check` tells on `out`, in one line, whether the
+/// configuration on `input` has a fault. Why it ended with another status than 0 is told in one line on `notes`.
 pub fn statsd_top<S: Source, K: Sink, E: Sink>(
     alloc: Global,
     words: &[Bytes],
@@ -67,9 +43,16 @@ pub fn statsd_top<S: Source, K: Sink, E: Sink>(
         × IsNoted (E.written notes.old) (E.written notes.new) (E.faults notes.old) (E.faults notes.new)
         (note_of ending) }
 
+    // A configuration is checked, and the status says whether it is refused.
+    ensures check { IsCheck words.now → (answer : Result Finding CheckError)
+        × (result ≡ status_of (check_ending answer))
+        × Checks (S.left input.old) (S.left input.new) (K.written out.old) (K.written out.new) answer
+        × IsNoted (E.written notes.old) (E.written notes.new) (E.faults notes.old) (E.faults notes.new)
+        (note_of (check_ending answer)) }
+
     // Other words are refused, and nothing is read or written but the note.
-    ensures usage { (result ≡ status_usage) ↔ (IsReplay words.now → ⊥) }
-    ensures untouched { (IsReplay words.now → ⊥) → (input.new ≡ input.old) × (out.new ≡ out.old)
+    ensures usage { (result ≡ status_usage) ↔ (IsCommand words.now → ⊥) }
+    ensures untouched { (IsCommand words.now → ⊥) → (input.new ≡ input.old) × (out.new ≡ out.old)
         × IsNoted (E.written notes.old) (E.written notes.new) (E.faults notes.old) (E.faults notes.new)
         (Some notes_told.Usage) }
 
@@ -85,62 +68,69 @@ pub fn statsd_top<S: Source, K: Sink, E: Sink>(
         → (Rose (S.faults input.old) (S.faults input.new) → ⊥)
         → (Rose (K.faults out.old) (K.faults out.new) → ⊥)
         → (result ≡ status_done) ⊎ (result ≡ status_no_memory)) }
+
+    // Each configuration is judged by its first bytes, unless the outside fails or memory is wanting.
+    ensures complete_check { IsCheck words.now → IfSome (S.left input.old) (λ bytes.
+        (Rose (S.faults input.old) (S.faults input.new) → ⊥)
+        → (Rose (K.faults out.old) (K.faults out.new) → ⊥)
+        → (result ≡ status_of (ending_found (finding_of (take most_taken bytes))))
+        ⊎ (result ≡ status_no_memory)) }
 {
-    if !is_replay(words) {
-        let _ = write_note(&Note::Usage, notes);
-        return STATUS_USAGE;
+    if is_replay(words) {
+        return finish(&replay(alloc, input, out), notes);
     }
-    let ending = replay(alloc, input, out);
-    tell(&ending, notes);
-    status(&ending)
+    if is_check(words) {
+        return finish(&check(alloc, input, out), notes);
+    }
+    let _ = write_note(&Note::Usage, notes);
+    STATUS_USAGE
 }
 
 /// The words are `replay` alone.
 fn is_replay(words: &[Bytes]) -> bool
     ensures { IsTrue result ↔ IsReplay words.now }
 {
+    is_just(words, b"replay")
+}
+
+/// The words are `check` alone.
+fn is_check(words: &[Bytes]) -> bool
+    ensures { IsTrue result ↔ IsCheck words.now }
+{
+    is_just(words, b"check")
+}
+
+/// There is one word, and it has these bytes.
+fn is_just(words: &[Bytes], bytes: &[u8]) -> bool
+    ensures { IsTrue result ↔ (words.now ≡ bytes.now ∷ []) }
+{
     match words {
-        [word] => word.as_slice() == b"replay".as_slice(),
+        [word] => word.as_slice() == bytes,
         _ => false,
     }
 }
 
-/// The status of an ending.
-fn status(ending: &Ending) -> u8
-    ensures { result ≡ status_of ending.now }
+/// Checks the configuration on the input, and tells on the output what was found.
+fn check<S: Source, K: Sink>(alloc: Global, input: &mut S, out: &mut K) -> Ending
+    ensures check { (answer : Result Finding CheckError) × (result ≡ check_ending answer)
+        × Checks (S.left input.old) (S.left input.new) (K.written out.old) (K.written out.new) answer }
+    ensures read_fault { result ≡ Ending.ReadFault
+        → Rose (S.faults input.old) (S.faults input.new) }
+    ensures write_fault { result ≡ Ending.WriteFault → Rose (K.faults out.old) (K.faults out.new) }
 {
-    match ending {
-        Ending::Done => STATUS_DONE,
-        Ending::BadSession { .. } => STATUS_BAD_SESSION,
-        Ending::ReadFault => STATUS_READ_FAULT,
-        Ending::WriteFault => STATUS_WRITE_FAULT,
-        Ending::NoMemory => STATUS_NO_MEMORY,
-    }
+    ending_after(&check_config(alloc, input, out))
 }
 
-/// What is told of an ending.
-fn note_on(ending: &Ending) -> Option<Note>
-    ensures { result ≡ note_of ending.now }
+/// How a check ends, by its answer.
+fn ending_after(answer: &Result<Finding, CheckError>) -> Ending
+    ensures { result ≡ check_ending answer.now }
 {
-    match ending {
-        Ending::Done => None,
-        Ending::BadSession { at, fault } => Some(Note::BadSession {
-            at: *at,
-            fault: *fault,
-        }),
-        Ending::ReadFault => Some(Note::ReadFault),
-        Ending::WriteFault => Some(Note::WriteFault),
-        Ending::NoMemory => Some(Note::NoMemory),
-    }
-}
-
-/// Tells how a run ended. A note that fails changes nothing.
-fn tell<E: Sink>(ending: &Ending, notes: &mut E)
-    ensures { IsNoted (E.written notes.old) (E.written notes.new)
-        (E.faults notes.old) (E.faults notes.new) (note_of ending.now) }
-{
-    if let Some(note) = note_on(ending) {
-        let _ = write_note(&note, notes);
+    match answer {
+        Ok(Finding::Sound(_)) => Ending::Done,
+        Ok(_) => Ending::Refused,
+        Err(CheckError::Read) => Ending::ReadFault,
+        Err(CheckError::Write) => Ending::WriteFault,
+        Err(CheckError::Memory) => Ending::NoMemory,
     }
 }
 

@@ -38,7 +38,7 @@ fn finds_faults_of_lengths_and_ticks(rt: HostRuntime) -> Result<(), Fail> {
         (b"\x01\0\x10\0", "too long: 1048577 bytes"),
         (b"\0\0\x10\0", "cut"),
         (b"\x01\0\0\0\x09", "unknown kind 9"),
-        // Ticks: a byte short, a byte over, a late time before it, the clock, the byte over before the clock, the hour.
+        // Ticks: a byte short, a byte over, a late time before it, the clock, the byte over before the clock, 2^63.
         (b"\x08\0\0\0\x01\x03\0\0\0\0\0\0", "bad body 1"),
         (b"\x0a\0\0\0\x01\x03\0\0\0\0\0\0\0\0", "bad body 2"),
         (b"\x0a\0\0\0\x01\0\0\0\0\0\0\0\x80\0", "bad body 4"),
@@ -47,10 +47,7 @@ fn finds_faults_of_lengths_and_ticks(rt: HostRuntime) -> Result<(), Fail> {
             "time backwards: 2 after 3",
         ),
         (b"\x0a\0\0\0\x01\x02\0\0\0\0\0\0\0\0", "bad body 2"),
-        (
-            b"\x09\0\0\0\x01\0\xa0\xb8\x30\x46\x03\0\0",
-            "unknown kind 1",
-        ),
+        (b"\x09\0\0\0\x01\0\0\0\0\0\0\0\x80", "bad body 4"),
     ];
     for (after, fault) in rows {
         assert!(rt; breaks(rt.alloc(), after, fault)?, "at {after:?}");
@@ -88,15 +85,12 @@ fn finds_faults_of_atoms(rt: HostRuntime) -> Result<(), Fail> {
             b"\x16\0\0\0\x02\x03\0\0\0\0\0\0\0\x05\0\0\0\x01\0\0\x08\x01\x07\0\0\0",
             "bad atom 7",
         ),
-        // The clock, and the hour.
+        // The clock, and 2^63.
         (
             b"\x16\0\0\0\x02\x02\0\0\0\0\0\0\0\x05\0\0\0\x01\0\0\0\x01\x07\0\0\0",
             "time backwards: 2 after 3",
         ),
-        (
-            b"\x0d\0\0\0\x02\0\xa0\xb8\x30\x46\x03\0\0\x05\0\0\0",
-            "unknown kind 2",
-        ),
+        (b"\x0d\0\0\0\x02\0\0\0\0\0\0\0\x80\x05\0\0\0", "bad body 4"),
     ];
     for (after, fault) in rows {
         assert!(rt; breaks(rt.alloc(), after, fault)?, "at {after:?}");
@@ -167,14 +161,14 @@ fn finds_faults_of_pulls(rt: HostRuntime) -> Result<(), Fail> {
             b"\x17\0\0\0\x03\x02\0\0\0\0\0\0\0\x11\x27\0\0\0\x01\0\x04\0\x11\x27\0\0\0",
             "bad body 2",
         ),
-        // The clock, and the hour.
+        // The clock, and 2^63 before an id out of range.
         (
             b"\x0e\0\0\0\x03\x02\0\0\0\0\0\0\0\x11\x27\0\0\x01",
             "time backwards: 2 after 3",
         ),
         (
-            b"\x0e\0\0\0\x03\0\xa0\xb8\x30\x46\x03\0\0\x11\x27\0\0\x01",
-            "unknown kind 3",
+            b"\x0e\0\0\0\x03\0\0\0\0\0\0\0\x80\0\0\0\0\x01",
+            "bad body 4",
         ),
     ];
     for (after, fault) in rows {

@@ -22,13 +22,17 @@ fn gives_the_same_frames_in_any_pieces(rt: HostRuntime) -> Result<(), Fail> {
 
 #[test]
 fn reads_each_kind_of_frame(rt: HostRuntime) -> Result<(), Fail> {
-    let rows: [(&[u8], &str); 12] = [
+    let rows: [(&[u8], &str); 13] = [
         (b"", "[]"),
-        // A tick, at the last nanosecond of the hour too.
+        // A tick, at an hour and at the last time that there is too.
         (b"\x09\0\0\0\x01\x03\0\0\0\0\0\0\0", "[Log(Tick { at: 3 })]"),
         (
-            b"\x09\0\0\0\x01\xff\x9f\xb8\x30\x46\x03\0\0",
-            "[Log(Tick { at: 3599999999999 })]",
+            b"\x09\0\0\0\x01\0\xa0\xb8\x30\x46\x03\0\0",
+            "[Log(Tick { at: 3600000000000 })]",
+        ),
+        (
+            b"\x09\0\0\0\x01\xff\xff\xff\xff\xff\xff\xff\x7f",
+            "[Log(Tick { at: 9223372036854775807 })]",
         ),
         // An atom with an entry.
         (

@@ -56,12 +56,14 @@ pub fn add_combination(
     all.bytes_field(number, bytes.as_slice())
 }
 
-/// The fields 1 to 127 with this position, and in each the fields 1 to 127 of a message.
-pub fn add_leaves(all: &mut Writer, alloc: Global, position: u64) -> Result<(), AllocError> {
+/// The fields 1 to 127 with this position, none where it is 0, and in each the fields 1 to 127 of a message.
+fn add_leaves(all: &mut Writer, alloc: Global, position: u64) -> Result<(), AllocError> {
     for field in 1..=127 {
         let mut one = Writer::new(alloc);
         one.varint_field(1, field)?;
-        one.varint_field(2, position)?;
+        if position != 0 {
+            one.varint_field(2, position)?;
+        }
         for sub in 1..=127 {
             one.bytes_field(3, &[8, sub])?;
         }
@@ -69,4 +71,30 @@ pub fn add_leaves(all: &mut Writer, alloc: Global, position: u64) -> Result<(), 
         all.bytes_field(3, bytes.as_slice())?;
     }
     Ok(())
+}
+
+/// A tree of the atom 5 with 16,129 leaves for each of these positions.
+pub fn wide_tree(alloc: Global, positions: &[u64]) -> Result<Vec<u8>, AllocError> {
+    let mut tree = Writer::new(alloc);
+    tree.varint_field(1, 5)?;
+    for position in positions {
+        add_leaves(&mut tree, alloc, *position)?;
+    }
+    Ok(tree.into_bytes())
+}
+
+/// A configuration with a matcher of the atom 5, and a predicate that it starts, with these dimensions.
+pub fn with_dims(alloc: Global, dims: &[u8]) -> Result<Writer, AllocError> {
+    let mut simple = Writer::new(alloc);
+    simple.varint_field(1, 1)?;
+    simple.bytes_field(6, dims)?;
+    let simple = simple.into_bytes();
+    let mut predicate = Writer::new(alloc);
+    predicate.varint_field(1, 11)?;
+    predicate.bytes_field(2, simple.as_slice())?;
+    let predicate = predicate.into_bytes();
+    let mut all = Writer::new(alloc);
+    all.bytes_field(7, b"\x08\x01\x12\x02\x08\x05")?;
+    all.bytes_field(8, predicate.as_slice())?;
+    Ok(all)
 }

@@ -69,7 +69,9 @@ fn names_the_fault(rt: HostRuntime) {
         ),
         (
             "a position ANY in a dimension",
-            b"\x3a\x06\x08\x01\x12\x02\x08\x05\x1a\x0e\x08\x64\x10\x01\x22\x08\x08\x05\x1a\x04\x08\x01\x10\x03",
+            b"\
+            \x3a\x06\x08\x01\x12\x02\x08\x05\x1a\x14\x08\x64\x10\x01\x22\x08\x08\x05\x1a\x04\x08\x01\x10\x03\
+            \x28\xe8\x07\xc8\x3e\x02",
             9,
             5,
             100,
@@ -100,14 +102,14 @@ fn names_the_fault(rt: HostRuntime) {
             -9,
         ),
         (
-            "a cycle of predicates behind one of matchers",
+            "a cycle of predicates after one of matchers",
             b"\x3a\x08\x08\x01\x1a\x04\x08\x03\x10\x01\x42\x08\x08\x0b\x1a\x04\x08\x03\x10\x0b",
             7,
             0,
             1,
         ),
         (
-            "a predicate without id, behind a good one",
+            "a predicate without id, after a good one",
             b"\x3a\x06\x08\x01\x12\x02\x08\x05\x42\x04\x08\x0b\x12\x00\x42\x02\x12\x00",
             2,
             2,

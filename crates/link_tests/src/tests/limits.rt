@@ -43,7 +43,7 @@ fn holds_as_many_entities_as_there_may_be(rt: HostRuntime) -> Result<(), Fail> {
 
 #[test]
 fn refuses_a_number_past_its_limit(rt: HostRuntime) {
-    let rows: [(&str, &[u8], u8, u8, i64); 9] = [
+    let rows: [(&str, &[u8], u8, u8, i64); 13] = [
         (
             "a predicate with a bound of 0",
             b"\x42\x07\x08\x0b\x12\x03\xc8\x3e\x00",
@@ -81,7 +81,7 @@ fn refuses_a_number_past_its_limit(rt: HostRuntime) {
         ),
         (
             "101 samples",
-            b"\x3a\x06\x08\x01\x12\x02\x08\x05\x2a\x08\x08\x64\x10\x01\x48\x04\x58\x65",
+            b"\x3a\x06\x08\x01\x12\x02\x08\x05\x2a\x0c\x08\x64\x10\x01\x1a\x02\x08\x01\x48\x04\x58\x65",
             1,
             7,
             101,
@@ -95,7 +95,7 @@ fn refuses_a_number_past_its_limit(rt: HostRuntime) {
         ),
         (
             "21 samples of 800 keys",
-            b"\x3a\x06\x08\x01\x12\x02\x08\x05\x2a\x08\x08\x64\x10\x01\x48\x04\x58\x15",
+            b"\x3a\x06\x08\x01\x12\x02\x08\x05\x2a\x0c\x08\x64\x10\x01\x1a\x02\x08\x01\x48\x04\x58\x15",
             1,
             8,
             16800,
@@ -106,6 +106,40 @@ fn refuses_a_number_past_its_limit(rt: HostRuntime) {
             1,
             8,
             16386,
+        ),
+        (
+            "a value with a bound of 3,001",
+            b"\
+            \x3a\x06\x08\x01\x12\x02\x08\x05\x22\x10\x08\x64\x10\x01\x1a\x06\x08\x05\x1a\x02\x08\x01\xc8\x3e\
+            \xb9\x17",
+            1,
+            6,
+            3001,
+        ),
+        (
+            "a gauge with a bound of 0",
+            b"\x3a\x06\x08\x01\x12\x02\x08\x05\x2a\x0b\x08\x64\x10\x01\x1a\x02\x08\x01\xc8\x3e\x00",
+            1,
+            6,
+            0,
+        ),
+        (
+            "a duration with a bound of 3,001",
+            b"\
+            \x3a\x06\x08\x01\x12\x02\x08\x05\x42\x0e\x08\x0b\x12\x0a\x08\x01\x32\x06\x08\x05\x1a\x02\x08\x01\
+            \x32\x08\x08\x64\x10\x0b\xc8\x3e\xb9\x17",
+            1,
+            6,
+            3001,
+        ),
+        (
+            "29 samples of 565 keys",
+            b"\
+            \x3a\x06\x08\x01\x12\x02\x08\x05\x2a\x10\x08\x64\x10\x01\x1a\x02\x08\x01\x48\x04\x58\x1d\xc8\x3e\
+            \xb5\x04",
+            1,
+            8,
+            16385,
         ),
     ];
     for (name, bytes, number, reason, value) in rows {
@@ -118,7 +152,7 @@ fn refuses_a_number_past_its_limit(rt: HostRuntime) {
 
 #[test]
 fn takes_a_number_at_its_limit(rt: HostRuntime) {
-    let rows: [(&str, &[u8]); 3] = [
+    let rows: [(&str, &[u8]); 6] = [
         (
             "20 samples of 800 keys",
             b"\x3a\x06\x08\x01\x12\x02\x08\x05\x2a\x0c\x08\x64\x10\x01\x1a\x02\x08\x01\x48\x04\x58\x14",
@@ -135,8 +169,50 @@ fn takes_a_number_at_its_limit(rt: HostRuntime) {
             \x3a\x06\x08\x01\x12\x02\x08\x05\x2a\x10\x08\x64\x10\x01\x1a\x02\x08\x01\x48\x04\x58\x04\xc8\x3e\
             \xb8\x17",
         ),
+        (
+            "8 samples of 2,048 keys",
+            b"\
+            \x3a\x06\x08\x01\x12\x02\x08\x05\x2a\x10\x08\x64\x10\x01\x1a\x02\x08\x01\x48\x04\x58\x08\xc8\x3e\
+            \x80\x10",
+        ),
+        (
+            "one sample of one key",
+            b"\x3a\x06\x08\x01\x12\x02\x08\x05\x2a\x0f\x08\x64\x10\x01\x1a\x02\x08\x01\x48\x04\x58\x01\xc8\x3e\x01",
+        ),
+        (
+            "a predicate with a bound of 1",
+            b"\x42\x07\x08\x0b\x12\x03\xc8\x3e\x01",
+        ),
     ];
     for (name, bytes) in rows {
         assert!(rt; is_linked(rt.alloc(), bytes), "{name}");
     }
+}
+
+#[test]
+fn names_the_first_count_past_its_limit(rt: HostRuntime) -> Result<(), Fail> {
+    let rows: [(&str, u8, u64, &[u8], u8, u64, &[u8], u8, i64); 3] = [
+        (
+            "matchers before predicates",
+            7,
+            801,
+            b"",
+            8,
+            301,
+            b"",
+            1,
+            801,
+        ),
+        ("predicates before states", 8, 301, b"", 21, 17, b"", 2, 301),
+        ("states before metrics", 21, 17, b"", 2, 101, b"", 3, 17),
+    ];
+    for (name, one, ones, rest, other, others, more, reason, found) in rows {
+        let past = entities(rt.alloc(), b"", other, others, more)?;
+        let both = entities(rt.alloc(), past.as_slice(), one, ones, rest)?;
+        assert!(rt;
+            is_refused(rt.alloc(), both.as_slice(), 1, reason, found),
+            "{name}"
+        );
+    }
+    Ok(())
 }

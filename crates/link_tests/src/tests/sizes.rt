@@ -1,6 +1,6 @@
 //! Configurations as large as they may be.
 
-use super::builds::{add_combination, add_leaves, times};
+use super::builds::{add_combination, times, wide_tree, with_dims};
 use super::compared::{is_linked, is_refused};
 use proto_wire::Writer;
 use std::alloc::{AllocError, Global};
@@ -48,24 +48,41 @@ fn links_300_predicates_that_name_two_others_twice(rt: HostRuntime) -> Result<()
 }
 
 #[test]
-fn links_48387_dimensions(rt: HostRuntime) -> Result<(), Fail> {
-    let mut dims = Writer::new(rt.alloc());
-    dims.varint_field(1, 5)?;
-    for position in [1, 2, 4] {
-        add_leaves(&mut dims, rt.alloc(), position)?;
-    }
-    let dims = dims.into_bytes();
-    let mut simple = Writer::new(rt.alloc());
-    simple.bytes_field(6, dims.as_slice())?;
-    let simple = simple.into_bytes();
-    let mut predicate = Writer::new(rt.alloc());
-    predicate.varint_field(1, 11)?;
-    predicate.bytes_field(2, simple.as_slice())?;
-    let predicate = predicate.into_bytes();
-    let mut all = Writer::new(rt.alloc());
-    all.bytes_field(8, predicate.as_slice())?;
+fn links_64516_dimensions(rt: HostRuntime) -> Result<(), Fail> {
+    let dims = wide_tree(rt.alloc(), &[0, 1, 2, 4])?;
+    let mut all = with_dims(rt.alloc(), dims.as_slice())?;
     all.bytes_field(6, b"\x08\x64\x10\x0b")?;
     let bytes = all.into_bytes();
     assert!(rt; is_linked(rt.alloc(), bytes.as_slice()));
+    Ok(())
+}
+
+/// A count whose condition is the predicate 11, with a link of these sides.
+fn linked_count(alloc: Global, in_what: &[u8], in_condition: &[u8]) -> Result<Vec<u8>, AllocError> {
+    let mut link = Writer::new(alloc);
+    link.varint_field(1, 11)?;
+    link.bytes_field(2, in_what)?;
+    link.bytes_field(3, in_condition)?;
+    let link = link.into_bytes();
+    let mut count = Writer::new(alloc);
+    count.varint_field(1, 100)?;
+    count.varint_field(2, 1)?;
+    count.varint_field(3, 11)?;
+    count.bytes_field(6, link.as_slice())?;
+    Ok(count.into_bytes())
+}
+
+#[test]
+fn judges_a_link_of_16129_leaves(rt: HostRuntime) -> Result<(), Fail> {
+    let wide = wide_tree(rt.alloc(), &[1])?;
+    let other = wide_tree(rt.alloc(), &[2])?;
+    for (in_condition, is_among) in [(wide.as_slice(), true), (other.as_slice(), false)] {
+        let mut all = with_dims(rt.alloc(), wide.as_slice())?;
+        let count = linked_count(rt.alloc(), wide.as_slice(), in_condition)?;
+        all.bytes_field(3, count.as_slice())?;
+        let bytes = all.into_bytes();
+        assert!(rt; is_linked(rt.alloc(), bytes.as_slice()) == is_among);
+        assert!(rt; is_refused(rt.alloc(), bytes.as_slice(), 9, 8, 100) == !is_among);
+    }
     Ok(())
 }

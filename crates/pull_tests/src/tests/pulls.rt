@@ -1,6 +1,7 @@
 //! Pulls, one after the other, and the snapshots after each.
 use crate::tests::builds::pull_of;
 use atom_record::{Atom, AtomFault, PullOutcome, Value};
+use flat_form::rebuild;
 use pull_book::{MAX_IDS, PullBook};
 use std::alloc::Global;
 use std::test::*;
@@ -43,28 +44,43 @@ fn shows(book: &PullBook, id: u32, gave: Gave) -> bool {
     }
 }
 
+/// A pull of an id comes; and then the id has this snapshot.
+type Row = (u32, Gave, Gave);
+
+const ROWS: [Row; 11] = [
+    (10_001, Levels(&[100]), Levels(&[100])),
+    (10_002, Levels(&[]), Levels(&[])),
+    (10_001, Nothing, Nothing),
+    (10_001, Levels(&[90, 95]), Levels(&[90, 95])),
+    (10_002, Nothing, Nothing),
+    (5, Levels(&[7]), Nothing),
+    (9_999, Levels(&[7]), Nothing),
+    (100_000, Levels(&[7]), Nothing),
+    (150_000, Levels(&[8]), Levels(&[8])),
+    (200_000, Levels(&[7]), Nothing),
+    (10_001, Levels(&[91]), Levels(&[91])),
+];
+
+// Whether a book that is rebuilt before one of the rows shows all of them.
+fn shows_all(alloc: Global, rebuilt_at: usize) -> Result<bool, Fail> {
+    let mut book = PullBook::new(alloc);
+    let mut good = !shows(&book, 10_001, Levels(&[])) && shows(&book, 10_001, Nothing);
+    for place in 0..ROWS.len() {
+        if place == rebuilt_at {
+            book = rebuild(alloc, &book)?;
+        }
+        let (id, gave, shown) = ROWS[place];
+        set(alloc, &mut book, id, gave)?;
+        good = good && shows(&book, id, shown);
+    }
+    Ok(good && book.len() == 3 && book.keeps(10_003) && !book.keeps(5))
+}
+
 #[test]
 fn the_last_pull_of_an_id_is_its_snapshot(rt: HostRuntime) -> Result<(), Fail> {
-    let mut book = PullBook::new(rt.alloc());
-    assert!(rt; shows(&book, 10_001, Nothing));
-    for (id, gave, shown) in [
-        (10_001, Levels(&[100]), Levels(&[100])),
-        (10_002, Levels(&[]), Levels(&[])),
-        (10_001, Nothing, Nothing),
-        (10_001, Levels(&[90, 95]), Levels(&[90, 95])),
-        (10_002, Nothing, Nothing),
-        (5, Levels(&[7]), Nothing),
-        (9_999, Levels(&[7]), Nothing),
-        (100_000, Levels(&[7]), Nothing),
-        (150_000, Levels(&[8]), Levels(&[8])),
-        (200_000, Levels(&[7]), Nothing),
-        (10_001, Levels(&[91]), Levels(&[91])),
-    ] {
-        set(rt.alloc(), &mut book, id, gave)?;
-        assert!(rt; shows(&book, id, shown), "at {id}");
+    for rebuilt_at in 0..=ROWS.len() {
+        assert!(rt; shows_all(rt.alloc(), rebuilt_at)?, "at {rebuilt_at}");
     }
-    assert!(rt; book.len() == 3);
-    assert!(rt; book.keeps(10_003) && !book.keeps(5));
     Ok(())
 }
 
@@ -89,6 +105,7 @@ fn a_later_id_is_not_kept(rt: HostRuntime) -> Result<(), Fail> {
         (10_000, true, Nothing, Nothing),
         (10_256, false, Levels(&[4]), Nothing),
     ] {
+        book = rebuild(rt.alloc(), &book)?;
         assert!(rt; book.keeps(id) == keeps, "at {id}");
         set(rt.alloc(), &mut book, id, gave)?;
         assert!(rt; shows(&book, id, shown), "at {id}");

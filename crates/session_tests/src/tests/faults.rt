@@ -5,12 +5,18 @@ use std::process::Abort;
 use std::test::Fail;
 
 /// A name, a session, the replies to it, and the note. All end with the status 3.
-const ROWS: [(&str, &str, &str, &str); 11] = [
+const ROWS: [(&str, &str, &str, &str); 14] = [
     (
         "three bytes of a length",
         "report 0e0000",
         "no-config",
         "statsd: bad session at 18: 1 cut\n",
+    ),
+    (
+        "three bytes of a length, after a tick and a report",
+        "09000000_01_0500000000000000 report 0e0000",
+        "no-config",
+        "statsd: bad session at 31: 1 cut\n",
     ),
     (
         "a frame without its last byte",
@@ -61,16 +67,28 @@ const ROWS: [(&str, &str, &str, &str); 11] = [
         "statsd: bad session at 35: 7 time backwards 3 2\n",
     ),
     (
-        "a tick that falls",
+        "an entry of an atom that doesn't rise, at the start",
+        "1f000000_02_0100000000000000_05000000_020000000107000000010000000107000000",
+        "",
+        "statsd: bad session at 0: 6 bad atom 5\n",
+    ),
+    (
+        "a tick that falls after a tick",
+        "09000000_01_0500000000000000 09000000_01_0400000000000000",
+        "",
+        "statsd: bad session at 13: 7 time backwards 5 4\n",
+    ),
+    (
+        "an atom before a tick",
         "09000000_01_0500000000000000 atom2",
         "",
         "statsd: bad session at 13: 7 time backwards 5 2\n",
     ),
     (
-        "an atom at an hour",
-        "0d000000_02_00a0b83046030000_05000000",
-        "",
-        "statsd: bad session at 0: 4 unknown kind 2\n",
+        "an atom at 2^63",
+        "0d000000_02_ffffffffffffff7f_05000000 report 0d000000_02_0000000000000080_05000000",
+        "no-config",
+        "statsd: bad session at 35: 5 bad body 4\n",
     ),
 ];
 

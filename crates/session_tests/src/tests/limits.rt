@@ -4,7 +4,7 @@ use super::run::assert_replay;
 use std::test::Fail;
 
 /// A name, a session, its status, the replies to it, and the note.
-const ROWS: [(&str, &str, u8, &str, &str); 8] = [
+const ROWS: [(&str, &str, u8, &str, &str); 9] = [
     (
         "an atom of 4096 bytes, of which 4085 are raw ones of one entry",
         "09100000_02_0000000000000000_05000000_0100000005f50f 00*4085 report",
@@ -37,6 +37,13 @@ const ROWS: [(&str, &str, u8, &str, &str); 8] = [
     (
         "100 groups, one in the other, after a configuration",
         "ab010000_10 own config c33e*100 c43e*100",
+        0,
+        "installed",
+        "",
+    ),
+    (
+        "100 groups, one in the other, alone",
+        "9d010000_10 own c33e*100 c43e*100",
         0,
         "installed",
         "",

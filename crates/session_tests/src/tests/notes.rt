@@ -5,11 +5,12 @@ use statsd_cli::{Note, write_note};
 use std::process::Abort;
 use std::test::Fail;
 
-const PLAIN: [(Note, &str); 4] = [
+const PLAIN: [(Note, &str); 5] = [
     (
         Note::Usage,
         "statsd: usage: replay | check | load SEED FRAMES\n",
     ),
+    (Note::Refused, "statsd: configuration refused\n"),
     (Note::ReadFault, "statsd: read fault\n"),
     (Note::WriteFault, "statsd: write fault\n"),
     (Note::NoMemory, "statsd: out of memory\n"),

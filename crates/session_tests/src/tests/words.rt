@@ -3,9 +3,11 @@ use super::parts::bytes_of;
 use super::run::{SOUND, assert_left, run};
 use std::test::Fail;
 
-const ROWS: [(&str, &str); 6] = [
+const ROWS: [(&str, &str); 8] = [
     ("no word", ""),
     ("a word more", "replay x"),
+    ("a check of a word more", "check x"),
+    ("two commands", "check replay"),
     ("a load without frames", "load 1"),
     ("a load of too many frames", "load 1 4000000001"),
     ("a front of the word", "repla"),

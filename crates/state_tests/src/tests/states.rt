@@ -1,74 +1,117 @@
-//! State atoms, one after the other, and the states after them.
-use crate::tests::atoms::{atom_of, key_of};
-use atom_record::{AtomFault, EXCLUSIVE, RESET};
+//! State atoms, one after the other, and the states after them; at each row the book may be one that was rebuilt.
+use crate::tests::atoms::{Entry, atom_of, key_of};
+use atom_record::{AtomFault, EXCLUSIVE, PRIMARY, RESET};
+use flat_form::rebuild;
 use state_slicer::StateBook;
 use std::alloc::Global;
 use std::test::*;
 
-/// A state atom of an id comes, by its key, flags and Int; and then a key of the id has a state.
-type Row = (u32, i32, u8, i32, i32, i32);
+/// An atom of an id comes with these entries; and then a key of an id has a state.
+type Row = (u32, &'static [Entry], u32, &'static [i32], i32);
 
-const ROWS: [Row; 8] = [
-    (27, 7, EXCLUSIVE, 3, 7, 3),
-    (27, 8, EXCLUSIVE, 4, 7, 3),
-    (27, 7, EXCLUSIVE, 5, 7, 5),
+const ROWS: [Row; 19] = [
+    (27, &[(1, PRIMARY, 7), (2, EXCLUSIVE, 3)], 27, &[7], 3),
+    (27, &[(1, PRIMARY, 8), (2, EXCLUSIVE, 4)], 27, &[7], 3),
+    (27, &[(1, PRIMARY, 7), (2, EXCLUSIVE, 5)], 27, &[7], 5),
     // It is no state atom.
-    (27, 8, 0, 9, 8, 4),
-    // All keys of the id are put back, and none is added.
-    (27, 9, EXCLUSIVE + RESET, 6, 8, -1),
-    (27, 7, EXCLUSIVE, 6, 7, 6),
-    (28, 7, EXCLUSIVE, 1, 8, -1),
-    (28, 7, EXCLUSIVE, 1, 7, 1),
+    (27, &[(1, PRIMARY, 8), (2, 0, 9)], 27, &[8], 4),
+    // Two primary entries.
+    (
+        29,
+        &[(1, PRIMARY, 7), (2, PRIMARY, 8), (3, EXCLUSIVE, 1)],
+        29,
+        &[7, 8],
+        1,
+    ),
+    (
+        29,
+        &[(1, PRIMARY, 7), (2, PRIMARY, 9), (3, EXCLUSIVE, 2)],
+        29,
+        &[7, 8],
+        1,
+    ),
+    (
+        29,
+        &[(1, PRIMARY, 8), (2, PRIMARY, 7), (3, EXCLUSIVE, 3)],
+        29,
+        &[7],
+        -1,
+    ),
+    // The exclusive entry is primary too.
+    (30, &[(2, PRIMARY + EXCLUSIVE, 6)], 30, &[6], 6),
+    (30, &[(2, PRIMARY + EXCLUSIVE, -7)], 30, &[-7], -7),
+    (30, &[(2, PRIMARY + EXCLUSIVE, 8)], 30, &[6], 6),
+    // No primary entry.
+    (
+        31,
+        &[(1, EXCLUSIVE, -2_147_483_648)],
+        31,
+        &[],
+        -2_147_483_648,
+    ),
+    // A reset with a key puts all keys of its id back, and adds none.
+    (
+        27,
+        &[(1, PRIMARY, 9), (2, EXCLUSIVE + RESET, 6)],
+        27,
+        &[8],
+        -1,
+    ),
+    (
+        27,
+        &[(1, PRIMARY, 7), (2, EXCLUSIVE, 2_147_483_647)],
+        27,
+        &[9],
+        -1,
+    ),
+    (
+        27,
+        &[(1, PRIMARY, 8), (2, EXCLUSIVE, 6)],
+        27,
+        &[7],
+        2_147_483_647,
+    ),
+    // So does one without a key, and one whose entry is primary too.
+    (27, &[(2, EXCLUSIVE + RESET, 1)], 27, &[7], -1),
+    (30, &[(2, PRIMARY + EXCLUSIVE + RESET, 8)], 30, &[6], -1),
+    // A reset is the first atom of its id.
+    (
+        32,
+        &[(1, PRIMARY, 1), (2, EXCLUSIVE + RESET, 4)],
+        32,
+        &[1],
+        -1,
+    ),
+    (32, &[(1, PRIMARY, 1), (2, EXCLUSIVE, 4)], 32, &[1], 4),
+    // An id that isn't there.
+    (27, &[(1, PRIMARY, 7), (2, EXCLUSIVE, 1)], 28, &[7], -1),
 ];
 
 fn shows(alloc: Global, book: &mut StateBook, row: Row) -> Result<bool, AtomFault> {
-    let (id, key, flags, told, asked, state) = row;
-    let atom = atom_of(alloc, id, key, flags, told)?;
+    let (id, entries, asked_id, asked, state) = row;
+    let atom = atom_of(alloc, id, entries)?;
     book.apply(&atom)?;
     let asked = key_of(alloc, asked)?;
-    Ok(book.value(id, &asked) == state)
+    Ok(book.value(asked_id, &asked) == state)
+}
+
+// Whether a book that is rebuilt before one of the rows shows all of them.
+fn shows_all(alloc: Global, rebuilt_at: usize) -> Result<bool, Fail> {
+    let mut book = StateBook::new(alloc);
+    let mut good = true;
+    for place in 0..ROWS.len() {
+        if place == rebuilt_at {
+            book = rebuild(alloc, &book)?;
+        }
+        good = good && shows(alloc, &mut book, ROWS[place])?;
+    }
+    Ok(good && book.atoms() == 5)
 }
 
 #[test]
 fn each_key_has_the_state_that_was_told_last(rt: HostRuntime) -> Result<(), Fail> {
-    let mut book = StateBook::new(rt.alloc());
-    for row in ROWS {
-        assert!(rt; shows(rt.alloc(), &mut book, row)?);
+    for rebuilt_at in 0..=ROWS.len() {
+        assert!(rt; shows_all(rt.alloc(), rebuilt_at)?, "at {rebuilt_at}");
     }
-    assert!(rt; book.atoms() == 2);
-    Ok(())
-}
-
-// Tells a state for each of so many keys.
-fn tell(alloc: Global, book: &mut StateBook, keys: i32) -> Result<(), AtomFault> {
-    for key in 0..keys {
-        let atom = atom_of(alloc, 27, key, EXCLUSIVE, 6)?;
-        book.apply(&atom)?;
-    }
-    Ok(())
-}
-
-#[test]
-fn a_key_past_the_3000th_is_counted(rt: HostRuntime) -> Result<(), Fail> {
-    let mut book = StateBook::new(rt.alloc());
-    tell(rt.alloc(), &mut book, 3001)?;
-    assert!(rt; book.dropped(27) == 1);
-    Ok(())
-}
-
-// Tells a state of each of so many ids.
-fn fill(alloc: Global, book: &mut StateBook, ids: u32) -> Result<(), AtomFault> {
-    for id in 0..ids {
-        let atom = atom_of(alloc, 1 + id, 7, EXCLUSIVE, 6)?;
-        book.apply(&atom)?;
-    }
-    Ok(())
-}
-
-#[test]
-fn an_id_past_the_256th_is_counted(rt: HostRuntime) -> Result<(), Fail> {
-    let mut book = StateBook::new(rt.alloc());
-    fill(rt.alloc(), &mut book, 257)?;
-    assert!(rt; book.dropped_atoms() == 1);
     Ok(())
 }

@@ -1,5 +1,5 @@
 use Rattle.std.proofs.Common.{length, arith}
-use Rattle.link_graph.proofs.UnrolledLaws.{equation}
+use Rattle.link_graph.proofs.UnrollingLaws.{equation}
 use Rattle.link_graph.proofs.laws.values_come_from_below.Goals as goal
 
 pub returns : goal.returns

@@ -1,9 +1,10 @@
-use Rattle.std.proofs.Common.{subst, arith}
-use Rattle.client_engine.specs.InstanceStands.{InsideLogs}
-use Rattle.client_engine.proofs.InstanceStandsLemmas.{inside_logs}
+use Rattle.std.proofs.Common.{subst, sym, arith}
+use Rattle.std.proofs.lemmas.Grind.{merely}
+use Rattle.client_engine.specs.InsideParts.{AreAsked, InsideLogs}
+use Rattle.client_engine.proofs.InsidePartsLemmas.{inside_logs, asked_after_log, all_asked}
 use Rattle.client_engine.proofs.instance.Instance.log.Goals as goal
 
--- the frame came to each metric
+-- the frame acted on predicates and came to each metric
 pub returns-clause-logs : goal.returns-clause-logs
 returns-clause-logs c = λ history has later view.
     let frame = c.args.frame.now in
@@ -12,3 +13,17 @@ returns-clause-logs c = λ history has later view.
     inside_logs c.args.self.inside.value c.log.new.self frame truths
     (subst (λ old. InsideLogs frame truths old c.log.new.self) c.deref_mut.ensures.value c.in_ok-log.ensures)
     (omega (arith, timely)) history has later
+
+-- each metric asks for one of the predicates
+pub log-requires : goal.log-requires
+log-requires c = record {
+  asked = subst AreAsked (sym c.deref_mut.ensures.value) (all_asked c.args.self.inside.value c.args.self.asked);
+}
+
+-- and still does
+pub invariant_of-result : goal.invariant_of-result
+invariant_of-result c = record {
+  asked = merely (asked_after_log c.args.self.inside.value c.log.new.self c.args.frame.now c.args.view.now.matched.now
+      (subst (λ old. InsideLogs c.args.frame.now c.args.view.now.matched.now old c.log.new.self)
+      c.deref_mut.ensures.value c.in_ok-log.ensures) (all_asked c.args.self.inside.value c.args.self.asked));
+}

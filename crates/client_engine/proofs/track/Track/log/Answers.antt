@@ -10,5 +10,5 @@ returns-clause-logs c =
     let metric = c.args.self.now.metric in
     let logs = rw (is_counts lane, c.comes_by_pull.ensures, c.time_of.ensures) at c.log.ensures in
     rw (is_counts lane) (on_ok_weaker c.log.result
-    (lane_log metric metric.kind c.args.frame.now c.args.matched.now (Counts (the_lane lane)) c.log.new.self
-    c.in_ok-key.key c.in_ok-key.ensures) logs)
+    (lane_log c.args.conditions.now metric metric.kind c.args.frame.now c.args.matched.now (Counts (the_lane lane))
+    c.log.new.self c.in_ok-key.key c.in_ok-key.ensures.key) logs)

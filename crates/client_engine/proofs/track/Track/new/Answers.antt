@@ -5,8 +5,8 @@ use Rattle.client_engine.proofs.track.Track.new.Goals as goal
 
 -- the clock and the producer begin with the same numbers
 pub returns-clause-stands : goal.returns-clause-stands
-returns-clause-stands c =
+returns-clause-stands c = λ predicates.
     let metric = c.args.metric in
     let least = c.requires.sized.0 in
-    track_begins c.args.base metric c.new.result c.requires.fits c.requires.built (omega (arith, least))
+    track_begins predicates c.args.base metric c.new.result c.requires.fits c.requires.built (omega (arith, least))
     (c.new.ensures (count_params c.args.base metric) refl refl c.new-producer.ensures)

@@ -2,7 +2,7 @@
 use Rattle.std.proofs.Common.{Contains, sym, subst}
 use Rattle.std.specs.Map.{keys_of}
 use Rattle.predicate_state.specs.PredicateTable.{PredicateTable}
-use Rattle.predicate_state.proofs.StateLemmas.{new_key}
+use Rattle.predicate_state.proofs.PredicateStateLemmas.{new_key}
 use Rattle.predicate_state.proofs.table.PredTable.append.Goals as goal
 
 pub returns-clause-state : goal.returns-clause-state

@@ -1,6 +1,6 @@
 -- The state is the one after the event, so the table stands for one event more.
 use Rattle.std.proofs.Common.{refl}
-use Rattle.predicate_state.proofs.StateLemmas.{applies, ok_applies}
+use Rattle.predicate_state.proofs.PredicateStateLemmas.{applies, ok_applies}
 use Rattle.predicate_state.specs.declared.event.PredEvent.TheVariants.{Start, Stop, StopAll}
 use Rattle.predicate_state.proofs.table.PredTable.apply.Goals as goal
 

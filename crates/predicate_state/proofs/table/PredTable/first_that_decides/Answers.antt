@@ -7,7 +7,7 @@ use Rattle.predicate_state.proofs.table.PredTable.first_that_decides.Goals as go
 
 pub returns-then-decides : goal.returns-then-decides
 returns-then-decides c =
-    let is_one = c.are_leaves_bound-is_one.result in
+    let is_one = c.binds_every_leaf-is_one.result in
     let rows = c.self.inside.counts.rows in
     let binds = c.args.binds.now in
     let row : LeafKey × ℕ = (c.in-Some.key.now, c.in-Some.count.now) in
@@ -18,11 +18,11 @@ returns-then-decides c =
     (c.truth_of.ensures
     ∙ walk_ends is_one c.self.inside.unknown binds rows c.loop-place.place c.loop-place.invariant row
     (sym c.in-Some.ensures) decides
-    ∙ ap (λ (b : Bool). truth_of_entries b c.self.inside.unknown binds rows) c.are_leaves_bound-is_one.ensures)
+    ∙ ap (λ (b : Bool). truth_of_entries b c.self.inside.unknown binds rows) c.binds_every_leaf-is_one.ensures)
 
 pub loop-place-preserved : goal.loop-place-preserved
 loop-place-preserved c =
-    let is_one = c.are_leaves_bound-is_one.result in
+    let is_one = c.binds_every_leaf-is_one.result in
     let binds = c.args.binds.now in
     let row : LeafKey × ℕ = (c.in-Some.key.now, c.in-Some.count.now) in
     let passes : (agrees binds row.0 && (is_one || nat_lt 0 row.1)) ≡ false =

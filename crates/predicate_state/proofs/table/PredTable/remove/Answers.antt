@@ -9,5 +9,6 @@ invariant_of-self c =
     rw c.remove.ensures.rows (
       c.self.invariant.0,
       All-filter (λ (row : LeafKey × ℕ). not (same_leaves c.args.key.now row.0))
-          (λ (row : LeafKey × ℕ). length row.0 ≡ c.self.inside.spec.leaves) c.self.inside.counts.rows c.self.invariant.1,
+          (λ (row : LeafKey × ℕ). length row.0 ≡ c.self.inside.spec.leaves) c.self.inside.counts.rows
+          c.self.invariant.1,
     )

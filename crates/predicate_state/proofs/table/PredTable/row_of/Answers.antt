@@ -1,7 +1,7 @@
 -- A listed key has the count of its row.
 use Rattle.std.proofs.Common.{sym}
 use Rattle.predicate_state.specs.PredicateTable.{same_leaves}
-use Rattle.predicate_state.proofs.CountLemmas.{value_at_position, lookup_absent, no_key}
+use Rattle.predicate_state.proofs.KeyCountLemmas.{value_at_position, lookup_absent, no_key}
 use Rattle.predicate_state.proofs.table.PredTable.row_of.Goals as goal
 
 -- a key without a place isn't found

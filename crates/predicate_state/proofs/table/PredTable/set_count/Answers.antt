@@ -1,6 +1,6 @@
 -- A write to a count changes no key.
 use Rattle.std.proofs.Common.{refl}
-use Rattle.predicate_state.proofs.CountLemmas.{leaves_kept}
+use Rattle.predicate_state.proofs.KeyCountLemmas.{leaves_kept}
 use Rattle.predicate_state.proofs.table.PredTable.set_count.Goals as goal
 
 pub invariant_of-self : goal.invariant_of-self

@@ -2,13 +2,13 @@
 use Rattle.std.proofs.Common.{◌≡◌, ◌==◌, ◌&&◌, not, false, ap, sym, ◌∙◌}
 use Rattle.predicate_state.specs.PredicateStates.{count_after_stop}
 use Rattle.predicate_state.specs.PredicateTable.{PredicateTable}
-use Rattle.predicate_state.proofs.StateLemmas.{stopped, stays_above, stays_unknown}
+use Rattle.predicate_state.proofs.PredicateStateLemmas.{stopped, stays_above, stays_unknown}
 use Rattle.predicate_state.proofs.table.PredTable.stop.Goals as goal
 use Rattle.predicate_state.proofs.table.PredTable.stop.Goals.{else-less-eq0-via-then-less-eq0+else-not-self, else-less-eq0-via-else-less-eq0}
 
 pub returns-else-less-eq0-clause-state : goal.returns-else-less-eq0-clause-state
 returns-else-less-eq0-clause-state c =
-    let less = c.count_after_stop-less.result in
+    let less = c.add_stop-less.result in
     let stays : (less == 0 && not c.args.self.now.state.unknown) ≡ false =
     elim c.else-less-eq0.branch [
       | else-less-eq0-via-then-less-eq0+else-not-self w ↦
@@ -19,5 +19,5 @@ returns-else-less-eq0-clause-state c =
     c.set_count.ensures
     ∙ stopped c.args.self.now c.args.key c.in-Some.place c.in-Some.count c.in-Some.ensures.count
     c.in-Some.ensures.place less
-    (c.count_after_stop-less.ensures
+    (c.add_stop-less.ensures
     ∙ ap (λ (t : PredicateTable). count_after_stop t.spec.nesting c.in-Some.count) c.self.view_is) stays

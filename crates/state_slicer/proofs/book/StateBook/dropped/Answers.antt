@@ -1,6 +1,6 @@
 -- The count of an id is that of its states; an id that isn't there has none.
 use Rattle.std.proofs.Common.{◌∙◌}
-use Rattle.state_slicer.proofs.StateLemmas.{drops_absent, drops_there}
+use Rattle.state_slicer.proofs.StateBookLemmas.{drops_absent, drops_there}
 use Rattle.state_slicer.proofs.book.StateBook.dropped.Goals as goal
 
 pub returns-in_default : goal.returns-in_default
@@ -10,6 +10,6 @@ returns-in_default c = record {
 
 pub returns : goal.returns
 returns c = record {
-  answers = λ frames stands. c.dropped.ensures
+  answers = λ frames stands. c.drops.ensures
       ∙ drops_there c.args.self.now c.args.atom_id frames stands c.in-Some.states.now c.in-Some.ensures.there;
 }

@@ -20,8 +20,8 @@ returns-in_default-pair-clause-there c there =
 
 pub returns-clause-there : goal.returns-clause-there
 returns-clause-there c there =
-    let is = c.current.ensures in
-    let known : to_z w32 (of_z w32 c.current.result) ≡ current c.self.inside.resets c.in-Some-pair.stamped.now =
+    let is = c.known_state.ensures in
+    let known : to_z w32 (of_z w32 c.known_state.result) ≡ current c.self.inside.resets c.in-Some-pair.stamped.now =
     first_of (search (rules, is), search (arith, ints, to_z-of_z, is)) in (
       c.in-Some.place,
       ap (λ table. slice_get table.rows c.in-Some.place) (sym c.self.view_is)

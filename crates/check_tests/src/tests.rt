@@ -1,0 +1,5 @@
+//! Configurations and their lines, by tables. All expected lines were worked by hand.
+mod lines;
+mod run;
+mod sizes;
+mod streams;

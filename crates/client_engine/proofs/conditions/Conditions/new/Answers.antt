@@ -1,0 +1,16 @@
+use Rattle.std.proofs.Common.{◌∙◌, [], All, sym, ap, subst}
+use Rattle.metric_meaning.specs.PredicateSteps.{tables_after}
+use Rattle.client_engine.specs.KeptPredicates.{HasBound}
+use Rattle.client_engine.proofs.KeptPredicatesLemmas.{new_kept}
+use Rattle.client_engine.proofs.conditions.Conditions.new.Goals as goal
+
+-- each table has a bound
+pub new_tables-requires : goal.new_tables-requires
+new_tables-requires c =
+    record { bound = subst (All HasBound) (sym c.as_slice.ensures) c.requires.can_be_kept.bounds }
+
+-- the tables are kept as the predicates say
+pub invariant_of-result : goal.invariant_of-result
+invariant_of-result c =
+    new_kept c.args.predicates c.in_ok-tables.tables.items c.requires.can_be_kept
+    (c.in_ok-tables.ensures ∙ ap (λ predicates. tables_after predicates []) c.as_slice.ensures)

@@ -1,0 +1,44 @@
+use Rattle.std.proofs.Common.{◌≡◌, ◌∙◌, length, map, All, sym, subst, arith}
+use Rattle.client_engine.specs.Tracks.{metric_in, AsksWithin, AllStep}
+use Rattle.client_engine.proofs.TracksLemmas.{one_stepped, all_stepped, asks_here, whole}
+use Rattle.client_engine.proofs.inside.log_all.Goals as goal
+
+-- each metric asks for one of the predicates
+pub log-requires : goal.log-requires
+log-requires c =
+    let known = c.args.conditions.now in
+    record {
+      within = asks_here c.loop-track.conditions known c.deref_mut-track-items.result.now c.loop-track.track-items
+          c.loop-track.track-index _ c.loop-track.invariant.1 (omega arith) c.loop-track.invariant.0.metrics
+          (subst (λ old. All (AsksWithin (length known.predicates)) (map metric_in old))
+          (sym c.deref_mut-track-items.ensures.value) c.requires.within);
+    }
+
+-- one more track took the frame
+pub loop-track-preserved : goal.loop-track-preserved
+loop-track-preserved c = (
+  one_stepped c.args.conditions.now c.args.frame.now c.args.matched.now c.deref_mut-track-items.result.now
+      c.loop-track.track-items c.loop-track.track-index c.log.new.self _ (omega arith) c.loop-track.invariant.0
+      c.in_ok-log.ensures.metric c.loop-track.conditions c.loop-track.invariant.1 c.in_ok-log.ensures.logs,
+  c.in_ok-log.ensures.known ∙ c.loop-track.invariant.1,
+)
+
+-- all did
+pub returns-clause-logs : goal.returns-clause-logs
+returns-clause-logs c =
+    let known = c.args.conditions.now in
+    let frame = c.args.frame.now in
+    let truths = c.args.matched.now in
+    let items = c.loop-track.track-items in
+    let size = c.loop-track.invariant.0.len in
+    let value = c.deref_mut-track-items.ensures.value in
+    let ends = c.loop-track-test.false in
+    let index = c.loop-track.auto.track-index-end in
+    let old_size = c.args.tracks.now.ok.0 in
+    let stepped : AllStep known frame truths c.deref_mut-track-items.result.now items =
+    all_stepped known frame truths c.deref_mut-track-items.result.now items c.loop-track.track-index
+    (omega (arith, size, ends, index)) c.loop-track.invariant.0 in
+    let same = subst (λ old. length items ≡ length old) value size in
+    subst (AllStep known frame truths c.args.tracks.now.items)
+    (sym (whole items c.args.tracks.now.items c.args.tracks.now.len same old_size))
+    (subst (λ old. AllStep known frame truths old items) value stepped)

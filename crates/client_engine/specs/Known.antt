@@ -1,0 +1,28 @@
+-- What a contract sees of a configuration's predicates, and what they know after which steps.
+use Rattle.std.specs.Prelude.{◌≡◌, List, [], ◌∷◌, ◌++◌}
+use Rattle.config_links.specs.declared.linked.LPredicate.{LPredicate}
+use Rattle.predicate_state.specs.PredicateTable.{PredicateTable}
+use Rattle.report_writer.specs.declared.tree.Drop64.{Drop64}
+use Rattle.metric_meaning.specs.Histories.{Step}
+use Rattle.metric_meaning.specs.PredicateSteps.{tables_after, drop_above_zero}
+
+-- The predicates, and what each knows, in config order.
+pub record Known : Type 0 where
+  pub predicates : List LPredicate
+  pub tables : List PredicateTable
+
+-- the predicates know what these steps make of them
+abbrev pub KnowsAfter : List Step → Known → Type 0
+KnowsAfter steps known = known.tables ≡ tables_after known.predicates steps
+
+-- the predicates stay, and whatever steps the old knew, the new knows those and this one
+pub record KnowsStep (step : Step) (old new : Known) : Type 0 where
+  pub predicates : new.predicates ≡ old.predicates
+  pub tables : (steps : List Step) → KnowsAfter steps old → KnowsAfter (steps ++ step ∷ []) new
+
+-- how often a key found no room, for each predicate where that is so
+abbrev pub drops_in : List LPredicate → List PredicateTable → List Drop64
+drops_in [] tables = []
+drops_in (predicate ∷ predicates) [] = []
+drops_in (predicate ∷ predicates) (table ∷ tables) =
+    drop_above_zero (record { id = predicate.id; number = table.state.dropped }) ++ drops_in predicates tables

@@ -1,0 +1,117 @@
+//! The predicates of a configuration: what atoms make of them, and what metrics ask of them.
+ghost use Rattle.std.specs.Prelude.{◌≡◌, [], length, OnOk, IfOk};
+ghost use Rattle.config_links.specs.SoundConfig.{MayBeWithin};
+ghost use Rattle.condition_links.specs.ThreeValues.{is_true};
+ghost use Rattle.metric_meaning.specs.MetricConditions.{is_condition_true};
+ghost use Rattle.client_engine.specs.TrackStands.{logged_step};
+ghost use Rattle.client_engine.specs.Known.{KnowsAfter, KnowsStep, drops_in};
+ghost use Rattle.client_engine.specs.KeptPredicates.{CanBeKept};
+
+use crate::asked::ask_all;
+use crate::tables::{act_on_all, drops_of, new_tables};
+use atom_record::{Atom, LogFrame};
+use condition_links::query;
+use config_links::{CondTree, LMetric, LPredicate};
+use predicate_state::{BindList, PredTable, Truth};
+use report_writer::Drop64;
+use sd_base::Seq;
+use std::alloc::{AllocError, Global};
+use std::marker::Model;
+
+/// The predicates of a configuration, and what they know.
+#[derive(Drop)]
+pub struct Conditions {
+    /// The predicates, under the one that a metric asks.
+    tree: CondTree,
+    /// What each predicate knows, in config order.
+    tables: Vec<PredTable>,
+    /// What a metric asks of each predicate. Only the room is kept from metric to metric.
+    binds: Vec<BindList>,
+}
+
+impl Model for Conditions {
+    ghost use Rattle.client_engine.specs.Known.{Known};
+    ghost use Rattle.client_engine.specs.KeptPredicates.{AreKept};
+
+    ghost Value = { Known };
+
+    ghost view = { λ it. record { predicates = it.tree.nodes; tables = it.tables.items } };
+
+    ghost invariant = { λ it. AreKept it.tree.nodes it.tables.items };
+}
+
+impl Conditions {
+    /// Predicates to which nothing has happened yet.
+    pub fn new(alloc: Global, predicates: Seq<LPredicate>) -> Result<Conditions, AllocError>
+        requires can_be_kept { CanBeKept predicates }
+        ensures predicates { IfOk result (λ it. it.predicates ≡ predicates) }
+        ensures knows { IfOk result (KnowsAfter []) }
+    {
+        let tables = new_tables(alloc, predicates.as_slice())?;
+        Ok(Conditions {
+            tree: CondTree {
+                root: None,
+                nodes: predicates,
+            },
+            tables,
+            binds: Vec::new(alloc),
+        })
+    }
+
+    /// A frame of the log comes. An atom acts on each predicate of which a matcher holds.
+    pub fn log(
+        &mut self,
+        alloc: Global,
+        frame: &LogFrame,
+        matched: &[bool],
+    ) -> Result<(), AllocError>
+        ensures { OnOk result (KnowsStep (logged_step frame.now matched.now) self.old self.new) }
+    {
+        match frame {
+            LogFrame::AtomAt { atom, .. } => {
+                let predicates = self.tree.nodes.as_slice();
+                act_on_all(alloc, predicates, self.tables.as_mut_slice(), atom, matched)
+            }
+            _ => Ok(()),
+        }
+    }
+
+    /// Whether a metric's condition is true for an atom, by what predicates know now.
+    pub fn holds(
+        &mut self,
+        alloc: Global,
+        metric: &LMetric,
+        atom: &Atom,
+    ) -> Result<bool, AllocError>
+        requires within { MayBeWithin (length self.old.predicates) metric.now.condition }
+        ensures truth { IfOk result (λ truth. truth
+            ≡ is_condition_true self.old.predicates self.old.tables metric.now atom.now) }
+        ensures known { self.new ≡ self.old }
+    {
+        if metric.condition.is_none() {
+            return Ok(true);
+        }
+        let links = metric.links.as_slice();
+        ask_all(alloc, links, atom, self.tree.nodes.len(), &mut self.binds)?;
+        self.tree.root = metric.condition;
+        let truth = query(&self.tree, self.tables.as_slice(), self.binds.as_slice());
+        Ok(is_for_sure(truth))
+    }
+
+    /// How often a key found no room, for each predicate where that is so.
+    pub fn drops(&self, alloc: Global) -> Result<Seq<Drop64>, AllocError>
+        ensures { IfOk result (λ drops. drops ≡ drops_in self.now.predicates self.now.tables) }
+    {
+        drops_of(alloc, self.tree.nodes.as_slice(), self.tables.as_slice())
+    }
+}
+
+// Whether it is known to hold.
+fn is_for_sure(truth: Truth) -> bool
+    ensures { result ≡ is_true truth }
+{
+    match truth {
+        Truth::True => true,
+        Truth::False | Truth::Unknown => false,
+    }
+}

@@ -1,0 +1,2 @@
+pub mod ChecksLemmas
+mod Worked

@@ -1,0 +1,4 @@
+pub mod Findings
+pub mod FindingLines
+pub mod Checks
+pub mod Broken

@@ -1,0 +1,35 @@
+//! The check of a configuration, from its input to the line on its output.
+ghost use Rattle.std.specs.Prelude.{◌≡◌, Err};
+ghost use Rattle.sd_io.specs.Causes.{Rose};
+ghost use Rattle.config_check.specs.Checks.{Checks};
+
+use crate::judging::judge;
+use crate::line::line_of;
+use crate::reading::read_config;
+use crate::{CheckError, Finding};
+use sd_io::{Sink, Source};
+use std::alloc::Global;
+
+/// Reads one configuration, judges it, and writes one line on what was found. The configuration is the input to its end,
+/// or, where that has more bytes than a configuration may have, its first 262,145 bytes. The line is put at once, after
+/// all that may want memory; so an error before it leaves the output as it was.
+pub fn check_config<S: Source, K: Sink>(
+    alloc: Global,
+    input: &mut S,
+    out: &mut K,
+) -> Result<Finding, CheckError>
+    ensures checks { Checks (S.left input.old) (S.left input.new)
+        (K.written out.old) (K.written out.new) result }
+
+    // The faults of the outside have their cause there.
+    ensures read_fault { result ≡ Err CheckError.Read
+        → Rose (S.faults input.old) (S.faults input.new) }
+    ensures write_fault { result ≡ Err CheckError.Write
+        → Rose (K.faults out.old) (K.faults out.new) }
+{
+    let bytes = read_config(alloc, input)?;
+    let finding = judge(alloc, &bytes)?;
+    let line = line_of(alloc, &finding)?;
+    out.put(line.as_bytes())?;
+    Ok(finding)
+}

@@ -1,9 +1,0 @@
--- What was meant last by the records so far.
-use Rattle.std.proofs.Common.{◌≡◌, map, take}
-use Rattle.proto_wire.specs.Fields.{field_view}
-use Rattle.config_decode.specs.Values as values
-use Rattle.config_decode.proofs.message.Message.scalar.Given as goal
-
-abbrev pub invariant-loop-field : goal.invariant-loop-field
-invariant-loop-field g l =
-    l.last ≡ values.scalar g.T.Scalar.meaning l.number (map field_view (take l.field-index l.field-items))
