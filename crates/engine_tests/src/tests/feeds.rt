@@ -1,0 +1,147 @@
+//! Instances, and what comes to them.
+ghost use Rattle.std.specs.Prelude.{◌<◌};
+ghost use Rattle.bucket_meaning.specs.Limits.{time_limit};
+
+use crate::tests::shown::text_of;
+use atom_record::{LogFrame, PullOutcome, parse_atom};
+use client_engine::{Instance, LogView, built};
+use config_decode::decode;
+use config_links::link;
+use std::alloc::{AllocError, Global};
+use std::test::Fail;
+
+/// Frames of the log come before this.
+const LATE: u64 = 1 << 63;
+
+/// What comes to an instance, with its time.
+#[derive(Clone, Copy)]
+pub enum Step {
+    /// An atom, by its payload in hex, with the truth of each matcher.
+    Atom(u64, &'static str, &'static [bool]),
+    Tick(u64),
+    /// A pull that failed.
+    Pull(u64),
+    /// A report that leaves the open bucket, and what it shows.
+    Report(u64, &'static str),
+    /// A report that cuts the open bucket, and what it shows.
+    Cut(u64, &'static str),
+}
+
+/// The instance of a configuration in hex, installed at a time; none where it isn't acted on.
+pub fn instance_of(alloc: Global, config: &str, base: u64) -> Result<Option<Instance>, Fail>
+    requires { base < time_limit }
+{
+    let bytes = bytes_of(alloc, config)?;
+    if bytes.len() > 1_000 {
+        return Ok(None);
+    }
+    let config = decode(alloc, bytes.as_slice())?;
+    let linked = link(alloc, config, 10)?;
+    if !built(&linked) {
+        return Ok(None);
+    }
+    Ok(Some(Instance::new(alloc, linked, base)?))
+}
+
+/// The instance after a step, and whether a report showed what it should.
+pub fn fed(alloc: Global, instance: Instance, step: Step) -> Result<(Instance, bool), Fail> {
+    match step {
+        Step::Atom(at, payload, truths) => log_atom(alloc, instance, at, payload, truths),
+        Step::Tick(at) => log_tick(instance, at),
+        Step::Pull(at) => log_pull(instance, at),
+        Step::Report(at, shown) => report(alloc, instance, false, at, shown),
+        Step::Cut(at, shown) => report(alloc, instance, true, at, shown),
+    }
+}
+
+fn log_atom(
+    alloc: Global,
+    instance: Instance,
+    at: u64,
+    payload: &str,
+    truths: &[bool],
+) -> Result<(Instance, bool), Fail> {
+    let payload = bytes_of(alloc, payload)?;
+    log_payload(alloc, instance, at, payload.as_slice(), truths)
+}
+
+/// The instance after the atom of a payload, with these truths.
+pub fn log_payload(
+    alloc: Global,
+    instance: Instance,
+    at: u64,
+    payload: &[u8],
+    truths: &[bool],
+) -> Result<(Instance, bool), Fail> {
+    let atom = parse_atom(alloc, payload)?;
+    if at >= LATE {
+        return Ok((instance, false));
+    }
+    let frame = LogFrame::AtomAt { at, atom };
+    let instance = instance.log(&frame, &LogView { matched: truths })?;
+    Ok((instance, true))
+}
+
+// A pull that failed.
+fn log_pull(instance: Instance, at: u64) -> Result<(Instance, bool), Fail> {
+    if at >= LATE {
+        return Ok((instance, false));
+    }
+    let frame = LogFrame::Pull {
+        at,
+        id: 10_001,
+        outcome: PullOutcome::Failed,
+    };
+    let instance = instance.log(&frame, &LogView { matched: &[] })?;
+    Ok((instance, true))
+}
+
+/// The instance after a tick.
+pub fn log_tick(instance: Instance, at: u64) -> Result<(Instance, bool), Fail> {
+    if at >= LATE {
+        return Ok((instance, false));
+    }
+    let instance = instance.log(&LogFrame::Tick { at }, &LogView { matched: &[] })?;
+    Ok((instance, true))
+}
+
+fn report(
+    alloc: Global,
+    instance: Instance,
+    include_current: bool,
+    at: u64,
+    shown: &str,
+) -> Result<(Instance, bool), Fail> {
+    if at >= LATE {
+        return Ok((instance, false));
+    }
+    let (instance, tree) = instance.report(10, 7, include_current, at)?;
+    let text = text_of(alloc, &tree)?;
+    Ok((instance, text.as_str() == shown))
+}
+
+/// The bytes that hex digits spell. What is no digit is passed over.
+fn bytes_of(alloc: Global, hex: &str) -> Result<Vec<u8>, AllocError> {
+    let mut bytes = Vec::new(alloc);
+    let mut high = None;
+    for code in hex.bytes() {
+        match (digit(code), high) {
+            (Some(low), Some(first)) => {
+                bytes.push((first & 15) << 4 | low)?;
+                high = None;
+            }
+            (Some(first), None) => high = Some(first),
+            (None, _) => {}
+        }
+    }
+    Ok(bytes)
+}
+
+// The value of a hex digit.
+fn digit(code: u8) -> Option<u8> {
+    match code {
+        b'0'..=b'9' => Some(code - b'0'),
+        b'a'..=b'f' => Some(code - b'a' + 10),
+        _ => None,
+    }
+}
