@@ -10,9 +10,9 @@ use crate::{CheckError, Finding};
 use sd_io::{Sink, Source};
 use std::alloc::Global;
 
-/// Reads one configuration, judges it, and writes one line on what was found. The configuration is the input to its end,
-/// or, where that has more bytes than a configuration may have, its first 262,145 bytes. The line is put at once, after
-/// all that may want memory; so an error before it leaves the output as it was.
+/// Reads one configuration, judges it, and writes one line on what was found. The configuration is the input to its
+/// end, or, where that has more bytes than a configuration may have, its first 262,145 bytes. The line is put at once,
+/// after all that may want memory; so an error before it leaves the output as it was.
 pub fn check_config<S: Source, K: Sink>(
     alloc: Global,
     input: &mut S,

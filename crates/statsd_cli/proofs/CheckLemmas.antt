@@ -1,4 +1,4 @@
--- On specs/Check.antt and specs/Words.antt: a check that nothing hinders ends by what is found, and no words ask for two
+-- On specs/Check.antt: a check that nothing hinders ends by what is found. On specs/Words.antt: no words ask for two
 -- commands.
 use Rattle.std.proofs.Common.{◌≡◌, ℕ, List, [], take, get_or, Option, Some, None, Result, Ok, Err, refl, sym, ap, ◌∙◌, arith, inl, inr}
 use Rattle.std.specs.Prelude.{◌⊎◌, IfSome}
@@ -9,7 +9,6 @@ use Rattle.config_check.specs.declared.finding.Finding.{Finding}
 use Rattle.config_check.specs.Findings.{finding_of}
 use Rattle.config_check.specs.Checks.{most_taken, Checks}
 use Rattle.config_check.proofs.ChecksLemmas.{first_taken}
-use Rattle.statsd_cli.specs.declared.ending.Ending.{Ending}
 use Rattle.statsd_cli.specs.declared.ending.Ending.TheVariants.{ReadFault, WriteFault}
 use Rattle.statsd_cli.specs.Words.{IsReplay, IsCheck}
 use Rattle.statsd_cli.specs.Endings.{status_of}
@@ -22,7 +21,8 @@ one_command words replay check =
     absurd (omega (arith, letters))
 
 -- what was found is found of the first bytes
-found_first : (bytes : List ℕ) (left o n : Option (List ℕ)) (finding : Finding) → Checks (Some bytes) left o n (Ok finding)
+found_first : (bytes : List ℕ) (left o n : Option (List ℕ)) (finding : Finding)
+    → Checks (Some bytes) left o n (Ok finding)
     → finding ≡ finding_of (take most_taken bytes)
 found_first bytes None o n finding checks = absurd checks.consumes
 found_first bytes (Some rest) o n finding checks =

@@ -1,10 +1,9 @@
 -- The check of a configuration: how it ended, by what was found.
-use Rattle.std.specs.Prelude.{ℕ, List, Result, Ok, Err}
+use Rattle.std.specs.Prelude.{Result, Ok, Err}
 use Rattle.config_check.specs.declared.error.CheckError.{CheckError}
 use Rattle.config_check.specs.declared.error.CheckError.TheVariants.{Read, Write, Memory}
 use Rattle.config_check.specs.declared.finding.Finding.{Finding}
 use Rattle.config_check.specs.declared.finding.Finding.TheVariants.{Sound}
-use Rattle.config_check.specs.Findings.{finding_of}
 use Rattle.statsd_cli.specs.declared.ending.Ending.{Ending}
 use Rattle.statsd_cli.specs.declared.ending.Ending.TheVariants.{Done, Refused, ReadFault, WriteFault, NoMemory}
 
