@@ -52,3 +52,10 @@ module _ {N : Type 0} (names : N → List ℕ) where
       subst (λ (xs : List ℕ). Contains xs (get_or (names node) k d)) (sym same)
       (Contains-get_or (names node) k d here) in
       omega (arith, in_range x (get_or (names node) k d) named, length-map nodes names)
+
+  -- where what is named is there, so is what one place names
+  pub children_in_range : (nodes : List N) (x : ℕ) → AreInRange (map names nodes)
+      → All (λ y. y < length nodes) (children_at (map names nodes) x)
+  children_in_range nodes x in_range k d here =
+      let children = children_at (map names nodes) x in
+      omega (arith, in_range x (get_or children k d) (Contains-get_or children k d here), length-map nodes names)

@@ -7,7 +7,6 @@ use Rattle.link_graph.specs.declared.walk.Mark.{Mark}
 use Rattle.link_graph.specs.declared.walk.Mark.TheVariants.{New, Open, Done}
 use Rattle.link_graph.specs.declared.walk.Walk.{Walk}
 
--- the walk wasn't at such a place yet
 -- the walk wasn't there yet
 abbrev pub is_new : Mark → Bool
 is_new New = true
