@@ -1,3 +1,9 @@
 pub mod StampLemmas
+pub mod KeyedRowsLemmas
+pub mod ArrivedTableLemmas
+pub mod IdStatesLemmas
+pub mod BookAtomsLemmas
 pub mod StateBookLemmas
+pub mod BookAnswersLemmas
+pub mod BookRowsLemmas
 pub mod StateItemsLemmas

@@ -1,10 +1,10 @@
 //! The states that the log last gave, for the first ids of state atoms that come.
-ghost use Rattle.std.specs.Prelude.{◌≡◌, ◌≢◌, ◌<◌, ◌≤◌, ℕ, false, List, [], length, All, AllPairs, slice_get, Some, IfSome, IfNone, Contains, IsOk, OnOk, OnErr};
+ghost use Rattle.std.specs.Prelude.{◌≡◌, ◌≢◌, ◌<◌, ◌≤◌, ℕ, true, false, List, [], length, All, AllPairs, slice_get, Some, IfSome, IfNone, Contains, IsOk, OnOk, OnErr};
 ghost use Rattle.atom_record.specs.declared.log.LogFrame.{LogFrame};
 ghost use Rattle.dim_table.specs.Table.{keys};
 ghost use Rattle.bucket_meaning.specs.Kept.{count_in_u64};
 ghost use Rattle.book_meaning.specs.BookLimits.{most_state_ids};
-ghost use Rattle.book_meaning.specs.States.{state_value, state_drops, dropped_state_atoms, state_atom_ids, tells_state};
+ghost use Rattle.book_meaning.specs.States.{state_value, state_drops, dropped_state_atoms, state_atom_ids, tells_state, puts_back};
 
 use crate::states::IdStates;
 use crate::told::{UNKNOWN, has_state};
@@ -53,8 +53,13 @@ impl StateBook {
     pub fn apply(&mut self, atom: &Atom) -> Result<(), AllocError>
         ensures stands { OnOk result (AppliesAtom self.old self.new atom.now) }
 
-        // An atom that tells no state asks for no memory.
+        // An atom that tells no state asks for no memory, nor does one of a new id that finds no room, or one that puts
+        // the states of its id back.
         ensures no_state { tells_state atom.now ≡ false → IsOk result }
+        ensures full { (¬ Contains (keys self.old) atom.now.id)
+            → length self.old.rows ≡ most_state_ids → IsOk result }
+        ensures reset { Contains (keys self.old) atom.now.id
+            → puts_back atom.now ≡ true → IsOk result }
         ensures err { OnErr result (self.new ≡ self.old) }
     {
         if !has_state(atom) {
@@ -70,6 +75,7 @@ impl StateBook {
     fn tell_at(&mut self, place: usize, atom: &Atom) -> Result<(), AllocError>
         requires there { slice_get (keys self.old) place ≡ Some atom.now.id }
         ensures taken { OnOk result (IsTakenAt self.old self.new place atom.now) }
+        ensures reset { puts_back atom.now ≡ true → IsOk result }
         ensures err { OnErr result (self.new ≡ self.old) }
     {
         let alloc = self.alloc;
@@ -83,6 +89,7 @@ impl StateBook {
     fn tell_first(&mut self, atom: &Atom) -> Result<(), AllocError>
         requires absent { ¬ Contains (keys self.old) atom.now.id }
         ensures taken { OnOk result (IsTakenFirst self.old self.new atom.now) }
+        ensures full { length self.old.rows ≡ most_state_ids → IsOk result }
         ensures err { OnErr result (self.new ≡ self.old) }
     {
         let mut states = IdStates::new(self.alloc);

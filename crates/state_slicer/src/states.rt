@@ -1,9 +1,9 @@
 //! The states of one id: a state for each key, for the first keys that came.
-ghost use Rattle.std.specs.Prelude.{◌≡◌, ◌≢◌, ◌≤◌, ◌↔◌, [], length, map, slice_get, Some, All, AllPairs, IsTrue, OnOk, OnErr, Contains};
+ghost use Rattle.std.specs.Prelude.{◌≡◌, ◌≢◌, ◌≤◌, ◌↔◌, true, [], length, map, slice_get, Some, All, AllPairs, IsTrue, IsOk, OnOk, OnErr, Contains};
 ghost use Rattle.std.specs.Option.{option_map};
 ghost use Rattle.dim_table.specs.Table.{keys, with_value_at};
 ghost use Rattle.book_meaning.specs.BookLimits.{most_state_keys};
-ghost use Rattle.book_meaning.specs.States.{no_state_known};
+ghost use Rattle.book_meaning.specs.States.{no_state_known, puts_back};
 ghost use Rattle.state_slicer.specs.StateTables.{current, with_blanks};
 
 use crate::told::{UNKNOWN, key_of, read_state, resets_states};
@@ -93,6 +93,7 @@ impl IdStates {
     /// Takes a state atom of the id.
     pub fn take(&mut self, alloc: Global, atom: &Atom) -> Result<(), AllocError>
         ensures taken { OnOk result (TakesAtom self.old self.new atom.now) }
+        ensures reset { puts_back atom.now ≡ true → IsOk result }
         ensures err { OnErr result (self.new ≡ self.old) }
     {
         if resets_states(atom) {

@@ -1,6 +1,6 @@
 -- The count of an id is that of its states; an id that isn't there has none.
 use Rattle.std.proofs.Common.{◌∙◌}
-use Rattle.state_slicer.proofs.StateBookLemmas.{drops_absent, drops_there}
+use Rattle.state_slicer.proofs.BookAnswersLemmas.{drops_absent, drops_there}
 use Rattle.state_slicer.proofs.book.StateBook.dropped.Goals as goal
 
 pub returns-in_default : goal.returns-in_default

@@ -1,5 +1,5 @@
 -- States that took the atom stand at their place; where they could not, the table is as before.
-use Rattle.state_slicer.proofs.StateBookLemmas.{err_same, ok_taken_at}
+use Rattle.state_slicer.proofs.BookRowsLemmas.{err_same, ok_taken_at}
 use Rattle.state_slicer.proofs.StateItemsLemmas.{fits-written}
 use Rattle.state_slicer.proofs.book.StateBook.tell_at.Goals as goal
 

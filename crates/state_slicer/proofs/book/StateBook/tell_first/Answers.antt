@@ -1,7 +1,7 @@
 -- A new id has a place with the states after its first atom, or is counted.
 use Rattle.std.proofs.Common.{◌≡◌, length, sym, subst, ◌∙◌}
 use Rattle.state_slicer.specs.StateTables.{TakesAtom}
-use Rattle.state_slicer.proofs.StateBookLemmas.{first_admitted, first_away}
+use Rattle.state_slicer.proofs.BookRowsLemmas.{first_admitted, first_away}
 use Rattle.state_slicer.proofs.book.StateBook.tell_first.Goals as goal
 
 pub returns-then-len-eq-MAX_IDS-clause-taken : goal.returns-then-len-eq-MAX_IDS-clause-taken

@@ -1,7 +1,7 @@
 -- The state of a key is that in the states of its id; an id that isn't there has none.
 use Rattle.std.proofs.Common.{arith, rules}
 use Rattle.std.proofs.lemmas.Int.{ints, to_z-of_z}
-use Rattle.state_slicer.proofs.StateBookLemmas.{value_absent, value_there}
+use Rattle.state_slicer.proofs.BookAnswersLemmas.{value_absent, value_there}
 use Rattle.state_slicer.proofs.book.StateBook.value.Goals as goal
 
 pub returns-in_default : goal.returns-in_default
