@@ -5,6 +5,7 @@ ghost use Rattle.session_frames.specs.declared.frame.Frame.{Frame};
 ghost use Rattle.session_frames.specs.Frames.{Clean, frames_of, IsFaultless, IsInTime};
 ghost use Rattle.matcher_eval.specs.AtomTests.{matcher_holds};
 ghost use Rattle.hub_meaning.specs.SessionLog.{clock_of};
+ghost use Rattle.hub_meaning.specs.ClientIsolation.{EqualOwnFramesEqualReplies};
 ghost use Rattle.hub_core.specs.HubStands.{HubStandsFor};
 ghost use Rattle.statsd_cli.specs.declared.note.Note.TheVariants as notes_told;
 ghost use Rattle.config_check.specs.declared.error.CheckError.{CheckError};
@@ -30,6 +31,7 @@ use std::alloc::Global;
 /// Runs what the words ask for, and gives the program's status. The words are those of the command line without the
 /// program's name. `replay` answers the session on `input` on `out`; `check` tells on `out`, in one line, whether the
 /// configuration on `input` has a fault. Why it ended with another status than 0 is told in one line on `notes`.
+#[tactic(auto, using(hub_meaning::proofs::ClientIsolationLemmas::equal_own_frames))]
 pub fn statsd_top<S: Source, K: Sink, E: Sink>(
     alloc: Global,
     words: &[Bytes],
@@ -75,6 +77,9 @@ pub fn statsd_top<S: Source, K: Sink, E: Sink>(
         → (Rose (K.faults out.old) (K.faults out.new) → ⊥)
         → (result ≡ status_of (ending_found (finding_of (take most_taken bytes))))
         ⊎ (result ≡ status_no_memory)) }
+
+    // What other clients do is no matter: equal own frames of a client have equal replies.
+    ensures isolated { EqualOwnFramesEqualReplies matcher_holds }
 {
     if is_replay(words) {
         return finish(&replay(alloc, input, out), notes);
