@@ -3,7 +3,7 @@ use super::run::assert_replay;
 use std::test::Fail;
 
 /// A name, a session and the replies to it. All end with the status 0.
-const ROWS: [(&str, &str, &str); 13] = [
+const ROWS: [(&str, &str, &str); 14] = [
     (
         "two starts and a stop leave a predicate on",
         "37000000_10 own 3a06080112020805 3a06080212020806 3a06080312020807 4208080b120408011002 \
@@ -125,6 +125,11 @@ const ROWS: [(&str, &str, &str); 13] = [
         "installed 4700000000000000_06 own owner \
             12320a2c08642a1c0a0c1a06080010091802220218020a0c1a060800100918012202180348005080c0e285e368c83e011800 \
             2009",
+    ),
+    (
+        "a predicate may keep 3000 keys",
+        "17000000_10 own 4208080b1204c83eb817 report",
+        "installed 1900000000000000_06 own owner 120418002000",
     ),
     (
         "stop before start, where one atom does both",

@@ -1,5 +1,5 @@
-//! As much as a configuration may have, and one more: matchers, metrics, predicates and states; the longest chain of
-//! matchers; and more ids of state atoms than are kept.
+//! As much as a configuration may have, and one more: matchers, metrics, predicates and states; the longest chains of
+//! matchers and of predicates; and more ids of state atoms than are kept.
 use super::messages::{push_message, push_varint};
 use super::parts::{TEN, bytes_of, push_text};
 use super::run::{SOUND, assert_left, run};
@@ -18,6 +18,8 @@ enum Entity {
     Count,
     /// A predicate without matchers.
     Predicate,
+    /// A combination of a predicate with itself, which is the one of the id before.
+    Doubled,
     /// A state of the atoms of id 27.
     State,
 }
@@ -58,7 +60,7 @@ const ROWS: [(&str, &str, Entity, u64, &str); 7] = [
     ),
 ];
 
-/// The operation `and` of the matcher of this id with itself.
+/// The operation `and` of the matcher, or the predicate, of this id with itself.
 fn pair_of(alloc: Global, id: u64) -> Result<Vec<u8>, AllocError> {
     let mut pair = Vec::new(alloc);
     pair.extend_from_slice(&[8, 1, 16])?;
@@ -72,7 +74,7 @@ fn tag_of(entity: Entity) -> &'static [u8] {
     match entity {
         Entity::Simple | Entity::Pair => &[0x3a],
         Entity::Count => &[0x1a],
-        Entity::Predicate => &[0x42],
+        Entity::Predicate | Entity::Doubled => &[0x42],
         Entity::State => &[0xaa, 0x01],
     }
 }
@@ -83,7 +85,7 @@ fn message_of(alloc: Global, entity: Entity, id: u64) -> Result<Vec<u8>, AllocEr
     push_varint(&mut message, id)?;
     match entity {
         Entity::Simple => message.extend_from_slice(&[0x12, 2, 8, 5])?,
-        Entity::Pair => {
+        Entity::Pair | Entity::Doubled => {
             let pair = pair_of(alloc, id.saturating_sub(1))?;
             push_message(&mut message, &[0x1a], pair.as_slice())?;
         }
@@ -135,6 +137,24 @@ fn follows_a_chain_of_800_matchers(rt: HostRuntime) -> Result<(), Fail> {
     // The metric 100 of the matcher 800.
     push_text(&mut config, "1a05086410a006", TEN)?;
     let session = "0d000000_02_0100000000000000_05000000 cut";
+    assert_answers(
+        &rt,
+        "a chain",
+        config.as_slice(),
+        session,
+        "installed one-by-1",
+    )
+}
+
+#[test]
+fn asks_a_chain_of_300_predicates(rt: HostRuntime) -> Result<(), Fail> {
+    // The predicate 1 is started by the atoms of id 5.
+    let head = "matcher 3a06080212020806 4206080112020801";
+    let mut config = config_of(rt.alloc(), head, Entity::Doubled, 2, 300)?;
+    // The metric 100 of the atoms of id 6, under the predicate 300.
+    push_text(&mut config, "1a0708641002_18ac02", TEN)?;
+    let session = "0d000000_02_0100000000000000_06000000 0d000000_02_0100000000000000_05000000 \
+        0d000000_02_0100000000000000_06000000 cut";
     assert_answers(
         &rt,
         "a chain",
