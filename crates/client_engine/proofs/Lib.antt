@@ -5,3 +5,4 @@ pub mod KeptPredicatesLemmas
 pub mod TrackLemmas
 pub mod TracksLemmas
 pub mod InsidePartsLemmas
+pub mod AskedLemmas

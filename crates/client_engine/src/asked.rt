@@ -1,5 +1,5 @@
 //! What a metric asks of predicates.
-ghost use Rattle.std.specs.Prelude.{◌≡◌, map, OnOk, IfOk};
+ghost use Rattle.std.specs.Prelude.{◌≡◌, [], map, replicate, OnOk};
 ghost use Rattle.std.specs.List.{range_with_len};
 ghost use Rattle.metric_meaning.specs.MetricConditions.{binds_at};
 
@@ -21,22 +21,29 @@ pub fn ask_all(
     ensures { OnOk result
         (binds.new.items ≡ map (binds_at links.now atom.now) (range_with_len 0 predicates)) }
 {
-    binds.clear();
-    for place in 0..predicates {
-        let asked = ask_at(alloc, links, atom, place)?;
-        binds.push(asked)?;
+    ask_nothing(alloc, predicates, binds)?;
+    // from the last on, since of two links to a predicate the first one counts
+    for at in (0..links.len()).rev() {
+        let link = &links[at];
+        let place = link.predicate as usize;
+        if place < predicates {
+            binds[place] = bind_atom(alloc, link, atom)?;
+        }
     }
     Ok(())
 }
 
-// What the links ask of the predicate at a place.
-fn ask_at(alloc: Global, links: &[LLink], atom: &Atom, place: usize) -> Result<BindList, AllocError>
-    ensures { IfOk result (λ binds. binds ≡ binds_at links.now atom.now place) }
+// Nothing is asked of any of so many predicates.
+fn ask_nothing(
+    alloc: Global,
+    predicates: usize,
+    binds: &mut Vec<BindList>,
+) -> Result<(), AllocError>
+    ensures { OnOk result (binds.new.items ≡ replicate predicates []) }
 {
-    for link in links {
-        if link.predicate as usize == place {
-            return bind_atom(alloc, link, atom);
-        }
+    binds.clear();
+    for _ in 0..predicates {
+        binds.push(Seq::new(alloc))?;
     }
-    Ok(Seq::new(alloc))
+    Ok(())
 }

@@ -1,15 +1,22 @@
-use Rattle.std.proofs.Common.{◌∙◌, ◌++◌, ◌∷◌, [], map, sym, ap, arith}
-use Rattle.std.specs.List.{range_with_len}
-use Rattle.std.proofs.lemmas.List.FromFn.{map-range_with_len_more}
-use Rattle.metric_meaning.specs.MetricConditions.{binds_at}
+use Rattle.std.proofs.Common.{◌∙◌}
+use Rattle.client_engine.proofs.AskedLemmas.{asked_first, asked_one_more, asked_no_more}
 use Rattle.client_engine.proofs.asked.ask_all.Goals as goal
 
--- one more predicate is asked
-pub loop-place-preserved : goal.loop-place-preserved
-loop-place-preserved c =
-    let asks = binds_at c.args.links.now c.args.atom.now in
-    let place = c.loop-place.place in
-    c.in_ok-push.ensures.items
-    ∙ ap (λ binds. binds ++ c.in_ok-asked.asked ∷ []) c.loop-place.invariant
-    ∙ ap (λ asked. map asks (range_with_len 0 place) ++ asked ∷ []) c.in_ok-asked.ensures
-    ∙ sym (map-range_with_len_more asks 0 place place (omega arith))
+-- none of the links is asked yet
+pub loop-at-init : goal.loop-at-init
+loop-at-init c =
+    c.in_ok-ask_nothing.ensures ∙ asked_first c.args.links.now c.args.atom.now c.args.predicates
+
+-- one more link, to one of the predicates
+pub loop-at-preserved-then-place-predicates : goal.loop-at-preserved-then-place-predicates
+loop-at-preserved-then-place-predicates c =
+    asked_one_more c.args.links.now c.args.atom.now c.loop-at.at c.args.predicates c.index-links-at.result
+    c.loop-at.binds.items c.in_ok-binds.field-0 c.loop-at-test.true c.loop-at.auto.at c.index-links-at.is
+    c.loop-at.invariant c.if-place-predicates.true c.in_ok-binds.ensures
+
+-- or to none of them
+pub loop-at-preserved : goal.loop-at-preserved
+loop-at-preserved c =
+    asked_no_more c.args.links.now c.args.atom.now c.loop-at.at c.args.predicates c.index-links-at.result
+    c.loop-at.binds.items c.loop-at-test.true c.loop-at.auto.at c.index-links-at.is c.loop-at.invariant
+    c.if-place-predicates.false
