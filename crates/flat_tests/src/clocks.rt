@@ -2,7 +2,7 @@
 use crate::samples::numbers;
 use bucket_clock::{Clock, Crossings, MAX_BUCKET};
 use flat_form::{Flat, FlatError, Items, rebuild};
-use std::alloc::Global;
+use std::alloc::{AllocError, Global};
 use std::process::Abort;
 use std::test::*;
 
@@ -151,19 +151,38 @@ fn is_bad(alloc: Global, items: &Items, place: usize) -> bool {
     matches!(Clock::build(alloc, items, place), Err(FlatError::Bad))
 }
 
+// Whether these items build a clock of these numbers.
+fn is_built(alloc: Global, items: &Items, base: u64, size: u64, start: u64, next_end: u64) -> bool {
+    match Clock::build(alloc, items, 0) {
+        Ok((clock, next)) => next == 4 && is_at(&clock, base, size, start, next_end),
+        Err(_) => false,
+    }
+}
+
+// Whether these four numbers build a clock, and else nothing at all.
+fn is_judged(
+    alloc: Global,
+    base: u64,
+    size: u64,
+    start: u64,
+    next_end: u64,
+    is_clock: bool,
+) -> Result<bool, AllocError> {
+    let items = numbers(alloc, &[base, size, start, next_end])?;
+    Ok(if is_clock {
+        is_built(alloc, &items, base, size, start, next_end)
+    } else {
+        is_bad(alloc, &items, 0)
+    })
+}
+
 #[test]
 fn builds_what_a_clock_may_be(rt: HostRuntime) -> Result<(), Fail> {
     for (base, size, start, next_end, is_clock) in rows() {
-        let items = numbers(rt.alloc(), &[base, size, start, next_end])?;
-        if is_clock {
-            let (clock, next) = Clock::build(rt.alloc(), &items, 0)?;
-            assert!(rt; next == 4 && is_at(&clock, base, size, start, next_end));
-        } else {
-            assert!(rt;
-                is_bad(rt.alloc(), &items, 0),
-                "at {base} {size} {start} {next_end}"
-            );
-        }
+        assert!(rt;
+            is_judged(rt.alloc(), base, size, start, next_end, is_clock)?,
+            "at {base} {size} {start} {next_end}"
+        );
     }
     Ok(())
 }

@@ -1,8 +1,9 @@
 //! Items and their bytes.
+ghost use Rattle.flat_form.specs.Savable.{AreSavable};
+
 use crate::samples::{ATOM, CHUNK, DIMS, NUM, SLICES, items};
 use flat_form::{FlatError, Item, Items, decode_items, encode_items};
-use sd_base::Seq;
-use std::alloc::Global;
+use std::alloc::{AllocError, Global};
 use std::test::*;
 
 // The bytes of one item of each kind, in the order of the sample.
@@ -18,11 +19,47 @@ fn is_bad(alloc: Global, bytes: &[u8]) -> bool {
     matches!(decode_items(alloc, bytes), Err(FlatError::Bad))
 }
 
-// Whether the items that these bytes spell are spelled so again.
-fn is_spelled_again(alloc: Global, bytes: &[u8]) -> Result<bool, FlatError> {
-    let items = decode_items(alloc, bytes)?;
-    let again = encode_items(alloc, &items)?;
-    Ok(again.as_slice() == bytes)
+// Whether these bytes spell one item, the one at this place.
+fn is_read_as(alloc: Global, bytes: &[u8], expected: &Items, place: usize) -> bool {
+    match decode_items(alloc, bytes) {
+        Ok(read) => read.len() == 1 && same_item(read.at(0), expected.at(place)),
+        Err(_) => false,
+    }
+}
+
+// Whether these bytes spell these items.
+fn are_read(alloc: Global, bytes: &[u8], expected: &Items) -> bool {
+    match decode_items(alloc, bytes) {
+        Ok(read) => read.as_slice() == expected.as_slice(),
+        Err(_) => false,
+    }
+}
+
+// Whether these items are spelled by these bytes.
+fn are_spelled(alloc: Global, items: &Items, bytes: &[u8]) -> bool
+    requires { AreSavable items.now }
+{
+    match encode_items(alloc, items) {
+        Ok(spelled) => spelled.as_slice() == bytes,
+        Err(_) => false,
+    }
+}
+
+// Whether so many items stand in these bytes, and are spelled by them again.
+fn is_spelled_again(alloc: Global, bytes: &[u8], number: usize) -> bool {
+    match decode_items(alloc, bytes) {
+        Ok(items) => items.len() == number && are_spelled(alloc, &items, bytes),
+        Err(_) => false,
+    }
+}
+
+// Whether each row spells the item at its place.
+fn are_all_read(alloc: Global, expected: &Items) -> bool {
+    let mut all = true;
+    for (place, bytes) in rows().iter().enumerate() {
+        all &= is_read_as(alloc, bytes, expected, place);
+    }
+    all
 }
 
 #[test]
@@ -30,11 +67,7 @@ fn decodes_each_item(rt: HostRuntime) -> Result<(), Fail> {
     let expected = items(rt.alloc())?;
     assert!(rt; expected.len() == 5);
     assert!(rt; expected.at(5).is_none());
-    for (place, bytes) in rows().iter().enumerate() {
-        let read = decode_items(rt.alloc(), bytes)?;
-        assert!(rt; read.len() == 1, "at {place}");
-        assert!(rt; same_item(read.at(0), expected.at(place)), "at {place}");
-    }
+    assert!(rt; are_all_read(rt.alloc(), &expected));
     Ok(())
 }
 
@@ -48,46 +81,53 @@ fn decodes_no_part_of_an_item(rt: HostRuntime) {
 }
 
 #[test]
-fn encodes_each_item(rt: HostRuntime) -> Result<(), Fail> {
+fn encodes_each_item(rt: HostRuntime) {
     for (place, bytes) in rows().iter().enumerate() {
-        assert!(rt; is_spelled_again(rt.alloc(), bytes)?, "at {place}");
+        assert!(rt; is_spelled_again(rt.alloc(), bytes, 1), "at {place}");
     }
-    Ok(())
+}
+
+// The bytes of all items, one after the other.
+fn all_bytes(alloc: Global) -> Result<Vec<u8>, AllocError> {
+    let mut whole = Vec::new(alloc);
+    for bytes in rows() {
+        whole.extend_from_slice(bytes)?;
+    }
+    Ok(whole)
 }
 
 #[test]
 fn decodes_and_encodes_items_in_a_row(rt: HostRuntime) -> Result<(), Fail> {
-    let mut whole = Vec::new(rt.alloc());
-    for bytes in rows() {
-        whole.extend_from_slice(bytes)?;
-    }
+    let whole = all_bytes(rt.alloc())?;
+    assert!(rt; is_spelled_again(rt.alloc(), &whole, 5));
     let expected = items(rt.alloc())?;
-    let read = decode_items(rt.alloc(), &whole)?;
-    assert!(rt; read.as_slice() == expected.as_slice());
-    assert!(rt; is_spelled_again(rt.alloc(), &whole)?);
+    assert!(rt; are_read(rt.alloc(), &whole, &expected));
     Ok(())
 }
 
 #[test]
 fn encodes_no_items_and_a_number(rt: HostRuntime) -> Result<(), Fail> {
     let mut items = Items::new(rt.alloc());
-    assert!(rt; encode_items(rt.alloc(), &items)?.is_empty());
+    assert!(rt; are_spelled(rt.alloc(), &items, b""));
     items.push(Item::Num(258))?;
-    assert!(rt; encode_items(rt.alloc(), &items)?.as_slice() == NUM);
+    assert!(rt; are_spelled(rt.alloc(), &items, NUM));
     Ok(())
 }
 
-#[test]
-fn decodes_a_long_chunk(rt: HostRuntime) -> Result<(), Fail> {
-    let mut bytes = Vec::new(rt.alloc());
-    // A chunk of 65,537 bytes, which two bytes can't count.
+// The bytes of a chunk of 65,537 bytes, which two bytes can't count.
+fn long_chunk(alloc: Global) -> Result<Vec<u8>, AllocError> {
+    let mut bytes = Vec::new(alloc);
     bytes.extend_from_slice(b"\x05\x01\0\x01\0")?;
     for _turn in 0..65_537u32 {
         bytes.push(7)?;
     }
-    let items = decode_items(rt.alloc(), &bytes)?;
-    assert!(rt; items.len() == 1);
-    assert!(rt; is_spelled_again(rt.alloc(), &bytes)?);
+    Ok(bytes)
+}
+
+#[test]
+fn decodes_a_long_chunk(rt: HostRuntime) -> Result<(), Fail> {
+    let bytes = long_chunk(rt.alloc())?;
+    assert!(rt; is_spelled_again(rt.alloc(), &bytes, 1));
     Ok(())
 }
 

@@ -12,24 +12,39 @@ fn raw(alloc: Global, bytes: &[u8]) -> Result<Value, AllocError> {
     Ok(Value::Raw(Seq::from_slice(alloc, bytes)?))
 }
 
+// Adds a text.
+fn push_text(alloc: Global, leaves: &mut Seq<Leaf>, bytes: &[u8]) -> Result<(), AllocError> {
+    let word = text(alloc, bytes)?;
+    leaves.push(Leaf::One(word))
+}
+
 fn many(alloc: Global) -> Result<Seq<Value>, AllocError> {
-    let last = raw(alloc, b"\xff")?;
     let mut values = Seq::new(alloc);
     values.push(Value::Long(-2))?;
     values.push(Value::Bits32(7))?;
-    values.push(last)?;
+    push_raw(alloc, &mut values, b"\xff")?;
     Ok(values)
 }
 
-pub fn dims(alloc: Global) -> Result<DimKey, AllocError> {
-    let word = text(alloc, b"ab")?;
+// Adds raw bytes.
+fn push_raw(alloc: Global, values: &mut Seq<Value>, bytes: &[u8]) -> Result<(), AllocError> {
+    let last = raw(alloc, bytes)?;
+    values.push(last)
+}
+
+// Adds many values.
+fn push_many(alloc: Global, leaves: &mut Seq<Leaf>) -> Result<(), AllocError> {
     let values = many(alloc)?;
+    leaves.push(Leaf::Many(values))
+}
+
+pub fn dims(alloc: Global) -> Result<DimKey, AllocError> {
     let mut leaves = Seq::new(alloc);
     leaves.push(Leaf::Missing)?;
     leaves.push(Leaf::One(Value::Int(-2)))?;
-    leaves.push(Leaf::One(word))?;
+    push_text(alloc, &mut leaves, b"ab")?;
     leaves.push(Leaf::One(Value::Bool(true)))?;
-    leaves.push(Leaf::Many(values))?;
+    push_many(alloc, &mut leaves)?;
     Ok(leaves)
 }
 
@@ -88,11 +103,31 @@ pub fn key(alloc: Global) -> Result<MetricKey, AllocError> {
 pub fn items(alloc: Global) -> Result<Items, AllocError> {
     let mut items = Items::new(alloc);
     items.push(Item::Num(258))?;
-    items.push(Item::Dims(dims(alloc)?))?;
-    items.push(Item::Slices(slices(alloc)?))?;
-    items.push(Item::AtomItem(atom(alloc)?))?;
-    items.push(Item::Chunk(Seq::from_slice(alloc, b"abc")?))?;
+    push_dims(alloc, &mut items)?;
+    push_slices(alloc, &mut items)?;
+    push_atom(alloc, &mut items)?;
+    push_chunk(alloc, &mut items)?;
     Ok(items)
+}
+
+fn push_dims(alloc: Global, items: &mut Items) -> Result<(), AllocError> {
+    let dims = dims(alloc)?;
+    items.push(Item::Dims(dims))
+}
+
+fn push_slices(alloc: Global, items: &mut Items) -> Result<(), AllocError> {
+    let slices = slices(alloc)?;
+    items.push(Item::Slices(slices))
+}
+
+fn push_atom(alloc: Global, items: &mut Items) -> Result<(), AllocError> {
+    let atom = atom(alloc)?;
+    items.push(Item::AtomItem(atom))
+}
+
+fn push_chunk(alloc: Global, items: &mut Items) -> Result<(), AllocError> {
+    let bytes = Seq::from_slice(alloc, b"abc")?;
+    items.push(Item::Chunk(bytes))
 }
 
 /// So many numbers, each an item.

@@ -8,11 +8,44 @@ use std::test::*;
 
 // A number and a key, one after the other.
 fn number_and_key(alloc: Global) -> Result<Items, AllocError> {
-    let key = key(alloc)?;
     let mut items = Items::new(alloc);
     7u64.flatten(alloc, &mut items)?;
-    key.flatten(alloc, &mut items)?;
+    push_key(alloc, &mut items)?;
     Ok(items)
+}
+
+fn push_key(alloc: Global, items: &mut Items) -> Result<(), AllocError> {
+    let key = key(alloc)?;
+    key.flatten(alloc, items)
+}
+
+// The items of a value alone.
+fn items_of<T: Flat>(alloc: Global, value: &T) -> Result<Items, AllocError> {
+    let mut items = Items::new(alloc);
+    value.flatten(alloc, &mut items)?;
+    Ok(items)
+}
+
+// Whether this value stands at the place, up to the next one.
+fn is_built<T: Flat + Drop + PartialEq>(
+    alloc: Global,
+    items: &Items,
+    place: usize,
+    value: &T,
+    next: usize,
+) -> bool {
+    match T::build(alloc, items, place) {
+        Ok((built, end)) => built == *value && end == next,
+        Err(_) => false,
+    }
+}
+
+// Whether this value is rebuilt.
+fn is_rebuilt<T: Flat + Drop + PartialEq>(alloc: Global, value: &T) -> bool {
+    match rebuild(alloc, value) {
+        Ok(copy) => copy == *value,
+        Err(_) => false,
+    }
 }
 
 // Whether no value of this type stands at the place.
@@ -20,62 +53,45 @@ fn is_bad<T: Flat + Drop>(alloc: Global, items: &Items, place: usize) -> bool {
     matches!(T::build(alloc, items, place), Err(FlatError::Bad))
 }
 
-fn same_key(one: &MetricKey, other: &MetricKey) -> bool {
-    one == other
-}
-
-fn same_dims(one: &DimKey, other: &DimKey) -> bool {
-    one == other
-}
-
-fn same_atom(one: &Atom, other: &Atom) -> bool {
-    one == other
-}
-
-fn same_numbers(one: &Seq<u64>, other: &Seq<u64>) -> bool {
-    one == other
+// Whether a list is saved in so many bytes.
+fn is_saved_in(alloc: Global, list: &Seq<u64>, len: usize) -> bool {
+    match save(alloc, list) {
+        Ok(bytes) => bytes.len() == len,
+        Err(_) => false,
+    }
 }
 
 #[test]
 fn builds_a_key(rt: HostRuntime) -> Result<(), Fail> {
+    let key = key(rt.alloc())?;
     let items = number_and_key(rt.alloc())?;
-    let (built, next) = MetricKey::build(rt.alloc(), &items, 1)?;
-    assert!(rt; next == 3);
-    assert!(rt; same_key(&built, &key(rt.alloc())?));
+    assert!(rt; is_built(rt.alloc(), &items, 1, &key, 3));
     Ok(())
 }
 
 #[test]
 fn builds_dimensions(rt: HostRuntime) -> Result<(), Fail> {
+    let dims = dims(rt.alloc())?;
+    assert!(rt; is_rebuilt(rt.alloc(), &dims));
     let items = number_and_key(rt.alloc())?;
-    let (built, next) = DimKey::build(rt.alloc(), &items, 1)?;
-    assert!(rt; next == 2);
-    assert!(rt; same_dims(&built, &dims(rt.alloc())?));
-    let copy = rebuild(rt.alloc(), &built)?;
-    assert!(rt; same_dims(&copy, &built));
+    assert!(rt; is_built(rt.alloc(), &items, 1, &dims, 2));
     Ok(())
 }
 
 #[test]
 fn builds_a_pair(rt: HostRuntime) -> Result<(), Fail> {
+    let pair = (7u64, key(rt.alloc())?);
+    assert!(rt; is_rebuilt(rt.alloc(), &pair));
     let items = number_and_key(rt.alloc())?;
-    let (pair, next) = <(u64, MetricKey)>::build(rt.alloc(), &items, 0)?;
-    assert!(rt; pair.0 == 7 && next == 3);
-    assert!(rt; same_key(&pair.1, &key(rt.alloc())?));
-    let copy = rebuild(rt.alloc(), &pair)?;
-    assert!(rt; copy.0 == 7);
-    assert!(rt; same_key(&copy.1, &pair.1));
+    assert!(rt; is_built(rt.alloc(), &items, 0, &pair, 3));
     Ok(())
 }
 
 #[test]
 fn builds_an_atom(rt: HostRuntime) -> Result<(), Fail> {
     let atom = atom(rt.alloc())?;
-    let mut items = Items::new(rt.alloc());
-    atom.flatten(rt.alloc(), &mut items)?;
-    let (built, next) = Atom::build(rt.alloc(), &items, 0)?;
-    assert!(rt; next == 1);
-    assert!(rt; same_atom(&built, &atom));
+    let items = items_of(rt.alloc(), &atom)?;
+    assert!(rt; is_built(rt.alloc(), &items, 0, &atom, 1));
     Ok(())
 }
 
@@ -83,25 +99,27 @@ fn builds_an_atom(rt: HostRuntime) -> Result<(), Fail> {
 fn builds_a_list_of_three(rt: HostRuntime) -> Result<(), Fail> {
     let list: Seq<u64> = Seq::from_slice(rt.alloc(), &[3, 1, 2])?;
     let items = numbers(rt.alloc(), &[3, 3, 1, 2])?;
-    let (built, next) = Seq::<u64>::build(rt.alloc(), &items, 0)?;
-    assert!(rt; next == 4);
-    assert!(rt; same_numbers(&built, &list));
+    assert!(rt; is_built(rt.alloc(), &items, 0, &list, 4));
     Ok(())
+}
+
+// A list of the numbers below 1,000.
+fn long_list(alloc: Global) -> Result<Seq<u64>, AllocError> {
+    let mut list = Seq::new(alloc);
+    for number in 0..1000u64 {
+        list.push(number)?;
+    }
+    Ok(list)
 }
 
 #[test]
 fn builds_a_long_list(rt: HostRuntime) -> Result<(), Fail> {
-    let mut list: Seq<u64> = Seq::new(rt.alloc());
-    for number in 0..1000u64 {
-        list.push(number)?;
-    }
-    let mut items = Items::new(rt.alloc());
-    list.flatten(rt.alloc(), &mut items)?;
-    assert!(rt; items.len() == 1001);
-    let copy = rebuild(rt.alloc(), &list)?;
-    assert!(rt; same_numbers(&copy, &list));
+    let list = long_list(rt.alloc())?;
+    assert!(rt; is_rebuilt(rt.alloc(), &list));
     // 1,001 items of nine bytes.
-    assert!(rt; save(rt.alloc(), &list)?.len() == 9009);
+    assert!(rt; is_saved_in(rt.alloc(), &list, 9009));
+    let items = items_of(rt.alloc(), &list)?;
+    assert!(rt; items.len() == 1001);
     Ok(())
 }
 
