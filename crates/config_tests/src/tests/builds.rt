@@ -23,28 +23,43 @@ fn in_field(alloc: Global, number: u32, inner: &[u8]) -> Result<Vec<u8>, AllocEr
     Ok(writer.into_bytes())
 }
 
-/// These bytes in a field, that in another, and so on: the innermost number comes first.
-pub fn in_fields(alloc: Global, inner: Vec<u8>, numbers: &[u8]) -> Result<Vec<u8>, AllocError> {
-    let mut bytes = inner;
-    for number in numbers {
-        // No field has the number 0.
-        let number = (*number as u32).max(1);
-        bytes = in_field(alloc, number, bytes.as_slice())?;
-    }
-    Ok(bytes)
+/// Puts bytes in a field.
+fn put_in_field(alloc: Global, bytes: &mut Vec<u8>, number: u8) -> Result<(), AllocError> {
+    // No field has the number 0.
+    *bytes = in_field(alloc, (number as u32).max(1), bytes.as_slice())?;
+    Ok(())
 }
 
-/// These bytes, so many times in fields of these numbers, one in another.
-pub fn nested(
+/// Puts bytes in a field, that in another, and so on: the innermost number comes first.
+pub fn put_in_fields(alloc: Global, bytes: &mut Vec<u8>, numbers: &[u8]) -> Result<(), AllocError> {
+    for number in numbers {
+        put_in_field(alloc, bytes, *number)?;
+    }
+    Ok(())
+}
+
+/// Puts bytes so many times in fields of these numbers, one in another.
+pub fn nest(
     alloc: Global,
-    inner: Vec<u8>,
+    bytes: &mut Vec<u8>,
     numbers: &[u8],
     times: usize,
-) -> Result<Vec<u8>, AllocError> {
-    let mut bytes = inner;
+) -> Result<(), AllocError> {
     for _ in 0..times {
-        bytes = in_fields(alloc, bytes, numbers)?;
+        put_in_fields(alloc, bytes, numbers)?;
     }
+    Ok(())
+}
+
+/// A record so many times in these fields.
+pub fn repeated_in_fields(
+    alloc: Global,
+    record: &[u8],
+    times: usize,
+    fields: &[u8],
+) -> Result<Vec<u8>, AllocError> {
+    let mut bytes = repeated(alloc, record, times)?;
+    put_in_fields(alloc, &mut bytes, fields)?;
     Ok(bytes)
 }
 

@@ -1,47 +1,42 @@
 //! The most bytes of a configuration, and shapes that ask for much work and memory.
 
-use super::builds::{add_items, in_fields, repeated};
-use super::compared::{answer, is_too_large, reads_as};
-use config_types::Config;
+use super::builds::{add_items, repeated, repeated_in_fields};
+use super::compared::{is_too_large, reads_as, reads_as_items};
 use std::alloc::{AllocError, Global};
+use std::process::Abort;
 use std::test::*;
+
+/// Whether so many ids, which have no place in the tree, are so many bytes and read as nothing.
+fn reads_ids(alloc: Global, times: usize, size: usize) -> Result<bool, AllocError> {
+    let bytes = repeated(alloc, b"\x08\x01", times)?;
+    Ok(bytes.len() == size && reads_as(alloc, bytes.as_slice(), ""))
+}
+
+/// Whether so many pieces and a zero are refused for being so many bytes.
+fn refuses_one_more(
+    alloc: Global,
+    piece: &[u8],
+    times: usize,
+    size: u32,
+) -> Result<bool, AllocError> {
+    let mut bytes = repeated(alloc, piece, times)?;
+    bytes.push(0)?;
+    Ok(is_too_large(alloc, bytes.as_slice(), size))
+}
+
+/// Whether so many pieces are refused for being so many bytes.
+fn refuses(alloc: Global, piece: &[u8], times: usize, size: u32) -> Result<bool, AllocError> {
+    let bytes = repeated(alloc, piece, times)?;
+    Ok(is_too_large(alloc, bytes.as_slice(), size))
+}
 
 #[test]
 fn reads_262144_bytes_and_no_more(rt: HostRuntime) -> Result<(), Fail> {
-    // Ids, which have no place in the tree.
-    let mut bytes = repeated(rt.alloc(), b"\x08\x01", 131_072)?;
-    assert!(rt; bytes.len() == 262_144);
-    assert!(rt; reads_as(rt.alloc(), bytes.as_slice(), ""));
-
-    bytes.push(0)?;
-    assert!(rt; is_too_large(rt.alloc(), bytes.as_slice(), 262_145));
+    assert!(rt; reads_ids(rt.alloc(), 131_072, 262_144)?);
+    assert!(rt; refuses_one_more(rt.alloc(), b"\x08\x01", 131_072, 262_145)?);
     // However the bytes go on.
-    let more = repeated(rt.alloc(), b"\x0e", 300_000)?;
-    assert!(rt; is_too_large(rt.alloc(), more.as_slice(), 300_000));
+    assert!(rt; refuses(rt.alloc(), b"\x0e", 300_000, 300_000)?);
     Ok(())
-}
-
-/// How many items the lists of a tree have, and the key of its first count.
-fn items_of(tree: &Config) -> usize {
-    let matchers = tree.matchers.len().saturating_add(tree.predicates.len());
-    let states = tree.states.len().saturating_add(tree.no_report.len());
-    let events = tree.events.len().saturating_add(tree.counts.len());
-    let values = tree.values.len().saturating_add(tree.gauges.len());
-    let runs = tree.durations.len().saturating_add(children_of(tree));
-    let named = matchers.saturating_add(states);
-    let counted = events.saturating_add(values);
-    named.saturating_add(counted).saturating_add(runs)
-}
-
-/// How many children the key of the first count has.
-fn children_of(tree: &Config) -> usize {
-    match tree.counts.get(0) {
-        Some(count) => match &count.sliced.dims {
-            Some(dims) => dims.children.len(),
-            None => 0,
-        },
-        None => 0,
-    }
 }
 
 /// Whether so many items are read where so many records stand in these fields, the innermost of which comes first.
@@ -52,363 +47,430 @@ fn reads_items(
     fields: &[u8],
     items: usize,
 ) -> Result<bool, AllocError> {
-    let records = repeated(alloc, record, times)?;
-    let bytes = in_fields(alloc, records, fields)?;
-    match answer(alloc, bytes.as_slice()) {
-        Ok(tree) => Ok(items_of(&tree) == items),
-        Err(_) => Ok(false),
-    }
+    let bytes = repeated_in_fields(alloc, record, times, fields)?;
+    Ok(reads_as_items(alloc, bytes.as_slice(), items))
 }
+
+/// A name, a record, how often it stands in these fields, and how many items are read.
+type Counted = (&'static str, &'static [u8], usize, &'static [u8], usize);
+
+/// Asserts that so many items are read at each row.
+fn assert_items<R: Abort + AllocGlobal>(rt: &R, rows: &[Counted]) -> Result<(), Fail> {
+    for (name, record, times, fields, items) in rows {
+        let reads = reads_items(rt.alloc(), record, *times, fields, *items)?;
+        assert!(rt; reads, "at {name}");
+    }
+    Ok(())
+}
+
+/// As many records as there can be.
+const MOST: [Counted; 5] = [
+    ("matchers", b"\x3a\0", 131_072, &[], 131_072),
+    (
+        "metrics that no report shows",
+        b"\x68\x01",
+        131_072,
+        &[],
+        131_072,
+    ),
+    (
+        "metrics that no report shows, packed",
+        b"\x01",
+        262_140,
+        &[13],
+        262_140,
+    ),
+    ("fields of a key", b"\x1a\0", 131_060, &[4, 3], 131_061),
+    ("records of one matcher", b"\x12\0", 131_060, &[7], 1),
+];
 
 #[test]
 fn reads_as_many_records_as_there_can_be(rt: HostRuntime) -> Result<(), Fail> {
-    let rows: [(&str, &[u8], usize, &[u8], usize); 3] = [
-        ("matchers", b"\x3a\0", 131_072, &[], 131_072),
-        (
-            "metrics that no report shows",
-            b"\x68\x01",
-            131_072,
-            &[],
-            131_072,
-        ),
-        (
-            "metrics that no report shows, packed",
-            b"\x01",
-            262_140,
-            &[13],
-            262_140,
-        ),
-    ];
-    for (name, record, times, fields, items) in rows {
-        let reads = reads_items(rt.alloc(), record, times, fields, items)?;
-        assert!(rt; reads, "at {name}");
-    }
-    Ok(())
+    assert_items(&rt, &MOST)
 }
 
-#[test]
-fn reads_a_field_matcher_of_131060_children(rt: HostRuntime) -> Result<(), Fail> {
-    let reads = reads_items(rt.alloc(), b"\x1a\0", 131_060, &[4, 3], 131_061)?;
-    assert!(rt; reads);
-    Ok(())
-}
-
-#[test]
-fn joins_a_message_of_131060_records(rt: HostRuntime) -> Result<(), Fail> {
-    let reads = reads_items(rt.alloc(), b"\x12\0", 131_060, &[7], 1)?;
-    assert!(rt; reads);
-    Ok(())
-}
+/// 10,000 records of each kind.
+const EACH_KIND: [Counted; 9] = [
+    ("predicates", b"\x42\0", 10_000, &[], 10_000),
+    ("states", b"\xaa\x01\0", 10_000, &[], 10_000),
+    ("events", b"\x12\0", 10_000, &[], 10_000),
+    ("counts", b"\x1a\0", 10_000, &[], 10_000),
+    ("values", b"\x22\0", 10_000, &[], 10_000),
+    ("gauges", b"\x2a\0", 10_000, &[], 10_000),
+    ("durations", b"\x32\0", 10_000, &[], 10_000),
+    ("records of one key", b"\x22\0", 10_000, &[3], 1),
+    ("groups that are passed over", b"\x0b\x0c", 10_000, &[], 0),
+];
 
 #[test]
 fn reads_10000_records_of_each_kind(rt: HostRuntime) -> Result<(), Fail> {
-    let rows: [(&str, &[u8], usize, &[u8], usize); 9] = [
-        ("predicates", b"\x42\0", 10_000, &[], 10_000),
-        ("states", b"\xaa\x01\0", 10_000, &[], 10_000),
-        ("events", b"\x12\0", 10_000, &[], 10_000),
-        ("counts", b"\x1a\0", 10_000, &[], 10_000),
-        ("values", b"\x22\0", 10_000, &[], 10_000),
-        ("gauges", b"\x2a\0", 10_000, &[], 10_000),
-        ("durations", b"\x32\0", 10_000, &[], 10_000),
-        ("records of one key", b"\x22\0", 10_000, &[3], 1),
-        ("groups that are passed over", b"\x0b\x0c", 10_000, &[], 0),
-    ];
-    for (name, record, times, fields, items) in rows {
-        let reads = reads_items(rt.alloc(), record, times, fields, items)?;
-        assert!(rt; reads, "at {name}");
+    assert_items(&rt, &EACH_KIND)
+}
+
+/// Records that stand so often in fields, of which the innermost comes first, and the text of their tree: what comes
+/// before so many items, an item, and what comes after.
+#[derive(Clone, Copy)]
+struct Wide {
+    name: &'static str,
+    record: &'static [u8],
+    times: usize,
+    fields: &'static [u8],
+    before: &'static str,
+    item: &'static str,
+    count: usize,
+    after: &'static str,
+}
+
+/// Adds the whole text.
+fn add_text(text: &mut String, wide: &Wide) -> Result<(), AllocError> {
+    text.push_str(wide.before)?;
+    add_items(text, wide.item, wide.count)?;
+    text.push_str(wide.after)
+}
+
+/// Whether the records are read as the tree of this text.
+fn reads_wide(alloc: Global, wide: &Wide) -> Result<bool, AllocError> {
+    let mut text = String::new(alloc);
+    add_text(&mut text, wide)?;
+    let bytes = repeated_in_fields(alloc, wide.record, wide.times, wide.fields)?;
+    Ok(reads_as(alloc, bytes.as_slice(), text.as_str()))
+}
+
+/// Asserts that the records of each row are read.
+fn assert_wide<R: Abort + AllocGlobal>(rt: &R, rows: &[Wide]) -> Result<(), Fail> {
+    for wide in rows {
+        let reads = reads_wide(rt.alloc(), wide)?;
+        assert!(rt; reads, "at {}", wide.name);
     }
     Ok(())
 }
 
-/// The text of a tree: what comes before so many items, an item, and what comes after.
-#[derive(Clone, Copy)]
-struct Items<'a> {
-    before: &'a str,
-    item: &'a str,
-    count: usize,
-    after: &'a str,
-}
-
-/// The whole text.
-fn text_of(alloc: Global, items: &Items<'_>) -> Result<String, AllocError> {
-    let mut text = String::new(alloc);
-    text.push_str(items.before)?;
-    add_items(&mut text, items.item, items.count)?;
-    text.push_str(items.after)?;
-    Ok(text)
-}
-
-/// Whether so many records in these fields are read as the tree of these items.
-fn reads_wide(
-    alloc: Global,
-    record: &[u8],
-    times: usize,
-    fields: &[u8],
-    items: &Items<'_>,
-) -> Result<bool, AllocError> {
-    let text = text_of(alloc, items)?;
-    let records = repeated(alloc, record, times)?;
-    let bytes = in_fields(alloc, records, fields)?;
-    Ok(reads_as(alloc, bytes.as_slice(), text.as_str()))
-}
-
-#[test]
-fn reads_wide_lists_of_numbers(rt: HostRuntime) -> Result<(), Fail> {
-    let alloc = rt.alloc();
-    let items = Items {
+/// Lists of numbers, and records that have no place in the tree.
+const NUMBERS: [Wide; 4] = [
+    Wide {
+        name: "ids, which have no place in the tree",
+        record: b"\x08\x01",
+        times: 131_072,
+        fields: &[],
         before: "",
         item: "",
         count: 0,
         after: "",
-    };
-    let reads = reads_wide(alloc, b"\x08\x01", 131_072, &[], &items)?;
-    assert!(rt; reads, "at ids, which have no place in the tree");
-    let items = Items {
+    },
+    Wide {
+        name: "groups that are passed over",
+        record: b"\x0b\x0c",
+        times: 10_000,
+        fields: &[],
         before: "",
         item: "",
         count: 0,
         after: "",
-    };
-    let reads = reads_wide(alloc, b"\x0b\x0c", 10_000, &[], &items)?;
-    assert!(rt; reads, "at groups that are passed over");
-    let items = Items {
+    },
+    Wide {
+        name: "metrics that no report shows, packed",
+        record: b"\x01",
+        times: 20_000,
+        fields: &[13],
         before: "no_report: [",
         item: "1",
         count: 20_000,
         after: "]\n",
-    };
-    let reads = reads_wide(alloc, b"\x01", 20_000, &[13], &items)?;
-    assert!(rt; reads, "at metrics that no report shows, packed");
-    let items = Items {
+    },
+    Wide {
+        name: "metrics that no report shows, not packed",
+        record: b"\x68\x01",
+        times: 4_000,
+        fields: &[],
         before: "no_report: [",
         item: "1",
         count: 4_000,
         after: "]\n",
-    };
-    let reads = reads_wide(alloc, b"\x68\x01", 4_000, &[], &items)?;
-    assert!(rt; reads, "at metrics that no report shows, not packed");
-    Ok(())
-}
+    },
+];
 
 #[test]
-fn reads_wide_combinations_and_slices(rt: HostRuntime) -> Result<(), Fail> {
-    let alloc = rt.alloc();
-    let items = Items {
+fn reads_wide_lists_of_numbers(rt: HostRuntime) -> Result<(), Fail> {
+    assert_wide(&rt, &NUMBERS)
+}
+
+/// Children of combinations, and slices.
+const COMBINATIONS: [Wide; 3] = [
+    Wide {
+        name: "children of a combination, packed",
+        record: b"\x02",
+        times: 20_000,
+        fields: &[2, 3, 7],
         before: "matchers: [MatcherDef { id: None, body: Some(Combo(Combo { op: None, children: [",
         item: "2",
         count: 20_000,
         after: "] })) }]\n",
-    };
-    let reads = reads_wide(alloc, b"\x02", 20_000, &[2, 3, 7], &items)?;
-    assert!(rt; reads, "at children of a combination, packed");
-    let items = Items {
+    },
+    Wide {
+        name: "children of a combination, not packed",
+        record: b"\x10\x02",
+        times: 4_000,
+        fields: &[3, 8],
         before: "predicates: [PredicateDef { id: None, body: Some(Combo(Combo { op: None, children: [",
         item: "2",
         count: 4_000,
         after: "] })) }]\n",
-    };
-    let reads = reads_wide(alloc, b"\x10\x02", 4_000, &[3, 8], &items)?;
-    assert!(rt; reads, "at children of a combination, not packed");
-    let items = Items {
+    },
+    Wide {
+        name: "slices",
+        record: b"\x1f",
+        times: 20_000,
+        fields: &[8, 3],
         before: "\
             counts: [CountDef { common: Common { id: None, what: None, condition: None, links: [] }, sliced: Sliced \
             { dims: None, bucket: None, bound: None, slices: [",
         item: "31",
         count: 20_000,
         after: "], state_links: [] } }]\n",
-    };
-    let reads = reads_wide(alloc, b"\x1f", 20_000, &[8, 3], &items)?;
-    assert!(rt; reads, "at slices");
-    Ok(())
-}
+    },
+];
 
 #[test]
-fn reads_wide_states(rt: HostRuntime) -> Result<(), Fail> {
-    let alloc = rt.alloc();
-    let items = Items {
+fn reads_wide_combinations_and_slices(rt: HostRuntime) -> Result<(), Fail> {
+    assert_wide(&rt, &COMBINATIONS)
+}
+
+/// States, their groups and the values of a group.
+const STATES: [Wide; 3] = [
+    Wide {
+        name: "values of a state",
+        record: b"\x03",
+        times: 20_000,
+        fields: &[2, 1, 3, 21],
         before: "states: [StateDef { id: None, atom_id: None, map: Some([GroupDef { group: None, values: [",
         item: "3",
         count: 20_000,
         after: "] }]) }]\n",
-    };
-    let reads = reads_wide(alloc, b"\x03", 20_000, &[2, 1, 3, 21], &items)?;
-    assert!(rt; reads, "at values of a state");
-    let items = Items {
+    },
+    Wide {
+        name: "groups of a state",
+        record: b"\x0a\x00",
+        times: 3_000,
+        fields: &[3, 21],
         before: "states: [StateDef { id: None, atom_id: None, map: Some([",
         item: "GroupDef { group: None, values: [] }",
         count: 3_000,
         after: "]) }]\n",
-    };
-    let reads = reads_wide(alloc, b"\x0a\x00", 3_000, &[3, 21], &items)?;
-    assert!(rt; reads, "at groups of a state");
-    let items = Items {
+    },
+    Wide {
+        name: "states",
+        record: b"\xaa\x01\x00",
+        times: 4_000,
+        fields: &[],
         before: "states: [",
         item: "StateDef { id: None, atom_id: None, map: None }",
         count: 4_000,
         after: "]\n",
-    };
-    let reads = reads_wide(alloc, b"\xaa\x01\x00", 4_000, &[], &items)?;
-    assert!(rt; reads, "at states");
-    Ok(())
-}
+    },
+];
 
 #[test]
-fn reads_long_texts(rt: HostRuntime) -> Result<(), Fail> {
-    let alloc = rt.alloc();
-    let items = Items {
+fn reads_wide_states(rt: HostRuntime) -> Result<(), Fail> {
+    assert_wide(&rt, &STATES)
+}
+
+/// Texts that a field is tested for.
+const TEXTS: [Wide; 3] = [
+    Wide {
+        name: "a text",
+        record: b"\x61",
+        times: 20_000,
+        fields: &[4, 2, 2, 7],
         before: "\
             matchers: [MatcherDef { id: None, body: Some(Simple(SimpleMatcher { atom_id: None, tests: [FieldTest { \
             field: None, position: None, test: Some(EqStr([",
         item: "97",
         count: 20_000,
         after: "])) }] })) }]\n",
-    };
-    let reads = reads_wide(alloc, b"\x61", 20_000, &[4, 2, 2, 7], &items)?;
-    assert!(rt; reads, "at a text");
-    let items = Items {
+    },
+    Wide {
+        name: "a text of a list",
+        record: b"\x61",
+        times: 20_000,
+        fields: &[1, 13, 2, 2, 7],
         before: "\
             matchers: [MatcherDef { id: None, body: Some(Simple(SimpleMatcher { atom_id: None, tests: [FieldTest { \
             field: None, position: None, test: Some(AnyOf([[",
         item: "97",
         count: 20_000,
         after: "]])) }] })) }]\n",
-    };
-    let reads = reads_wide(alloc, b"\x61", 20_000, &[1, 13, 2, 2, 7], &items)?;
-    assert!(rt; reads, "at a text of a list");
-    let items = Items {
+    },
+    Wide {
+        name: "texts of a list",
+        record: b"\x0a\x01\x62",
+        times: 4_000,
+        fields: &[14, 2, 2, 7],
         before: "\
             matchers: [MatcherDef { id: None, body: Some(Simple(SimpleMatcher { atom_id: None, tests: [FieldTest { \
             field: None, position: None, test: Some(NoneOf([",
         item: "[98]",
         count: 4_000,
         after: "])) }] })) }]\n",
-    };
-    let reads = reads_wide(alloc, b"\x0a\x01\x62", 4_000, &[14, 2, 2, 7], &items)?;
-    assert!(rt; reads, "at texts of a list");
-    Ok(())
-}
+    },
+];
 
 #[test]
-fn reads_many_tests(rt: HostRuntime) -> Result<(), Fail> {
-    let alloc = rt.alloc();
-    let items = Items {
+fn reads_long_texts(rt: HostRuntime) -> Result<(), Fail> {
+    assert_wide(&rt, &TEXTS)
+}
+
+/// Tests of fields.
+const TESTS: [Wide; 4] = [
+    Wide {
+        name: "tests of a tuple",
+        record: b"\x0a\x00",
+        times: 3_000,
+        fields: &[12, 2, 2, 7],
         before: "\
             matchers: [MatcherDef { id: None, body: Some(Simple(SimpleMatcher { atom_id: None, tests: [FieldTest { \
             field: None, position: None, test: Some(Tuple([",
         item: "FieldTest { field: None, position: None, test: None }",
         count: 3_000,
         after: "])) }] })) }]\n",
-    };
-    let reads = reads_wide(alloc, b"\x0a\x00", 3_000, &[12, 2, 2, 7], &items)?;
-    assert!(rt; reads, "at tests of a tuple");
-    let items = Items {
+    },
+    Wide {
+        name: "tests of a matcher",
+        record: b"\x12\x00",
+        times: 3_000,
+        fields: &[2, 7],
         before: "matchers: [MatcherDef { id: None, body: Some(Simple(SimpleMatcher { atom_id: None, tests: [",
         item: "FieldTest { field: None, position: None, test: None }",
         count: 3_000,
         after: "] })) }]\n",
-    };
-    let reads = reads_wide(alloc, b"\x12\x00", 3_000, &[2, 7], &items)?;
-    assert!(rt; reads, "at tests of a matcher");
-    let items = Items {
+    },
+    Wide {
+        name: "tests, of which each is in a record of its matcher",
+        record: b"\x12\x02\x12\x00",
+        times: 3_000,
+        fields: &[7],
         before: "matchers: [MatcherDef { id: None, body: Some(Simple(SimpleMatcher { atom_id: None, tests: [",
         item: "FieldTest { field: None, position: None, test: None }",
         count: 3_000,
         after: "] })) }]\n",
-    };
-    let reads = reads_wide(alloc, b"\x12\x02\x12\x00", 3_000, &[7], &items)?;
-    assert!(rt;
-        reads,
-        "at tests, of which each is in a record of its matcher"
-    );
-    let items = Items {
+    },
+    Wide {
+        name: "records of one matcher without a test",
+        record: b"\x12\x00",
+        times: 4_000,
+        fields: &[7],
         before: "matchers: [MatcherDef { id: None, body: Some(Simple(SimpleMatcher { atom_id: None, tests: [",
         item: "",
         count: 0,
         after: "] })) }]\n",
-    };
-    let reads = reads_wide(alloc, b"\x12\x00", 4_000, &[7], &items)?;
-    assert!(rt; reads, "at records of one matcher without a test");
-    Ok(())
-}
+    },
+];
 
 #[test]
-fn reads_wide_keys_and_links(rt: HostRuntime) -> Result<(), Fail> {
-    let alloc = rt.alloc();
-    let items = Items {
+fn reads_many_tests(rt: HostRuntime) -> Result<(), Fail> {
+    assert_wide(&rt, &TESTS)
+}
+
+/// Fields of a key, and links.
+const KEYS: [Wide; 3] = [
+    Wide {
+        name: "fields of a key",
+        record: b"\x1a\x00",
+        times: 4_000,
+        fields: &[4, 3],
         before: "\
             counts: [CountDef { common: Common { id: None, what: None, condition: None, links: [] }, sliced: Sliced \
             { dims: Some(FieldMatcher { field: None, position: None, children: [",
         item: "FieldMatcher { field: None, position: None, children: [] }",
         count: 4_000,
         after: "] }), bucket: None, bound: None, slices: [], state_links: [] } }]\n",
-    };
-    let reads = reads_wide(alloc, b"\x1a\x00", 4_000, &[4, 3], &items)?;
-    assert!(rt; reads, "at fields of a key");
-    let items = Items {
+    },
+    Wide {
+        name: "links",
+        record: b"\x22\x00",
+        times: 3_000,
+        fields: &[2],
         before: "events: [EventDef { common: Common { id: None, what: None, condition: None, links: [",
         item: "LinkDef { condition: None, in_what: None, in_condition: None }",
         count: 3_000,
         after: "] } }]\n",
-    };
-    let reads = reads_wide(alloc, b"\x22\x00", 3_000, &[2], &items)?;
-    assert!(rt; reads, "at links");
-    let items = Items {
+    },
+    Wide {
+        name: "state links",
+        record: b"\x52\x00",
+        times: 3_000,
+        fields: &[6],
         before: "\
             durations: [DurationDef { common: Common { id: None, what: None, condition: None, links: [] }, sliced: \
             Sliced { dims: None, bucket: None, bound: None, slices: [], state_links: [",
         item: "StateLinkDef { atom_id: None, in_what: None, in_state: None }",
         count: 3_000,
         after: "] }, max_sparse: false }]\n",
-    };
-    let reads = reads_wide(alloc, b"\x52\x00", 3_000, &[6], &items)?;
-    assert!(rt; reads, "at state links");
-    Ok(())
-}
+    },
+];
 
 #[test]
-fn reads_many_matchers_and_predicates(rt: HostRuntime) -> Result<(), Fail> {
-    let alloc = rt.alloc();
-    let items = Items {
+fn reads_wide_keys_and_links(rt: HostRuntime) -> Result<(), Fail> {
+    assert_wide(&rt, &KEYS)
+}
+
+/// Matchers, predicates and events.
+const ENTITIES: [Wide; 3] = [
+    Wide {
+        name: "matchers",
+        record: b"\x3a\x00",
+        times: 4_000,
+        fields: &[],
         before: "matchers: [",
         item: "MatcherDef { id: None, body: None }",
         count: 4_000,
         after: "]\n",
-    };
-    let reads = reads_wide(alloc, b"\x3a\x00", 4_000, &[], &items)?;
-    assert!(rt; reads, "at matchers");
-    let items = Items {
+    },
+    Wide {
+        name: "predicates",
+        record: b"\x42\x00",
+        times: 4_000,
+        fields: &[],
         before: "predicates: [",
         item: "PredicateDef { id: None, body: None }",
         count: 4_000,
         after: "]\n",
-    };
-    let reads = reads_wide(alloc, b"\x42\x00", 4_000, &[], &items)?;
-    assert!(rt; reads, "at predicates");
-    let items = Items {
+    },
+    Wide {
+        name: "events",
+        record: b"\x12\x00",
+        times: 3_000,
+        fields: &[],
         before: "events: [",
         item: "EventDef { common: Common { id: None, what: None, condition: None, links: [] } }",
         count: 3_000,
         after: "]\n",
-    };
-    let reads = reads_wide(alloc, b"\x12\x00", 3_000, &[], &items)?;
-    assert!(rt; reads, "at events");
-    Ok(())
-}
+    },
+];
 
 #[test]
-fn reads_many_metrics(rt: HostRuntime) -> Result<(), Fail> {
-    let alloc = rt.alloc();
-    let items = Items {
+fn reads_many_matchers_and_predicates(rt: HostRuntime) -> Result<(), Fail> {
+    assert_wide(&rt, &ENTITIES)
+}
+
+/// Metrics of each other kind.
+const METRICS: [Wide; 4] = [
+    Wide {
+        name: "counts",
+        record: b"\x1a\x00",
+        times: 2_000,
+        fields: &[],
         before: "counts: [",
         item: "\
             CountDef { common: Common { id: None, what: None, condition: None, links: [] }, sliced: Sliced { dims: \
             None, bucket: None, bound: None, slices: [], state_links: [] } }",
         count: 2_000,
         after: "]\n",
-    };
-    let reads = reads_wide(alloc, b"\x1a\x00", 2_000, &[], &items)?;
-    assert!(rt; reads, "at counts");
-    let items = Items {
+    },
+    Wide {
+        name: "values",
+        record: b"\x22\x00",
+        times: 2_000,
+        fields: &[],
         before: "values: [",
         item: "\
             ValueDef { common: Common { id: None, what: None, condition: None, links: [] }, sliced: Sliced { dims: \
@@ -416,10 +478,12 @@ fn reads_many_metrics(rt: HostRuntime) -> Result<(), Fail> {
             false, diff: None, direction: Increasing, skip_zero: true, zero_base: false }",
         count: 2_000,
         after: "]\n",
-    };
-    let reads = reads_wide(alloc, b"\x22\x00", 2_000, &[], &items)?;
-    assert!(rt; reads, "at values");
-    let items = Items {
+    },
+    Wide {
+        name: "gauges",
+        record: b"\x2a\x00",
+        times: 2_000,
+        fields: &[],
         before: "gauges: [",
         item: "\
             GaugeDef { common: Common { id: None, what: None, condition: None, links: [] }, sliced: Sliced { dims: \
@@ -427,18 +491,22 @@ fn reads_many_metrics(rt: HostRuntime) -> Result<(), Fail> {
             sampling: RandomOne, max_samples: None, trigger: None }",
         count: 2_000,
         after: "]\n",
-    };
-    let reads = reads_wide(alloc, b"\x2a\x00", 2_000, &[], &items)?;
-    assert!(rt; reads, "at gauges");
-    let items = Items {
+    },
+    Wide {
+        name: "durations",
+        record: b"\x32\x00",
+        times: 2_000,
+        fields: &[],
         before: "durations: [",
         item: "\
             DurationDef { common: Common { id: None, what: None, condition: None, links: [] }, sliced: Sliced { \
             dims: None, bucket: None, bound: None, slices: [], state_links: [] }, max_sparse: false }",
         count: 2_000,
         after: "]\n",
-    };
-    let reads = reads_wide(alloc, b"\x32\x00", 2_000, &[], &items)?;
-    assert!(rt; reads, "at durations");
-    Ok(())
+    },
+];
+
+#[test]
+fn reads_many_metrics(rt: HostRuntime) -> Result<(), Fail> {
+    assert_wide(&rt, &METRICS)
 }

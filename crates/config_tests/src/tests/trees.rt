@@ -1,11 +1,10 @@
 //! Whole configurations, and the trees that they mean.
 
-use super::compared::reads_as;
+use super::compared::{Reading, assert_reads};
 use super::samples::{
     ONE_COUNT, ORDINARY_USE, ORDINARY_USE_BY_HAND, PACKED, SPARSE_WITH_LINKS, STATES_BY_HAND,
     STATES_IN_GROUPS, TESTS_OF_FIELDS, UNPACKED, VALUES_AND_GAUGES,
 };
-use std::test::*;
 
 /// Crashes while the screen is on, by process, and how long syncs run while it is off, by uid.
 const ORDINARY_USE_TREE: &str = "\
@@ -112,149 +111,149 @@ const TESTS_OF_FIELDS_TREE: &str = "\
     position: None, test: Some(AnyOf([[98], []])) }, FieldTest { field: Some(10), position: None, test: \
     Some(NoneOf([])) }] })) }]\n";
 
+/// Whole configurations.
+const WHOLE: [Reading; 10] = [
+    ("ordinary use, by protoc", ORDINARY_USE, ORDINARY_USE_TREE),
+    (
+        "ordinary use, by hand",
+        ORDINARY_USE_BY_HAND,
+        ORDINARY_USE_TREE,
+    ),
+    ("links", SPARSE_WITH_LINKS, SPARSE_WITH_LINKS_TREE),
+    ("states, by protoc", STATES_IN_GROUPS, STATES_IN_GROUPS_TREE),
+    ("states, by hand", STATES_BY_HAND, STATES_IN_GROUPS_TREE),
+    ("children packed", PACKED, PACKED_TREE),
+    ("children not packed", UNPACKED, PACKED_TREE),
+    (
+        "values and gauges",
+        VALUES_AND_GAUGES,
+        VALUES_AND_GAUGES_TREE,
+    ),
+    ("the least that counts", ONE_COUNT, ONE_COUNT_TREE),
+    ("tests of fields", TESTS_OF_FIELDS, TESTS_OF_FIELDS_TREE),
+];
+
 #[test]
 fn reads_whole_configurations(rt: HostRuntime) {
-    let rows: [(&str, &[u8], &str); 10] = [
-        ("ordinary use, by protoc", ORDINARY_USE, ORDINARY_USE_TREE),
-        (
-            "ordinary use, by hand",
-            ORDINARY_USE_BY_HAND,
-            ORDINARY_USE_TREE,
-        ),
-        ("links", SPARSE_WITH_LINKS, SPARSE_WITH_LINKS_TREE),
-        ("states, by protoc", STATES_IN_GROUPS, STATES_IN_GROUPS_TREE),
-        ("states, by hand", STATES_BY_HAND, STATES_IN_GROUPS_TREE),
-        ("children packed", PACKED, PACKED_TREE),
-        ("children not packed", UNPACKED, PACKED_TREE),
-        (
-            "values and gauges",
-            VALUES_AND_GAUGES,
-            VALUES_AND_GAUGES_TREE,
-        ),
-        ("the least that counts", ONE_COUNT, ONE_COUNT_TREE),
-        ("tests of fields", TESTS_OF_FIELDS, TESTS_OF_FIELDS_TREE),
-    ];
-    for (name, bytes, want) in rows {
-        assert!(rt; reads_as(rt.alloc(), bytes, want), "at {name}");
-    }
+    assert_reads(&rt, &WHOLE);
 }
+
+/// Each field of each kind of entity.
+const EACH_FIELD: [Reading; 7] = [
+    (
+        "an event",
+        b"\
+            \x12\x1a\x08\x64\x10\x01\x18\x0b\x22\x12\x08\x0c\x12\x06\x08\x05\x1a\x02\x08\x01\x1a\x06\x08\x06\x1a\
+            \x02\x08\x02",
+        "\
+            events: [EventDef { common: Common { id: Some(100), what: Some(1), condition: Some(11), links: \
+            [LinkDef { condition: Some(12), in_what: Some(FieldMatcher { field: Some(5), position: None, \
+            children: [FieldMatcher { field: Some(1), position: None, children: [] }] }), in_condition: \
+            Some(FieldMatcher { field: Some(6), position: None, children: [FieldMatcher { field: Some(2), \
+            position: None, children: [] }] }) }] } }]\n",
+    ),
+    (
+        "a count",
+        b"\
+            \x1a\x3d\x08\x65\x10\x01\x18\x0b\x22\x06\x08\x05\x1a\x02\x08\x02\x28\x03\x32\x12\x08\x0c\x12\x06\x08\
+            \x05\x1a\x02\x08\x01\x1a\x06\x08\x06\x1a\x02\x08\x02\x40\x1f\x4a\x12\x08\x1b\x12\x06\x08\x05\x1a\x02\
+            \x08\x01\x1a\x06\x08\x1b\x1a\x02\x08\x03\xc8\x3e\x10",
+        "\
+            counts: [CountDef { common: Common { id: Some(101), what: Some(1), condition: Some(11), links: \
+            [LinkDef { condition: Some(12), in_what: Some(FieldMatcher { field: Some(5), position: None, \
+            children: [FieldMatcher { field: Some(1), position: None, children: [] }] }), in_condition: \
+            Some(FieldMatcher { field: Some(6), position: None, children: [FieldMatcher { field: Some(2), \
+            position: None, children: [] }] }) }] }, sliced: Sliced { dims: Some(FieldMatcher { field: Some(5), \
+            position: None, children: [FieldMatcher { field: Some(2), position: None, children: [] }] }), bucket: \
+            Some(TenMinutes), bound: Some(16), slices: [31], state_links: [StateLinkDef { atom_id: Some(27), \
+            in_what: Some(FieldMatcher { field: Some(5), position: None, children: [FieldMatcher { field: \
+            Some(1), position: None, children: [] }] }), in_state: Some(FieldMatcher { field: Some(27), position: \
+            None, children: [FieldMatcher { field: Some(3), position: None, children: [] }] }) }] } }]\n",
+    ),
+    (
+        "a value",
+        b"\
+            \x22\x53\x08\x66\x10\x01\x1a\x06\x08\x05\x1a\x02\x08\x04\x20\x0b\x2a\x06\x08\x05\x1a\x02\x08\x02\x30\
+            \x06\x3a\x12\x08\x0c\x12\x06\x08\x05\x1a\x02\x08\x01\x1a\x06\x08\x06\x1a\x02\x08\x02\x40\x02\x58\x01\
+            \x60\x01\x68\x02\x70\x00\x78\x01\x90\x01\x1f\x9a\x01\x12\x08\x1b\x12\x06\x08\x05\x1a\x02\x08\x01\x1a\
+            \x06\x08\x1b\x1a\x02\x08\x03\xc8\x3e\x11",
+        "\
+            values: [ValueDef { common: Common { id: Some(102), what: Some(1), condition: Some(11), links: \
+            [LinkDef { condition: Some(12), in_what: Some(FieldMatcher { field: Some(5), position: None, \
+            children: [FieldMatcher { field: Some(1), position: None, children: [] }] }), in_condition: \
+            Some(FieldMatcher { field: Some(6), position: None, children: [FieldMatcher { field: Some(2), \
+            position: None, children: [] }] }) }] }, sliced: Sliced { dims: Some(FieldMatcher { field: Some(5), \
+            position: None, children: [FieldMatcher { field: Some(2), position: None, children: [] }] }), bucket: \
+            Some(ThreeHours), bound: Some(17), slices: [31], state_links: [StateLinkDef { atom_id: Some(27), \
+            in_what: Some(FieldMatcher { field: Some(5), position: None, children: [FieldMatcher { field: \
+            Some(1), position: None, children: [] }] }), in_state: Some(FieldMatcher { field: Some(27), position: \
+            None, children: [FieldMatcher { field: Some(3), position: None, children: [] }] }) }] }, field: \
+            Some(FieldMatcher { field: Some(5), position: None, children: [FieldMatcher { field: Some(4), \
+            position: None, children: [] }] }), agg: Min, abs_reset: true, diff: Some(true), direction: \
+            Decreasing, skip_zero: false, zero_base: true }]\n",
+    ),
+    (
+        "a gauge",
+        b"\
+            \x2a\x39\x08\x67\x10\x01\x1a\x0a\x08\x01\x12\x06\x08\x05\x1a\x02\x08\x04\x20\x0b\x2a\x06\x08\x05\x1a\
+            \x02\x08\x02\x30\x08\x3a\x12\x08\x0c\x12\x06\x08\x05\x1a\x02\x08\x01\x1a\x06\x08\x06\x1a\x02\x08\x02\
+            \x48\x03\x58\x05\x60\x07\xc8\x3e\x12",
+        "\
+            gauges: [GaugeDef { common: Common { id: Some(103), what: Some(1), condition: Some(11), links: \
+            [LinkDef { condition: Some(12), in_what: Some(FieldMatcher { field: Some(5), position: None, \
+            children: [FieldMatcher { field: Some(1), position: None, children: [] }] }), in_condition: \
+            Some(FieldMatcher { field: Some(6), position: None, children: [FieldMatcher { field: Some(2), \
+            position: None, children: [] }] }) }] }, sliced: Sliced { dims: Some(FieldMatcher { field: Some(5), \
+            position: None, children: [FieldMatcher { field: Some(2), position: None, children: [] }] }), bucket: \
+            Some(TwelveHours), bound: Some(18), slices: [], state_links: [] }, include_all: true, fields: \
+            Some(FieldMatcher { field: Some(5), position: None, children: [FieldMatcher { field: Some(4), \
+            position: None, children: [] }] }), sampling: ChangeToTrue, max_samples: Some(5), trigger: Some(7) \
+            }]\n",
+    ),
+    (
+        "a duration",
+        b"\
+            \x32\x3f\x08\x68\x10\x0c\x18\x0b\x22\x12\x08\x0c\x12\x06\x08\x05\x1a\x02\x08\x01\x1a\x06\x08\x06\x1a\
+            \x02\x08\x02\x28\x02\x32\x06\x08\x05\x1a\x02\x08\x02\x38\x09\x48\x1f\x52\x12\x08\x1b\x12\x06\x08\x05\
+            \x1a\x02\x08\x01\x1a\x06\x08\x1b\x1a\x02\x08\x03\xc8\x3e\x13",
+        "\
+            durations: [DurationDef { common: Common { id: Some(104), what: Some(12), condition: Some(11), links: \
+            [LinkDef { condition: Some(12), in_what: Some(FieldMatcher { field: Some(5), position: None, \
+            children: [FieldMatcher { field: Some(1), position: None, children: [] }] }), in_condition: \
+            Some(FieldMatcher { field: Some(6), position: None, children: [FieldMatcher { field: Some(2), \
+            position: None, children: [] }] }) }] }, sliced: Sliced { dims: Some(FieldMatcher { field: Some(5), \
+            position: None, children: [FieldMatcher { field: Some(2), position: None, children: [] }] }), bucket: \
+            Some(OneDay), bound: Some(19), slices: [31], state_links: [StateLinkDef { atom_id: Some(27), in_what: \
+            Some(FieldMatcher { field: Some(5), position: None, children: [FieldMatcher { field: Some(1), \
+            position: None, children: [] }] }), in_state: Some(FieldMatcher { field: Some(27), position: None, \
+            children: [FieldMatcher { field: Some(3), position: None, children: [] }] }) }] }, max_sparse: true \
+            }]\n",
+    ),
+    (
+        "a predicate",
+        b"\
+            \x42\x19\x08\x0b\x12\x15\x08\x01\x10\x02\x18\x00\x20\x03\x28\x00\x32\x06\x08\x05\x1a\x02\x08\x01\xc8\
+            \x3e\x40",
+        "\
+            predicates: [PredicateDef { id: Some(11), body: Some(Simple(SimplePredicate { start: Some(1), stop: \
+            Some(2), stop_all: Some(3), nesting: false, unknown: true, dims: Some(FieldMatcher { field: Some(5), \
+            position: None, children: [FieldMatcher { field: Some(1), position: None, children: [] }] }), bound: \
+            Some(64) })) }]\n",
+    ),
+    (
+        "states with groups, without, and with none of them",
+        b"\
+            \xaa\x01\x1f\x08\x1f\x10\x1b\x1a\x19\x0a\x06\x08\x01\x10\x02\x10\x03\x0a\x0f\x08\xfe\xff\xff\xff\xff\
+            \xff\xff\xff\xff\x01\x12\x02\x04\x05\xaa\x01\x04\x08\x20\x10\x1d\xaa\x01\x0f\x08\xdf\xff\xff\xff\xff\
+            \xff\xff\xff\xff\x01\x10\x1c\x1a\x00",
+        "\
+            states: [StateDef { id: Some(31), atom_id: Some(27), map: Some([GroupDef { group: Some(1), values: \
+            [2, 3] }, GroupDef { group: Some(-2), values: [4, 5] }]) }, StateDef { id: Some(32), atom_id: \
+            Some(29), map: None }, StateDef { id: Some(-33), atom_id: Some(28), map: Some([]) }]\n",
+    ),
+];
 
 #[test]
 fn reads_each_field_of_each_kind(rt: HostRuntime) {
-    let rows: [(&str, &[u8], &str); 7] = [
-        (
-            "an event",
-            b"\
-                \x12\x1a\x08\x64\x10\x01\x18\x0b\x22\x12\x08\x0c\x12\x06\x08\x05\x1a\x02\x08\x01\x1a\x06\x08\x06\x1a\
-                \x02\x08\x02",
-            "\
-                events: [EventDef { common: Common { id: Some(100), what: Some(1), condition: Some(11), links: \
-                [LinkDef { condition: Some(12), in_what: Some(FieldMatcher { field: Some(5), position: None, \
-                children: [FieldMatcher { field: Some(1), position: None, children: [] }] }), in_condition: \
-                Some(FieldMatcher { field: Some(6), position: None, children: [FieldMatcher { field: Some(2), \
-                position: None, children: [] }] }) }] } }]\n",
-        ),
-        (
-            "a count",
-            b"\
-                \x1a\x3d\x08\x65\x10\x01\x18\x0b\x22\x06\x08\x05\x1a\x02\x08\x02\x28\x03\x32\x12\x08\x0c\x12\x06\x08\
-                \x05\x1a\x02\x08\x01\x1a\x06\x08\x06\x1a\x02\x08\x02\x40\x1f\x4a\x12\x08\x1b\x12\x06\x08\x05\x1a\x02\
-                \x08\x01\x1a\x06\x08\x1b\x1a\x02\x08\x03\xc8\x3e\x10",
-            "\
-                counts: [CountDef { common: Common { id: Some(101), what: Some(1), condition: Some(11), links: \
-                [LinkDef { condition: Some(12), in_what: Some(FieldMatcher { field: Some(5), position: None, \
-                children: [FieldMatcher { field: Some(1), position: None, children: [] }] }), in_condition: \
-                Some(FieldMatcher { field: Some(6), position: None, children: [FieldMatcher { field: Some(2), \
-                position: None, children: [] }] }) }] }, sliced: Sliced { dims: Some(FieldMatcher { field: Some(5), \
-                position: None, children: [FieldMatcher { field: Some(2), position: None, children: [] }] }), bucket: \
-                Some(TenMinutes), bound: Some(16), slices: [31], state_links: [StateLinkDef { atom_id: Some(27), \
-                in_what: Some(FieldMatcher { field: Some(5), position: None, children: [FieldMatcher { field: \
-                Some(1), position: None, children: [] }] }), in_state: Some(FieldMatcher { field: Some(27), position: \
-                None, children: [FieldMatcher { field: Some(3), position: None, children: [] }] }) }] } }]\n",
-        ),
-        (
-            "a value",
-            b"\
-                \x22\x53\x08\x66\x10\x01\x1a\x06\x08\x05\x1a\x02\x08\x04\x20\x0b\x2a\x06\x08\x05\x1a\x02\x08\x02\x30\
-                \x06\x3a\x12\x08\x0c\x12\x06\x08\x05\x1a\x02\x08\x01\x1a\x06\x08\x06\x1a\x02\x08\x02\x40\x02\x58\x01\
-                \x60\x01\x68\x02\x70\x00\x78\x01\x90\x01\x1f\x9a\x01\x12\x08\x1b\x12\x06\x08\x05\x1a\x02\x08\x01\x1a\
-                \x06\x08\x1b\x1a\x02\x08\x03\xc8\x3e\x11",
-            "\
-                values: [ValueDef { common: Common { id: Some(102), what: Some(1), condition: Some(11), links: \
-                [LinkDef { condition: Some(12), in_what: Some(FieldMatcher { field: Some(5), position: None, \
-                children: [FieldMatcher { field: Some(1), position: None, children: [] }] }), in_condition: \
-                Some(FieldMatcher { field: Some(6), position: None, children: [FieldMatcher { field: Some(2), \
-                position: None, children: [] }] }) }] }, sliced: Sliced { dims: Some(FieldMatcher { field: Some(5), \
-                position: None, children: [FieldMatcher { field: Some(2), position: None, children: [] }] }), bucket: \
-                Some(ThreeHours), bound: Some(17), slices: [31], state_links: [StateLinkDef { atom_id: Some(27), \
-                in_what: Some(FieldMatcher { field: Some(5), position: None, children: [FieldMatcher { field: \
-                Some(1), position: None, children: [] }] }), in_state: Some(FieldMatcher { field: Some(27), position: \
-                None, children: [FieldMatcher { field: Some(3), position: None, children: [] }] }) }] }, field: \
-                Some(FieldMatcher { field: Some(5), position: None, children: [FieldMatcher { field: Some(4), \
-                position: None, children: [] }] }), agg: Min, abs_reset: true, diff: Some(true), direction: \
-                Decreasing, skip_zero: false, zero_base: true }]\n",
-        ),
-        (
-            "a gauge",
-            b"\
-                \x2a\x39\x08\x67\x10\x01\x1a\x0a\x08\x01\x12\x06\x08\x05\x1a\x02\x08\x04\x20\x0b\x2a\x06\x08\x05\x1a\
-                \x02\x08\x02\x30\x08\x3a\x12\x08\x0c\x12\x06\x08\x05\x1a\x02\x08\x01\x1a\x06\x08\x06\x1a\x02\x08\x02\
-                \x48\x03\x58\x05\x60\x07\xc8\x3e\x12",
-            "\
-                gauges: [GaugeDef { common: Common { id: Some(103), what: Some(1), condition: Some(11), links: \
-                [LinkDef { condition: Some(12), in_what: Some(FieldMatcher { field: Some(5), position: None, \
-                children: [FieldMatcher { field: Some(1), position: None, children: [] }] }), in_condition: \
-                Some(FieldMatcher { field: Some(6), position: None, children: [FieldMatcher { field: Some(2), \
-                position: None, children: [] }] }) }] }, sliced: Sliced { dims: Some(FieldMatcher { field: Some(5), \
-                position: None, children: [FieldMatcher { field: Some(2), position: None, children: [] }] }), bucket: \
-                Some(TwelveHours), bound: Some(18), slices: [], state_links: [] }, include_all: true, fields: \
-                Some(FieldMatcher { field: Some(5), position: None, children: [FieldMatcher { field: Some(4), \
-                position: None, children: [] }] }), sampling: ChangeToTrue, max_samples: Some(5), trigger: Some(7) \
-                }]\n",
-        ),
-        (
-            "a duration",
-            b"\
-                \x32\x3f\x08\x68\x10\x0c\x18\x0b\x22\x12\x08\x0c\x12\x06\x08\x05\x1a\x02\x08\x01\x1a\x06\x08\x06\x1a\
-                \x02\x08\x02\x28\x02\x32\x06\x08\x05\x1a\x02\x08\x02\x38\x09\x48\x1f\x52\x12\x08\x1b\x12\x06\x08\x05\
-                \x1a\x02\x08\x01\x1a\x06\x08\x1b\x1a\x02\x08\x03\xc8\x3e\x13",
-            "\
-                durations: [DurationDef { common: Common { id: Some(104), what: Some(12), condition: Some(11), links: \
-                [LinkDef { condition: Some(12), in_what: Some(FieldMatcher { field: Some(5), position: None, \
-                children: [FieldMatcher { field: Some(1), position: None, children: [] }] }), in_condition: \
-                Some(FieldMatcher { field: Some(6), position: None, children: [FieldMatcher { field: Some(2), \
-                position: None, children: [] }] }) }] }, sliced: Sliced { dims: Some(FieldMatcher { field: Some(5), \
-                position: None, children: [FieldMatcher { field: Some(2), position: None, children: [] }] }), bucket: \
-                Some(OneDay), bound: Some(19), slices: [31], state_links: [StateLinkDef { atom_id: Some(27), in_what: \
-                Some(FieldMatcher { field: Some(5), position: None, children: [FieldMatcher { field: Some(1), \
-                position: None, children: [] }] }), in_state: Some(FieldMatcher { field: Some(27), position: None, \
-                children: [FieldMatcher { field: Some(3), position: None, children: [] }] }) }] }, max_sparse: true \
-                }]\n",
-        ),
-        (
-            "a predicate",
-            b"\
-                \x42\x19\x08\x0b\x12\x15\x08\x01\x10\x02\x18\x00\x20\x03\x28\x00\x32\x06\x08\x05\x1a\x02\x08\x01\xc8\
-                \x3e\x40",
-            "\
-                predicates: [PredicateDef { id: Some(11), body: Some(Simple(SimplePredicate { start: Some(1), stop: \
-                Some(2), stop_all: Some(3), nesting: false, unknown: true, dims: Some(FieldMatcher { field: Some(5), \
-                position: None, children: [FieldMatcher { field: Some(1), position: None, children: [] }] }), bound: \
-                Some(64) })) }]\n",
-        ),
-        (
-            "states with groups, without, and with none of them",
-            b"\
-                \xaa\x01\x1f\x08\x1f\x10\x1b\x1a\x19\x0a\x06\x08\x01\x10\x02\x10\x03\x0a\x0f\x08\xfe\xff\xff\xff\xff\
-                \xff\xff\xff\xff\x01\x12\x02\x04\x05\xaa\x01\x04\x08\x20\x10\x1d\xaa\x01\x0f\x08\xdf\xff\xff\xff\xff\
-                \xff\xff\xff\xff\x01\x10\x1c\x1a\x00",
-            "\
-                states: [StateDef { id: Some(31), atom_id: Some(27), map: Some([GroupDef { group: Some(1), values: \
-                [2, 3] }, GroupDef { group: Some(-2), values: [4, 5] }]) }, StateDef { id: Some(32), atom_id: \
-                Some(29), map: None }, StateDef { id: Some(-33), atom_id: Some(28), map: Some([]) }]\n",
-        ),
-    ];
-    for (name, bytes, want) in rows {
-        assert!(rt; reads_as(rt.alloc(), bytes, want), "at {name}");
-    }
+    assert_reads(&rt, &EACH_FIELD);
 }

@@ -1,9 +1,10 @@
 //! How long buckets are, and copies of matchers.
 
-use super::builds::{in_fields, nested, repeated};
+use super::builds::{nest, put_in_fields, repeated_in_fields};
 use super::compared::{copies_as, copies_as_it_is};
 use super::samples::TESTS_OF_FIELDS;
 use config_types::{TimeUnit, bucket_nanos};
+use std::alloc::{AllocError, Global};
 use std::test::*;
 
 /// Units, clients, and the seconds of their buckets.
@@ -54,22 +55,45 @@ const EACH_KIND_TREE: &str = "\
     }, FieldTest { field: Some(13), position: Some(Any), test: Some(AnyOf([[97], []])) }, FieldTest { field: \
     Some(14), position: Some(Any), test: Some(NoneOf([[97], []])) }] }";
 
+/// Records that stand so often in a matcher, and the fields of the matcher around them.
+const LONG: [(&str, &[u8], usize, &[u8]); 3] = [
+    ("a long text", b"a", 20_000, &[4, 2, 2, 7]),
+    ("texts", b"\x0a\x01b", 4_000, &[13, 2, 2, 7]),
+    ("tests of a tuple", b"\x0a\0", 3_000, &[12, 2, 2, 7]),
+];
+
+/// Whether the matcher of such records has a copy that is as it is.
+fn copies_long(
+    alloc: Global,
+    record: &[u8],
+    times: usize,
+    fields: &[u8],
+) -> Result<bool, AllocError> {
+    let bytes = repeated_in_fields(alloc, record, times, fields)?;
+    Ok(copies_as_it_is(alloc, bytes.as_slice()))
+}
+
+/// Puts bytes in a matcher's tuple, so many tuples deep.
+fn put_in_tuples(alloc: Global, bytes: &mut Vec<u8>, times: usize) -> Result<(), AllocError> {
+    nest(alloc, bytes, &[1, 12], times)?;
+    put_in_fields(alloc, bytes, &[2, 2, 7])
+}
+
+/// Whether the matcher of a truth in so many tuples has a copy that is as it is.
+fn copies_tuples(alloc: Global, times: usize) -> Result<bool, AllocError> {
+    let mut truth = b"\x18\x01".to_vec(alloc)?;
+    put_in_tuples(alloc, &mut truth, times)?;
+    Ok(copies_as_it_is(alloc, truth.as_slice()))
+}
+
 #[test]
 fn copies_equal_their_sources(rt: HostRuntime) -> Result<(), Fail> {
     let alloc = rt.alloc();
     assert!(rt; copies_as(alloc, EACH_KIND, EACH_KIND_TREE), "each kind");
     assert!(rt; copies_as_it_is(alloc, TESTS_OF_FIELDS), "tests of fields");
-    let text = in_fields(alloc, repeated(alloc, b"a", 20_000)?, &[4, 2, 2, 7])?;
-    assert!(rt; copies_as_it_is(alloc, text.as_slice()), "a long text");
-    let texts = in_fields(alloc, repeated(alloc, b"\x0a\x01b", 4_000)?, &[13, 2, 2, 7])?;
-    assert!(rt; copies_as_it_is(alloc, texts.as_slice()), "texts");
-    let tests = in_fields(alloc, repeated(alloc, b"\x0a\0", 3_000)?, &[12, 2, 2, 7])?;
-    assert!(rt;
-        copies_as_it_is(alloc, tests.as_slice()),
-        "tests of a tuple"
-    );
-    let tuples = nested(alloc, repeated(alloc, b"\x18\x01", 1)?, &[1, 12], 48)?;
-    let deep = in_fields(alloc, tuples, &[2, 2, 7])?;
-    assert!(rt; copies_as_it_is(alloc, deep.as_slice()), "tuples in tuples");
+    for (name, record, times, fields) in LONG {
+        assert!(rt; copies_long(alloc, record, times, fields)?, "{name}");
+    }
+    assert!(rt; copies_tuples(alloc, 48)?, "tuples in tuples");
     Ok(())
 }
