@@ -1,6 +1,7 @@
 //! The first fault after good frames, by its text: near the beginning of a session, and far from it.
 use super::reading::{LEAST, Session, read_bytes};
 use std::alloc::{AllocError, Global};
+use std::process::Abort;
 
 // These bytes, and then others.
 fn joined(alloc: Global, before: &[u8], after: &[u8]) -> Result<Vec<u8>, AllocError> {
@@ -51,14 +52,11 @@ fn breaks(alloc: Global, after: &[u8], fault: &str) -> Result<bool, AllocError> 
     Ok(near && ends(alloc, &five, after, 5, fault)?)
 }
 
-// The first row whose bytes don't have its fault, by its number.
-fn first_wrong(alloc: Global, rows: &[(&[u8], &str)]) -> Option<usize> {
-    for (at, &(after, fault)) in rows.iter().enumerate() {
-        if breaks(alloc, after, fault) != Ok(true) {
-            return Some(at);
-        }
+// Asserts that bytes have their faults.
+fn assert_breaks(rt: &impl Abort, alloc: Global, rows: &[(&[u8], &str)]) {
+    for &(after, fault) in rows {
+        assert!(rt; breaks(alloc, after, fault) == Ok(true), "at {after:?}");
     }
-    None
 }
 
 // Bytes after good frames, and their faults.
@@ -84,7 +82,7 @@ const LENGTHS_AND_TICKS: &[(&[u8], &str)] = &[
 
 #[test]
 fn finds_faults_of_lengths_and_ticks(rt: HostRuntime) {
-    assert_eq!(rt; first_wrong(rt.alloc(), LENGTHS_AND_TICKS), None);
+    assert_breaks(&rt, rt.alloc(), LENGTHS_AND_TICKS);
 }
 
 // The same of atoms.
@@ -126,7 +124,7 @@ const ATOMS: &[(&[u8], &str)] = &[
 
 #[test]
 fn finds_faults_of_atoms(rt: HostRuntime) {
-    assert_eq!(rt; first_wrong(rt.alloc(), ATOMS), None);
+    assert_breaks(&rt, rt.alloc(), ATOMS);
 }
 
 // The same of pulls.
@@ -204,7 +202,7 @@ const PULLS: &[(&[u8], &str)] = &[
 
 #[test]
 fn finds_faults_of_pulls(rt: HostRuntime) {
-    assert_eq!(rt; first_wrong(rt.alloc(), PULLS), None);
+    assert_breaks(&rt, rt.alloc(), PULLS);
 }
 
 // The same of commands.
@@ -230,5 +228,5 @@ const COMMANDS: &[(&[u8], &str)] = &[
 
 #[test]
 fn finds_faults_of_commands(rt: HostRuntime) {
-    assert_eq!(rt; first_wrong(rt.alloc(), COMMANDS), None);
+    assert_breaks(&rt, rt.alloc(), COMMANDS);
 }
