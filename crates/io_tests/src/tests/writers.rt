@@ -175,12 +175,16 @@ fn bytes_of(alloc: Global, count: usize) -> Result<Vec<u8>, AllocError> {
     vec![in alloc; 7; count]
 }
 
+/// Whether a put of this piece is fine.
+fn takes_whole(writer: &mut Scripted, piece: &[u8]) -> bool {
+    StdSink::new(writer).put(piece) == Ok(())
+}
+
 /// Whether a piece of so many bytes is written whole where a call takes at most so many of them.
 fn writes_large(alloc: Global, count: usize, most: usize) -> Result<bool, AllocError> {
     let piece = bytes_of(alloc, count)?;
     let mut writer = Scripted::new(alloc, &[], Call::Takes(most));
-    let answer = StdSink::new(&mut writer).put(piece.as_slice());
-    Ok(answer == Ok(()) && writer.bytes == piece)
+    Ok(takes_whole(&mut writer, piece.as_slice()) && writer.bytes == piece)
 }
 
 #[test]
