@@ -4,31 +4,45 @@ use super::payloads::{EACH_KIND, filled};
 use atom_record::{Value, parse_atom};
 use sd_base::Seq;
 use std::alloc::{AllocError, Global};
-use std::test::*;
+
+/// Whether this value equals the one at this place of the list, and no other one.
+fn equals_one(value: &Value, values: &[Value], place: usize) -> bool {
+    for (at, other) in values.iter().enumerate() {
+        if (*value == *other) != (at == place) {
+            return false;
+        }
+    }
+    true
+}
 
 /// Whether each value is copied whole, and equals no other one of the list.
 fn are_copied(alloc: Global, values: &[Value]) -> Result<bool, AllocError> {
     for (place, value) in values.iter().enumerate() {
         let copy = value.clone_value(alloc)?;
-        for (at, other) in values.iter().enumerate() {
-            if (copy == *other) != (at == place) {
-                return Ok(false);
-            }
+        if !equals_one(&copy, values, place) {
+            return Ok(false);
         }
     }
     Ok(true)
 }
 
+/// Whether there are six values with this text, and each is copied whole.
+fn are_six_copied(alloc: Global, text: &[u8]) -> Result<bool, AllocError> {
+    let values = values(alloc, text)?;
+    Ok(values.len() == 6 && are_copied(alloc, values.as_slice())?)
+}
+
+/// Whether values with texts of this length are copied whole.
+fn are_long_ones_copied(alloc: Global, len: usize) -> Result<bool, AllocError> {
+    let text = filled(alloc, b"", len)?;
+    are_six_copied(alloc, &text)
+}
+
 #[test]
-fn copies_of_values_equal_their_sources(rt: HostRuntime) -> Result<(), Fail> {
-    let short = values(rt.alloc(), b"a")?;
-    assert!(rt; short.len() == 6);
-    assert!(rt; are_copied(rt.alloc(), short.as_slice())?);
-    // Texts of 65,536 bytes, one more than a payload could spell.
-    let text = filled(rt.alloc(), b"", 65_536)?;
-    let long = values(rt.alloc(), &text)?;
-    assert!(rt; are_copied(rt.alloc(), long.as_slice())?);
-    Ok(())
+fn copies_of_values_equal_their_sources(rt: HostRuntime) {
+    assert!(rt; are_six_copied(rt.alloc(), b"a") == Ok(true));
+    // One byte more than a payload could spell.
+    assert!(rt; are_long_ones_copied(rt.alloc(), 65_536) == Ok(true));
 }
 
 /// Whether a payload is read, and the atom copied whole.
@@ -52,14 +66,22 @@ fn most_entries(alloc: Global) -> Result<Vec<u8>, AllocError> {
     Ok(payload)
 }
 
+/// Whether the atom with the most entries fills 4,096 bytes and is copied whole.
+fn are_entries_copied(alloc: Global) -> Result<bool, AllocError> {
+    let payload = most_entries(alloc)?;
+    Ok(payload.len() == 4096 && is_copied(alloc, &payload)?)
+}
+
+/// Whether the atom with the longest text is copied whole.
+fn is_text_copied(alloc: Global) -> Result<bool, AllocError> {
+    let payload = filled(alloc, b"\x05\0\0\0\x01\0\0\0\x04\xf5\x0f", 4096)?;
+    is_copied(alloc, &payload)
+}
+
 #[test]
-fn copies_of_atoms_equal_their_sources(rt: HostRuntime) -> Result<(), Fail> {
-    assert!(rt; is_copied(rt.alloc(), b"\x05\0\0\0")?);
-    assert!(rt; is_copied(rt.alloc(), EACH_KIND)?);
-    let text = filled(rt.alloc(), b"\x05\0\0\0\x01\0\0\0\x04\xf5\x0f", 4096)?;
-    assert!(rt; is_copied(rt.alloc(), &text)?);
-    let entries = most_entries(rt.alloc())?;
-    assert!(rt; entries.len() == 4096);
-    assert!(rt; is_copied(rt.alloc(), &entries)?);
-    Ok(())
+fn copies_of_atoms_equal_their_sources(rt: HostRuntime) {
+    assert!(rt; is_copied(rt.alloc(), b"\x05\0\0\0") == Ok(true));
+    assert!(rt; is_copied(rt.alloc(), EACH_KIND) == Ok(true));
+    assert!(rt; is_text_copied(rt.alloc()) == Ok(true));
+    assert!(rt; are_entries_copied(rt.alloc()) == Ok(true));
 }

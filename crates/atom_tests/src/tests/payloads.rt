@@ -1,7 +1,7 @@
 //! Payloads that are read, and those that are refused, each for the first reason that it has.
 use atom_record::{AtomFault, parse_atom};
 use std::alloc::{AllocError, Global};
-use std::test::*;
+use std::process::Abort;
 
 /// The number of the reason for which a payload is refused: 0 where it is read, 255 where memory was wanting.
 pub fn reason_of(alloc: Global, payload: &[u8]) -> u8 {
@@ -12,8 +12,15 @@ pub fn reason_of(alloc: Global, payload: &[u8]) -> u8 {
     }
 }
 
+/// Asserts that each payload is read, or refused for its reason.
+fn assert_reasons(rt: &impl Abort, alloc: Global, rows: &[(&[u8], u8)]) {
+    for &(payload, reason) in rows {
+        assert!(rt; reason_of(alloc, payload) == reason, "at {payload:?}");
+    }
+}
+
 /// Payloads of an atom with the id 5, and the numbers of their reasons.
-const ENTRIES: [(&[u8], u8); 45] = [
+const ENTRIES: &[(&[u8], u8)] = &[
     (b"\x05\0\0\0", 0),
     // Fields, indexes and subs at their edges.
     (b"\x05\0\0\0\x00\0\0\0\x03\0", 4),
@@ -77,7 +84,7 @@ const ENTRIES: [(&[u8], u8); 45] = [
 ];
 
 /// Payloads with other ids, or without a whole one.
-const IDS: [(&[u8], u8); 8] = [
+const IDS: &[(&[u8], u8)] = &[
     (b"", 2),
     (b"\x05\0\0", 2),
     (b"\0\0\0\0", 2),
@@ -90,16 +97,12 @@ const IDS: [(&[u8], u8); 8] = [
 
 #[test]
 fn refuses_for_the_first_reason(rt: HostRuntime) {
-    for (payload, reason) in ENTRIES {
-        assert!(rt; reason_of(rt.alloc(), payload) == reason, "at {payload:?}");
-    }
+    assert_reasons(&rt, rt.alloc(), ENTRIES);
 }
 
 #[test]
 fn refuses_ids_out_of_range(rt: HostRuntime) {
-    for (payload, reason) in IDS {
-        assert!(rt; reason_of(rt.alloc(), payload) == reason, "at {payload:?}");
-    }
+    assert_reasons(&rt, rt.alloc(), IDS);
 }
 
 /// These bytes, and then sevens, up to this length.
@@ -111,21 +114,19 @@ pub fn filled(alloc: Global, front: &[u8], len: usize) -> Result<Vec<u8>, AllocE
     Ok(bytes)
 }
 
+/// Whether a payload that goes on from here up to 4,096 bytes is read, and one of 4,097 bytes is too long.
+fn reads_4096_from(alloc: Global, front: &[u8]) -> Result<bool, AllocError> {
+    let mut payload = filled(alloc, front, 4096)?;
+    let is_read = payload.len() == 4096 && reason_of(alloc, &payload) == 0;
+    payload.push(7)?;
+    Ok(is_read && reason_of(alloc, &payload) == 1)
+}
+
 #[test]
-fn reads_4096_bytes_and_no_more(rt: HostRuntime) -> Result<(), Fail> {
+fn reads_4096_bytes_and_no_more(rt: HostRuntime) {
     // A Str and a Raw of 4,085 bytes, and then the same with a byte after it.
-    let fronts: [&[u8]; 2] = [
-        b"\x05\0\0\0\x01\0\0\0\x04\xf5\x0f",
-        b"\x05\0\0\0\x01\0\0\0\x05\xf5\x0f",
-    ];
-    for front in fronts {
-        let mut payload = filled(rt.alloc(), front, 4096)?;
-        assert!(rt; payload.len() == 4096);
-        assert!(rt; reason_of(rt.alloc(), &payload) == 0, "at {front:?}");
-        payload.push(7)?;
-        assert!(rt; reason_of(rt.alloc(), &payload) == 1, "at {front:?}");
-    }
-    Ok(())
+    assert!(rt; reads_4096_from(rt.alloc(), b"\x05\0\0\0\x01\0\0\0\x04\xf5\x0f") == Ok(true));
+    assert!(rt; reads_4096_from(rt.alloc(), b"\x05\0\0\0\x01\0\0\0\x05\xf5\x0f") == Ok(true));
 }
 
 /// An atom with one value of each kind.

@@ -2,7 +2,6 @@
 use sd_io::MemSource;
 use session_frames::{Frame, FrameReader, bytes_have_one_reading};
 use std::alloc::{AllocError, Global};
-use std::test::Fail;
 
 // The head of an install whose body has 2^20 bytes, the most that a frame may have.
 const LONGEST: &[u8; 17] = b"\0\0\x10\0\x10\x0a\0\0\0\x07\0\0\0\0\0\0\0";
@@ -12,17 +11,29 @@ const BETWEEN: &[u8; 48] = b"\x09\0\0\0\x01\x03\0\0\0\0\0\0\0\
     \x0d\0\0\0\x11\x0a\0\0\0\x07\0\0\0\0\0\0\0\
     \x0e\0\0\0\x12\x0a\0\0\0\x07\0\0\0\0\0\0\0\x01";
 
+// Adds the longest install.
+fn push_longest(bytes: &mut Vec<u8>) -> Result<(), AllocError> {
+    bytes.extend_from_slice(LONGEST)?;
+    for _ in 0..1_048_563 {
+        bytes.push(7)?;
+    }
+    Ok(())
+}
+
+// Adds a thousand times the three frames.
+fn push_between(bytes: &mut Vec<u8>) -> Result<(), AllocError> {
+    for _ in 0..1_000 {
+        bytes.extend_from_slice(BETWEEN)?;
+    }
+    Ok(())
+}
+
 // Twice: the longest install, and then a thousand times the three frames.
 fn session(alloc: Global) -> Result<Vec<u8>, AllocError> {
     let mut bytes = Vec::new(alloc);
     for _ in 0..2 {
-        bytes.extend_from_slice(LONGEST)?;
-        for _ in 0..1_048_563 {
-            bytes.push(7)?;
-        }
-        for _ in 0..1_000 {
-            bytes.extend_from_slice(BETWEEN)?;
-        }
+        push_longest(&mut bytes)?;
+        push_between(&mut bytes)?;
     }
     Ok(bytes)
 }
@@ -61,10 +72,14 @@ fn count_good(alloc: Global, source: &mut MemSource) -> Option<usize> {
     None
 }
 
+// How many frames the session has, each with the code that it should have.
+fn count_session(alloc: Global) -> Result<Option<usize>, AllocError> {
+    let mut source = MemSource::new(session(alloc)?, 50_000, Vec::new(alloc));
+    Ok(count_good(alloc, &mut source))
+}
+
 #[test]
-fn reads_two_mebibytes_to_the_end(rt: HostRuntime) -> Result<(), Fail> {
+fn reads_two_mebibytes_to_the_end(rt: HostRuntime) {
     bytes_have_one_reading();
-    let mut source = MemSource::new(session(rt.alloc())?, 50_000, Vec::new(rt.alloc()));
-    assert!(rt; count_good(rt.alloc(), &mut source) == Some(6_002));
-    Ok(())
+    assert!(rt; count_session(rt.alloc()) == Ok(Some(6_002)));
 }

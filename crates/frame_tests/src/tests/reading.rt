@@ -1,6 +1,6 @@
 //! What all tests of sessions share: a session of four frames, and what a source is read as.
 use sd_io::MemSource;
-use session_frames::{Frame, FrameReader};
+use session_frames::{Frame, FrameError, FrameReader};
 use std::alloc::{AllocError, Global};
 
 /// An install, two atoms and a report.
@@ -17,26 +17,73 @@ pub struct Session {
     pub end: String,
 }
 
+fn push_frame(frames: &mut Vec<Frame>, frame: Frame) -> Result<(), AllocError> {
+    frames.push(frame)?;
+    Ok(())
+}
+
+/// Takes the next frame of a source, and gives the reader that goes on from there, or none where this is the end.
+fn take_next(
+    reader: FrameReader,
+    source: &mut MemSource,
+    frames: &mut Vec<Frame>,
+) -> Result<Option<FrameReader>, FrameError> {
+    let (next, frame) = reader.next(source)?;
+    let Some(frame) = frame else {
+        return Ok(None);
+    };
+    push_frame(frames, frame)?;
+    Ok(Some(next))
+}
+
+/// Takes the frames of a source up to its end or to its error, a hundred at most.
+fn take_all(
+    alloc: Global,
+    source: &mut MemSource,
+    frames: &mut Vec<Frame>,
+) -> Result<(), FrameError> {
+    let mut reader = FrameReader::new(alloc);
+    for _ in 0..100 {
+        reader = match take_next(reader, source, frames)? {
+            Some(next) => next,
+            None => return Ok(()),
+        };
+    }
+    Ok(())
+}
+
+/// How a source ended, as a text.
+fn end_of(alloc: Global, taken: &Result<(), FrameError>) -> Result<String, AllocError> {
+    match taken {
+        Ok(()) => format!(in alloc; "end"),
+        Err(e) => format!(in alloc; "{e}"),
+    }
+}
+
 /// Reads a source to its end or to its error, a hundred frames at most.
 pub fn read(alloc: Global, source: &mut MemSource) -> Result<Session, AllocError> {
     let mut frames = Vec::new(alloc);
-    let mut reader = FrameReader::new(alloc);
-    for _ in 0..100 {
-        let (next, frame) = match reader.next(source) {
-            Ok(given) => given,
-            Err(e) => {
-                let end = format!(in alloc; "{e}")?;
-                return Ok(Session { frames, end });
-            }
-        };
-        reader = next;
-        let Some(frame) = frame else {
-            break;
-        };
-        frames.push(frame)?;
-    }
-    let end = format!(in alloc; "end")?;
+    let taken = take_all(alloc, source, &mut frames);
+    let end = end_of(alloc, &taken)?;
     Ok(Session { frames, end })
+}
+
+/// A source of these bytes, in pieces of this size.
+fn source_of(alloc: Global, bytes: &[u8], piece: usize) -> Result<MemSource, AllocError> {
+    let bytes = bytes.to_vec(alloc)?;
+    Ok(MemSource::new(bytes, piece.max(1), Vec::new(alloc)))
+}
+
+/// What these bytes, in pieces of this size, are read as.
+pub fn read_bytes(alloc: Global, bytes: &[u8], piece: usize) -> Result<Session, AllocError> {
+    let mut source = source_of(alloc, bytes, piece)?;
+    read(alloc, &mut source)
+}
+
+/// Whether these frames are printed so.
+fn are_printed(alloc: Global, frames: &Vec<Frame>, text: &str) -> Result<bool, AllocError> {
+    let printed = format!(in alloc; "{frames:?}")?;
+    Ok(printed.as_str() == text)
 }
 
 /// Whether these bytes, in pieces of this size, are read as these frames, by their `Debug`, and then this end.
@@ -47,8 +94,6 @@ pub fn reads_as(
     text: &str,
     end: &str,
 ) -> Result<bool, AllocError> {
-    let mut source = MemSource::new(bytes.to_vec(alloc)?, piece.max(1), Vec::new(alloc));
-    let session = read(alloc, &mut source)?;
-    let frames = format!(in alloc; "{:?}", session.frames)?;
-    Ok(frames.as_str() == text && session.end.as_str() == end)
+    let session = read_bytes(alloc, bytes, piece)?;
+    Ok(session.end.as_str() == end && are_printed(alloc, &session.frames, text)?)
 }

@@ -1,11 +1,10 @@
 //! Frames by their bytes, in any pieces, and sources that fail.
-use super::reading::{LEAST, read, reads_as};
+use super::reading::{LEAST, Session, read, reads_as};
 use sd_io::MemSource;
 use std::alloc::{AllocError, Global};
-use std::test::Fail;
 
 #[test]
-fn gives_the_same_frames_in_any_pieces(rt: HostRuntime) -> Result<(), Fail> {
+fn gives_the_same_frames_in_any_pieces(rt: HostRuntime) {
     let text =
         "[Install { uid: 10, id: 7, config: Seq { items: [58, 6, 8, 1, 18, 2, 8, 5, 26, 4, 8, 100, 16, 1] } }, \
         Log(AtomAt { at: 2, atom: Atom { id: 5, fields: Seq { items: [] } } }), \
@@ -13,99 +12,109 @@ fn gives_the_same_frames_in_any_pieces(rt: HostRuntime) -> Result<(), Fail> {
         Report { uid: 10, id: 7, include_current: true }]";
     for piece in [1, 16, 100] {
         assert!(rt;
-            reads_as(rt.alloc(), &LEAST, piece, text, "end")?,
+            reads_as(rt.alloc(), &LEAST, piece, text, "end") == Ok(true),
             "at {piece}"
         );
     }
-    Ok(())
 }
 
+// Sessions, and their frames by their `Debug`.
+const EACH_KIND: &[(&[u8], &str)] = &[
+    (b"", "[]"),
+    // A tick, at an hour and at the last time that there is too.
+    (b"\x09\0\0\0\x01\x03\0\0\0\0\0\0\0", "[Log(Tick { at: 3 })]"),
+    (
+        b"\x09\0\0\0\x01\0\xa0\xb8\x30\x46\x03\0\0",
+        "[Log(Tick { at: 3600000000000 })]",
+    ),
+    (
+        b"\x09\0\0\0\x01\xff\xff\xff\xff\xff\xff\xff\x7f",
+        "[Log(Tick { at: 9223372036854775807 })]",
+    ),
+    // An atom with an entry.
+    (
+        b"\x16\0\0\0\x02\x03\0\0\0\0\0\0\0\x05\0\0\0\x01\0\0\0\x01\x07\0\0\0",
+        "[Log(AtomAt { at: 3, atom: Atom { id: 5, fields: Seq { items: [\
+            AtomField { field: 1, index: 0, sub: 0, flags: 0, value: Int(7) }] } } })]",
+    ),
+    // A pull of two atoms, one that failed, and one of none.
+    (
+        b"\x25\0\0\0\x03\x03\0\0\0\0\0\0\0\x11\x27\0\0\0\x02\0\
+            \x04\0\x11\x27\0\0\x0d\0\x11\x27\0\0\x01\0\0\0\x01\x07\0\0\0",
+        "[Log(Pull { at: 3, id: 10001, outcome: Atoms(Seq { items: [\
+            Atom { id: 10001, fields: Seq { items: [] } }, \
+            Atom { id: 10001, fields: Seq { items: [\
+            AtomField { field: 1, index: 0, sub: 0, flags: 0, value: Int(7) }] } }] }) })]",
+    ),
+    (
+        b"\x0e\0\0\0\x03\x03\0\0\0\0\0\0\0\x11\x27\0\0\x01",
+        "[Log(Pull { at: 3, id: 10001, outcome: Failed })]",
+    ),
+    (
+        b"\x10\0\0\0\x03\x03\0\0\0\0\0\0\0\x11\x27\0\0\0\0\0",
+        "[Log(Pull { at: 3, id: 10001, outcome: Atoms(Seq { items: [] }) })]",
+    ),
+    // An install of no bytes, a remove, and a report with numbers below 0.
+    (
+        b"\x0d\0\0\0\x10\x0a\0\0\0\x07\0\0\0\0\0\0\0",
+        "[Install { uid: 10, id: 7, config: Seq { items: [] } }]",
+    ),
+    (
+        b"\x0d\0\0\0\x11\x0a\0\0\0\x07\0\0\0\0\0\0\0",
+        "[Remove { uid: 10, id: 7 }]",
+    ),
+    (
+        b"\x0d\0\0\0\x11\0\0\0\x80\0\0\0\0\0\0\0\x80",
+        "[Remove { uid: -2147483648, id: -9223372036854775808 }]",
+    ),
+    (
+        b"\x0e\0\0\0\x12\xff\xff\xff\xff\xfe\xff\xff\xff\xff\xff\xff\xff\0",
+        "[Report { uid: -1, id: -2, include_current: false }]",
+    ),
+    // Frames of one time, and commands between them.
+    (
+        b"\x09\0\0\0\x01\x03\0\0\0\0\0\0\0\
+            \x0d\0\0\0\x11\x0a\0\0\0\x07\0\0\0\0\0\0\0\
+            \x09\0\0\0\x01\x03\0\0\0\0\0\0\0",
+        "[Log(Tick { at: 3 }), Remove { uid: 10, id: 7 }, Log(Tick { at: 3 })]",
+    ),
+];
+
 #[test]
-fn reads_each_kind_of_frame(rt: HostRuntime) -> Result<(), Fail> {
-    let rows: [(&[u8], &str); 13] = [
-        (b"", "[]"),
-        // A tick, at an hour and at the last time that there is too.
-        (b"\x09\0\0\0\x01\x03\0\0\0\0\0\0\0", "[Log(Tick { at: 3 })]"),
-        (
-            b"\x09\0\0\0\x01\0\xa0\xb8\x30\x46\x03\0\0",
-            "[Log(Tick { at: 3600000000000 })]",
-        ),
-        (
-            b"\x09\0\0\0\x01\xff\xff\xff\xff\xff\xff\xff\x7f",
-            "[Log(Tick { at: 9223372036854775807 })]",
-        ),
-        // An atom with an entry.
-        (
-            b"\x16\0\0\0\x02\x03\0\0\0\0\0\0\0\x05\0\0\0\x01\0\0\0\x01\x07\0\0\0",
-            "[Log(AtomAt { at: 3, atom: Atom { id: 5, fields: Seq { items: [\
-                AtomField { field: 1, index: 0, sub: 0, flags: 0, value: Int(7) }] } } })]",
-        ),
-        // A pull of two atoms, one that failed, and one of none.
-        (
-            b"\x25\0\0\0\x03\x03\0\0\0\0\0\0\0\x11\x27\0\0\0\x02\0\
-                \x04\0\x11\x27\0\0\x0d\0\x11\x27\0\0\x01\0\0\0\x01\x07\0\0\0",
-            "[Log(Pull { at: 3, id: 10001, outcome: Atoms(Seq { items: [\
-                Atom { id: 10001, fields: Seq { items: [] } }, \
-                Atom { id: 10001, fields: Seq { items: [\
-                AtomField { field: 1, index: 0, sub: 0, flags: 0, value: Int(7) }] } }] }) })]",
-        ),
-        (
-            b"\x0e\0\0\0\x03\x03\0\0\0\0\0\0\0\x11\x27\0\0\x01",
-            "[Log(Pull { at: 3, id: 10001, outcome: Failed })]",
-        ),
-        (
-            b"\x10\0\0\0\x03\x03\0\0\0\0\0\0\0\x11\x27\0\0\0\0\0",
-            "[Log(Pull { at: 3, id: 10001, outcome: Atoms(Seq { items: [] }) })]",
-        ),
-        // An install of no bytes, a remove, and a report with numbers below 0.
-        (
-            b"\x0d\0\0\0\x10\x0a\0\0\0\x07\0\0\0\0\0\0\0",
-            "[Install { uid: 10, id: 7, config: Seq { items: [] } }]",
-        ),
-        (
-            b"\x0d\0\0\0\x11\x0a\0\0\0\x07\0\0\0\0\0\0\0",
-            "[Remove { uid: 10, id: 7 }]",
-        ),
-        (
-            b"\x0d\0\0\0\x11\0\0\0\x80\0\0\0\0\0\0\0\x80",
-            "[Remove { uid: -2147483648, id: -9223372036854775808 }]",
-        ),
-        (
-            b"\x0e\0\0\0\x12\xff\xff\xff\xff\xfe\xff\xff\xff\xff\xff\xff\xff\0",
-            "[Report { uid: -1, id: -2, include_current: false }]",
-        ),
-        // Frames of one time, and commands between them.
-        (
-            b"\x09\0\0\0\x01\x03\0\0\0\0\0\0\0\
-                \x0d\0\0\0\x11\x0a\0\0\0\x07\0\0\0\0\0\0\0\
-                \x09\0\0\0\x01\x03\0\0\0\0\0\0\0",
-            "[Log(Tick { at: 3 }), Remove { uid: 10, id: 7 }, Log(Tick { at: 3 })]",
-        ),
-    ];
-    for (bytes, text) in rows {
+fn reads_each_kind_of_frame(rt: HostRuntime) {
+    for &(bytes, text) in EACH_KIND {
         assert!(rt;
-            reads_as(rt.alloc(), bytes, 7, text, "end")?,
+            reads_as(rt.alloc(), bytes, 7, text, "end") == Ok(true),
             "at {bytes:?}"
         );
     }
-    Ok(())
 }
 
-// Whether a source of the four frames that fails at this call gives no frame, and tells the fault of the source.
-fn fails_at(alloc: Global, call: u64) -> Result<bool, AllocError> {
+// A source of the four frames that fails at this call.
+fn failing_at(alloc: Global, call: u64) -> Result<MemSource, AllocError> {
+    let bytes = LEAST.to_vec(alloc)?;
     let fails = [call].to_vec(alloc)?;
-    let mut source = MemSource::new(LEAST.to_vec(alloc)?, 40, fails);
-    let session = read(alloc, &mut source)?;
+    Ok(MemSource::new(bytes, 40, fails))
+}
+
+// What such a source is read as.
+fn read_failing(alloc: Global, call: u64) -> Result<Session, AllocError> {
+    let mut source = failing_at(alloc, call)?;
+    read(alloc, &mut source)
+}
+
+// Whether such a source gives no frame, and tells the fault of the source.
+fn fails_at(alloc: Global, call: u64) -> Result<bool, AllocError> {
+    let session = read_failing(alloc, call)?;
     Ok(session.frames.is_empty() && session.end.as_str() == "the source failed")
 }
 
 #[test]
-fn gives_no_frame_of_a_source_that_fails(rt: HostRuntime) -> Result<(), Fail> {
+fn gives_no_frame_of_a_source_that_fails(rt: HostRuntime) {
     // The first call, one in mid-stream, and the one that would tell the end.
     for call in 0..4 {
-        assert!(rt; fails_at(rt.alloc(), call)?, "at {call}");
+        assert!(rt; fails_at(rt.alloc(), call) == Ok(true), "at {call}");
     }
     // The source isn't asked again after its end.
-    assert!(rt; !fails_at(rt.alloc(), 4)?);
-    Ok(())
+    assert!(rt; fails_at(rt.alloc(), 4) == Ok(false));
 }

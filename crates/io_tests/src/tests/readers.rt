@@ -3,7 +3,6 @@ use sd_io::{ReadFailed, Source, StdSource};
 use std::alloc::{AllocError, Global};
 use std::io;
 use std::io::{ErrorKind, Read};
-use std::test::*;
 
 /// What a reader does at a call.
 #[derive(Clone, Copy)]
@@ -58,26 +57,28 @@ fn reads_as(calls: &[Call], answers: &[Option<u8>]) -> bool {
     source.read(&mut buf) == Ok(0) && buf == [last, 0]
 }
 
+/// What a reader does, and what the reads answer.
+const ROWS: &[(&[Call], &[Option<u8>])] = &[
+    // A byte a call.
+    (&[Call::Byte(7), Call::Byte(8)], &[Some(7), Some(8)]),
+    // An interruption between two bytes, and one before the first.
+    (
+        &[Call::Byte(7), Call::Interrupted, Call::Byte(8)],
+        &[Some(7), None, Some(8)],
+    ),
+    (&[Call::Interrupted, Call::Byte(7)], &[None, Some(7)]),
+    // It fails once, and then gives; twice; and at last.
+    (&[Call::Broken, Call::Byte(7)], &[None, Some(7)]),
+    (
+        &[Call::Broken, Call::Interrupted, Call::Byte(7)],
+        &[None, None, Some(7)],
+    ),
+    (&[Call::Byte(7), Call::Broken], &[Some(7), None]),
+];
+
 #[test]
 fn tells_each_failed_read(rt: HostRuntime) {
-    let rows: [(&[Call], &[Option<u8>]); 6] = [
-        // A byte a call.
-        (&[Call::Byte(7), Call::Byte(8)], &[Some(7), Some(8)]),
-        // An interruption between two bytes, and one before the first.
-        (
-            &[Call::Byte(7), Call::Interrupted, Call::Byte(8)],
-            &[Some(7), None, Some(8)],
-        ),
-        (&[Call::Interrupted, Call::Byte(7)], &[None, Some(7)]),
-        // It fails once, and then gives; twice; and at last.
-        (&[Call::Broken, Call::Byte(7)], &[None, Some(7)]),
-        (
-            &[Call::Broken, Call::Interrupted, Call::Byte(7)],
-            &[None, None, Some(7)],
-        ),
-        (&[Call::Byte(7), Call::Broken], &[Some(7), None]),
-    ];
-    for (at, (calls, answers)) in rows.into_iter().enumerate() {
+    for (at, (calls, answers)) in ROWS.iter().enumerate() {
         assert!(rt; reads_as(calls, answers), "at row {at}");
     }
 }
@@ -97,14 +98,17 @@ fn bytes_of(alloc: Global, count: usize, byte: u8) -> Result<Vec<u8>, AllocError
     vec![in alloc; byte; count]
 }
 
+/// Whether a buffer of so many bytes is filled by one read.
+fn fills(alloc: Global, count: usize) -> Result<bool, AllocError> {
+    let bytes = bytes_of(alloc, count, 7)?;
+    let mut buf = bytes_of(alloc, count, 0)?;
+    let mut source = StdSource::new(bytes.as_slice());
+    Ok(source.read(&mut buf) == Ok(count) && buf == bytes)
+}
+
 #[test]
-fn fills_a_large_buffer(rt: HostRuntime) -> Result<(), Fail> {
+fn fills_a_large_buffer(rt: HostRuntime) {
     for count in [4_097, 65_537, 200_000] {
-        let bytes = bytes_of(rt.alloc(), count, 7)?;
-        let mut buf = bytes_of(rt.alloc(), count, 0)?;
-        let mut source = StdSource::new(bytes.as_slice());
-        assert!(rt; source.read(&mut buf) == Ok(count), "at {count}");
-        assert!(rt; buf == bytes, "at {count}");
+        assert!(rt; fills(rt.alloc(), count) == Ok(true), "at {count}");
     }
-    Ok(())
 }

@@ -3,7 +3,6 @@ use sd_io::{Sink, StdSink, WriteFailed};
 use std::alloc::{AllocError, Global};
 use std::io;
 use std::io::{ErrorKind, Write};
-use std::test::*;
 
 /// What a writer does at a call.
 #[derive(Clone, Copy)]
@@ -62,17 +61,31 @@ impl Write for Scripted<'_> {
     }
 }
 
-/// Whether puts of "abc", nothing, "de", nothing and "f" answer so, and then these bytes are written.
-fn writes_as(alloc: Global, calls: &[Call], later: Call, answers: [bool; 5], bytes: &[u8]) -> bool {
-    let mut writer = Scripted::new(alloc, calls, later);
-    let mut sink = StdSink::new(&mut writer);
-    for (piece, is_fine) in ["abc", "", "de", "", "f"].into_iter().zip(answers) {
+/// What is put, a piece after the other.
+const PIECES: &[&[u8]] = &[b"abc", b"", b"de", b"", b"f"];
+
+/// Whether each piece's put is fine or fails so.
+fn puts_as(writer: &mut Scripted, answers: &[bool; 5]) -> bool {
+    let mut sink = StdSink::new(writer);
+    for (&piece, &is_fine) in PIECES.iter().zip(answers) {
         let answer = if is_fine { Ok(()) } else { Err(WriteFailed) };
-        if sink.put(piece.as_bytes()) != answer {
+        if sink.put(piece) != answer {
             return false;
         }
     }
-    writer.bytes.as_slice() == bytes
+    true
+}
+
+/// Whether the puts of the pieces answer so, and then these bytes are written.
+fn writes_as(
+    alloc: Global,
+    calls: &[Call],
+    later: Call,
+    answers: &[bool; 5],
+    bytes: &[u8],
+) -> bool {
+    let mut writer = Scripted::new(alloc, calls, later);
+    puts_as(&mut writer, answers) && writer.bytes.as_slice() == bytes
 }
 
 const ALL: Call = Call::Takes(usize::MAX);
@@ -81,75 +94,77 @@ const ONE: Call = Call::Takes(1);
 
 const NOTHING: Call = Call::Takes(0);
 
+/// What a writer does, and does later, what the puts answer, and what is written.
+const ROWS: &[(&[Call], Call, [bool; 5], &[u8])] = &[
+    (&[], ALL, [true, true, true, true, true], b"abcdef"),
+    // A byte a call.
+    (&[], ONE, [true, true, true, true, true], b"abcdef"),
+    // It fails once and then takes, before the first byte and between two.
+    (
+        &[Call::Broken],
+        ALL,
+        [false, true, true, true, true],
+        b"def",
+    ),
+    (
+        &[ONE, Call::Broken],
+        ALL,
+        [false, true, true, true, true],
+        b"adef",
+    ),
+    (
+        &[ONE, ONE, Call::Broken],
+        ONE,
+        [false, true, true, true, true],
+        b"abdef",
+    ),
+    (
+        &[ALL, Call::Broken],
+        ALL,
+        [true, true, false, true, true],
+        b"abcf",
+    ),
+    // It is interrupted, before the first byte and between two.
+    (
+        &[Call::Interrupted],
+        ALL,
+        [false, true, true, true, true],
+        b"def",
+    ),
+    (
+        &[ONE, Call::Interrupted],
+        ALL,
+        [false, true, true, true, true],
+        b"adef",
+    ),
+    // It takes nothing once, between two bytes.
+    (
+        &[ONE, NOTHING],
+        ALL,
+        [false, true, true, true, true],
+        b"adef",
+    ),
+    // It takes four bytes, and then no more, or fails from then on.
+    (
+        &[ONE, ONE, ONE, ONE],
+        NOTHING,
+        [true, true, false, true, false],
+        b"abcd",
+    ),
+    (
+        &[ONE, ONE, ONE, ONE],
+        Call::Interrupted,
+        [true, true, false, true, false],
+        b"abcd",
+    ),
+    (&[], Call::Broken, [false, true, false, true, false], b""),
+];
+
 #[test]
 fn tells_each_failed_write(rt: HostRuntime) {
-    let rows: [(&[Call], Call, [bool; 5], &[u8]); 12] = [
-        (&[], ALL, [true, true, true, true, true], b"abcdef"),
-        // A byte a call.
-        (&[], ONE, [true, true, true, true, true], b"abcdef"),
-        // It fails once and then takes, before the first byte and between two.
-        (
-            &[Call::Broken],
-            ALL,
-            [false, true, true, true, true],
-            b"def",
-        ),
-        (
-            &[ONE, Call::Broken],
-            ALL,
-            [false, true, true, true, true],
-            b"adef",
-        ),
-        (
-            &[ONE, ONE, Call::Broken],
-            ONE,
-            [false, true, true, true, true],
-            b"abdef",
-        ),
-        (
-            &[ALL, Call::Broken],
-            ALL,
-            [true, true, false, true, true],
-            b"abcf",
-        ),
-        // It is interrupted, before the first byte and between two.
-        (
-            &[Call::Interrupted],
-            ALL,
-            [false, true, true, true, true],
-            b"def",
-        ),
-        (
-            &[ONE, Call::Interrupted],
-            ALL,
-            [false, true, true, true, true],
-            b"adef",
-        ),
-        // It takes nothing once, between two bytes.
-        (
-            &[ONE, NOTHING],
-            ALL,
-            [false, true, true, true, true],
-            b"adef",
-        ),
-        // It takes four bytes, and then no more, or fails from then on.
-        (
-            &[ONE, ONE, ONE, ONE],
-            NOTHING,
-            [true, true, false, true, false],
-            b"abcd",
-        ),
-        (
-            &[ONE, ONE, ONE, ONE],
-            Call::Interrupted,
-            [true, true, false, true, false],
-            b"abcd",
-        ),
-        (&[], Call::Broken, [false, true, false, true, false], b""),
-    ];
-    for (at, (calls, later, answers, bytes)) in rows.into_iter().enumerate() {
+    for (at, (calls, later, answers, bytes)) in ROWS.iter().enumerate() {
         assert!(rt;
-            writes_as(rt.alloc(), calls, later, answers, bytes),
+            writes_as(rt.alloc(), calls, *later, answers, bytes),
             "at row {at}"
         );
     }
@@ -160,8 +175,20 @@ fn bytes_of(alloc: Global, count: usize) -> Result<Vec<u8>, AllocError> {
     vec![in alloc; 7; count]
 }
 
+/// Whether a put of this piece is fine.
+fn takes_whole(writer: &mut Scripted, piece: &[u8]) -> bool {
+    StdSink::new(writer).put(piece) == Ok(())
+}
+
+/// Whether a piece of so many bytes is written whole where a call takes at most so many of them.
+fn writes_large(alloc: Global, count: usize, most: usize) -> Result<bool, AllocError> {
+    let piece = bytes_of(alloc, count)?;
+    let mut writer = Scripted::new(alloc, &[], Call::Takes(most));
+    Ok(takes_whole(&mut writer, piece.as_slice()) && writer.bytes == piece)
+}
+
 #[test]
-fn writes_a_large_piece(rt: HostRuntime) -> Result<(), Fail> {
+fn writes_a_large_piece(rt: HostRuntime) {
     for (count, most) in [
         (4_097, usize::MAX),
         (65_537, usize::MAX),
@@ -169,13 +196,9 @@ fn writes_a_large_piece(rt: HostRuntime) -> Result<(), Fail> {
         (200_000, 4_096),
         (70_000, 1),
     ] {
-        let piece = bytes_of(rt.alloc(), count)?;
-        let mut writer = Scripted::new(rt.alloc(), &[], Call::Takes(most));
         assert!(rt;
-            StdSink::new(&mut writer).put(piece.as_slice()) == Ok(()),
+            writes_large(rt.alloc(), count, most) == Ok(true),
             "at {count}"
         );
-        assert!(rt; writer.bytes == piece, "at {count}");
     }
-    Ok(())
 }

@@ -20,59 +20,61 @@ fn faults_as(bytes: &[u8], depth: u32, want: Option<(u32, u8)>) -> bool
     false
 }
 
+/// Messages, and the first fault of each.
+const ROWS: &[(&[u8], Option<(u32, u8)>)] = &[
+    (b"", None),
+    // 1: the tenth byte of a varint has its high bit set, at the end and before more, in a tag and in a number.
+    (b"\x80\x80\x80\x80\x80\x80\x80\x80\x80\x80", Some((0, 1))),
+    (
+        b"\x80\x80\x80\x80\x80\x80\x80\x80\x80\x80\x00",
+        Some((0, 1)),
+    ),
+    (
+        b"\x08\x01\x10\xff\xff\xff\xff\xff\xff\xff\xff\xff\xff\x01",
+        Some((2, 1)),
+    ),
+    // 2: the bytes end inside a tag, a number, a count, and each payload.
+    (b"\x80", Some((0, 2))),
+    (b"\x08\x01\x08", Some((2, 2))),
+    (b"\x08\xff\xff\xff\xff\xff\xff\xff\xff\xff", Some((0, 2))),
+    (b"\x0a\x80", Some((0, 2))),
+    (b"\x0a\x02a", Some((0, 2))),
+    (b"\x0d\x01\x02\x03", Some((0, 2))),
+    (b"\x09\x01\x02\x03\x04\x05\x06\x07", Some((0, 2))),
+    (
+        b"\x0a\xff\xff\xff\xff\xff\xff\xff\xff\xff\x01",
+        Some((0, 2)),
+    ),
+    // 3: wire types 6 and 7, but number 0 (4) is told first, and a long tag (7) before that.
+    (b"\x08\x01\x0e", Some((2, 3))),
+    (b"\x0f", Some((0, 3))),
+    (b"\x00", Some((0, 4))),
+    (b"\x06", Some((0, 4))),
+    (b"\x08\x01\x00", Some((2, 4))),
+    (b"\x80\x80\x80\x80\x80\x80\x80\x80\x80\x02", Some((0, 4))),
+    (b"\x86\x80\x80\x80\x10", Some((0, 7))),
+    (b"\x08\x01\x88\x80\x80\x80\x10\x01", Some((2, 7))),
+    (b"\xfd\xff\xff\xff\x0f\x01\x02\x03\x04", None),
+    // 5: ends of groups, with a start, without, with another number.
+    (b"\x0b\x08\x01\x0c", None),
+    (b"\x0b\x13\x14\x0c\x08\x01", None),
+    (b"\x0c", Some((0, 5))),
+    (b"\x0b\x0c\x0c", Some((2, 5))),
+    (b"\x0b\x08\x01\x14", Some((3, 5))),
+    // The innermost open group is at fault where the bytes end between records, and else the record.
+    (b"\x0b", Some((0, 2))),
+    (b"\x0b\x13\x08\x01", Some((1, 2))),
+    (b"\x0b\x13\x14", Some((0, 2))),
+    (b"\x0b\x13\x0a\x01", Some((2, 2))),
+    (b"\x0b\x08\x01\x0e", Some((3, 3))),
+    // What is counted in a group isn't looked into.
+    (b"\x0b\x0a\x01\x0e\x0c", None),
+    (b"\x0a\x01\x0e", None),
+];
+
 #[test]
 fn tells_each_cause_where_it_is_met(rt: HostRuntime) {
-    let rows: [(&[u8], Option<(u32, u8)>); 33] = [
-        (b"", None),
-        // 1: the tenth byte of a varint has its high bit set, at the end and before more, in a tag and in a number.
-        (b"\x80\x80\x80\x80\x80\x80\x80\x80\x80\x80", Some((0, 1))),
-        (
-            b"\x80\x80\x80\x80\x80\x80\x80\x80\x80\x80\x00",
-            Some((0, 1)),
-        ),
-        (
-            b"\x08\x01\x10\xff\xff\xff\xff\xff\xff\xff\xff\xff\xff\x01",
-            Some((2, 1)),
-        ),
-        // 2: the bytes end inside a tag, a number, a count, and each payload.
-        (b"\x80", Some((0, 2))),
-        (b"\x08\x01\x08", Some((2, 2))),
-        (b"\x08\xff\xff\xff\xff\xff\xff\xff\xff\xff", Some((0, 2))),
-        (b"\x0a\x80", Some((0, 2))),
-        (b"\x0a\x02a", Some((0, 2))),
-        (b"\x0d\x01\x02\x03", Some((0, 2))),
-        (b"\x09\x01\x02\x03\x04\x05\x06\x07", Some((0, 2))),
-        (
-            b"\x0a\xff\xff\xff\xff\xff\xff\xff\xff\xff\x01",
-            Some((0, 2)),
-        ),
-        // 3: wire types 6 and 7, but number 0 (4) is told first, and a long tag (7) before that.
-        (b"\x08\x01\x0e", Some((2, 3))),
-        (b"\x0f", Some((0, 3))),
-        (b"\x00", Some((0, 4))),
-        (b"\x06", Some((0, 4))),
-        (b"\x08\x01\x00", Some((2, 4))),
-        (b"\x80\x80\x80\x80\x80\x80\x80\x80\x80\x02", Some((0, 4))),
-        (b"\x86\x80\x80\x80\x10", Some((0, 7))),
-        (b"\x08\x01\x88\x80\x80\x80\x10\x01", Some((2, 7))),
-        (b"\xfd\xff\xff\xff\x0f\x01\x02\x03\x04", None),
-        // 5: ends of groups, with a start, without, with another number.
-        (b"\x0b\x08\x01\x0c", None),
-        (b"\x0b\x13\x14\x0c\x08\x01", None),
-        (b"\x0c", Some((0, 5))),
-        (b"\x0b\x0c\x0c", Some((2, 5))),
-        (b"\x0b\x08\x01\x14", Some((3, 5))),
-        // The innermost open group is at fault where the bytes end between records, and else the record.
-        (b"\x0b", Some((0, 2))),
-        (b"\x0b\x13\x08\x01", Some((1, 2))),
-        (b"\x0b\x13\x14", Some((0, 2))),
-        (b"\x0b\x13\x0a\x01", Some((2, 2))),
-        (b"\x0b\x08\x01\x0e", Some((3, 3))),
-        // What is counted in a group isn't looked into.
-        (b"\x0b\x0a\x01\x0e\x0c", None),
-        (b"\x0a\x01\x0e", None),
-    ];
-    for (at, (bytes, want)) in rows.into_iter().enumerate() {
+    for (at, &(bytes, want)) in ROWS.iter().enumerate() {
         assert!(rt; bytes.len() < 100);
         assert!(rt; faults_as(bytes, 0, want), "at row {at}");
     }

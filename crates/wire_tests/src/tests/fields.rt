@@ -16,18 +16,20 @@ fn holds(bytes: &[u8], number: u64) -> bool
     is_so && records.next() == Ok(None)
 }
 
+/// Records, and the number that each holds.
+const NUMBERS: &[(&[u8], u64)] = &[
+    (b"\x08\x01", 1),
+    // More bytes than the number needs.
+    (b"\x08\x81\x80\x00", 1),
+    (b"\x88\x80\x00\x05", 5),
+    // Bits past the 64th are dropped.
+    (b"\x08\xff\xff\xff\xff\xff\xff\xff\xff\xff\x7f", u64::MAX),
+    (b"\x08\x80\x80\x80\x80\x80\x80\x80\x80\x80\x02", 0),
+];
+
 #[test]
 fn reads_numbers_as_they_may_be_written(rt: HostRuntime) {
-    let rows: [(&[u8], u64); 5] = [
-        (b"\x08\x01", 1),
-        // More bytes than the number needs.
-        (b"\x08\x81\x80\x00", 1),
-        (b"\x88\x80\x00\x05", 5),
-        // Bits past the 64th are dropped.
-        (b"\x08\xff\xff\xff\xff\xff\xff\xff\xff\xff\x7f", u64::MAX),
-        (b"\x08\x80\x80\x80\x80\x80\x80\x80\x80\x80\x02", 0),
-    ];
-    for (at, (bytes, number)) in rows.into_iter().enumerate() {
+    for (at, &(bytes, number)) in NUMBERS.iter().enumerate() {
         assert!(rt; bytes.len() < 100);
         assert!(rt; holds(bytes, number), "at row {at}");
     }
