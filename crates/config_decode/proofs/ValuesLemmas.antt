@@ -6,7 +6,7 @@ use Rattle.std.specs.Prelude.{◌==◌}
 use Rattle.std.specs.List.{filter, flat_map, last_or}
 use Rattle.std.specs.Option.{option_to_list, IsSome}
 use Rattle.std.proofs.lemmas.Bool.{eqb-true, eqb-false}
-use Rattle.std.proofs.lemmas.List.{map_more}
+use Rattle.std.proofs.lemmas.List.{map_more, map-append}
 use Rattle.std.proofs.lemmas.List.Concat.{flat_map-append}
 use Rattle.std.proofs.lemmas.List.Elements.{filter-append}
 use Rattle.proto_wire.specs.declared.field.Field.{Field}
@@ -48,6 +48,24 @@ module _ (number : ℕ) (fields : List Field) (i : ℕ) (d : Field) (below : i <
   pub payloads_more : payloads number (map field_view (take (i + 1) fields))
       ≡ payloads number (map field_view (take i fields)) ++ payloads number (field_view (get_or fields i d) ∷ [])
   payloads_more = found-more _ _ fields i d below
+
+  -- the numbers of one more record come after those of the others
+  pub numbers_added : (old now : List ℕ)
+      → old ≡ numbers number (map field_view (take i fields))
+      → now ≡ old ++ numbers number (field_view (get_or fields i d) ∷ [])
+      → now ≡ numbers number (map field_view (take (i + 1) fields))
+  numbers_added old now before more =
+      more ∙ ap (λ (l : List ℕ). l ++ numbers number (field_view (get_or fields i d) ∷ [])) before ∙ sym numbers_more
+
+  -- what is made of one more record comes after what was made of the others
+  pub made_more : {T : Type 0} (made : List ℕ → T) (old now : List T)
+      → old ≡ map made (payloads number (map field_view (take i fields)))
+      → now ≡ old ++ map made (payloads number (field_view (get_or fields i d) ∷ []))
+      → now ≡ map made (payloads number (map field_view (take (i + 1) fields)))
+  made_more made old now before more =
+      more
+      ∙ ap (λ l. l ++ map made (payloads number (field_view (get_or fields i d) ∷ []))) before
+      ∙ sym (ap (map made) payloads_more ∙ map-append made _ _)
 
 -- the payloads of further records
 pub payloads_append : (number : ℕ) (fields others : List FieldOf)

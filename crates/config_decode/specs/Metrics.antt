@@ -1,5 +1,5 @@
 -- Metrics, from the records of their messages.
-use Rattle.std.specs.Prelude.{ℕ, Bool, true, false, List, [], map, Option}
+use Rattle.std.specs.Prelude.{◌≡◌, ℕ, Bool, true, false, List, [], map, Option}
 use Rattle.std.specs.Option.{option_map, unwrap_or}
 use Rattle.proto_wire.specs.Fields.{FieldOf}
 use Rattle.config_types.specs.declared.fields.FieldMatcher.{FieldMatcher}
@@ -99,6 +99,11 @@ value_of fields = record {
 -- the filter of a gauge that has none says as little as an empty one
 abbrev pub filter_of : Option (List FieldOf) → List FieldOf
 filter_of filter = unwrap_or filter []
+
+-- these are what a gauge's filter says of its samples: whether they have all entries, and which they have else
+pub record AreEntries (filter : List FieldOf) (include_all : Bool) (entries : Option FieldMatcher) : Type 0 where
+  pub whole : include_all ≡ unwrap_or (bool_field filter_include_all filter) false
+  pub named : entries ≡ fields_at filter_fields filter
 
 -- a metric of samples: one at random by default
 abbrev pub gauge_of : List FieldOf → GaugeDef

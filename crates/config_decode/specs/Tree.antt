@@ -78,6 +78,14 @@ test_with tests (Some number) run =
     else if number == test_eq_string then option_map EqStr (last (payloads test_eq_string run))
     else number_test_of number run
 
+-- what is asked of a value that isn't a tuple, for a private clause
+abbrev pub plain_test_of : ℕ → List FieldOf → Option Test
+plain_test_of number run =
+    if number == test_eq_any_string then Some (AnyOf (strings_of (payloads test_eq_any_string run)))
+    else if number == test_neq_any_string then Some (NoneOf (strings_of (payloads test_neq_any_string run)))
+    else if number == test_eq_string then option_map EqStr (last (payloads test_eq_string run))
+    else number_test_of number run
+
 -- what is asked, by the first of these records
 abbrev pub test_of : (List (List FieldOf) → List FieldTest) → List FieldOf → Option Test
 test_of tests run = test_with tests (first_number run) run

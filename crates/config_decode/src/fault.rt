@@ -7,7 +7,7 @@ use std::alloc::{AllocError, AllocFailed};
 use thiserror::Error;
 
 /// Why there is no tree.
-#[derive(Debug, Drop, PartialEq, Eq, Error)]
+#[derive(Debug, Drop, Error)]
 pub enum DecodeFault {
     /// There are more than [`crate::MAX_BYTES`] bytes, so many.
     #[error("too large: {0} bytes")]

@@ -1,5 +1,5 @@
 //! Trees of field numbers.
-ghost use Rattle.std.specs.Prelude.{◌≡◌, IfOk};
+ghost use Rattle.std.specs.Prelude.{◌≡◌, map, IfOk};
 ghost use Rattle.config_decode.specs.FieldNumbers.{leaf_child};
 ghost use Rattle.config_decode.specs.Tree as tree;
 ghost use Rattle.config_decode.specs.Values as values;
@@ -34,11 +34,10 @@ fn field_matcher(
 ) -> Result<FieldMatcher, AllocError>
     ensures { IfOk result (λ read. read ≡ tree.field_matcher_in levels message.now) }
 {
-    let children = children(alloc, levels, message)?;
     Ok(FieldMatcher {
         field: message.read_scalar(numbers::LEAF_FIELD),
         position: message.read_scalar(numbers::LEAF_POSITION),
-        children,
+        children: children(alloc, levels, message)?,
     })
 }
 
@@ -53,13 +52,25 @@ fn children(
     ensures { IfOk result (λ read.
         read ≡ tree.children_in levels (values.messages leaf_child message.now)) }
 {
-    let mut children = Seq::new(alloc);
     if levels == 0 {
-        return Ok(children);
+        return Ok(Seq::new(alloc));
     }
     let messages = message.read_messages(alloc, numbers::LEAF_CHILD)?;
-    for inner in messages.iter() {
-        children.push(field_matcher(alloc, levels - 1, inner)?)?;
+    field_matchers(alloc, levels - 1, messages.as_slice())
+}
+
+// The trees of these messages.
+#[cycle(levels)]
+fn field_matchers(
+    alloc: Global,
+    levels: u32,
+    messages: &[Message<'_>],
+) -> Result<Seq<FieldMatcher>, AllocError>
+    ensures { IfOk result (λ read. read ≡ map (tree.field_matcher_in levels) messages.now) }
+{
+    let mut trees = Seq::new(alloc);
+    for inner in messages {
+        trees.push(field_matcher(alloc, levels, inner)?)?;
     }
-    Ok(children)
+    Ok(trees)
 }

@@ -1,5 +1,5 @@
 //! Tests of the fields of an atom.
-ghost use Rattle.std.specs.Prelude.{◌≡◌, IfOk, Some};
+ghost use Rattle.std.specs.Prelude.{◌≡◌, map, IfOk, Some};
 ghost use Rattle.config_decode.specs.Tree as tree;
 ghost use Rattle.config_decode.specs.Values as values;
 
@@ -41,11 +41,13 @@ impl FromMessage for FieldTest {
 fn field_test(alloc: Global, levels: u32, message: &Message<'_>) -> Result<FieldTest, AllocError>
     ensures { IfOk result (λ read. read ≡ tree.field_test_in levels message.now) }
 {
+    let field = message.read_scalar(numbers::TEST_FIELD);
+    let position = message.read_scalar(numbers::TEST_POSITION);
     let run = message.read_oneof_run(alloc, &MEMBERS)?;
     let test = test(alloc, levels, &run)?;
     Ok(FieldTest {
-        field: message.read_scalar(numbers::TEST_FIELD),
-        position: message.read_scalar(numbers::TEST_POSITION),
+        field,
+        position,
         test,
     })
 }
@@ -58,16 +60,19 @@ fn test(alloc: Global, levels: u32, run: &Message<'_>) -> Result<Option<Test>, A
     match run.number() {
         None => Ok(None),
         Some(numbers::TEST_MATCHES_TUPLE) => Ok(Some(Test::Tuple(tuple(alloc, levels, run)?))),
-        Some(number @ numbers::TEST_EQ_ANY_STRING) => Ok(Some(Test::AnyOf(strings(
-            alloc, run, number,
-        )?))),
-        Some(number @ numbers::TEST_NEQ_ANY_STRING) => Ok(Some(Test::NoneOf(strings(
-            alloc, run, number,
-        )?))),
-        Some(number @ numbers::TEST_EQ_STRING) => Ok(
-            run.read_string(alloc, number)?.map(Test::EqStr),
-        ),
-        Some(number) => Ok(number_test(number, run)),
+        Some(number) => plain_test(alloc, number, run),
+    }
+}
+
+// What is asked of a value that isn't a tuple.
+fn plain_test(alloc: Global, number: u32, run: &Message<'_>) -> Result<Option<Test>, AllocError>
+    ensures { IfOk result (λ read. read ≡ tree.plain_test_of number run.now) }
+{
+    match number {
+        numbers::TEST_EQ_ANY_STRING => Ok(Some(Test::AnyOf(strings(alloc, run, number)?))),
+        numbers::TEST_NEQ_ANY_STRING => Ok(Some(Test::NoneOf(strings(alloc, run, number)?))),
+        numbers::TEST_EQ_STRING => Ok(run.read_string(alloc, number)?.map(Test::EqStr)),
+        _ => Ok(number_test(number, run)),
     }
 }
 
@@ -92,14 +97,33 @@ fn number_test(number: u32, run: &Message<'_>) -> Option<Test>
 fn tuple(alloc: Global, levels: u32, run: &Message<'_>) -> Result<Seq<FieldTest>, AllocError>
     ensures { IfOk result (λ read. read ≡ tree.tests_in levels (tree.tuple_messages run.now)) }
 {
-    let mut tests = Seq::new(alloc);
     if levels == 0 {
-        return Ok(tests);
+        return Ok(Seq::new(alloc));
     }
+    let messages = tuple_messages(alloc, run)?;
+    field_tests(alloc, levels - 1, messages.as_slice())
+}
+
+// The messages of a tuple's tests.
+fn tuple_messages<'a>(alloc: Global, run: &Message<'a>) -> Result<Vec<Message<'a>>, AllocError>
+    ensures { IfOk result (λ messages. messages.items ≡ tree.tuple_messages run.now) }
+{
     let inside = run.read_merged(alloc, numbers::TEST_MATCHES_TUPLE)?;
-    let messages = inside.read_messages(alloc, numbers::TUPLE_TEST)?;
-    for inner in messages.iter() {
-        tests.push(field_test(alloc, levels - 1, inner)?)?;
+    inside.read_messages(alloc, numbers::TUPLE_TEST)
+}
+
+// The tests of these messages.
+#[cycle(levels)]
+fn field_tests(
+    alloc: Global,
+    levels: u32,
+    messages: &[Message<'_>],
+) -> Result<Seq<FieldTest>, AllocError>
+    ensures { IfOk result (λ read. read ≡ map (tree.field_test_in levels) messages.now) }
+{
+    let mut tests = Seq::new(alloc);
+    for inner in messages {
+        tests.push(field_test(alloc, levels, inner)?)?;
     }
     Ok(tests)
 }

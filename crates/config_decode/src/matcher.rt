@@ -18,10 +18,9 @@ impl FromMessage for SimpleMatcher {
     ghost tree = { simple_matcher_of };
 
     fn from_message(alloc: Global, message: &Message<'_>) -> Result<SimpleMatcher, AllocError> {
-        let tests = repeated(alloc, message, numbers::SIMPLE_MATCHER_TEST)?;
         Ok(SimpleMatcher {
             atom_id: message.read_scalar(numbers::SIMPLE_MATCHER_ATOM_ID),
-            tests,
+            tests: repeated(alloc, message, numbers::SIMPLE_MATCHER_TEST)?,
         })
     }
 }
@@ -32,10 +31,9 @@ impl FromMessage for Combo {
     ghost tree = { combo_of };
 
     fn from_message(alloc: Global, message: &Message<'_>) -> Result<Combo, AllocError> {
-        let children = message.read_scalars(alloc, numbers::COMBINATION_OPERAND)?;
         Ok(Combo {
             op: message.read_scalar(numbers::COMBINATION_OPERATION),
-            children,
+            children: message.read_scalars(alloc, numbers::COMBINATION_OPERAND)?,
         })
     }
 }
@@ -46,12 +44,10 @@ impl FromMessage for MatcherDef {
     ghost tree = { matcher_of };
 
     fn from_message(alloc: Global, message: &Message<'_>) -> Result<MatcherDef, AllocError> {
+        let id = message.read_scalar(numbers::MATCHER_ID);
         let run = message.read_oneof_run(alloc, &MEMBERS)?;
         let body = body(alloc, &run)?;
-        Ok(MatcherDef {
-            id: message.read_scalar(numbers::MATCHER_ID),
-            body,
-        })
+        Ok(MatcherDef { id, body })
     }
 }
 

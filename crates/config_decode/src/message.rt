@@ -15,7 +15,7 @@ use std::alloc::{AllocError, Global};
 use std::marker::Model;
 
 /// The records of a message, whose payloads are borrowed. Contracts see the list of its records.
-#[derive(Debug, Drop)]
+#[derive(Drop)]
 pub struct Message<'a> {
     records: Vec<Field<'a>>,
 }
@@ -111,7 +111,6 @@ impl<'a> Message<'a> {
     }
 
     /// All numbers of a field, packed or not.
-    #[tactic(auto, using(crate::proofs::ValuesLemmas::numbers_more))]
     fn varints(&self, alloc: Global, number: u32) -> Result<Vec<u64>, AllocError>
         ensures { IfOk result (λ numbers. numbers.items ≡ values.numbers number self.now) }
     {
@@ -123,7 +122,6 @@ impl<'a> Message<'a> {
     }
 
     /// What each payload of a field says.
-    #[tactic(auto, using(crate::proofs::ValuesLemmas::payloads_more))]
     fn read_payloads<T: FromPayload<'a>>(
         &self,
         alloc: Global,
@@ -133,9 +131,7 @@ impl<'a> Message<'a> {
     {
         let mut said = Vec::new(alloc);
         for field in self.records.iter() {
-            if let Some(bytes) = payload_in(number, field) {
-                said.push(T::from_payload(alloc, bytes)?)?;
-            }
+            add_payload(alloc, number, field, &mut said)?;
         }
         Ok(said)
     }
@@ -266,6 +262,23 @@ fn payload_in<'a>(number: u32, field: &Field<'a>) -> Option<&'a [u8]>
         Body::Bytes(bytes) if field.number == number => Some(bytes),
         _ => None,
     }
+}
+
+// Adds what the bytes of a record say, if it is of this field.
+fn add_payload<'a, T: FromPayload<'a>>(
+    alloc: Global,
+    number: u32,
+    field: &Field<'a>,
+    said: &mut Vec<T>,
+) -> Result<(), AllocError>
+    requires { length (inside_of (field_view field.now).body) < 2 ^ 32 }
+    ensures { OnOk result (said.new.items
+        ≡ said.old.items ++ map T.said (values.payloads number (field_view field.now ∷ []))) }
+{
+    if let Some(bytes) = payload_in(number, field) {
+        said.push(T::from_payload(alloc, bytes)?)?;
+    }
+    Ok(())
 }
 
 // Adds the numbers of a record, if it is of this field: one, or packed ones.

@@ -9,8 +9,8 @@ use crate::numbers;
 use crate::scalar::Runs;
 use crate::tree::{FromMessage, optional, repeated};
 use config_types::{
-    Aggregation, Common, CountDef, Direction, DurationDef, EventDef, GaugeDef, LinkDef,
-    SamplingType, Sliced, StateLinkDef, ValueDef,
+    Aggregation, Common, CountDef, Direction, DurationDef, EventDef, FieldMatcher, GaugeDef,
+    LinkDef, SamplingType, Sliced, StateLinkDef, ValueDef,
 };
 use sd_base::Seq;
 use std::alloc::{AllocError, Global};
@@ -21,12 +21,10 @@ impl FromMessage for LinkDef {
     ghost tree = { link_of };
 
     fn from_message(alloc: Global, message: &Message<'_>) -> Result<LinkDef, AllocError> {
-        let in_what = optional(alloc, message, numbers::CONDITION_LINK_FIELDS_IN_WHAT)?;
-        let in_condition = optional(alloc, message, numbers::CONDITION_LINK_FIELDS_IN_CONDITION)?;
         Ok(LinkDef {
             condition: message.read_scalar(numbers::CONDITION_LINK_CONDITION),
-            in_what,
-            in_condition,
+            in_what: optional(alloc, message, numbers::CONDITION_LINK_FIELDS_IN_WHAT)?,
+            in_condition: optional(alloc, message, numbers::CONDITION_LINK_FIELDS_IN_CONDITION)?,
         })
     }
 }
@@ -37,12 +35,10 @@ impl FromMessage for StateLinkDef {
     ghost tree = { state_link_of };
 
     fn from_message(alloc: Global, message: &Message<'_>) -> Result<StateLinkDef, AllocError> {
-        let in_what = optional(alloc, message, numbers::STATE_LINK_FIELDS_IN_WHAT)?;
-        let in_state = optional(alloc, message, numbers::STATE_LINK_FIELDS_IN_STATE)?;
         Ok(StateLinkDef {
             atom_id: message.read_scalar(numbers::STATE_LINK_ATOM_ID),
-            in_what,
-            in_state,
+            in_what: optional(alloc, message, numbers::STATE_LINK_FIELDS_IN_WHAT)?,
+            in_state: optional(alloc, message, numbers::STATE_LINK_FIELDS_IN_STATE)?,
         })
     }
 }
@@ -56,12 +52,11 @@ fn common(
 ) -> Result<Common, AllocError>
     ensures { IfOk result (λ read. read ≡ metrics.common_of condition links message.now) }
 {
-    let links = repeated(alloc, message, links)?;
     Ok(Common {
         id: message.read_scalar(numbers::METRIC_ID),
         what: message.read_scalar(numbers::METRIC_WHAT),
         condition: message.read_scalar(condition),
-        links,
+        links: repeated(alloc, message, links)?,
     })
 }
 
@@ -74,11 +69,10 @@ fn unsliced(
 ) -> Result<Sliced, AllocError>
     ensures { IfOk result (λ read. read ≡ metrics.unsliced_of dims bucket message.now) }
 {
-    let dims = optional(alloc, message, dims)?;
     Ok(Sliced {
-        dims,
         bucket: message.read_scalar(bucket),
         bound: message.read_scalar(numbers::KEY_BOUND),
+        dims: optional(alloc, message, dims)?,
         slices: Seq::new(alloc),
         state_links: Seq::new(alloc),
     })
@@ -95,15 +89,12 @@ fn sliced(
 ) -> Result<Sliced, AllocError>
     ensures { IfOk result (λ read. read ≡ metrics.sliced_of dims bucket slices links message.now) }
 {
-    let dims = optional(alloc, message, dims)?;
-    let slices = message.read_scalars(alloc, slices)?;
-    let state_links = repeated(alloc, message, links)?;
     Ok(Sliced {
-        dims,
         bucket: message.read_scalar(bucket),
         bound: message.read_scalar(numbers::KEY_BOUND),
-        slices,
-        state_links,
+        dims: optional(alloc, message, dims)?,
+        slices: message.read_scalars(alloc, slices)?,
+        state_links: repeated(alloc, message, links)?,
     })
 }
 
@@ -153,25 +144,7 @@ impl FromMessage for ValueDef {
     ghost tree = { value_of };
 
     fn from_message(alloc: Global, message: &Message<'_>) -> Result<ValueDef, AllocError> {
-        let common = common(
-            alloc,
-            message,
-            numbers::VALUE_CONDITION,
-            numbers::VALUE_LINKS,
-        )?;
-        let sliced = sliced(
-            alloc,
-            message,
-            numbers::VALUE_DIMENSIONS,
-            numbers::VALUE_BUCKET,
-            numbers::VALUE_SLICE_BY_STATE,
-            numbers::VALUE_STATE_LINK,
-        )?;
-        let field = optional(alloc, message, numbers::VALUE_FIELD)?;
         Ok(ValueDef {
-            common,
-            sliced,
-            field,
             agg: message
                 .read_scalar(numbers::VALUE_AGGREGATION_TYPE)
                 .unwrap_or(Aggregation::Sum),
@@ -188,6 +161,21 @@ impl FromMessage for ValueDef {
             zero_base: message
                 .read_scalar(numbers::VALUE_USE_ZERO_DEFAULT_BASE)
                 .unwrap_or(false),
+            field: optional(alloc, message, numbers::VALUE_FIELD)?,
+            common: common(
+                alloc,
+                message,
+                numbers::VALUE_CONDITION,
+                numbers::VALUE_LINKS,
+            )?,
+            sliced: sliced(
+                alloc,
+                message,
+                numbers::VALUE_DIMENSIONS,
+                numbers::VALUE_BUCKET,
+                numbers::VALUE_SLICE_BY_STATE,
+                numbers::VALUE_STATE_LINK,
+            )?,
         })
     }
 }
@@ -203,38 +191,46 @@ fn filter<'a>(alloc: Global, message: &Message<'a>) -> Result<Message<'a>, Alloc
     }
 }
 
+// Whether the samples of a gauge have all entries, and which they have else.
+fn entries(alloc: Global, message: &Message<'_>) -> Result<(bool, Option<FieldMatcher>), AllocError>
+    ensures { IfOk result (λ read. metrics.AreEntries
+        (metrics.filter_of (values.message gauge_fields_filter message.now)) read.0 read.1) }
+{
+    let filter = filter(alloc, message)?;
+    let include_all = filter
+        .read_scalar(numbers::FILTER_INCLUDE_ALL)
+        .unwrap_or(false);
+    let fields = optional(alloc, &filter, numbers::FILTER_FIELDS)?;
+    Ok((include_all, fields))
+}
+
 impl FromMessage for GaugeDef {
     ghost use Rattle.config_decode.specs.Metrics.{gauge_of};
 
     ghost tree = { gauge_of };
 
     fn from_message(alloc: Global, message: &Message<'_>) -> Result<GaugeDef, AllocError> {
-        let common = common(
-            alloc,
-            message,
-            numbers::GAUGE_CONDITION,
-            numbers::GAUGE_LINKS,
-        )?;
-        let sliced = unsliced(
-            alloc,
-            message,
-            numbers::GAUGE_DIMENSIONS,
-            numbers::GAUGE_BUCKET,
-        )?;
-        let filter = filter(alloc, message)?;
-        let fields = optional(alloc, &filter, numbers::FILTER_FIELDS)?;
+        let (include_all, fields) = entries(alloc, message)?;
         Ok(GaugeDef {
-            common,
-            sliced,
-            include_all: filter
-                .read_scalar(numbers::FILTER_INCLUDE_ALL)
-                .unwrap_or(false),
+            include_all,
             fields,
             sampling: message
                 .read_scalar(numbers::GAUGE_SAMPLING_TYPE)
                 .unwrap_or(SamplingType::RandomOne),
             max_samples: message.read_scalar(numbers::GAUGE_MAX_NUM_ATOMS),
             trigger: message.read_scalar(numbers::GAUGE_TRIGGER_EVENT),
+            common: common(
+                alloc,
+                message,
+                numbers::GAUGE_CONDITION,
+                numbers::GAUGE_LINKS,
+            )?,
+            sliced: unsliced(
+                alloc,
+                message,
+                numbers::GAUGE_DIMENSIONS,
+                numbers::GAUGE_BUCKET,
+            )?,
         })
     }
 }
@@ -245,27 +241,25 @@ impl FromMessage for DurationDef {
     ghost tree = { duration_of };
 
     fn from_message(alloc: Global, message: &Message<'_>) -> Result<DurationDef, AllocError> {
-        let common = common(
-            alloc,
-            message,
-            numbers::DURATION_CONDITION,
-            numbers::DURATION_LINKS,
-        )?;
-        let sliced = sliced(
-            alloc,
-            message,
-            numbers::DURATION_DIMENSIONS,
-            numbers::DURATION_BUCKET,
-            numbers::DURATION_SLICE_BY_STATE,
-            numbers::DURATION_STATE_LINK,
-        )?;
         let runs = message
             .read_scalar(numbers::DURATION_AGGREGATION_TYPE)
             .unwrap_or(Runs::Sum);
         Ok(DurationDef {
-            common,
-            sliced,
-            max_sparse: runs == Runs::MaxSparse,
+            max_sparse: matches!(runs, Runs::MaxSparse),
+            common: common(
+                alloc,
+                message,
+                numbers::DURATION_CONDITION,
+                numbers::DURATION_LINKS,
+            )?,
+            sliced: sliced(
+                alloc,
+                message,
+                numbers::DURATION_DIMENSIONS,
+                numbers::DURATION_BUCKET,
+                numbers::DURATION_SLICE_BY_STATE,
+                numbers::DURATION_STATE_LINK,
+            )?,
         })
     }
 }

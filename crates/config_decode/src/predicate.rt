@@ -18,7 +18,6 @@ impl FromMessage for SimplePredicate {
     ghost tree = { simple_predicate_of };
 
     fn from_message(alloc: Global, message: &Message<'_>) -> Result<SimplePredicate, AllocError> {
-        let dims = optional(alloc, message, numbers::SIMPLE_PREDICATE_DIMENSIONS)?;
         let initial = message
             .read_scalar(numbers::SIMPLE_PREDICATE_INITIAL_VALUE)
             .unwrap_or(InitialValue::False);
@@ -29,9 +28,9 @@ impl FromMessage for SimplePredicate {
             nesting: message
                 .read_scalar(numbers::SIMPLE_PREDICATE_COUNT_NESTING)
                 .unwrap_or(true),
-            unknown: initial == InitialValue::Unknown,
-            dims,
+            unknown: matches!(initial, InitialValue::Unknown),
             bound: message.read_scalar(numbers::KEY_BOUND),
+            dims: optional(alloc, message, numbers::SIMPLE_PREDICATE_DIMENSIONS)?,
         })
     }
 }
@@ -42,12 +41,10 @@ impl FromMessage for PredicateDef {
     ghost tree = { predicate_of };
 
     fn from_message(alloc: Global, message: &Message<'_>) -> Result<PredicateDef, AllocError> {
+        let id = message.read_scalar(numbers::PREDICATE_ID);
         let run = message.read_oneof_run(alloc, &MEMBERS)?;
         let body = body(alloc, &run)?;
-        Ok(PredicateDef {
-            id: message.read_scalar(numbers::PREDICATE_ID),
-            body,
-        })
+        Ok(PredicateDef { id, body })
     }
 }
 

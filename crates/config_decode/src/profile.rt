@@ -9,7 +9,7 @@ use config_types::{Aggregation, SamplingType, TimeUnit};
 use proto_wire::{Body, Field};
 
 /// The messages of a configuration, by what they say.
-#[derive(Clone, Copy, Debug, PartialEq, Eq)]
+#[derive(Clone, Copy)]
 pub enum Kind {
     /// The whole, a `StatsdConfig`.
     Config,
@@ -51,7 +51,7 @@ pub enum Kind {
 }
 
 /// What stands in a field.
-#[derive(Clone, Copy, Debug, PartialEq, Eq)]
+#[derive(Clone, Copy)]
 pub enum Shape {
     /// A number, a truth, or an enum of which unknown numbers are passed over.
     Number,
@@ -326,6 +326,13 @@ impl Kind {
         }
     }
 
+    /// Whether this is the whole configuration.
+    fn is_top(self) -> bool
+        ensures { result ≡ profile.is_top self }
+    {
+        matches!(self, Kind::Config)
+    }
+
     /// What stands in the field of this number.
     pub fn shape(self, number: u32) -> Shape
         ensures { result ≡ profile.shape_of self number }
@@ -350,7 +357,7 @@ impl Kind {
                 SamplingType::from_varint(number).is_none()
             }
             (Shape::Refused, _) => true,
-            _ => self != Kind::Config,
+            _ => !self.is_top(),
         }
     }
 }

@@ -44,14 +44,14 @@ impl Scalar for bool {
 }
 
 /// What a simple predicate is at a key that was never started.
-#[derive(Clone, Copy, Debug, PartialEq, Eq)]
+#[derive(Clone, Copy)]
 pub enum InitialValue {
     Unknown,
     False,
 }
 
 /// How the runs of a duration come to one.
-#[derive(Clone, Copy, Debug, PartialEq, Eq)]
+#[derive(Clone, Copy)]
 pub enum Runs {
     Sum,
     MaxSparse,

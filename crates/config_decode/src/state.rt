@@ -18,10 +18,9 @@ impl FromMessage for GroupDef {
     ghost tree = { state_group_of };
 
     fn from_message(alloc: Global, message: &Message<'_>) -> Result<GroupDef, AllocError> {
-        let values = message.read_scalars(alloc, numbers::STATE_GROUP_VALUE)?;
         Ok(GroupDef {
             group: message.read_scalar(numbers::STATE_GROUP_ID),
-            values,
+            values: message.read_scalars(alloc, numbers::STATE_GROUP_VALUE)?,
         })
     }
 }
@@ -32,11 +31,10 @@ impl FromMessage for StateDef {
     ghost tree = { state_of };
 
     fn from_message(alloc: Global, message: &Message<'_>) -> Result<StateDef, AllocError> {
-        let map = groups(alloc, message)?;
         Ok(StateDef {
             id: message.read_scalar(numbers::STATE_ID),
             atom_id: message.read_scalar(numbers::STATE_ATOM_ID),
-            map,
+            map: groups(alloc, message)?,
         })
     }
 }

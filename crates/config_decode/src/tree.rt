@@ -1,5 +1,5 @@
 //! Parts of the tree that are read from a message.
-ghost use Rattle.std.specs.Prelude.{◌≡◌, List, map, IfOk};
+ghost use Rattle.std.specs.Prelude.{◌≡◌, List, [], ◌∷◌, ◌++◌, map, IfOk, OnOk};
 ghost use Rattle.std.specs.Option.{option_map};
 ghost use Rattle.proto_wire.specs.Fields.{FieldOf};
 ghost use Rattle.config_decode.specs.Values as values;
@@ -40,9 +40,27 @@ pub fn repeated<T: FromMessage>(
     ensures { IfOk result (λ read. read ≡ map T.tree (values.messages number message.now)) }
 {
     let messages = message.read_messages(alloc, number)?;
+    read_all(alloc, messages.as_slice())
+}
+
+// What each of these messages says.
+fn read_all<T: FromMessage>(alloc: Global, messages: &[Message<'_>]) -> Result<Seq<T>, AllocError>
+    ensures { IfOk result (λ read. read ≡ map T.tree messages.now) }
+{
     let mut read = Seq::new(alloc);
-    for inner in messages.iter() {
-        read.push(T::from_message(alloc, inner)?)?;
+    for inner in messages {
+        add_read(alloc, inner, &mut read)?;
     }
     Ok(read)
+}
+
+// Adds what a message says.
+fn add_read<T: FromMessage>(
+    alloc: Global,
+    message: &Message<'_>,
+    read: &mut Seq<T>,
+) -> Result<(), AllocError>
+    ensures { OnOk result (read.new ≡ read.old ++ T.tree message.now ∷ []) }
+{
+    read.push(T::from_message(alloc, message)?)
 }

@@ -11,7 +11,7 @@ use sd_base::Path;
 use std::alloc::{AllocError, Global};
 
 /// Where a walk is, and what it found.
-#[derive(Debug, Drop)]
+#[derive(Drop)]
 struct Walker {
     alloc: Global,
     /// The numbers that lead to the message that is walked.

@@ -1,10 +1,15 @@
--- The payload is short, as all payloads of the records are.
+-- One more record: it is short, as all are, and what it says comes after what the others say.
 use Rattle.std.proofs.Common.{refl}
-use Rattle.config_decode.proofs.ValuesLemmas.{short_at}
+use Rattle.config_decode.proofs.ValuesLemmas.{short_at, made_more}
 use Rattle.config_decode.proofs.message.Message.read_payloads.Goals as goal
 
-pub from_payload-requires : goal.from_payload-requires
-from_payload-requires g c =
+pub add_payload-requires : goal.add_payload-requires
+add_payload-requires g c =
     let short = short_at c.deref-field-items.result.now c.self.inside.records.items c.loop-field.field-index _
     c.loop-field-test.true c.deref-field-items.ensures.value c.self.invariant in
-    λ k. ((refl, tt), rw c.in-Some.ensures.inside short)
+    λ k. ((refl, tt), short)
+
+pub loop-field-preserved : goal.loop-field-preserved
+loop-field-preserved g c =
+    made_more c.args.number c.deref-field-items.result.now c.loop-field.field-index _ c.loop-field-test.true
+    g.T.FromPayload.said _ _ c.loop-field.invariant c.in_ok-add_payload.ensures

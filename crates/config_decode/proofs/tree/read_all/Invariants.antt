@@ -1,7 +1,7 @@
 use Rattle.std.proofs.Common.{◌≡◌, ◌++◌, map, drop}
-use Rattle.config_decode.proofs.tree.repeated.Given as goal
+use Rattle.config_decode.proofs.tree.read_all.Given as goal
 
 -- what was read, and what the messages that are left will say
 abbrev pub invariant-loop-inner : goal.invariant-loop-inner
 invariant-loop-inner g l =
-    l.read ++ map g.T.FromMessage.tree (drop l.inner-index l.inner-items) ≡ map g.T.FromMessage.tree l.inner-items
+    l.read ++ map g.T.FromMessage.tree (drop l.inner-index l.messages) ≡ map g.T.FromMessage.tree l.messages
