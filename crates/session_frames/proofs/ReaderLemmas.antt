@@ -2,7 +2,8 @@
 -- two steps.
 use Rattle.std.proofs.Common.{◌≡◌, ℕ, ◌+◌, ◌-◌, ◌<◌, ◌≤◌, Bool, IsTrue, List, ◌++◌, length, take, drop, Option, Some, None, Result, Ok, Err, IfOk, IfErr, IfNone, nat_lt, refl, sym, ap, ap₂, ◌∙◌, subst, subst₂, arith, inl, inr}
 use Rattle.std.proofs.lemmas.Bool.Decides.{nat_tests}
-use Rattle.std.proofs.lemmas.List.{length-drop, drop-drop, take_rest}
+use Rattle.std.proofs.lemmas.List.{length-drop, drop-drop, take_rest, take-take, take-append-le}
+use Rattle.std.proofs.KnownBytes.{Consumes-trans}
 use Rattle.std.specs.Io.KnownBytes.{Consumes}
 use Rattle.session_frames.specs.declared.frame.Frame.{Frame}
 use Rattle.session_frames.specs.declared.frame.FrameError.{FrameError}
@@ -20,6 +21,21 @@ pub record IsReadSo (old new : Option (List ℕ)) (before now : ℕ) (bytes piec
   pub within : length bytes ≤ most_input
   pub later : before ≤ now
   pub room : 0 < length piece
+
+-- after what was read so far, the front of a piece was read
+pub Consumes-piece : (old mid new : Option (List ℕ)) (bytes more buf behind piece : List ℕ) (len count : ℕ)
+    → Consumes old mid bytes
+    → Consumes mid new (take count buf)
+    → piece ≡ take len (buf ++ behind)
+    → count ≤ len
+    → count ≤ length buf
+    → more ≡ bytes ++ take count piece
+    → Consumes old new more
+Consumes-piece old mid new bytes more buf behind piece len count before now is fits within grown =
+    let front : take count piece ≡ take count buf = ap (take count) is ∙ take-take count len (buf ++ behind) fits
+    ∙ take-append-le count buf behind within in
+    subst (Consumes old new) (sym (grown ∙ ap (λ l. bytes ++ l) front))
+    (Consumes-trans old mid new bytes (take count buf) before now)
 
 -- the source failed
 pub Refuses-Read : (old new : Option (List ℕ)) (taken : List ℕ) → Consumes old new taken → Refuses old new unread Read

@@ -23,7 +23,7 @@ const MAX_BODY: u32 = 1 << 20;
 const PIECE: usize = 65_536;
 
 /// Reads the frames of a session. Its first call reads the source to the end; a call that fails takes the reader.
-#[derive(Debug, Drop)]
+#[derive(Drop)]
 pub struct FrameReader {
     alloc: Global,
     bytes: Vec<u8>,

@@ -3,7 +3,7 @@ use atom_record::Bytes;
 use sd_base::Path;
 
 /// The answer to one command, with the command's uid and configuration id.
-#[derive(Debug, Drop, PartialEq, Eq)]
+#[derive(Drop)]
 pub struct Reply {
     pub uid: i32,
     pub id: i64,
@@ -11,7 +11,7 @@ pub struct Reply {
 }
 
 /// What a command is answered.
-#[derive(Debug, Drop, PartialEq, Eq)]
+#[derive(Drop)]
 pub enum ReplyBody {
     /// The configuration is live.
     Installed,
@@ -45,7 +45,7 @@ pub(crate) const REPORT_BYTES: u8 = 6;
 pub(crate) const CLIENT_FULL: u8 = 7;
 
 /// Why a configuration was refused.
-#[derive(Debug, Drop, PartialEq, Eq)]
+#[derive(Drop)]
 pub enum Refusal {
     /// It has this many bytes, which is above the limit.
     TooLarge(u32),

@@ -7,7 +7,7 @@ use sd_io::Sink;
 use session_frames::SessionFault;
 
 /// How a command ended.
-#[derive(Clone, Copy, Debug, PartialEq, Eq)]
+#[derive(Clone, Copy)]
 pub enum Ending {
     /// The session was answered to its end, or the configuration has no fault.
     Done,

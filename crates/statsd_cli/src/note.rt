@@ -9,7 +9,7 @@ use sd_io::{Sink, WriteFailed};
 use session_frames::SessionFault;
 
 /// Why a run ended.
-#[derive(Clone, Copy, Debug, PartialEq, Eq)]
+#[derive(Clone, Copy)]
 pub enum Note {
     /// The words are none that the program takes.
     Usage,
