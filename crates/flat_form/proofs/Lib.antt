@@ -2,3 +2,4 @@ pub mod FlatLaws
 pub mod ItemReadingLaws
 pub mod ItemRangeLaws
 pub mod WeightLaws
+mod LoopLemmas

@@ -2,7 +2,7 @@
 ghost use Rattle.std.specs.Prelude.{◌≡◌, ℕ, List, ◌∷◌, Result, Ok, Err};
 ghost use Rattle.std.specs.Int.{w16, w32, w64};
 ghost use Rattle.sd_base.specs.Reads.{GivesBy, many};
-ghost use Rattle.flat_form.specs.ItemReading.{NoItem, no_item_of, item_uint_at, counted_at, values_at, item_at};
+ghost use Rattle.flat_form.specs.ItemReading.{NoItem, no_item_of, item_uint_at, counted_at, values_at, leaf_at, slice_at, item_at};
 ghost use Rattle.flat_form.specs.ItemRange.{ReadsItems};
 
 use crate::{FlatError, Item, Items};
@@ -78,51 +78,75 @@ fn values_of(alloc: Global, bytes: &[u8]) -> Result<(Seq<Value>, &[u8]), FlatErr
     decode_many::<Value>(alloc, usize::from(count), rest)
 }
 
-impl Decode for Leaf {
-    ghost use Rattle.flat_form.specs.ItemReading.{leaf_at};
+// What stands after the tag 1: the one value of a leaf.
+#[tactic(auto, unfolding(crate::specs::ItemReading::leaf_at))]
+fn one_of(alloc: Global, bytes: &[u8]) -> Result<(Leaf, &[u8]), FlatError>
+    ensures { GivesBy no_item_of (λ x. (x.0, x.1.now)) result (leaf_at (1 ∷ bytes.now)) }
+{
+    let (value, rest) = Value::decode(alloc, bytes)?;
+    Ok((Leaf::One(value), rest))
+}
 
+// What stands after the tag 2: the values of a leaf.
+#[tactic(auto, unfolding(crate::specs::ItemReading::leaf_at))]
+fn many_of(alloc: Global, bytes: &[u8]) -> Result<(Leaf, &[u8]), FlatError>
+    ensures { GivesBy no_item_of (λ x. (x.0, x.1.now)) result (leaf_at (2 ∷ bytes.now)) }
+{
+    let (values, rest) = values_of(alloc, bytes)?;
+    Ok((Leaf::Many(values), rest))
+}
+
+impl Decode for Leaf {
     ghost at = { leaf_at };
 
     #[tactic(auto, unfolding(crate::specs::ItemReading::leaf_at))]
     fn decode(alloc: Global, bytes: &[u8]) -> Result<(Leaf, &[u8]), FlatError> {
-        match bytes {
-            [] => Err(FlatError::Bad),
-            [0, rest @ ..] => Ok((Leaf::Missing, rest)),
-            [1, rest @ ..] => {
-                let (value, rest) = Value::decode(alloc, rest)?;
-                Ok((Leaf::One(value), rest))
-            }
-            [2, rest @ ..] => {
-                let (values, rest) = values_of(alloc, rest)?;
-                Ok((Leaf::Many(values), rest))
-            }
-            [_, ..] => Err(FlatError::Bad),
+        let [tag, rest @ ..] = bytes else {
+            return Err(FlatError::Bad);
+        };
+        match *tag {
+            0 => Ok((Leaf::Missing, rest)),
+            1 => one_of(alloc, rest),
+            2 => many_of(alloc, rest),
+            _ => Err(FlatError::Bad),
         }
     }
 }
 
-impl Decode for Slice {
-    ghost use Rattle.flat_form.specs.ItemReading.{slice_at};
+// What stands after the tag 1: the value of a state.
+#[tactic(auto, unfolding(crate::specs::ItemReading::slice_at))]
+fn plain_of(bytes: &[u8]) -> Result<(Slice, &[u8]), FlatError>
+    ensures { GivesBy no_item_of (λ x. (x.0, x.1.now)) result (slice_at (1 ∷ bytes.now)) }
+{
+    let (atom_id, rest) = u32_of(bytes)?;
+    let (value, rest) = u32_of(rest)?;
+    let value = value.cast_signed();
+    Ok((Slice::Plain { atom_id, value }, rest))
+}
 
+// What stands after the tag 2: a group of a state's values.
+#[tactic(auto, unfolding(crate::specs::ItemReading::slice_at))]
+fn group_of(bytes: &[u8]) -> Result<(Slice, &[u8]), FlatError>
+    ensures { GivesBy no_item_of (λ x. (x.0, x.1.now)) result (slice_at (2 ∷ bytes.now)) }
+{
+    let (atom_id, rest) = u32_of(bytes)?;
+    let (group, rest) = u64_of(rest)?;
+    let group = group.cast_signed();
+    Ok((Slice::Group { atom_id, group }, rest))
+}
+
+impl Decode for Slice {
     ghost at = { slice_at };
 
     #[tactic(auto, unfolding(crate::specs::ItemReading::slice_at))]
     fn decode(_alloc: Global, bytes: &[u8]) -> Result<(Slice, &[u8]), FlatError> {
-        match bytes {
-            [] => Err(FlatError::Bad),
-            [1, rest @ ..] => {
-                let (atom_id, rest) = u32_of(rest)?;
-                let (value, rest) = u32_of(rest)?;
-                let value = value.cast_signed();
-                Ok((Slice::Plain { atom_id, value }, rest))
-            }
-            [2, rest @ ..] => {
-                let (atom_id, rest) = u32_of(rest)?;
-                let (group, rest) = u64_of(rest)?;
-                let group = group.cast_signed();
-                Ok((Slice::Group { atom_id, group }, rest))
-            }
-            [_, ..] => Err(FlatError::Bad),
+        let [tag, rest @ ..] = bytes else {
+            return Err(FlatError::Bad);
+        };
+        match *tag {
+            1 => plain_of(rest),
+            2 => group_of(rest),
+            _ => Err(FlatError::Bad),
         }
     }
 }
@@ -200,12 +224,15 @@ fn chunk_of(alloc: Global, bytes: &[u8]) -> Result<(Item, &[u8]), FlatError>
 fn item_of(alloc: Global, bytes: &[u8]) -> Result<(Item, &[u8]), FlatError>
     ensures { GivesBy no_item_of (λ x. (x.0, x.1.now)) result (item_at bytes.now) }
 {
-    match bytes {
-        [1, rest @ ..] => num_of(rest),
-        [2, rest @ ..] => dims_of(alloc, rest),
-        [3, rest @ ..] => slices_of(alloc, rest),
-        [4, rest @ ..] => atom_of(alloc, rest),
-        [5, rest @ ..] => chunk_of(alloc, rest),
+    let [tag, rest @ ..] = bytes else {
+        return Err(FlatError::Bad);
+    };
+    match *tag {
+        1 => num_of(rest),
+        2 => dims_of(alloc, rest),
+        3 => slices_of(alloc, rest),
+        4 => atom_of(alloc, rest),
+        5 => chunk_of(alloc, rest),
         _ => Err(FlatError::Bad),
     }
 }
