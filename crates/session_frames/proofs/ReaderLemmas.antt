@@ -1,17 +1,17 @@
 -- On specs/Reader.antt, for the reader: how far it came with its source, the place after a frame, and a call in its
 -- two steps.
-use Rattle.std.proofs.Common.{◌≡◌, ℕ, ◌+◌, ◌-◌, ◌<◌, ◌≤◌, Bool, IsTrue, List, ◌++◌, length, take, drop, Option, Some, None, Result, Ok, Err, IfOk, IfErr, IfNone, nat_lt, refl, sym, ap, ap₂, ◌∙◌, subst, subst₂, arith, inl, inr}
+use Rattle.std.proofs.Common.{◌≡◌, ℕ, ◌+◌, ◌-◌, ◌<◌, ◌≤◌, Bool, true, false, IsTrue, List, ◌++◌, length, take, drop, Option, Some, None, Result, Ok, Err, IfOk, IfErr, IfNone, nat_lt, refl, sym, ap, ap₂, ◌∙◌, subst, subst₂, arith, inl, inr}
 use Rattle.std.proofs.lemmas.Bool.Decides.{nat_tests}
 use Rattle.std.proofs.lemmas.List.{length-drop, drop-drop, take_rest, take-take, take-append-le}
 use Rattle.std.proofs.KnownBytes.{Consumes-trans}
-use Rattle.std.specs.Io.KnownBytes.{Consumes}
+use Rattle.std.specs.Io.KnownBytes.{Consumes, IsAtEnd}
 use Rattle.session_frames.specs.declared.frame.Frame.{Frame}
 use Rattle.session_frames.specs.declared.frame.FrameError.{FrameError}
 use Rattle.session_frames.specs.declared.frame.FrameError.TheVariants.{Session, Read, Memory}
 use Rattle.session_frames.specs.declared.frame.SessionFault.TheVariants.{TooManyFrames}
 use Rattle.session_frames.specs.FrameLimits.{most_input}
 use Rattle.session_frames.specs.Frames.{clock_after, size_at, next_frame, Next, Whole, Place, past, BreaksBy}
-use Rattle.session_frames.specs.Reader.{Reading, StaysAtEnd, unread, GivesFrame, Refuses, FitsSession}
+use Rattle.session_frames.specs.Reader.{Reading, StaysAtEnd, unread, GivesFrame, Refuses, FitsSession, IsHeld}
 use Rattle.session_frames.specs.Bodies.{Fills, Judges}
 use Rattle.session_frames.proofs.FrameLaws.{StandsWhole-from_next, whole_takes, next_ended}
 
@@ -126,6 +126,29 @@ module _ (bytes : List ℕ) (at clock frames len : ℕ) (frame : Frame) (rest : 
         ∙ ap (past (record { bytes = at; clock = clock; frames = frames }) (drop at bytes) frame) leads_after,
     true_ended,
   )
+
+-- a reader that never saw its source's end holds nothing, so all of the source is what it holds then
+pub Fills-first : (old new : Option (List ℕ)) (held bytes : List ℕ) (at clock frames : ℕ) (ended : Bool)
+    → IsHeld held at clock frames ended
+    → ended ≡ false
+    → Consumes old new bytes
+    → IsAtEnd new
+    → length bytes ≤ most_input
+    → let place : Place = record { bytes = at; clock = clock; frames = frames } in
+    let before : Reading = record { pending = drop at held; place = place; ended = ended } in
+    let after : Reading = record { pending = drop at bytes; place = place; ended = true } in
+    Fills old new before after
+Fills-first old new held bytes at clock frames ended holds unended consumes at_end within =
+    let first = holds.first unended in
+    record {
+      taken = bytes;
+      consumes = consumes;
+      at_end = at_end;
+      pending = subst₂ (λ (h : List ℕ) (n : ℕ). drop n bytes ≡ drop n h ++ bytes) (sym first.0) (sym first.1) refl;
+      place = refl;
+      ended = refl;
+      within = omega (arith, length-drop at bytes, first.1, within);
+    }
 
 -- A call in its two steps: the source is read, and what stands next is judged.
 module _ (old new : Option (List ℕ)) (before filled : Reading) (fills : Fills old new before filled) where
