@@ -15,7 +15,7 @@ use std::alloc::{AllocError, Global};
 use std::marker::Model;
 
 /// The records of a message, whose payloads are borrowed. Contracts see the list of its records.
-#[derive(Debug, Drop)]
+#[derive(Drop)]
 pub struct Message<'a> {
     records: Vec<Field<'a>>,
 }

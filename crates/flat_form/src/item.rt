@@ -8,7 +8,7 @@ use std::alloc::{AllocError, Global};
 use std::marker::Model;
 
 /// One part of a saved thing.
-#[derive(Debug, Drop, PartialEq, Eq)]
+#[derive(Drop, PartialEq, Eq)]
 pub enum Item {
     Num(u64),
     /// A key of dimensions.
@@ -22,7 +22,7 @@ pub enum Item {
 }
 
 /// A list of items.
-#[derive(Debug, Drop)]
+#[derive(Drop)]
 pub struct Items {
     all: Seq<Item>,
 }
