@@ -1,5 +1,5 @@
 -- A key without a position is new: it gets a row after the others, or counts as dropped.
-use Rattle.std.proofs.Common.{Contains, ap, sym, ◌∙◌, ◌≢◌, arith, inr, length, refl}
+use Rattle.std.proofs.Common.{Contains, ap, ◌≢◌, arith, inr, length, refl}
 use Rattle.std.proofs.lemmas.Bool.{false≢true}
 use Rattle.dim_table.specs.Table.{keys}
 use Rattle.dim_table.proofs.KeyLemmas.{missing, inserted}
