@@ -26,7 +26,7 @@ pub enum Value {
 }
 
 /// What an atom has at one leaf of a set of fields.
-#[derive(Debug, Drop, PartialEq, Eq, Hash)]
+#[derive(Drop, PartialEq, Eq, Hash)]
 pub enum Leaf {
     /// The atom has no such entry.
     Missing,
@@ -40,7 +40,7 @@ pub enum Leaf {
 pub type DimKey = Seq<Leaf>;
 
 /// The part of a key that comes from a state.
-#[derive(Clone, Copy, Debug, PartialEq, Eq, Hash)]
+#[derive(Clone, Copy, PartialEq, Eq, Hash)]
 pub enum Slice {
     /// The state's value.
     Plain { atom_id: u32, value: i32 },
@@ -49,7 +49,7 @@ pub enum Slice {
 }
 
 /// What a metric groups its rows by.
-#[derive(Debug, Drop, PartialEq, Eq, Hash)]
+#[derive(Drop, PartialEq, Eq, Hash)]
 pub struct MetricKey {
     /// The dimensions in what is counted.
     pub dims: DimKey,

@@ -4,7 +4,7 @@ use atom_record::MetricKey;
 use sd_base::Seq;
 
 /// What one key of a metric has in a part of its time.
-#[derive(Debug, Drop, PartialEq)]
+#[derive(Drop, PartialEq)]
 pub struct Row<V> {
     /// The key, by which a report groups the rows.
     pub key: MetricKey,
@@ -17,7 +17,7 @@ pub struct Row<V> {
 }
 
 /// What a metric closed, dropped and missed since its last report.
-#[derive(Debug, Drop, PartialEq)]
+#[derive(Drop, PartialEq)]
 pub struct Closed<V> {
     /// The kept rows, in the order in which they were closed.
     pub rows: Seq<Row<V>>,

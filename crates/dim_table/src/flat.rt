@@ -1,5 +1,5 @@
 //! The flat form of a table: its bound, its count of drops, and its rows.
-ghost use Rattle.std.specs.Prelude.{◌≡◌, [], ◌++◌, List, length, OnOk, OnErr, All};
+ghost use Rattle.std.specs.Prelude.{◌≡◌, [], ◌++◌, List, length, OnOk, OnErr, All, IsTrue, ◌↔◌};
 ghost use Rattle.std.specs.List.{flat_map};
 ghost use Rattle.flat_form.specs.Flat.{IsFront, IsValidPair, pair_items};
 ghost use Rattle.dim_table.specs.Table.{IsBounded};
@@ -94,6 +94,13 @@ fn build_rows<K: Flat + Exact + Hash + Drop, V: Flat + Drop>(
     Ok((table, next))
 }
 
+// Whether a table with this bound may hold so many rows.
+fn may_hold(count: u64, bound: u64) -> bool
+    ensures { IsTrue result ↔ IsBounded count bound }
+{
+    1 <= bound && bound <= MAX_KEYS as u64 && count <= bound
+}
+
 impl<K: Flat + Exact + Hash + Drop, V: Flat + Drop> Flat for Guarded<K, V> {
     ghost use Rattle.dim_table.specs.TableItems.{table_items, IsTable, table_entries, table_bounded, table_few, table_savable};
     ghost use Rattle.flat_form.specs.Flat.{IsValidPair};
@@ -134,7 +141,7 @@ impl<K: Flat + Exact + Hash + Drop, V: Flat + Drop> Flat for Guarded<K, V> {
     ) -> Result<(Guarded<K, V>, usize), FlatError> {
         let (head, middle) = <((u64, u64), u64)>::build(alloc, items, place)?;
         let ((bound, dropped), count) = head;
-        if bound < 1 || bound > MAX_KEYS as u64 || count > bound {
+        if !may_hold(count, bound) {
             return Err(FlatError::Bad);
         }
         let empty = Guarded::restore(alloc, bound as usize, dropped);

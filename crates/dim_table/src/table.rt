@@ -1,10 +1,11 @@
 //! A table that admits the first keys that come, up to a bound, and counts the arrivals of all others.
-ghost use Rattle.std.specs.Prelude.{◌≡◌, ◌≢◌, ◌≤◌, [], ◌∷◌, ◌++◌, length, position, slice_get, Some, None, IfOk, OnOk, OnErr, IsOk, IfSome, IfNone, IsTrue, ◌↔◌, Contains, AllPairs};
+ghost use Rattle.std.specs.Prelude.{◌≡◌, ◌≢◌, ◌≤◌, ◌+◌, [], ◌∷◌, ◌++◌, length, position, slice_get, Some, None, IfOk, OnOk, OnErr, IsOk, IfSome, IfNone, IsTrue, ◌↔◌, Contains, AllPairs};
 ghost use Rattle.std.specs.Borrow.{sem};
 ghost use Rattle.std.specs.Map.{lookup, values_of};
 ghost use Rattle.std.specs.Map.Iter.{deref_pair};
 ghost use Rattle.std.specs.Option.{option_map, option_copied_mut};
 ghost use Rattle.bucket_meaning.specs.Limits.{most_keys};
+ghost use Rattle.bucket_meaning.specs.Kept.{count_in_u64};
 ghost use Rattle.dim_table.specs.Table.{keys, without, Admits, IsBounded, TableStandsFor, TakesArrival};
 ghost use Rattle.dim_table.specs.Lent.{lends_value};
 
@@ -88,13 +89,27 @@ impl<K: Exact + Hash + Drop, V: Drop> Guarded<K, V> {
         ensures full { length self.old.rows ≡ self.old.bound → IsOk result }
         ensures err { OnErr result (self.new ≡ self.old) }
     {
-        let place = self.rows.len();
-        if place == self.bound {
-            self.dropped = self.dropped.saturating_add(1);
+        if self.is_full() {
+            self.turn_away();
             return Ok(Admit::Full);
         }
+        let place = self.rows.len();
         self.rows.insert(key, fresh)?;
         Ok(Admit::At(place))
+    }
+
+    // Whether no further key finds room.
+    fn is_full(&self) -> bool
+        ensures { IsTrue result ↔ (length self.now.rows ≡ self.now.bound) }
+    {
+        self.rows.len() == self.bound
+    }
+
+    // Counts an arrival that finds no room.
+    fn turn_away(&mut self)
+        ensures { self.new ≡ record self.old { dropped = count_in_u64 (self.old.dropped + 1) } }
+    {
+        self.dropped = self.dropped.saturating_add(1);
     }
 
     /// The place of a key's row, or none where the key has no row.

@@ -1,7 +1,7 @@
 //! Fields, whose bytes are borrowed from the message.
 
 /// What a field holds, by how it is laid out.
-#[derive(Clone, Copy, Debug, PartialEq, Eq)]
+#[derive(Clone, Copy, PartialEq, Eq)]
 pub enum Body<'a> {
     Varint(u64),
     Fixed64(u64),
@@ -12,7 +12,7 @@ pub enum Body<'a> {
 }
 
 /// One record of a message. Places are counted from the start of the whole configuration.
-#[derive(Clone, Copy, Debug, PartialEq, Eq)]
+#[derive(Clone, Copy, PartialEq, Eq)]
 pub struct Field<'a> {
     /// The field's number, from 1 to 2^29 - 1.
     pub number: u32,

@@ -1,5 +1,5 @@
 //! Fields of every kind, and groups, whose records are read up to their end.
-ghost use Rattle.std.specs.Prelude.{◌≡◌, ◌+◌, ◌<◌, ◌≤◌, length, Some, IfOk};
+ghost use Rattle.std.specs.Prelude.{◌≡◌, ◌+◌, ◌-◌, ◌<◌, ◌≤◌, length, take, Some, IfOk};
 ghost use Rattle.std.specs.Int.{w32, w64};
 ghost use Rattle.sd_base.specs.Reads.{GivesBy};
 ghost use Rattle.proto_wire.specs.Fields.{field_view};
@@ -166,8 +166,7 @@ fn group_field<'a>(
 {
     let payload_at = end - bytes.len() as u32;
     let (group_end, after) = group_of(number, at, bytes, end, levels)?;
-    let (inside, _) = bytes.split_at(bytes.len() - group_end.len());
-    let body = Body::Group(inside);
+    let body = Body::Group(until(bytes, group_end));
     Ok((
         Field {
             number,
@@ -177,6 +176,15 @@ fn group_field<'a>(
         },
         after,
     ))
+}
+
+// What stands in front of a group's end, with which the second bytes begin.
+fn until<'a>(bytes: &'a [u8], group_end: &[u8]) -> &'a [u8]
+    requires { length group_end.now ≤ length bytes.now }
+    ensures { result.now ≡ take (length bytes.now - length group_end.now) bytes.now }
+{
+    let (inside, _) = bytes.split_at(bytes.len() - group_end.len());
+    inside
 }
 
 // Reads the records of the group that begins at `at`, from what is after its tag.

@@ -16,7 +16,7 @@ use std::marker::Model;
 const MAX_DEPTH: u32 = 100;
 
 /// What is left of a message. Contracts see the bytes, where they begin, and the message's depth.
-#[derive(Debug, Drop)]
+#[derive(Drop)]
 pub struct Records<'a> {
     bytes: &'a [u8],
     /// Where the bytes end, counted from the start of the whole configuration.

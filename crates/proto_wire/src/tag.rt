@@ -7,7 +7,7 @@ use crate::fault::{LONG_TAG, UNKNOWN_WIRE_TYPE, WireFault, ZERO_NUMBER, fault};
 use crate::varint::varint_of;
 
 /// How a payload is laid out.
-#[derive(Clone, Copy, Debug, PartialEq, Eq)]
+#[derive(Clone, Copy, PartialEq, Eq)]
 pub enum WireType {
     Varint,
     Fixed64,
@@ -51,7 +51,7 @@ impl WireType {
 }
 
 /// What stands in front of a payload.
-#[derive(Clone, Copy, Debug)]
+#[derive(Clone, Copy)]
 pub struct Tag {
     pub number: u32,
     pub wire_type: WireType,

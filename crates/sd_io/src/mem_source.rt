@@ -7,7 +7,7 @@ use crate::{ReadFailed, Source};
 use std::marker::Model;
 
 /// Gives the bytes of a list in pieces, and fails at the calls that it is told to fail at.
-#[derive(Debug, Drop)]
+#[derive(Drop)]
 pub struct MemSource {
     bytes: Vec<u8>,
     at: usize,
@@ -56,6 +56,13 @@ impl MemSource {
             faults: 0,
         }
     }
+
+    // Counts a call that fails.
+    fn count_fault(&mut self)
+        ensures { self.new ≡ record self.old { faults = count_up self.old.faults } }
+    {
+        self.faults = self.faults.saturating_add(1);
+    }
 }
 
 impl Source for MemSource {
@@ -82,7 +89,7 @@ impl Source for MemSource {
         let fails = self.fails.contains(&self.calls);
         self.calls = self.calls.saturating_add(1);
         if fails {
-            self.faults = self.faults.saturating_add(1);
+            self.count_fault();
             return Err(ReadFailed);
         }
         let count = give(&self.bytes[self.at..], self.piece, buf);

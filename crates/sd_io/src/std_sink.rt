@@ -8,7 +8,7 @@ use std::marker::Model;
 
 /// Writes to a writer of std, by calls of its `write` until the piece is written. Every error, an interruption too,
 /// is a fault, and so is a call that takes nothing.
-#[derive(Debug, Drop)]
+#[derive(Drop)]
 pub struct StdSink<W> {
     inner: W,
     faults: u64,

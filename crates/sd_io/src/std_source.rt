@@ -7,7 +7,7 @@ use std::io::Read;
 use std::marker::Model;
 
 /// Reads from a reader of std, by one call of its `read` for each call. Every error, an interruption too, is a fault.
-#[derive(Debug, Drop)]
+#[derive(Drop)]
 pub struct StdSource<R> {
     inner: R,
     faults: u64,

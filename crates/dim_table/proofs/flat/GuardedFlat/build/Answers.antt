@@ -1,5 +1,5 @@
 use Rattle.std.proofs.lemmas.Result.{err_from_is_err_and}
-use Rattle.std.proofs.Common.{arith}
+use Rattle.std.proofs.Common.{refl}
 use Rattle.dim_table.specs.Table.{IsBounded}
 use Rattle.dim_table.proofs.TableItemsLemmas.{head_fails, table_built}
 use Rattle.dim_table.proofs.flat.GuardedFlat.build.Goals as goal
@@ -14,13 +14,7 @@ returns-in_err-head g c =
 -- the rows stand after the head
 pub returns : goal.returns
 returns g c =
-    let fits : IsBounded c.in_ok-head.head.1 c.in_ok-head.head.0.0 =
-    record {
-      least = omega (arith, c.if-bound-lt1.false);
-      most = omega (arith, c.if-bound.false);
-      within =
-          omega (arith, c.if-count-bound.false);
-    } in
+    let fits : IsBounded c.in_ok-head.head.1 c.in_ok-head.head.0.0 = c.if-not-may_hold.ensures.0 refl in
     table_built g.K.Flat.valid g.V.Flat.valid g.K.Flat.flat g.V.Flat.flat c.args.items.now c.args.place
     c.in_ok-head.head c.in_ok-head.middle c.in_ok-head.ensures fits c.restore-empty.result
     c.restore-empty.ensures c.build_rows.result c.build_rows.ensures
