@@ -1,4 +1,4 @@
-//! Configurations by their bytes, and the trees that they mean. There is nothing here but tests.
+//! Messages and configurations by their bytes, and the trees that they mean. There is nothing here but tests.
 #![tactic(auto)]
 
 #[cfg(test)]

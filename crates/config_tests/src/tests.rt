@@ -8,3 +8,4 @@ mod samples;
 mod sizes;
 mod trees;
 mod types;
+mod wire;

@@ -1,37 +1,35 @@
 //! Crossings, cuts and saved clocks that were worked out by hand.
 use crate::samples::numbers;
-use bucket_clock::{Clock, Crossings, MAX_BUCKET};
+use bucket_clock::{Clock, MAX_BUCKET};
 use flat_form::{Flat, FlatError, Items, rebuild};
 use std::alloc::{AllocError, Global};
-use std::process::Abort;
-use std::test::*;
 
 const SECOND: u64 = 1_000_000_000;
 
 // A day, in nanoseconds.
 const DAY: u64 = 86_400_000_000_000;
 
-fn closed(start: u64, first_end: u64, full_buckets: u64, size: u64) -> Option<Crossings> {
-    Some(Crossings {
-        start,
-        first_end,
-        full_buckets,
-        size,
-    })
+// What a frame crosses: the start and the first end, how many full buckets after it, and their size.
+type Crossed = Option<(u64, u64, u64, u64)>;
+
+// Whether the clock sees a frame, and answers this.
+fn sees(clock: &mut Clock, time: u64, is_pull: bool, crossed: Crossed) -> bool {
+    if time < clock.part_start() || time >= 1 << 63 {
+        return false;
+    }
+    match clock.crossings(time, is_pull) {
+        Some(at) => crossed == Some((at.start, at.first_end, at.full_buckets, at.size)),
+        None => crossed.is_none(),
+    }
 }
 
-// The clock sees a frame, and answers this.
-fn sees(rt: &impl Abort, clock: &mut Clock, time: u64, is_pull: bool, answer: Option<Crossings>) {
-    assert!(rt; clock.part_start() <= time && time < 1 << 63);
-    let crossed = clock.crossings(time, is_pull);
-    assert!(rt; crossed == answer, "at {time}");
-}
-
-// A cut at this time closes a part from this start.
-fn cuts(rt: &impl Abort, clock: &mut Clock, time: u64, start: u64) {
-    assert!(rt; clock.part_start() <= time && time < 1 << 63 && time <= clock.next_end());
+// Whether a cut at this time closes a part from this start.
+fn cuts(clock: &mut Clock, time: u64, start: u64) -> bool {
+    if time < clock.part_start() || time >= 1 << 63 || time > clock.next_end() {
+        return false;
+    }
     let (from, to) = clock.cut_at(time);
-    assert!(rt; from == start && to == time, "at {time}");
+    from == start && to == time
 }
 
 // Whether these are the numbers of the clock.
@@ -42,34 +40,37 @@ fn is_at(clock: &Clock, base: u64, size: u64, start: u64, next_end: u64) -> bool
         && clock.next_end() == next_end
 }
 
+// The times of frames, whether they are pulls, and what they cross.
+const FRAMES: &[(u64, bool, Crossed)] = &[
+    (4 * SECOND, false, None),
+    // Over several ends at once, with a quarter of a bucket to spare.
+    (34 * SECOND, false, Some((0, 8 * SECOND, 3, 8 * SECOND))),
+    // A pull at an end belongs to the bucket, and the next frame there crosses the end.
+    (40 * SECOND, true, None),
+    (
+        40 * SECOND,
+        false,
+        Some((32 * SECOND, 40 * SECOND, 0, 8 * SECOND)),
+    ),
+    (40 * SECOND, false, None),
+    // A pull after an end crosses it.
+    (
+        48 * SECOND + 1,
+        true,
+        Some((40 * SECOND, 48 * SECOND, 0, 8 * SECOND)),
+    ),
+    (
+        64 * SECOND,
+        true,
+        Some((48 * SECOND, 56 * SECOND, 0, 8 * SECOND)),
+    ),
+];
+
 #[test]
 fn frames_cross_the_ends_before_them(rt: HostRuntime) {
     let mut clock = Clock::new(0, 8 * SECOND);
-    for (time, is_pull, answer) in [
-        (4 * SECOND, false, None),
-        // Over several ends at once, with a quarter of a bucket to spare.
-        (34 * SECOND, false, closed(0, 8 * SECOND, 3, 8 * SECOND)),
-        // A pull at an end belongs to the bucket, and the next frame there crosses the end.
-        (40 * SECOND, true, None),
-        (
-            40 * SECOND,
-            false,
-            closed(32 * SECOND, 40 * SECOND, 0, 8 * SECOND),
-        ),
-        (40 * SECOND, false, None),
-        // A pull after an end crosses it.
-        (
-            48 * SECOND + 1,
-            true,
-            closed(40 * SECOND, 48 * SECOND, 0, 8 * SECOND),
-        ),
-        (
-            64 * SECOND,
-            true,
-            closed(48 * SECOND, 56 * SECOND, 0, 8 * SECOND),
-        ),
-    ] {
-        sees(&rt, &mut clock, time, is_pull, answer);
+    for &(time, is_pull, crossed) in FRAMES {
+        assert!(rt; sees(&mut clock, time, is_pull, crossed), "at {time}");
     }
     assert!(rt; is_at(&clock, 0, 8 * SECOND, 56 * SECOND, 64 * SECOND));
 }
@@ -77,75 +78,46 @@ fn frames_cross_the_ends_before_them(rt: HostRuntime) {
 #[test]
 fn the_longest_jump_is_one_division(rt: HostRuntime) {
     let mut clock = Clock::new(0, SECOND);
-    sees(
-        &rt,
-        &mut clock,
-        1 << 62,
-        false,
-        closed(0, SECOND, 4_611_686_017, SECOND),
-    );
+    let crossed = Some((0, SECOND, 4_611_686_017, SECOND));
+    assert!(rt; sees(&mut clock, 1 << 62, false, crossed));
     let mut late = Clock::new((1 << 63) - 1, DAY);
-    sees(&rt, &mut late, (1 << 63) - 1, false, None);
+    assert!(rt; sees(&mut late, (1 << 63) - 1, false, None));
     assert!(rt; late.next_end() == (1 << 63) - 1 + DAY);
     let mut whole = Clock::new(0, 1);
-    sees(
-        &rt,
-        &mut whole,
-        (1 << 63) - 1,
-        false,
-        closed(0, 1, (1 << 63) - 2, 1),
-    );
+    let crossed = Some((0, 1, (1 << 63) - 2, 1));
+    assert!(rt; sees(&mut whole, (1 << 63) - 1, false, crossed));
     assert!(rt; whole.next_end() == 1 << 63);
 }
 
 #[test]
 fn a_cut_keeps_the_full_end(rt: HostRuntime) {
     let mut clock = Clock::new(3, 10);
-    cuts(&rt, &mut clock, 7, 3);
-    cuts(&rt, &mut clock, 7, 7);
-    sees(&rt, &mut clock, 13, true, None);
+    assert!(rt; cuts(&mut clock, 7, 3) && cuts(&mut clock, 7, 7));
+    assert!(rt; sees(&mut clock, 13, true, None));
     // At a full end that no frame crossed yet, the part after the cut has length 0.
-    cuts(&rt, &mut clock, 13, 7);
-    assert!(rt; is_at(&clock, 3, 10, 13, 13));
-    sees(&rt, &mut clock, 13, false, closed(13, 13, 0, 10));
+    assert!(rt; cuts(&mut clock, 13, 7) && is_at(&clock, 3, 10, 13, 13));
+    assert!(rt; sees(&mut clock, 13, false, Some((13, 13, 0, 10))));
     assert!(rt; is_at(&clock, 3, 10, 13, 23));
 }
 
 // Four numbers, and whether they are a clock's.
-fn rows() -> [(u64, u64, u64, u64, bool); 15] {
-    [
-        (3, 10, 3, 13, true),
-        (3, 10, 13, 13, true),
-        (3, 10, 13, 23, true),
-        (3, 10, 12, 23, false),
-        (3, 10, 2, 13, false),
-        (3, 10, 14, 13, false),
-        (3, 10, 3, 3, false),
-        (3, 10, 15, 24, false),
-        (3, 10, 13, 3, false),
-        (3, 0, 3, 3, false),
-        (0, DAY, 0, DAY, true),
-        (0, DAY + 1, 0, DAY + 1, false),
-        (1 << 63, 10, 1 << 63, (1 << 63) + 10, false),
-        ((1 << 63) - 10, 10, 1 << 63, 1 << 63, false),
-        ((1 << 63) - 10, 10, (1 << 63) - 1, 1 << 63, true),
-    ]
-}
-
-#[test]
-fn restores_what_a_clock_may_be(rt: HostRuntime) {
-    assert!(rt; MAX_BUCKET == DAY);
-    for (base, size, start, next_end, is_clock) in rows() {
-        let restored = Clock::restore(base, size, start, next_end);
-        assert!(rt;
-            restored.is_some() == is_clock,
-            "at {base} {size} {start} {next_end}"
-        );
-        if let Some(clock) = restored {
-            assert!(rt; is_at(&clock, base, size, start, next_end));
-        }
-    }
-}
+const ROWS: &[(u64, u64, u64, u64, bool)] = &[
+    (3, 10, 3, 13, true),
+    (3, 10, 13, 13, true),
+    (3, 10, 13, 23, true),
+    (3, 10, 12, 23, false),
+    (3, 10, 2, 13, false),
+    (3, 10, 14, 13, false),
+    (3, 10, 3, 3, false),
+    (3, 10, 15, 24, false),
+    (3, 10, 13, 3, false),
+    (3, 0, 3, 3, false),
+    (0, DAY, 0, DAY, true),
+    (0, DAY + 1, 0, DAY + 1, false),
+    (1 << 63, 10, 1 << 63, (1 << 63) + 10, false),
+    ((1 << 63) - 10, 10, 1 << 63, 1 << 63, false),
+    ((1 << 63) - 10, 10, (1 << 63) - 1, 1 << 63, true),
+];
 
 fn is_bad(alloc: Global, items: &Items, place: usize) -> bool {
     matches!(Clock::build(alloc, items, place), Err(FlatError::Bad))
@@ -176,30 +148,55 @@ fn is_judged(
     })
 }
 
+// Whether these four numbers are restored as a clock, and else as none.
+fn is_restored(base: u64, size: u64, start: u64, next_end: u64, is_clock: bool) -> bool {
+    match Clock::restore(base, size, start, next_end) {
+        Some(clock) => is_clock && is_at(&clock, base, size, start, next_end),
+        None => !is_clock,
+    }
+}
+
 #[test]
-fn builds_what_a_clock_may_be(rt: HostRuntime) -> Result<(), Fail> {
-    for (base, size, start, next_end, is_clock) in rows() {
+fn restores_and_builds_what_a_clock_may_be(rt: HostRuntime) {
+    assert!(rt; MAX_BUCKET == DAY);
+    for &(base, size, start, next_end, is_clock) in ROWS {
         assert!(rt;
-            is_judged(rt.alloc(), base, size, start, next_end, is_clock)?,
+            is_restored(base, size, start, next_end, is_clock)
+                && is_judged(rt.alloc(), base, size, start, next_end, is_clock) == Ok(true),
             "at {base} {size} {start} {next_end}"
         );
     }
-    Ok(())
+}
+
+// Whether three numbers build no clock, from the first and after the last.
+fn are_three_bad(alloc: Global) -> Result<bool, AllocError> {
+    let items = numbers(alloc, &[3, 10, 3])?;
+    Ok(is_bad(alloc, &items, 0) && is_bad(alloc, &items, 3))
 }
 
 #[test]
-fn builds_no_clock_of_three_numbers(rt: HostRuntime) -> Result<(), Fail> {
-    let items = numbers(rt.alloc(), &[3, 10, 3])?;
-    assert!(rt; is_bad(rt.alloc(), &items, 0));
-    assert!(rt; is_bad(rt.alloc(), &items, 3));
-    Ok(())
+fn builds_no_clock_of_three_numbers(rt: HostRuntime) {
+    assert!(rt; are_three_bad(rt.alloc()) == Ok(true));
+}
+
+// Whether a clock is rebuilt with these numbers.
+fn is_rebuilt(
+    alloc: Global,
+    clock: &Clock,
+    base: u64,
+    size: u64,
+    start: u64,
+    next_end: u64,
+) -> bool {
+    match rebuild(alloc, clock) {
+        Ok(copy) => is_at(&copy, base, size, start, next_end),
+        Err(_) => false,
+    }
 }
 
 #[test]
-fn a_clock_is_rebuilt(rt: HostRuntime) -> Result<(), Fail> {
+fn a_clock_is_rebuilt(rt: HostRuntime) {
     let mut clock = Clock::new(3, 10);
-    cuts(&rt, &mut clock, 7, 3);
-    let copy = rebuild(rt.alloc(), &clock)?;
-    assert!(rt; is_at(&copy, 3, 10, 7, 13));
-    Ok(())
+    assert!(rt; cuts(&mut clock, 7, 3));
+    assert!(rt; is_rebuilt(rt.alloc(), &clock, 3, 10, 7, 13));
 }

@@ -4,12 +4,9 @@ ghost use Rattle.flat_form.specs.Savable.{AreSavable};
 use crate::samples::{ATOM, CHUNK, DIMS, NUM, SLICES, items};
 use flat_form::{FlatError, Item, Items, decode_items, encode_items};
 use std::alloc::{AllocError, Global};
-use std::test::*;
 
 // The bytes of one item of each kind, in the order of the sample.
-fn rows() -> [&'static [u8]; 5] {
-    [NUM, DIMS, SLICES, ATOM, CHUNK]
-}
+const ROWS: &[&[u8]] = &[NUM, DIMS, SLICES, ATOM, CHUNK];
 
 fn same_item(one: Option<&Item>, other: Option<&Item>) -> bool {
     one == other
@@ -53,107 +50,133 @@ fn is_spelled_again(alloc: Global, bytes: &[u8], number: usize) -> bool {
     }
 }
 
-// Whether each row spells the item at its place.
-fn are_all_read(alloc: Global, expected: &Items) -> bool {
-    let mut all = true;
-    for (place, bytes) in rows().iter().enumerate() {
+// Whether there are five items, and each row spells the one at its place.
+fn are_rows_read(alloc: Global, expected: &Items) -> bool {
+    let mut all = expected.len() == 5 && expected.at(5).is_none();
+    for (place, bytes) in ROWS.iter().enumerate() {
         all &= is_read_as(alloc, bytes, expected, place);
     }
     all
 }
 
-#[test]
-fn decodes_each_item(rt: HostRuntime) -> Result<(), Fail> {
-    let expected = items(rt.alloc())?;
-    assert!(rt; expected.len() == 5);
-    assert!(rt; expected.at(5).is_none());
-    assert!(rt; are_all_read(rt.alloc(), &expected));
-    Ok(())
+// Whether the items of the sample are those of the rows.
+fn are_all_read(alloc: Global) -> Result<bool, AllocError> {
+    let expected = items(alloc)?;
+    Ok(are_rows_read(alloc, &expected))
 }
 
 #[test]
-fn decodes_no_part_of_an_item(rt: HostRuntime) {
-    for (place, bytes) in rows().iter().enumerate() {
-        for len in 1..bytes.len() {
-            assert!(rt; is_bad(rt.alloc(), &bytes[..len]), "at {place}, {len}");
-        }
+fn decodes_each_item(rt: HostRuntime) {
+    assert!(rt; are_all_read(rt.alloc()) == Ok(true));
+}
+
+// Whether no part of these bytes spells an item.
+fn is_no_part_read(alloc: Global, bytes: &[u8]) -> bool {
+    let mut all = true;
+    for len in 1..bytes.len() {
+        all &= is_bad(alloc, &bytes[..len]);
+    }
+    all
+}
+
+#[test]
+fn decodes_no_part_of_an_item_and_encodes_each(rt: HostRuntime) {
+    for bytes in ROWS {
+        assert!(rt; is_no_part_read(rt.alloc(), bytes), "at {bytes:?}");
+        assert!(rt; is_spelled_again(rt.alloc(), bytes, 1), "at {bytes:?}");
     }
 }
 
-#[test]
-fn encodes_each_item(rt: HostRuntime) {
-    for (place, bytes) in rows().iter().enumerate() {
-        assert!(rt; is_spelled_again(rt.alloc(), bytes, 1), "at {place}");
-    }
-}
-
-// The bytes of all items, one after the other.
-fn all_bytes(alloc: Global) -> Result<Vec<u8>, AllocError> {
-    let mut whole = Vec::new(alloc);
-    for bytes in rows() {
+// Adds the bytes of all items, one after the other.
+fn push_all(whole: &mut Vec<u8>) -> Result<(), AllocError> {
+    for bytes in ROWS {
         whole.extend_from_slice(bytes)?;
     }
-    Ok(whole)
-}
-
-#[test]
-fn decodes_and_encodes_items_in_a_row(rt: HostRuntime) -> Result<(), Fail> {
-    let whole = all_bytes(rt.alloc())?;
-    assert!(rt; is_spelled_again(rt.alloc(), &whole, 5));
-    let expected = items(rt.alloc())?;
-    assert!(rt; are_read(rt.alloc(), &whole, &expected));
     Ok(())
 }
 
+// Whether these bytes are those of the five items of the sample, both ways.
+fn is_whole(alloc: Global, whole: &[u8]) -> Result<bool, AllocError> {
+    let expected = items(alloc)?;
+    Ok(are_read(alloc, whole, &expected) && is_spelled_again(alloc, whole, 5))
+}
+
+// Whether the bytes of all items in a row are.
+fn is_row_whole(alloc: Global) -> Result<bool, AllocError> {
+    let mut whole = Vec::new(alloc);
+    push_all(&mut whole)?;
+    is_whole(alloc, &whole)
+}
+
 #[test]
-fn encodes_no_items_and_a_number(rt: HostRuntime) -> Result<(), Fail> {
-    let mut items = Items::new(rt.alloc());
-    assert!(rt; are_spelled(rt.alloc(), &items, b""));
+fn decodes_and_encodes_items_in_a_row(rt: HostRuntime) {
+    assert!(rt; is_row_whole(rt.alloc()) == Ok(true));
+}
+
+// Whether a number after no items is spelled by its bytes.
+fn is_number_spelled(alloc: Global) -> Result<bool, AllocError> {
+    let mut items = Items::new(alloc);
     items.push(Item::Num(258))?;
-    assert!(rt; are_spelled(rt.alloc(), &items, NUM));
-    Ok(())
+    Ok(are_spelled(alloc, &items, NUM))
 }
 
-// The bytes of a chunk of 65,537 bytes, which two bytes can't count.
-fn long_chunk(alloc: Global) -> Result<Vec<u8>, AllocError> {
-    let mut bytes = Vec::new(alloc);
-    bytes.extend_from_slice(b"\x05\x01\0\x01\0")?;
+// Whether no items are spelled by no bytes.
+fn are_none_spelled(alloc: Global) -> bool {
+    let items = Items::new(alloc);
+    are_spelled(alloc, &items, b"")
+}
+
+#[test]
+fn encodes_no_items_and_a_number(rt: HostRuntime) {
+    assert!(rt; are_none_spelled(rt.alloc()));
+    assert!(rt; is_number_spelled(rt.alloc()) == Ok(true));
+}
+
+// Adds 65,537 bytes.
+fn push_long(bytes: &mut Vec<u8>) -> Result<(), AllocError> {
     for _turn in 0..65_537u32 {
         bytes.push(7)?;
     }
-    Ok(bytes)
-}
-
-#[test]
-fn decodes_a_long_chunk(rt: HostRuntime) -> Result<(), Fail> {
-    let bytes = long_chunk(rt.alloc())?;
-    assert!(rt; is_spelled_again(rt.alloc(), &bytes, 1));
     Ok(())
 }
 
+// Whether a chunk of 65,537 bytes, which two bytes can't count, is read and spelled again.
+fn is_long_chunk_spelled(alloc: Global) -> Result<bool, AllocError> {
+    let mut bytes = Vec::from_slice(alloc, b"\x05\x01\0\x01\0")?;
+    push_long(&mut bytes)?;
+    Ok(is_spelled_again(alloc, &bytes, 1))
+}
+
+#[test]
+fn decodes_a_long_chunk(rt: HostRuntime) {
+    assert!(rt; is_long_chunk_spelled(rt.alloc()) == Ok(true));
+}
+
+// Bytes of no items.
+const BAD: &[&[u8]] = &[
+    // tags that aren't known
+    b"\0",
+    b"\x06",
+    b"\x02\x01\0\x03",
+    b"\x03\x01\x03",
+    b"\x02\x01\0\x01\x07",
+    // a Bool of 2
+    b"\x02\x01\0\x01\x03\x02",
+    // an atom with a fault
+    b"\x04\x04\0\0\0\0\0",
+    // bytes after the entries of an atom
+    b"\x04\x05\0\x05\0\0\0\0",
+    // counts past what is there
+    b"\x02\xff\xff",
+    b"\x03\xff",
+    b"\x05\xff\xff\xff\xff",
+    // a byte left over
+    b"\x01\0\0\0\0\0\0\0\0\0",
+];
+
 #[test]
 fn refuses_bytes_of_no_items(rt: HostRuntime) {
-    let rows: [&[u8]; 12] = [
-        // tags that aren't known
-        b"\0",
-        b"\x06",
-        b"\x02\x01\0\x03",
-        b"\x03\x01\x03",
-        b"\x02\x01\0\x01\x07",
-        // a Bool of 2
-        b"\x02\x01\0\x01\x03\x02",
-        // an atom with a fault
-        b"\x04\x04\0\0\0\0\0",
-        // bytes after the entries of an atom
-        b"\x04\x05\0\x05\0\0\0\0",
-        // counts past what is there
-        b"\x02\xff\xff",
-        b"\x03\xff",
-        b"\x05\xff\xff\xff\xff",
-        // a byte left over
-        b"\x01\0\0\0\0\0\0\0\0\0",
-    ];
-    for bytes in rows {
+    for bytes in BAD {
         assert!(rt; is_bad(rt.alloc(), bytes), "at {bytes:?}");
     }
 }

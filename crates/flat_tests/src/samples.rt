@@ -18,11 +18,16 @@ fn push_text(alloc: Global, leaves: &mut Seq<Leaf>, bytes: &[u8]) -> Result<(), 
     leaves.push(Leaf::One(word))
 }
 
-fn many(alloc: Global) -> Result<Seq<Value>, AllocError> {
-    let mut values = Seq::new(alloc);
+// Adds two numbers and raw bytes.
+fn push_values(alloc: Global, values: &mut Seq<Value>) -> Result<(), AllocError> {
     values.push(Value::Long(-2))?;
     values.push(Value::Bits32(7))?;
-    push_raw(alloc, &mut values, b"\xff")?;
+    push_raw(alloc, values, b"\xff")
+}
+
+fn many(alloc: Global) -> Result<Seq<Value>, AllocError> {
+    let mut values = Seq::new(alloc);
+    push_values(alloc, &mut values)?;
     Ok(values)
 }
 
@@ -38,13 +43,18 @@ fn push_many(alloc: Global, leaves: &mut Seq<Leaf>) -> Result<(), AllocError> {
     leaves.push(Leaf::Many(values))
 }
 
-pub fn dims(alloc: Global) -> Result<DimKey, AllocError> {
-    let mut leaves = Seq::new(alloc);
+// Adds one leaf of each form.
+fn push_leaves(alloc: Global, leaves: &mut DimKey) -> Result<(), AllocError> {
     leaves.push(Leaf::Missing)?;
     leaves.push(Leaf::One(Value::Int(-2)))?;
-    push_text(alloc, &mut leaves, b"ab")?;
+    push_text(alloc, leaves, b"ab")?;
     leaves.push(Leaf::One(Value::Bool(true)))?;
-    push_many(alloc, &mut leaves)?;
+    push_many(alloc, leaves)
+}
+
+pub fn dims(alloc: Global) -> Result<DimKey, AllocError> {
+    let mut leaves = Seq::new(alloc);
+    push_leaves(alloc, &mut leaves)?;
     Ok(leaves)
 }
 
@@ -99,14 +109,19 @@ pub fn key(alloc: Global) -> Result<MetricKey, AllocError> {
     Ok(MetricKey { dims, slices })
 }
 
+// Adds one item of each kind.
+fn push_items(alloc: Global, items: &mut Items) -> Result<(), AllocError> {
+    items.push(Item::Num(258))?;
+    push_dims(alloc, items)?;
+    push_slices(alloc, items)?;
+    push_atom(alloc, items)?;
+    push_chunk(alloc, items)
+}
+
 /// One item of each kind.
 pub fn items(alloc: Global) -> Result<Items, AllocError> {
     let mut items = Items::new(alloc);
-    items.push(Item::Num(258))?;
-    push_dims(alloc, &mut items)?;
-    push_slices(alloc, &mut items)?;
-    push_atom(alloc, &mut items)?;
-    push_chunk(alloc, &mut items)?;
+    push_items(alloc, &mut items)?;
     Ok(items)
 }
 
@@ -130,11 +145,17 @@ fn push_chunk(alloc: Global, items: &mut Items) -> Result<(), AllocError> {
     items.push(Item::Chunk(bytes))
 }
 
-/// So many numbers, each an item.
-pub fn numbers(alloc: Global, numbers: &[u64]) -> Result<Items, AllocError> {
-    let mut items = Items::new(alloc);
+// Adds so many numbers.
+fn push_numbers(items: &mut Items, numbers: &[u64]) -> Result<(), AllocError> {
     for number in numbers {
         items.push(Item::Num(*number))?;
     }
+    Ok(())
+}
+
+/// So many numbers, each an item.
+pub fn numbers(alloc: Global, numbers: &[u64]) -> Result<Items, AllocError> {
+    let mut items = Items::new(alloc);
+    push_numbers(&mut items, numbers)?;
     Ok(items)
 }

@@ -1,4 +1,4 @@
-//! Sessions and replies by their bytes. There is nothing here but tests.
+//! Sessions, replies, atoms and streams by their bytes. There is nothing here but tests.
 #![tactic(auto)]
 
 #[cfg(test)]

@@ -7,36 +7,33 @@ use std::alloc::{AllocError, Global};
 use std::fmt::Debug;
 use std::process::Abort;
 
-/// A name, bytes, and the text of their tree.
-pub type Reading = (&'static str, &'static [u8], &'static str);
+/// Bytes, and the text of their tree, which is short.
+pub type Reading = (&'static [u8], &'static str);
 
-/// A name, bytes, the offset of the record at fault, and the number of the cause.
-pub type Malformed = (&'static str, &'static [u8], u32, u8);
+/// Bytes, the offset of the record at fault, and the number of the cause.
+pub type Malformed = (&'static [u8], u32, u8);
 
-/// A name, bytes, and the numbers that lead to the first record that isn't supported.
-pub type Unsupported = (&'static str, &'static [u8], &'static [u32]);
+/// Bytes, and the numbers that lead to the first record that isn't supported.
+pub type Unsupported = (&'static [u8], &'static [u32]);
 
 /// Asserts that the bytes of each row are read as its tree.
-pub fn assert_reads<R: Abort + AllocGlobal>(rt: &R, rows: &[Reading]) {
-    for (name, bytes, want) in rows {
-        assert!(rt; reads_as(rt.alloc(), bytes, want), "at {name}");
+pub fn assert_reads(rt: &impl Abort, alloc: Global, rows: &[Reading]) {
+    for &(bytes, want) in rows {
+        assert!(rt; reads_shortly_as(alloc, bytes, want), "at {bytes:?}");
     }
 }
 
 /// Asserts that the bytes of each row have its fault of the wire.
-pub fn assert_malformed<R: Abort + AllocGlobal>(rt: &R, rows: &[Malformed]) {
-    for (name, bytes, offset, cause) in rows {
-        assert!(rt;
-            is_malformed(rt.alloc(), bytes, *offset, *cause),
-            "at {name}"
-        );
+pub fn assert_malformed(rt: &impl Abort, alloc: Global, rows: &[Malformed]) {
+    for &(bytes, offset, cause) in rows {
+        assert!(rt; is_malformed(alloc, bytes, offset, cause), "at {bytes:?}");
     }
 }
 
 /// Asserts that the bytes of each row have its record that isn't supported.
-pub fn assert_unsupported<R: Abort + AllocGlobal>(rt: &R, rows: &[Unsupported]) {
-    for (name, bytes, numbers) in rows {
-        assert!(rt; is_unsupported(rt.alloc(), bytes, numbers), "at {name}");
+pub fn assert_unsupported(rt: &impl Abort, alloc: Global, rows: &[Unsupported]) {
+    for &(bytes, numbers) in rows {
+        assert!(rt; is_unsupported(alloc, bytes, numbers), "at {bytes:?}");
     }
 }
 
@@ -63,11 +60,15 @@ fn add_line<T: Debug>(text: &mut String, name: &str, list: &Seq<T>) -> Result<()
     writeln!(text, "{name}: {items:?}")
 }
 
-/// Adds the lines of a tree, one for each of its lists that isn't empty, as Debug prints its items.
-fn add_lines(text: &mut String, tree: &Config) -> Result<(), AllocError> {
+/// Adds the lines of what metrics are made of.
+fn add_parts(text: &mut String, tree: &Config) -> Result<(), AllocError> {
     add_line(text, "matchers", &tree.matchers)?;
     add_line(text, "predicates", &tree.predicates)?;
-    add_line(text, "states", &tree.states)?;
+    add_line(text, "states", &tree.states)
+}
+
+/// Adds the lines of metrics.
+fn add_metrics(text: &mut String, tree: &Config) -> Result<(), AllocError> {
     add_line(text, "events", &tree.events)?;
     add_line(text, "counts", &tree.counts)?;
     add_line(text, "values", &tree.values)?;
@@ -76,29 +77,62 @@ fn add_lines(text: &mut String, tree: &Config) -> Result<(), AllocError> {
     add_line(text, "no_report", &tree.no_report)
 }
 
-/// A text in which a list is its items alone, without the name of its type.
-fn plain(alloc: Global, text: &str) -> Result<String, AllocError> {
-    let begun = text.replace(alloc, "Seq { items: ", "")?;
-    begun.as_str().replace(alloc, "] }", "]")
+/// Adds the lines of a tree, one for each of its lists that isn't empty, as Debug prints its items.
+fn add_lines(text: &mut String, tree: &Config) -> Result<(), AllocError> {
+    add_parts(text, tree)?;
+    add_metrics(text, tree)
 }
 
-/// Whether a text, once its lists are plain, is the one that is wanted.
-fn is_plainly(alloc: Global, text: &str, want: &str) -> Result<bool, AllocError> {
-    let text = plain(alloc, text)?;
+/// What Debug prints, and what stands for it in the texts of a table.
+type Rules = &'static [(&'static str, &'static str)];
+
+/// A list is its items alone.
+const PLAIN: Rules = &[("Seq { items: ", ""), ("] }", "]")];
+
+/// A list is its items alone, some messages have no name, and the ends of some are left out where nothing is there.
+const SHORT: Rules = &[
+    ("Seq { items: ", ""),
+    ("] }", "]"),
+    (
+        "common: Common { id: None, what: None, condition: None, links: [] }, sliced: Sliced { dims: None, bucket: None, \
+        bound: None, slices: [], state_links: [] }",
+        "..",
+    ),
+    (", condition: None, links: [] }", " }"),
+    (", bound: None, slices: [], state_links: [] }", " }"),
+    ("position: None, ", ""),
+    (", children: [] }", " }"),
+    ("FieldMatcher {", "{"),
+    ("FieldTest {", "{"),
+    ("SimpleMatcher {", "{"),
+    ("MatcherDef {", "{"),
+];
+
+/// Puts a text in the place of another, wherever it stands.
+fn put_for(alloc: Global, text: &mut String, from: &str, to: &str) -> Result<(), AllocError> {
+    *text = text.as_str().replace(alloc, from, to)?;
+    Ok(())
+}
+
+/// Whether a text is the one that is wanted, once these rules are followed one after the other.
+fn is_by(alloc: Global, text: &mut String, rules: Rules, want: &str) -> Result<bool, AllocError> {
+    for &(from, to) in rules {
+        put_for(alloc, text, from, to)?;
+    }
     Ok(text.as_str() == want)
 }
 
 /// Whether a tree has this text.
-fn prints_as(alloc: Global, tree: &Config, want: &str) -> Result<bool, AllocError> {
+fn prints_as(alloc: Global, tree: &Config, rules: Rules, want: &str) -> Result<bool, AllocError> {
     let mut lines = String::new(alloc);
     add_lines(&mut lines, tree)?;
-    is_plainly(alloc, lines.as_str(), want)
+    is_by(alloc, &mut lines, rules, want)
 }
 
 /// Whether an answer is the tree of this text.
-fn has_tree(alloc: Global, answer: &Answer, want: &str) -> bool {
+fn has_tree(alloc: Global, answer: &Answer, rules: Rules, want: &str) -> bool {
     match answer {
-        Ok(tree) => prints_as(alloc, tree, want).unwrap_or(false),
+        Ok(tree) => prints_as(alloc, tree, rules, want) == Ok(true),
         Err(_) => false,
     }
 }
@@ -151,21 +185,26 @@ fn copy_text(alloc: Global, matcher: &SimpleMatcher) -> Result<String, AllocErro
 
 /// Whether the copy of a matcher has this text.
 fn copy_prints_as(alloc: Global, matcher: &SimpleMatcher, want: &str) -> Result<bool, AllocError> {
-    let text = copy_text(alloc, matcher)?;
-    is_plainly(alloc, text.as_str(), want)
+    let mut text = copy_text(alloc, matcher)?;
+    is_by(alloc, &mut text, SHORT, want)
+}
+
+/// Whether a matcher has this text.
+fn has_text(alloc: Global, matcher: &SimpleMatcher, want: &str) -> Result<bool, AllocError> {
+    let text = text_of(alloc, matcher)?;
+    Ok(text.as_str() == want)
 }
 
 /// Whether a matcher and its copy have one text.
 fn copy_prints_alike(alloc: Global, matcher: &SimpleMatcher) -> Result<bool, AllocError> {
-    let text = text_of(alloc, matcher)?;
-    let want = plain(alloc, text.as_str())?;
-    copy_prints_as(alloc, matcher, want.as_str())
+    let text = copy_text(alloc, matcher)?;
+    has_text(alloc, matcher, text.as_str())
 }
 
 /// Whether the first matcher of what is read has a copy of this text.
 fn has_copy(alloc: Global, answer: &Answer, want: &str) -> bool {
     match first_simple(answer) {
-        Some(simple) => copy_prints_as(alloc, simple, want).unwrap_or(false),
+        Some(simple) => copy_prints_as(alloc, simple, want) == Ok(true),
         None => false,
     }
 }
@@ -173,7 +212,7 @@ fn has_copy(alloc: Global, answer: &Answer, want: &str) -> bool {
 /// Whether the first matcher of what is read has a copy of its own text.
 fn has_copy_as_it_is(alloc: Global, answer: &Answer) -> bool {
     match first_simple(answer) {
-        Some(simple) => copy_prints_alike(alloc, simple).unwrap_or(false),
+        Some(simple) => copy_prints_alike(alloc, simple) == Ok(true),
         None => false,
     }
 }
@@ -212,8 +251,10 @@ fn has_items(answer: &Answer, items: usize) -> bool {
 /// What an answer is to be.
 #[derive(Clone, Copy)]
 enum Wanted<'a> {
-    /// A tree of this text.
+    /// A tree of this text, in which a list is its items alone.
     Tree(&'a str),
+    /// A tree of this text, which is short.
+    Short(&'a str),
     /// A tree of so many items.
     Items(usize),
     /// A tree whose first matcher has a copy of this text.
@@ -231,7 +272,8 @@ enum Wanted<'a> {
 /// Whether an answer is the one that is wanted.
 fn is_wanted(alloc: Global, answer: &Answer, wanted: Wanted<'_>) -> bool {
     match wanted {
-        Wanted::Tree(text) => has_tree(alloc, answer, text),
+        Wanted::Tree(text) => has_tree(alloc, answer, PLAIN, text),
+        Wanted::Short(text) => has_tree(alloc, answer, SHORT, text),
         Wanted::Items(items) => has_items(answer, items),
         Wanted::Copy(text) => has_copy(alloc, answer, text),
         Wanted::CopyAsItIs => has_copy_as_it_is(alloc, answer),
@@ -247,9 +289,14 @@ fn answers(alloc: Global, bytes: &[u8], wanted: Wanted<'_>) -> bool {
     is_wanted(alloc, &answer, wanted)
 }
 
-/// Whether the bytes are read as the tree of this text.
+/// Whether the bytes are read as the tree of this text, in which a list is its items alone.
 pub fn reads_as(alloc: Global, bytes: &[u8], want: &str) -> bool {
     answers(alloc, bytes, Wanted::Tree(want))
+}
+
+/// Whether the bytes are read as the tree of this text, which is short.
+fn reads_shortly_as(alloc: Global, bytes: &[u8], want: &str) -> bool {
+    answers(alloc, bytes, Wanted::Short(want))
 }
 
 /// Whether the bytes are read as so many items.

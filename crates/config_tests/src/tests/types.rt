@@ -5,10 +5,9 @@ use super::compared::{copies_as, copies_as_it_is};
 use super::samples::TESTS_OF_FIELDS;
 use config_types::{TimeUnit, bucket_nanos};
 use std::alloc::{AllocError, Global};
-use std::test::*;
 
 /// Units, clients, and the seconds of their buckets.
-const BUCKETS: [(Option<TimeUnit>, i32, u64); 15] = [
+const BUCKETS: &[(Option<TimeUnit>, i32, u64)] = &[
     (None, 0, 3_600),
     (None, 10, 3_600),
     (Some(TimeUnit::OneMinute), 0, 60),
@@ -28,7 +27,7 @@ const BUCKETS: [(Option<TimeUnit>, i32, u64); 15] = [
 
 #[test]
 fn knows_how_long_buckets_are(rt: HostRuntime) {
-    for (unit, uid, seconds) in BUCKETS {
+    for &(unit, uid, seconds) in BUCKETS {
         let nanos = seconds.saturating_mul(1_000_000_000);
         assert!(rt; bucket_nanos(unit, uid) == nanos, "at {seconds} {uid}");
     }
@@ -44,19 +43,17 @@ const EACH_KIND: &[u8] = b"\
 
 /// What that matcher is.
 const EACH_KIND_TREE: &str = "\
-    SimpleMatcher { atom_id: Some(5), tests: [FieldTest { field: Some(3), position: Some(Any), test: \
-    Some(EqBool(false)) }, FieldTest { field: Some(4), position: Some(Any), test: Some(EqStr([98])) }, FieldTest { \
-    field: Some(5), position: Some(Any), test: Some(EqInt(-5)) }, FieldTest { field: Some(6), position: Some(Any), \
-    test: Some(LtInt(6)) }, FieldTest { field: Some(7), position: Some(Any), test: Some(GtInt(7)) }, FieldTest { \
-    field: Some(10), position: Some(Any), test: Some(LteInt(8)) }, FieldTest { field: Some(11), position: \
-    Some(Any), test: Some(GteInt(9)) }, FieldTest { field: Some(12), position: Some(Any), test: \
-    Some(Tuple([FieldTest { field: Some(2), position: Some(Any), test: Some(Tuple([FieldTest { field: Some(1), \
-    position: Some(Any), test: Some(EqBool(true)) }])) }, FieldTest { field: None, position: None, test: None }])) \
-    }, FieldTest { field: Some(13), position: Some(Any), test: Some(AnyOf([[97], []])) }, FieldTest { field: \
-    Some(14), position: Some(Any), test: Some(NoneOf([[97], []])) }] }";
+    { atom_id: Some(5), tests: [{ field: Some(3), position: Some(Any), test: Some(EqBool(false)) }, { field: \
+    Some(4), position: Some(Any), test: Some(EqStr([98])) }, { field: Some(5), position: Some(Any), test: \
+    Some(EqInt(-5)) }, { field: Some(6), position: Some(Any), test: Some(LtInt(6)) }, { field: Some(7), position: \
+    Some(Any), test: Some(GtInt(7)) }, { field: Some(10), position: Some(Any), test: Some(LteInt(8)) }, { field: \
+    Some(11), position: Some(Any), test: Some(GteInt(9)) }, { field: Some(12), position: Some(Any), test: \
+    Some(Tuple([{ field: Some(2), position: Some(Any), test: Some(Tuple([{ field: Some(1), position: Some(Any), \
+    test: Some(EqBool(true)) }])) }, { field: None, test: None }])) }, { field: Some(13), position: Some(Any), \
+    test: Some(AnyOf([[97], []])) }, { field: Some(14), position: Some(Any), test: Some(NoneOf([[97], []])) }] }";
 
 /// Records that stand so often in a matcher, and the fields of the matcher around them.
-const LONG: [(&str, &[u8], usize, &[u8]); 3] = [
+const LONG: &[(&str, &[u8], usize, &[u8])] = &[
     ("a long text", b"a", 20_000, &[4, 2, 2, 7]),
     ("texts", b"\x0a\x01b", 4_000, &[13, 2, 2, 7]),
     ("tests of a tuple", b"\x0a\0", 3_000, &[12, 2, 2, 7]),
@@ -87,13 +84,15 @@ fn copies_tuples(alloc: Global, times: usize) -> Result<bool, AllocError> {
 }
 
 #[test]
-fn copies_equal_their_sources(rt: HostRuntime) -> Result<(), Fail> {
+fn copies_equal_their_sources(rt: HostRuntime) {
     let alloc = rt.alloc();
     assert!(rt; copies_as(alloc, EACH_KIND, EACH_KIND_TREE), "each kind");
     assert!(rt; copies_as_it_is(alloc, TESTS_OF_FIELDS), "tests of fields");
-    for (name, record, times, fields) in LONG {
-        assert!(rt; copies_long(alloc, record, times, fields)?, "{name}");
+    for &(name, record, times, fields) in LONG {
+        assert!(rt;
+            copies_long(alloc, record, times, fields) == Ok(true),
+            "{name}"
+        );
     }
-    assert!(rt; copies_tuples(alloc, 48)?, "tuples in tuples");
-    Ok(())
+    assert!(rt; copies_tuples(alloc, 48) == Ok(true), "tuples in tuples");
 }

@@ -22,6 +22,11 @@ fn tells(alloc: Global, end: &str, at: usize, fault: &str) -> Result<bool, Alloc
     Ok(end == text.as_str())
 }
 
+// Whether a session ends with this fault at this byte, after so many good frames.
+fn ends_so(alloc: Global, session: &Session, at: usize, frames: usize, fault: &str) -> bool {
+    session.frames.len() == frames && tells(alloc, session.end.as_str(), at, fault) == Ok(true)
+}
+
 // Whether a session ends with this fault where these bytes begin, after so many good frames.
 fn ends(
     alloc: Global,
@@ -31,7 +36,7 @@ fn ends(
     fault: &str,
 ) -> Result<bool, AllocError> {
     let session = read_joined(alloc, before, after)?;
-    Ok(session.frames.len() == frames && tells(alloc, session.end.as_str(), before.len(), fault)?)
+    Ok(ends_so(alloc, &session, before.len(), frames, fault))
 }
 
 // The four good frames, and a fifth of more than two kilobytes.
@@ -45,17 +50,21 @@ fn five_frames(alloc: Global) -> Result<Vec<u8>, AllocError> {
     Ok(bytes)
 }
 
-// Whether these bytes have this fault after the four good frames, and after a fifth that is long.
-fn breaks(alloc: Global, after: &[u8], fault: &str) -> Result<bool, AllocError> {
-    let near = ends(alloc, &LEAST, after, 4, fault)?;
+// Whether these bytes have this fault after a fifth frame, which is long.
+fn breaks_far(alloc: Global, after: &[u8], fault: &str) -> Result<bool, AllocError> {
     let five = five_frames(alloc)?;
-    Ok(near && ends(alloc, &five, after, 5, fault)?)
+    Ok(ends(alloc, &five, after, 5, fault) == Ok(true))
+}
+
+// Whether these bytes have this fault after the four good frames, and after a fifth that is long.
+fn breaks(alloc: Global, after: &[u8], fault: &str) -> bool {
+    ends(alloc, &LEAST, after, 4, fault) == Ok(true) && breaks_far(alloc, after, fault) == Ok(true)
 }
 
 // Asserts that bytes have their faults.
 fn assert_breaks(rt: &impl Abort, alloc: Global, rows: &[(&[u8], &str)]) {
     for &(after, fault) in rows {
-        assert!(rt; breaks(alloc, after, fault) == Ok(true), "at {after:?}");
+        assert!(rt; breaks(alloc, after, fault), "at {after:?}");
     }
 }
 

@@ -1,6 +1,6 @@
 //! A session of more than two MiB, read to its end frame by frame. With ample memory nothing is refused.
 use sd_io::MemSource;
-use session_frames::{Frame, FrameReader, bytes_have_one_reading};
+use session_frames::{Frame, FrameError, FrameReader, bytes_have_one_reading};
 use std::alloc::{AllocError, Global};
 
 // The head of an install whose body has 2^20 bytes, the most that a frame may have.
@@ -38,13 +38,14 @@ fn session(alloc: Global) -> Result<Vec<u8>, AllocError> {
     Ok(bytes)
 }
 
-// A tick, a remove, a report, or an install of so many bytes.
-fn code(frame: &Frame) -> usize {
+// The end, a tick, a remove, a report, or an install of so many bytes.
+fn code(frame: &Option<Frame>) -> usize {
     match frame {
-        Frame::Log(_) => 1,
-        Frame::Remove { .. } => 2,
-        Frame::Report { .. } => 3,
-        Frame::Install { config, .. } => config.len(),
+        None => 0,
+        Some(Frame::Log(_)) => 1,
+        Some(Frame::Remove { .. }) => 2,
+        Some(Frame::Report { .. }) => 3,
+        Some(Frame::Install { config, .. }) => config.len(),
     }
 }
 
@@ -56,18 +57,27 @@ fn code_at(number: usize) -> usize {
     }
 }
 
+// Reads the next frame, and gives the reader that goes on from there, and the frame's code.
+fn take_code(
+    reader: FrameReader,
+    source: &mut MemSource,
+) -> Result<(FrameReader, usize), FrameError> {
+    let (next, frame) = reader.next(source)?;
+    Ok((next, code(&frame)))
+}
+
 // How many frames come before the end, each with the code that it should have.
 fn count_good(alloc: Global, source: &mut MemSource) -> Option<usize> {
     let mut reader = FrameReader::new(alloc);
     for number in 0..10_000 {
-        let (next, frame) = reader.next(source).ok()?;
-        reader = next;
-        let Some(frame) = frame else {
+        let (next, code) = take_code(reader, source).ok()?;
+        if code == 0 {
             return Some(number);
-        };
-        if code(&frame) != code_at(number) {
+        }
+        if code != code_at(number) {
             return None;
         }
+        reader = next;
     }
     None
 }

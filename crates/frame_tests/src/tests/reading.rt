@@ -95,5 +95,5 @@ pub fn reads_as(
     end: &str,
 ) -> Result<bool, AllocError> {
     let session = read_bytes(alloc, bytes, piece)?;
-    Ok(session.end.as_str() == end && are_printed(alloc, &session.frames, text)?)
+    Ok(session.end.as_str() == end && are_printed(alloc, &session.frames, text) == Ok(true))
 }

@@ -24,17 +24,12 @@ fn writes_body(
 }
 
 #[test]
-fn writes_what_became_of_an_install(rt: HostRuntime) {
+fn writes_what_became_of_installs_and_removes(rt: HostRuntime) {
     let alloc = rt.alloc();
     let installed = b"\x0d\0\0\0\0\0\0\0\x01\x0a\0\0\0\x07\0\0\0\0\0\0\0";
     assert!(rt; writes_body(alloc, 10, 7, ReplyBody::Installed, installed) == Ok(true));
     let replaced = b"\x0d\0\0\0\0\0\0\0\x02\xff\xff\xff\xff\xfe\xff\xff\xff\xff\xff\xff\xff";
     assert!(rt; writes_body(alloc, -1, -2, ReplyBody::Replaced, replaced) == Ok(true));
-}
-
-#[test]
-fn writes_what_became_of_a_remove(rt: HostRuntime) {
-    let alloc = rt.alloc();
     let removed = b"\x0d\0\0\0\0\0\0\0\x04\0\0\0\x80\0\0\0\0\0\0\0\x80";
     assert!(rt; writes_body(alloc, i32::MIN, i64::MIN, ReplyBody::Removed, removed) == Ok(true));
     let no_config = b"\x0d\0\0\0\0\0\0\0\x05\x01\0\0\0\x02\x01\0\0\0\0\0\0";
@@ -91,6 +86,13 @@ fn refuses(alloc: Global, len: u8, refusal: Refusal, bytes: &[u8]) -> Result<boo
     writes_refusal(alloc, &reply, len, bytes)
 }
 
+// Whether a refusal with a path of three numbers is written with each of them.
+fn writes_three_numbers(alloc: Global) -> Result<bool, AllocError> {
+    let three = Path::from_slice(alloc, &[3, 4, 1001])?;
+    let bytes = b"\x03\x03\x03\0\0\0\x04\0\0\0\xe9\x03\0\0";
+    refuses(alloc, 27, Refusal::Unsupported(three), bytes)
+}
+
 #[test]
 fn writes_each_refusal(rt: HostRuntime) {
     let alloc = rt.alloc();
@@ -108,18 +110,6 @@ fn writes_each_refusal(rt: HostRuntime) {
     };
     let bytes = b"\x04\x09\x13\xfd\xff\xff\xff\xff\xff\xff\xff";
     assert!(rt; refuses(alloc, 24, link, bytes) == Ok(true));
-}
-
-// Whether a refusal with a path of three numbers is written with each of them.
-fn writes_three_numbers(alloc: Global) -> Result<bool, AllocError> {
-    let three = Path::from_slice(alloc, &[3, 4, 1001])?;
-    let bytes = b"\x03\x03\x03\0\0\0\x04\0\0\0\xe9\x03\0\0";
-    refuses(alloc, 27, Refusal::Unsupported(three), bytes)
-}
-
-#[test]
-fn writes_paths(rt: HostRuntime) {
-    let alloc = rt.alloc();
     let none = Refusal::Unsupported(Path::new(alloc));
     assert!(rt; refuses(alloc, 15, none, b"\x03\0") == Ok(true));
     assert!(rt; writes_three_numbers(alloc) == Ok(true));

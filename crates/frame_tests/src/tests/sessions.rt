@@ -10,7 +10,7 @@ fn gives_the_same_frames_in_any_pieces(rt: HostRuntime) {
         Log(AtomAt { at: 2, atom: Atom { id: 5, fields: Seq { items: [] } } }), \
         Log(AtomAt { at: 3, atom: Atom { id: 5, fields: Seq { items: [] } } }), \
         Report { uid: 10, id: 7, include_current: true }]";
-    for piece in [1, 16, 100] {
+    for &piece in &[1, 16, 100] {
         assert!(rt;
             reads_as(rt.alloc(), &LEAST, piece, text, "end") == Ok(true),
             "at {piece}"

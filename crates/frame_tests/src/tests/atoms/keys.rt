@@ -70,11 +70,11 @@ fn key(alloc: Global, text: &[u8], times: usize) -> Result<MetricKey, AllocError
     Ok(MetricKey { dims, slices })
 }
 
-/// A map in which the key with the text `a` has the number 1.
-fn rows(alloc: Global) -> Result<HashMap<MetricKey, u32>, AllocError> {
-    let mut rows = HashMap::new(alloc);
-    rows.insert(key(alloc, b"a", 1)?, 1)?;
-    Ok(rows)
+/// Gives the key with the text `a` the number 1.
+fn push_row(alloc: Global, rows: &mut HashMap<MetricKey, u32>) -> Result<(), AllocError> {
+    let key = key(alloc, b"a", 1)?;
+    rows.insert(key, 1)?;
+    Ok(())
 }
 
 /// What stands in a map under a key with this text, or 0.
@@ -84,12 +84,16 @@ fn number_of(
     text: &[u8],
 ) -> Result<u32, AllocError> {
     let key = key(alloc, text, 1)?;
-    Ok(rows.get(&key).copied().unwrap_or(0))
+    Ok(match rows.get(&key) {
+        Some(number) => *number,
+        None => 0,
+    })
 }
 
 /// What is found under a key with this text, where only a key with the text `a` has a number.
 fn found(alloc: Global, text: &[u8]) -> Result<u32, AllocError> {
-    let rows = rows(alloc)?;
+    let mut rows = HashMap::new(alloc);
+    push_row(alloc, &mut rows)?;
     number_of(alloc, &rows, text)
 }
 
@@ -111,10 +115,15 @@ fn is_copied(alloc: Global, key: &MetricKey) -> Result<bool, AllocError> {
     Ok(copy == *key)
 }
 
+/// Whether a key and its dimensions alone are copied whole.
+fn are_both_copied(alloc: Global, key: &MetricKey) -> bool {
+    is_copied(alloc, key) == Ok(true) && are_dims_copied(alloc, &key.dims) == Ok(true)
+}
+
 /// Whether the key with each form so many times has this many leaves, and it and its dimensions are copied whole.
 fn are_copies_whole(alloc: Global, times: usize, leaves: usize) -> Result<bool, AllocError> {
     let key = key(alloc, b"a", times)?;
-    Ok(key.dims.len() == leaves && is_copied(alloc, &key)? && are_dims_copied(alloc, &key.dims)?)
+    Ok(key.dims.len() == leaves && are_both_copied(alloc, &key))
 }
 
 #[test]

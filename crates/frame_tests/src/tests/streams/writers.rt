@@ -1,5 +1,5 @@
 //! Writers of std as sinks.
-use sd_io::{Sink, StdSink, WriteFailed};
+use sd_io::{Sink, StdSink};
 use std::alloc::{AllocError, Global};
 use std::io;
 use std::io::{ErrorKind, Write};
@@ -61,19 +61,14 @@ impl Write for Scripted<'_> {
     }
 }
 
-/// What is put, a piece after the other.
-const PIECES: &[&[u8]] = &[b"abc", b"", b"de", b"", b"f"];
-
-/// Whether each piece's put is fine or fails so.
+/// Whether the puts of `abc`, of nothing, of `de`, of nothing and of `f` are fine or fail so.
 fn puts_as(writer: &mut Scripted, answers: &[bool; 5]) -> bool {
     let mut sink = StdSink::new(writer);
-    for (&piece, &is_fine) in PIECES.iter().zip(answers) {
-        let answer = if is_fine { Ok(()) } else { Err(WriteFailed) };
-        if sink.put(piece) != answer {
-            return false;
-        }
-    }
-    true
+    sink.put(b"abc").is_ok() == answers[0]
+        && sink.put(b"").is_ok() == answers[1]
+        && sink.put(b"de").is_ok() == answers[2]
+        && sink.put(b"").is_ok() == answers[3]
+        && sink.put(b"f").is_ok() == answers[4]
 }
 
 /// Whether the puts of the pieces answer so, and then these bytes are written.
@@ -187,18 +182,21 @@ fn writes_large(alloc: Global, count: usize, most: usize) -> Result<bool, AllocE
     Ok(takes_whole(&mut writer, piece.as_slice()) && writer.bytes == piece)
 }
 
+/// The lengths of pieces, and how many bytes a call takes at most.
+const LARGE: &[(usize, usize)] = &[
+    (4_097, usize::MAX),
+    (65_537, usize::MAX),
+    (200_000, usize::MAX),
+    (200_000, 4_096),
+    (70_000, 1),
+];
+
 #[test]
 fn writes_a_large_piece(rt: HostRuntime) {
-    for (count, most) in [
-        (4_097, usize::MAX),
-        (65_537, usize::MAX),
-        (200_000, usize::MAX),
-        (200_000, 4_096),
-        (70_000, 1),
-    ] {
+    for &(count, most) in LARGE {
         assert!(rt;
             writes_large(rt.alloc(), count, most) == Ok(true),
-            "at {count}"
+            "at {count}, {most}"
         );
     }
 }

@@ -1,15 +1,20 @@
 //! What payloads are read as: the atom, as it is printed.
 use super::payloads::EACH_KIND;
-use atom_record::parse_atom;
+use atom_record::{Atom, parse_atom};
 use std::alloc::{AllocError, Global};
 
-/// Whether a payload is read as the atom that is printed so.
-fn reads_as(alloc: Global, payload: &[u8], text: &str) -> Result<bool, AllocError> {
-    let Ok(atom) = parse_atom(alloc, payload) else {
-        return Ok(false);
-    };
+/// Whether an atom is printed so.
+fn prints_as(alloc: Global, atom: &Atom, text: &str) -> Result<bool, AllocError> {
     let printed = format!(in alloc; "{atom:?}")?;
     Ok(printed.as_str() == text)
+}
+
+/// Whether a payload is read as the atom that is printed so.
+fn reads_as(alloc: Global, payload: &[u8], text: &str) -> bool {
+    match parse_atom(alloc, payload) {
+        Ok(atom) => prints_as(alloc, &atom, text) == Ok(true),
+        Err(_) => false,
+    }
 }
 
 /// The atom of `EACH_KIND`.
@@ -57,9 +62,6 @@ const ROWS: &[(&[u8], &str)] = &[
 #[test]
 fn reads_each_kind_of_value(rt: HostRuntime) {
     for &(payload, text) in ROWS {
-        assert!(rt;
-            reads_as(rt.alloc(), payload, text) == Ok(true),
-            "at {payload:?}"
-        );
+        assert!(rt; reads_as(rt.alloc(), payload, text), "at {payload:?}");
     }
 }

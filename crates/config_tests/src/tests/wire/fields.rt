@@ -1,13 +1,12 @@
 //! Fields and numbers as they are read and written.
-ghost use Rattle.std.specs.Prelude.{◌<◌, ◌^◌, length};
-
 use proto_wire::{Body, Field, Records, Writer, varint_of};
-use std::test::*;
+use std::alloc::{AllocError, Global};
 
 /// Whether the bytes are one record, which holds this number as a varint.
-fn holds(bytes: &[u8], number: u64) -> bool
-    requires { length bytes.now < 2 ^ 16 }
-{
+fn holds(bytes: &[u8], number: u64) -> bool {
+    if bytes.len() > 100 {
+        return false;
+    }
     let mut records = Records::new(bytes, 0, 0);
     let is_so = match records.next() {
         Ok(Some(field)) => field.body == Body::Varint(number),
@@ -29,16 +28,19 @@ const NUMBERS: &[(&[u8], u64)] = &[
 
 #[test]
 fn reads_numbers_as_they_may_be_written(rt: HostRuntime) {
-    for (at, &(bytes, number)) in NUMBERS.iter().enumerate() {
-        assert!(rt; bytes.len() < 100);
-        assert!(rt; holds(bytes, number), "at row {at}");
+    for &(bytes, number) in NUMBERS {
+        assert!(rt; holds(bytes, number), "at {bytes:?}");
     }
 }
 
 #[test]
 fn reads_a_packed_payload_number_by_number(rt: HostRuntime) {
+    let is_read = match varint_of(5, b"\xac\x02\x81") {
+        Ok((number, rest)) => number == 300 && rest == b"\x81".as_slice(),
+        Err(_) => false,
+    };
+    assert!(rt; is_read);
     // The record of the payload is at fault.
-    assert!(rt; varint_of(5, b"\xac\x02\x81") == Ok((300, b"\x81".as_slice())));
     let is_cut = match varint_of(5, b"\x81") {
         Ok(_) => false,
         Err(fault) => fault.offset == 5 && fault.cause == 2,
@@ -61,43 +63,73 @@ const SAMPLE: [u8; 63] = [
     0x01, 0x12, 0x02, 0x61, 0x62, 0x1b, 0x08, 0x01, 0x1c, 0x34, 0xfa, 0x7f, 0x02, 0x00, 0xff,
 ];
 
+/// The fields of the sample: their numbers, where they and their payloads begin, and what they hold.
+const FIELDS: &[(u32, u32, u32, Body<'static>)] = &[
+    (1, 0, 1, Body::Varint(3_600_000_000_000)),
+    (2, 7, 8, Body::Varint(u64::MAX - 1)),
+    (3, 18, 19, Body::Fixed32(0x0102_0304)),
+    (4, 23, 24, Body::Fixed64(0x0102_0304_0506_0708)),
+    (5, 32, 34, Body::Bytes(b"\x01\xac\x02")),
+    (
+        6,
+        37,
+        38,
+        Body::Group(b"\x08\xff\xff\xff\xff\xff\xff\xff\xff\xff\x01\x12\x02ab\x1b\x08\x01\x1c"),
+    ),
+    (2047, 58, 61, Body::Bytes(b"\x00\xff")),
+];
+
+/// Whether the next record is this field.
+fn gives(records: &mut Records, field: Field) -> bool {
+    records.next() == Ok(Some(field))
+}
+
 #[test]
 fn reads_what_protoc_wrote(rt: HostRuntime) {
-    let rows = [
-        (1, 0, 1, Body::Varint(3_600_000_000_000)),
-        (2, 7, 8, Body::Varint(u64::MAX - 1)),
-        (3, 18, 19, Body::Fixed32(0x0102_0304)),
-        (4, 23, 24, Body::Fixed64(0x0102_0304_0506_0708)),
-        (5, 32, 34, Body::Bytes(b"\x01\xac\x02")),
-        (6, 37, 38, Body::Group(&SAMPLE[38..57])),
-        (2047, 58, 61, Body::Bytes(b"\x00\xff")),
-    ];
     let mut records = Records::new(&SAMPLE, 0, 0);
-    for (number, at, payload_at, body) in rows {
+    for &(number, at, payload_at, body) in FIELDS {
         let field = Field {
             number,
             at,
             payload_at,
             body,
         };
-        assert!(rt; records.next() == Ok(Some(field)), "at {at}");
+        assert!(rt; gives(&mut records, field), "at {at}");
     }
     assert!(rt; records.next() == Ok(None));
 }
 
-#[test]
-fn writes_the_shortest_bytes(rt: HostRuntime) -> Result<(), Fail> {
-    let mut writer = Writer::new(rt.alloc());
+/// Writes the first three fields of the sample.
+fn put_numbers(writer: &mut Writer) -> Result<(), AllocError> {
     writer.varint_field(1, 3_600_000_000_000)?;
     writer.varint_field(2, u64::MAX - 1)?;
-    writer.fixed32_field(3, 0x0102_0304)?;
-    assert!(rt; writer.into_bytes().as_slice() == &SAMPLE[..23]);
+    writer.fixed32_field(3, 0x0102_0304)
+}
 
-    let mut writer = Writer::new(rt.alloc());
+/// Whether they are written as the front of the sample.
+fn writes_numbers(alloc: Global) -> bool {
+    let mut writer = Writer::new(alloc);
+    let put = put_numbers(&mut writer);
+    let written = writer.into_bytes();
+    put == Ok(()) && written.as_slice() == &SAMPLE[..23]
+}
+
+/// Writes two fields of bytes.
+fn put_bytes(writer: &mut Writer) -> Result<(), AllocError> {
     writer.bytes_field(5, b"\x01\xac\x02")?;
-    writer.bytes_field(2047, b"\x00\xff")?;
-    assert!(rt;
-        writer.into_bytes().as_slice() == b"\x2a\x03\x01\xac\x02\xfa\x7f\x02\x00\xff".as_slice()
-    );
-    Ok(())
+    writer.bytes_field(2047, b"\x00\xff")
+}
+
+/// Whether they are written as these bytes.
+fn writes_bytes(alloc: Global, bytes: &[u8]) -> bool {
+    let mut writer = Writer::new(alloc);
+    let put = put_bytes(&mut writer);
+    let written = writer.into_bytes();
+    put == Ok(()) && written.as_slice() == bytes
+}
+
+#[test]
+fn writes_the_shortest_bytes(rt: HostRuntime) {
+    assert!(rt; writes_numbers(rt.alloc()));
+    assert!(rt; writes_bytes(rt.alloc(), b"\x2a\x03\x01\xac\x02\xfa\x7f\x02\x00\xff"));
 }

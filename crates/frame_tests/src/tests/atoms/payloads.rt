@@ -19,8 +19,8 @@ fn assert_reasons(rt: &impl Abort, alloc: Global, rows: &[(&[u8], u8)]) {
     }
 }
 
-/// Payloads of an atom with the id 5, and the numbers of their reasons.
-const ENTRIES: &[(&[u8], u8)] = &[
+/// Ids, places and types, and the numbers of the reasons for which the payloads are refused.
+const PLACES: &[(&[u8], u8)] = &[
     (b"\x05\0\0\0", 0),
     // Fields, indexes and subs at their edges.
     (b"\x05\0\0\0\x00\0\0\0\x03\0", 4),
@@ -42,6 +42,24 @@ const ENTRIES: &[(&[u8], u8)] = &[
     (b"\x05\0\0\0\x01\0\0\0\x07", 6),
     (b"\x05\0\0\0\x01\0\0\0\x03\x01", 0),
     (b"\x05\0\0\0\x01\0\0\0\x03\x02", 6),
+    // Other ids, and none that is whole.
+    (b"", 2),
+    (b"\x05\0\0", 2),
+    (b"\0\0\0\0", 2),
+    (b"\0\0\0\0\0", 2),
+    (b"\x01\0\0\0", 0),
+    (b"\xff\xff\xff\x7f", 0),
+    (b"\0\0\0\x80", 2),
+    (b"\x05\0\0\0\0", 3),
+];
+
+#[test]
+fn refuses_ids_places_and_types(rt: HostRuntime) {
+    assert_reasons(&rt, rt.alloc(), PLACES);
+}
+
+/// Flags, ends inside an entry, and payloads for which two reasons stand.
+const ENTRIES: &[(&[u8], u8)] = &[
     // Flags: all of a state, an unknown one, two states, others beside a state, states that may be none, and resets.
     (b"\x05\0\0\0\x01\0\0\x07\x01\0\0\0\0", 0),
     (b"\x05\0\0\0\x01\0\0\x08\x01\0\0\0\0", 7),
@@ -83,43 +101,37 @@ const ENTRIES: &[(&[u8], u8)] = &[
     (b"\x05\0\0\0\x01\0\0\x08\x03\x02", 7),
 ];
 
-/// Payloads with other ids, or without a whole one.
-const IDS: &[(&[u8], u8)] = &[
-    (b"", 2),
-    (b"\x05\0\0", 2),
-    (b"\0\0\0\0", 2),
-    (b"\0\0\0\0\0", 2),
-    (b"\x01\0\0\0", 0),
-    (b"\xff\xff\xff\x7f", 0),
-    (b"\0\0\0\x80", 2),
-    (b"\x05\0\0\0\0", 3),
-];
-
 #[test]
 fn refuses_for_the_first_reason(rt: HostRuntime) {
     assert_reasons(&rt, rt.alloc(), ENTRIES);
 }
 
-#[test]
-fn refuses_ids_out_of_range(rt: HostRuntime) {
-    assert_reasons(&rt, rt.alloc(), IDS);
+/// Adds sevens up to this length.
+fn fill(bytes: &mut Vec<u8>, len: usize) -> Result<(), AllocError> {
+    for _ in bytes.len()..len {
+        bytes.push(7)?;
+    }
+    Ok(())
 }
 
 /// These bytes, and then sevens, up to this length.
 pub fn filled(alloc: Global, front: &[u8], len: usize) -> Result<Vec<u8>, AllocError> {
     let mut bytes = Vec::from_slice(alloc, front)?;
-    for _ in front.len()..len {
-        bytes.push(7)?;
-    }
+    fill(&mut bytes, len)?;
     Ok(bytes)
+}
+
+/// Whether a payload of 4,096 bytes is read, and with one byte more is too long.
+fn is_longest(alloc: Global, payload: &mut Vec<u8>) -> Result<bool, AllocError> {
+    let is_read = payload.len() == 4096 && reason_of(alloc, payload) == 0;
+    payload.push(7)?;
+    Ok(is_read && reason_of(alloc, payload) == 1)
 }
 
 /// Whether a payload that goes on from here up to 4,096 bytes is read, and one of 4,097 bytes is too long.
 fn reads_4096_from(alloc: Global, front: &[u8]) -> Result<bool, AllocError> {
     let mut payload = filled(alloc, front, 4096)?;
-    let is_read = payload.len() == 4096 && reason_of(alloc, &payload) == 0;
-    payload.push(7)?;
-    Ok(is_read && reason_of(alloc, &payload) == 1)
+    is_longest(alloc, &mut payload)
 }
 
 #[test]

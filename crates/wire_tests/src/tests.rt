@@ -1,3 +1,0 @@
-//! Faults with their causes, fields and numbers, all worked by hand or written by protoc.
-mod faults;
-mod fields;
