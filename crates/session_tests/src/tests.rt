@@ -15,6 +15,7 @@ mod matchers;
 mod messages;
 mod notes;
 mod parts;
+mod replays;
 mod run;
 mod std_streams;
 mod streams;

@@ -1,9 +1,7 @@
 //! Counts by key in buckets of a second: which keys a bucket takes, and where it ends.
-use super::run::assert_replay;
-use std::test::Fail;
+use super::replays::Replay;
 
-/// A name, a session and the replies to it. All end with the status 0.
-const ROWS: [(&str, &str, &str); 4] = [
+pub const ROWS: &[Replay] = &[
     (
         "the third key of a bucket that takes two is turned away twice",
         "install-two-keys abcac tick-1s report",
@@ -42,11 +40,3 @@ const ROWS: [(&str, &str, &str); 4] = [
             1a0e_088094ebdc03_1080a8d6b907_1802_22021807 4800_508094ebdc03_1800_2081a8d6b907",
     ),
 ];
-
-#[test]
-fn counts_by_key_in_buckets(rt: HostRuntime) -> Result<(), Fail> {
-    for (name, session, replies) in ROWS {
-        assert_replay(&rt, name, session, 0, replies, "")?;
-    }
-    Ok(())
-}

@@ -1,13 +1,13 @@
 //! The word `check`: a configuration, its line, the status and the note.
 use super::parts::bytes_of;
-use super::run::{AMPLE, SOUND, Streams, assert_left, run};
+use super::run::{Left, SOUND, Streams, leaves};
+use std::alloc::{AllocError, Global};
 use std::process::Abort;
-use std::test::Fail;
 
 const REFUSED: &str = "statsd: configuration refused\n";
 
 /// A name, a configuration, the status, the line and the note.
-const ROWS: [(&str, &str, u8, &str, &str); 7] = [
+const ROWS: &[(&str, &str, u8, &str, &str)] = &[
     ("a count", "config", 0, "ok 1 0 0 1\n", ""),
     ("nothing", "", 0, "ok 0 0 0 0\n", ""),
     (
@@ -48,14 +48,13 @@ const ROWS: [(&str, &str, u8, &str, &str); 7] = [
 ];
 
 #[test]
-fn tells_what_is_found(rt: HostRuntime) -> Result<(), Fail> {
-    for (name, config, status, line, note) in ROWS {
-        assert_check(&rt, name, config, SOUND, status, line, note)?;
+fn tells_what_is_found(rt: HostRuntime) {
+    for &(name, config, status, line, note) in ROWS {
+        assert_check(&rt, name, config, SOUND, status, line, note);
     }
-    Ok(())
 }
 
-/// Runs `check` on the configuration of a text, and asserts what that left.
+/// Asserts what `check` leaves of the configuration of a text: of the line and of the note what there is room for.
 fn assert_check<R: Abort + AllocGlobal>(
     rt: &R,
     name: &str,
@@ -64,15 +63,29 @@ fn assert_check<R: Abort + AllocGlobal>(
     status: u8,
     line: &str,
     note: &str,
-) -> Result<(), Fail> {
-    let config = bytes_of(rt.alloc(), config)?;
-    let outcome = run(rt.alloc(), "check", config, streams)?;
-    assert_left(rt, name, &outcome, status, line.as_bytes(), note);
-    Ok(())
+) {
+    let left = Left {
+        status,
+        replies: line.as_bytes(),
+        note,
+    };
+    assert!(rt;
+        is_checked(rt.alloc(), config, &streams, &left) == Ok(true),
+        "at {name}"
+    );
+}
+
+fn is_checked(
+    alloc: Global,
+    config: &str,
+    streams: &Streams,
+    left: &Left,
+) -> Result<bool, AllocError> {
+    leaves(alloc, "check", bytes_of(alloc, config)?, streams, left)
 }
 
 #[test]
-fn tells_nothing_where_a_read_fails(rt: HostRuntime) -> Result<(), Fail> {
+fn tells_nothing_where_a_read_fails(rt: HostRuntime) {
     // A byte a call, and the call that gives none.
     for call in 0..15 {
         let streams = Streams {
@@ -88,23 +101,21 @@ fn tells_nothing_where_a_read_fails(rt: HostRuntime) -> Result<(), Fail> {
             4,
             "",
             "statsd: read fault\n",
-        )?;
+        );
     }
-    Ok(())
 }
 
 /// A configuration that is sound and one that is refused, and their lines. Where the line isn't written whole, the
 /// status says so, and not what was found.
-const LINES: [(&str, &str); 2] = [
+const LINES: &[(&str, &str)] = &[
     ("config", "ok 1 0 0 1\n"),
     ("3a0808011a0408031001", "refused link 7 0 1\n"),
 ];
 
 #[test]
-fn writes_what_there_is_room_for(rt: HostRuntime) -> Result<(), Fail> {
-    for (config, line) in LINES {
+fn writes_what_there_is_room_for(rt: HostRuntime) {
+    for &(config, line) in LINES {
         for room in 0..line.len() {
-            let front = line.get(..room).unwrap_or_default();
             let streams = Streams { room, ..SOUND };
             assert_check(
                 &rt,
@@ -112,32 +123,18 @@ fn writes_what_there_is_room_for(rt: HostRuntime) -> Result<(), Fail> {
                 config,
                 streams,
                 5,
-                front,
+                line,
                 "statsd: write fault\n",
-            )?;
+            );
         }
     }
-    Ok(())
 }
 
 #[test]
-fn keeps_its_status_where_the_note_fails(rt: HostRuntime) -> Result<(), Fail> {
+fn keeps_its_status_where_the_note_fails(rt: HostRuntime) {
     for note_room in [0, 1, 29] {
-        let streams = Streams {
-            note_room,
-            room: AMPLE,
-            ..SOUND
-        };
-        let front = REFUSED.get(..note_room).unwrap_or_default();
-        assert_check(
-            &rt,
-            "a note",
-            "8a0100",
-            streams,
-            1,
-            "refused unsupported 17\n",
-            front,
-        )?;
+        let streams = Streams { note_room, ..SOUND };
+        let line = "refused unsupported 17\n";
+        assert_check(&rt, "a note", "8a0100", streams, 1, line, REFUSED);
     }
-    Ok(())
 }

@@ -1,9 +1,7 @@
 //! Clients beside each other, clients that have ten configurations, and installs that are refused.
-use super::run::assert_replay;
-use std::test::Fail;
+use super::replays::Replay;
 
-/// A name, a session and the replies to it. All end with the status 0.
-const ROWS: [(&str, &str, &str); 10] = [
+pub const ROWS: &[Replay] = &[
     // The clients 20 and 30 have the same id. The client 30 counts the atoms of the id 6.
     (
         "a client beside two others, of which one removes its configuration",
@@ -66,11 +64,3 @@ const ROWS: [(&str, &str, &str); 10] = [
         "ten-installed replaced eleventh-full two-by-3",
     ),
 ];
-
-#[test]
-fn clients_have_ten_each(rt: HostRuntime) -> Result<(), Fail> {
-    for (name, session, replies) in ROWS {
-        assert_replay(&rt, name, session, 0, replies, "")?;
-    }
-    Ok(())
-}

@@ -1,9 +1,7 @@
 //! What commands are answered, and what reports show.
-use super::run::assert_replay;
-use std::test::Fail;
+use super::replays::Replay;
 
-/// A name, a session and the replies to it. All end with the status 0.
-const ROWS: [(&str, &str, &str); 21] = [
+pub const ROWS: &[Replay] = &[
     ("no frame", "", ""),
     ("a report with no configuration", "report", "no-config"),
     (
@@ -106,11 +104,3 @@ const ROWS: [(&str, &str, &str); 21] = [
         "installed unsupported two-by-3",
     ),
 ];
-
-#[test]
-fn answers_commands(rt: HostRuntime) -> Result<(), Fail> {
-    for (name, session, replies) in ROWS {
-        assert_replay(&rt, name, session, 0, replies, "")?;
-    }
-    Ok(())
-}

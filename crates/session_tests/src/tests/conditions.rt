@@ -1,9 +1,7 @@
 //! Conditions: what a metric counts under predicates, whose keys are started and stopped by atoms, in three values.
-use super::run::assert_replay;
-use std::test::Fail;
+use super::replays::Replay;
 
-/// A name, a session and the replies to it. All end with the status 0.
-const ROWS: [(&str, &str, &str); 14] = [
+pub const ROWS: &[Replay] = &[
     (
         "two starts and a stop leave a predicate on",
         "37000000_10 own 3a06080112020805 3a06080212020806 3a06080312020807 4208080b120408011002 \
@@ -138,11 +136,3 @@ const ROWS: [(&str, &str, &str); 14] = [
         "installed 2800000000000000_06 own owner 12130a0d08642a0048005080c0e285e36818002002",
     ),
 ];
-
-#[test]
-fn counts_under_conditions(rt: HostRuntime) -> Result<(), Fail> {
-    for (name, session, replies) in ROWS {
-        assert_replay(&rt, name, session, 0, replies, "")?;
-    }
-    Ok(())
-}

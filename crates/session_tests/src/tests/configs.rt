@@ -1,9 +1,7 @@
 //! Which configurations are accepted, and what they then count; why others are refused.
-use super::run::assert_replay;
-use std::test::Fail;
+use super::replays::Replay;
 
-/// A name, a session and the replies to it. All end with the status 0.
-const ROWS: [(&str, &str, &str); 28] = [
+pub const ROWS: &[Replay] = &[
     (
         "the atom's id 5 as a varint of three bytes",
         "1d000000_10 own 3a0808011204088580001a0408641001 atom2 cut",
@@ -149,11 +147,3 @@ const ROWS: [(&str, &str, &str); 28] = [
         "1700000000000000_03 own 0302_04000000_ea030000 no-config",
     ),
 ];
-
-#[test]
-fn accepts_or_refuses_configurations(rt: HostRuntime) -> Result<(), Fail> {
-    for (name, session, replies) in ROWS {
-        assert_replay(&rt, name, session, 0, replies, "")?;
-    }
-    Ok(())
-}

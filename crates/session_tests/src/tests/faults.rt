@@ -1,11 +1,9 @@
 //! Sessions with a fault: the replies before it, and the note.
-use super::parts::bytes_of;
-use super::run::{SOUND, assert_left, assert_replay, run};
+use super::run::{Run, SOUND, Streams, assert_replay, assert_run};
 use std::process::Abort;
-use std::test::Fail;
 
 /// A name, a session, the replies to it, and the note. All end with the status 3.
-const ROWS: [(&str, &str, &str, &str); 14] = [
+const ROWS: &[(&str, &str, &str, &str)] = &[
     (
         "three bytes of a length",
         "report 0e0000",
@@ -90,18 +88,30 @@ const ROWS: [(&str, &str, &str, &str); 14] = [
         "no-config",
         "statsd: bad session at 35: 5 bad body 4\n",
     ),
+    // One more than may be.
+    (
+        "an atom of 4097 bytes",
+        "0a100000_02_0000000000000000_05000000_0100000005f60f 00*4086 report",
+        "",
+        "statsd: bad session at 0: 6 bad atom 1\n",
+    ),
+    (
+        "a pull of 201 atoms",
+        "c6040000_03_0000000000000000_11270000_00c900 040011270000*201 report",
+        "",
+        "statsd: bad session at 0: 5 bad body 5\n",
+    ),
 ];
 
 #[test]
-fn ends_at_the_first_fault(rt: HostRuntime) -> Result<(), Fail> {
+fn ends_at_the_first_fault(rt: HostRuntime) {
     for (name, session, replies, note) in ROWS {
-        assert_replay(&rt, name, session, 3, replies, note)?;
+        assert_replay(&rt, name, session, 3, replies, note);
     }
-    Ok(())
 }
 
 /// Where a frame begins and where the next one does, the replies to the frames before, and the note of a cut between.
-const CUTS: [(usize, usize, &str, &str); 4] = [
+const CUTS: &[(usize, usize, &str, &str)] = &[
     (0, 31, "", "statsd: bad session at 0: 1 cut\n"),
     (31, 48, "installed", "statsd: bad session at 31: 1 cut\n"),
     (48, 65, "installed", "statsd: bad session at 48: 1 cut\n"),
@@ -109,28 +119,24 @@ const CUTS: [(usize, usize, &str, &str); 4] = [
 ];
 
 #[test]
-fn answers_the_frames_before_a_cut(rt: HostRuntime) -> Result<(), Fail> {
-    for (start, end, replies, note) in CUTS {
-        assert_front(&rt, start, 0, replies, "")?;
+fn answers_the_frames_before_a_cut(rt: HostRuntime) {
+    for &(start, end, replies, note) in CUTS {
+        assert_front(&rt, start, 0, replies, "");
         for len in start + 1..end {
-            assert_front(&rt, len, 3, replies, note)?;
+            assert_front(&rt, len, 3, replies, note);
         }
     }
-    Ok(())
 }
 
-/// Runs the first bytes of a session of four frames, and asserts what that left.
-fn assert_front<R: Abort + AllocGlobal>(
-    rt: &R,
-    len: usize,
-    status: u8,
-    replies: &str,
-    note: &str,
-) -> Result<(), Fail> {
-    let mut session = bytes_of(rt.alloc(), "install atom2 atom3 cut")?;
-    session.truncate(len);
-    let replies = bytes_of(rt.alloc(), replies)?;
-    let outcome = run(rt.alloc(), "replay", session, SOUND)?;
-    assert_left(rt, note, &outcome, status, replies.as_slice(), note);
-    Ok(())
+/// Asserts what is left of the first bytes of a session of four frames.
+fn assert_front<R: Abort + AllocGlobal>(rt: &R, len: usize, status: u8, replies: &str, note: &str) {
+    let row = Run {
+        words: "replay",
+        session: "install atom2 atom3 cut",
+        streams: Streams { len, ..SOUND },
+        status,
+        replies,
+        note,
+    };
+    assert_run(rt, "a front", &row);
 }

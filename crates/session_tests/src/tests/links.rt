@@ -1,10 +1,8 @@
 //! Configurations whose references have a fault: the number, the reason or the kind, and the value. The client has no
 //! configuration afterwards.
-use super::run::assert_replay;
-use std::test::Fail;
+use super::replays::Replay;
 
-/// A name, a session and the replies to it. All end with the status 0.
-const ROWS: [(&str, &str, &str); 15] = [
+pub const ROWS: &[Replay] = &[
     (
         "1: a bound of 0",
         "1e000000_10 own matcher 1a0708641001c83e00 report",
@@ -82,11 +80,3 @@ const ROWS: [(&str, &str, &str); 15] = [
         "unlinked 0913_0500000000000000 no-config",
     ),
 ];
-
-#[test]
-fn refuses_by_the_first_fault(rt: HostRuntime) -> Result<(), Fail> {
-    for (name, session, replies) in ROWS {
-        assert_replay(&rt, name, session, 0, replies, "")?;
-    }
-    Ok(())
-}

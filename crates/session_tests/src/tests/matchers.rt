@@ -1,9 +1,7 @@
 //! Which atoms a metric counts: combinations of matchers, tests of a tuple, numbers that are packed or not.
-use super::run::assert_replay;
-use std::test::Fail;
+use super::replays::Replay;
 
-/// A name, a session and the replies to it. All end with the status 0.
-const ROWS: [(&str, &str, &str); 4] = [
+pub const ROWS: &[Replay] = &[
     (
         "all but the value 3, which are another value and an atom of another id",
         "2b000000_10 own 3a0c080112080805120408012803 3a0808031a0408031001 1a0408641003 three1 four2 other3 cut",
@@ -29,11 +27,3 @@ const ROWS: [(&str, &str, &str); 4] = [
         "installed by-value",
     ),
 ];
-
-#[test]
-fn counts_what_its_matcher_means(rt: HostRuntime) -> Result<(), Fail> {
-    for (name, session, replies) in ROWS {
-        assert_replay(&rt, name, session, 0, replies, "")?;
-    }
-    Ok(())
-}

@@ -4,10 +4,7 @@ use std::alloc::AllocError;
 /// Puts a number as a varint.
 pub fn push_varint(bytes: &mut Vec<u8>, number: u64) -> Result<(), AllocError> {
     let mut left = number;
-    for _ in 0..10 {
-        if left < 128 {
-            break;
-        }
+    for _ in 1..len_of(number) {
         bytes.push((left & 127) as u8 | 128)?;
         left >>= 7;
     }
@@ -15,9 +12,10 @@ pub fn push_varint(bytes: &mut Vec<u8>, number: u64) -> Result<(), AllocError> {
     Ok(())
 }
 
-/// Puts a message after its tag and its length.
-pub fn push_message(bytes: &mut Vec<u8>, tag: &[u8], message: &[u8]) -> Result<(), AllocError> {
-    bytes.extend_from_slice(tag)?;
-    push_varint(bytes, message.len() as u64)?;
-    bytes.extend_from_slice(message)
+/// How many bytes a number takes as a varint.
+pub fn len_of(number: u64) -> u64 {
+    match number.checked_ilog2() {
+        Some(log) => u64::from(log / 7) + 1,
+        None => 1,
+    }
 }

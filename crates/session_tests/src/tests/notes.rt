@@ -2,10 +2,10 @@
 use sd_io::{MemSink, WriteFailed};
 use session_frames::SessionFault;
 use statsd_cli::{Note, write_note};
+use std::alloc::Global;
 use std::process::Abort;
-use std::test::Fail;
 
-const PLAIN: [(Note, &str); 5] = [
+const LINES: &[(Note, &str)] = &[
     (
         Note::Usage,
         "statsd: usage: replay | check | load SEED FRAMES\n",
@@ -17,7 +17,7 @@ const PLAIN: [(Note, &str); 5] = [
 ];
 
 /// Where a frame with a fault begins, the fault, and the line.
-const FAULTS: [(u64, SessionFault, &str); 9] = [
+const FAULTS: &[(u64, SessionFault, &str)] = &[
     (
         0,
         SessionFault::TimeBackwards(u64::MAX, u64::MAX),
@@ -66,35 +66,40 @@ const FAULTS: [(u64, SessionFault, &str); 9] = [
 ];
 
 #[test]
-fn writes_each_line_or_a_front_of_it(rt: HostRuntime) -> Result<(), Fail> {
-    for (note, line) in PLAIN {
-        assert_line(&rt, &note, line)?;
+fn writes_each_line_or_a_front_of_it(rt: HostRuntime) {
+    for (note, line) in LINES {
+        assert_line(&rt, note, line);
     }
-    for (at, fault, line) in FAULTS {
-        assert_line(&rt, &Note::BadSession { at, fault }, line)?;
+    for &(at, fault, line) in FAULTS {
+        assert_line(&rt, &Note::BadSession { at, fault }, line);
     }
-    Ok(())
 }
 
 /// Asserts that a note is this line, and in less room the front that the room takes.
-fn assert_line<R: Abort + AllocGlobal>(rt: &R, note: &Note, line: &str) -> Result<(), Fail> {
-    assert_written(rt, note, 128, Ok(()), line.as_bytes())?;
+fn assert_line<R: Abort + AllocGlobal>(rt: &R, note: &Note, line: &str) {
+    assert!(rt;
+        writes(rt.alloc(), note, 128, Ok(()), line.as_bytes()),
+        "at {line}"
+    );
     for room in 0..line.len() {
         let front = line.as_bytes().get(..room).unwrap_or_default();
-        assert_written(rt, note, room, Err(WriteFailed), front)?;
+        assert!(rt;
+            writes(rt.alloc(), note, room, Err(WriteFailed), front),
+            "at {room} of {line}"
+        );
     }
-    Ok(())
 }
 
-fn assert_written<R: Abort + AllocGlobal>(
-    rt: &R,
+/// Whether a note into so much room is answered so, and leaves these bytes.
+fn writes(
+    alloc: Global,
     note: &Note,
     room: usize,
     answer: Result<(), WriteFailed>,
     bytes: &[u8],
-) -> Result<(), Fail> {
-    let mut notes = MemSink::new(rt.alloc(), room, Vec::new(rt.alloc()))?;
-    assert!(rt; write_note(note, &mut notes) == answer, "at {room}");
-    assert!(rt; notes.bytes() == bytes, "at {room}");
-    Ok(())
+) -> bool {
+    let Ok(mut notes) = MemSink::new(alloc, room, Vec::new(alloc)) else {
+        return false;
+    };
+    write_note(note, &mut notes) == answer && notes.bytes() == bytes
 }

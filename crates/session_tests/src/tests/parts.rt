@@ -15,7 +15,7 @@ pub struct Owner {
 pub const TEN: Owner = Owner { uid: 10, id: 7 };
 
 /// Frames and replies by name. The configuration counts the atoms of id 5 in the metric 100, by a matcher of id 1.
-const PARTS: [(&str, &str); 41] = [
+const PARTS: &[(&str, &str)] = &[
     ("config", "3a060801120208051a0408641001"),
     ("install", "1b000000_10 own 3a060801120208051a0408641001"),
     ("matcher", "3a06080112020805"),
@@ -161,12 +161,13 @@ pub fn push_text(bytes: &mut Vec<u8>, text: &str, owner: Owner) -> Result<(), Al
 
 /// The text of a part, or the word itself where it names none.
 fn part(word: &str) -> &str {
-    for (name, text) in &PARTS {
+    let mut meant = word;
+    for (name, text) in PARTS {
         if *name == word {
-            return text;
+            meant = text;
         }
     }
-    word
+    meant
 }
 
 fn push_word(bytes: &mut Vec<u8>, word: &str, owner: Owner) -> Result<(), AllocError> {

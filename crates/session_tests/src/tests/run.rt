@@ -5,14 +5,15 @@ use sd_io::{MemSink, MemSource};
 use statsd_cli::statsd_top;
 use std::alloc::{AllocError, Global};
 use std::process::Abort;
-use std::test::Fail;
 
-/// More bytes than any row writes.
-pub const AMPLE: usize = 65536;
+/// More bytes than any row reads or writes.
+pub const AMPLE: usize = 1 << 20;
 
 /// How the streams of a run give, take and fail.
 #[derive(Clone, Copy)]
 pub struct Streams {
+    /// The most bytes that the input has.
+    pub len: usize,
     /// The most bytes that a read gives.
     pub piece: usize,
     /// The number of the read that fails, from 0.
@@ -27,6 +28,7 @@ pub struct Streams {
 
 /// Streams that never fail.
 pub const SOUND: Streams = Streams {
+    len: usize::MAX,
     piece: AMPLE,
     failed_read: None,
     room: AMPLE,
@@ -34,20 +36,53 @@ pub const SOUND: Streams = Streams {
     note_room: AMPLE,
 };
 
-/// What a run leaves.
-#[derive(Drop)]
-pub struct Outcome {
+/// A run, and what it leaves. The words, the session and the replies are texts.
+#[derive(Clone, Copy)]
+pub struct Run<'a> {
+    pub words: &'a str,
+    pub session: &'a str,
+    pub streams: Streams,
     pub status: u8,
-    pub out: MemSink,
-    pub notes: MemSink,
+    pub replies: &'a str,
+    pub note: &'a str,
+}
+
+/// What a run should leave: of the replies and of the note those bytes that their streams have room for.
+#[derive(Clone, Copy)]
+pub struct Left<'a> {
+    pub status: u8,
+    pub replies: &'a [u8],
+    pub note: &'a str,
+}
+
+/// What a run left.
+#[derive(Drop)]
+struct Outcome {
+    status: u8,
+    out: MemSink,
+    notes: MemSink,
+}
+
+impl Outcome {
+    /// Whether a run over these streams left what it should.
+    fn is(&self, streams: &Streams, left: &Left) -> bool {
+        self.status == left.status
+            && self.out.bytes() == front(left.replies, streams.room)
+            && self.notes.bytes() == front(left.note.as_bytes(), streams.note_room)
+    }
+}
+
+/// The first bytes, at most so many.
+fn front(bytes: &[u8], room: usize) -> &[u8] {
+    bytes.get(..room).unwrap_or(bytes)
 }
 
 /// Runs the engine on the words of a text.
-pub fn run(
+fn outcome_of(
     alloc: Global,
     words: &str,
     session: Vec<u8>,
-    streams: Streams,
+    streams: &Streams,
 ) -> Result<Outcome, AllocError> {
     let words = words_of(alloc, words)?;
     let mut input = source_of(alloc, session, streams)?;
@@ -66,7 +101,12 @@ fn words_of(alloc: Global, text: &str) -> Result<Vec<Bytes>, AllocError> {
     Ok(words)
 }
 
-fn source_of(alloc: Global, session: Vec<u8>, streams: Streams) -> Result<MemSource, AllocError> {
+fn source_of(
+    alloc: Global,
+    mut session: Vec<u8>,
+    streams: &Streams,
+) -> Result<MemSource, AllocError> {
+    session.truncate(streams.len);
     let fails = listed(alloc, streams.failed_read)?;
     Ok(MemSource::new(session, streams.piece.max(1), fails))
 }
@@ -80,25 +120,45 @@ fn listed(alloc: Global, call: Option<u64>) -> Result<Vec<u64>, AllocError> {
     Ok(calls)
 }
 
-/// Asserts what a run left.
-pub fn assert_left<R: Abort + AllocGlobal>(
-    rt: &R,
-    name: &str,
-    outcome: &Outcome,
-    status: u8,
-    replies: &[u8],
-    note: &str,
-) {
-    assert!(rt;
-        outcome.status == status,
-        "status {} at {name}",
-        outcome.status
-    );
-    assert!(rt; outcome.out.bytes() == replies, "replies at {name}");
-    assert!(rt; outcome.notes.bytes() == note.as_bytes(), "note at {name}");
+/// Whether a run over a session, or a configuration, leaves what it should.
+pub fn leaves(
+    alloc: Global,
+    words: &str,
+    session: Vec<u8>,
+    streams: &Streams,
+    left: &Left,
+) -> Result<bool, AllocError> {
+    let outcome = outcome_of(alloc, words, session, streams)?;
+    Ok(outcome.is(streams, left))
 }
 
-/// Runs `replay` on the session of a text, and asserts what that left. The replies and the note are texts too.
+/// Whether `replay` answers a session with these replies and the status 0.
+pub fn answers(alloc: Global, session: Vec<u8>, replies: &[u8]) -> Result<bool, AllocError> {
+    let left = Left {
+        status: 0,
+        replies,
+        note: "",
+    };
+    leaves(alloc, "replay", session, &SOUND, &left)
+}
+
+/// Asserts what a run leaves.
+pub fn assert_run<R: Abort + AllocGlobal>(rt: &R, name: &str, row: &Run) {
+    assert!(rt; is_left(rt.alloc(), row) == Ok(true), "at {name}");
+}
+
+fn is_left(alloc: Global, row: &Run) -> Result<bool, AllocError> {
+    let replies = bytes_of(alloc, row.replies)?;
+    let left = Left {
+        status: row.status,
+        replies: replies.as_slice(),
+        note: row.note,
+    };
+    let session = bytes_of(alloc, row.session)?;
+    leaves(alloc, row.words, session, &row.streams, &left)
+}
+
+/// Asserts what `replay` leaves over streams that never fail.
 pub fn assert_replay<R: Abort + AllocGlobal>(
     rt: &R,
     name: &str,
@@ -106,23 +166,14 @@ pub fn assert_replay<R: Abort + AllocGlobal>(
     status: u8,
     replies: &str,
     note: &str,
-) -> Result<(), Fail> {
-    assert_run(rt, name, session, SOUND, status, replies, note)
-}
-
-/// The same over streams that may fail.
-pub fn assert_run<R: Abort + AllocGlobal>(
-    rt: &R,
-    name: &str,
-    session: &str,
-    streams: Streams,
-    status: u8,
-    replies: &str,
-    note: &str,
-) -> Result<(), Fail> {
-    let session = bytes_of(rt.alloc(), session)?;
-    let replies = bytes_of(rt.alloc(), replies)?;
-    let outcome = run(rt.alloc(), "replay", session, streams)?;
-    assert_left(rt, name, &outcome, status, replies.as_slice(), note);
-    Ok(())
+) {
+    let row = Run {
+        words: "replay",
+        session,
+        streams: SOUND,
+        status,
+        replies,
+        note,
+    };
+    assert_run(rt, name, &row);
 }

@@ -4,26 +4,22 @@ use super::run::AMPLE;
 use atom_record::Bytes;
 use sd_io::{MemSink, Sink, Source, StdSink, StdSource};
 use statsd_cli::statsd_top;
-use std::alloc::AllocError;
+use std::alloc::{AllocError, Global};
 use std::io;
 use std::io::{ErrorKind, Read, Write};
-use std::process::Abort;
-use std::test::Fail;
 
-/// Runs `replay` over these, and asserts the status and the note.
-fn assert_status<R: Abort + AllocGlobal, S: Source, K: Sink>(
-    rt: &R,
+/// Whether `replay` over these ends with this status and this note.
+fn ends_with<S: Source, K: Sink>(
+    alloc: Global,
     input: &mut S,
     out: &mut K,
     status: u8,
     note: &str,
-) -> Result<(), Fail> {
-    let mut notes = MemSink::new(rt.alloc(), AMPLE, Vec::new(rt.alloc()))?;
-    let words = [Bytes::from_slice(rt.alloc(), b"replay")?];
-    let ended = statsd_top(rt.alloc(), &words, input, out, &mut notes);
-    assert!(rt; ended == status, "status {status}");
-    assert!(rt; notes.bytes() == note.as_bytes(), "note {note}");
-    Ok(())
+) -> Result<bool, AllocError> {
+    let words = [Bytes::from_slice(alloc, b"replay")?];
+    let mut notes = MemSink::new(alloc, AMPLE, Vec::new(alloc))?;
+    let ended = statsd_top(alloc, &words, input, out, &mut notes);
+    Ok(ended == status && notes.bytes() == note.as_bytes())
 }
 
 /// Gives its bytes one a call, and then fails.
@@ -45,13 +41,16 @@ impl Read for Failing<'_> {
 }
 
 #[test]
-fn answers_nothing_where_the_reader_fails(rt: HostRuntime) -> Result<(), Fail> {
-    let session = bytes_of(rt.alloc(), "install atom2")?;
+fn answers_nothing_where_the_reader_fails(rt: HostRuntime) {
+    assert!(rt; answers_nothing(rt.alloc()) == Ok(true));
+}
+
+fn answers_nothing(alloc: Global) -> Result<bool, AllocError> {
+    let session = bytes_of(alloc, "install atom2")?;
     let mut input = StdSource::new(Failing(session.as_slice()));
-    let mut out = MemSink::new(rt.alloc(), AMPLE, Vec::new(rt.alloc()))?;
-    assert_status(&rt, &mut input, &mut out, 4, "statsd: read fault\n")?;
-    assert!(rt; out.bytes().is_empty());
-    Ok(())
+    let mut out = MemSink::new(alloc, AMPLE, Vec::new(alloc))?;
+    let ends = ends_with(alloc, &mut input, &mut out, 4, "statsd: read fault\n")?;
+    Ok(ends && out.bytes().is_empty())
 }
 
 /// What a writer does with a piece.
@@ -86,35 +85,43 @@ impl Write for Taking {
     }
 }
 
+const ROWS: &[(Takes, u8, &str, &str)] = &[
+    (Takes::OneByte, 0, "installed two-by-3", ""),
+    (Takes::Nothing, 5, "", "statsd: write fault\n"),
+    (Takes::AnError, 5, "", "statsd: write fault\n"),
+];
+
 #[test]
-fn tells_whether_the_writer_took_all(rt: HostRuntime) -> Result<(), Fail> {
-    for (takes, status, replies, note) in [
-        (Takes::OneByte, 0, "installed two-by-3", ""),
-        (Takes::Nothing, 5, "", "statsd: write fault\n"),
-        (Takes::AnError, 5, "", "statsd: write fault\n"),
-    ] {
-        assert_takes(&rt, takes, status, replies, note)?;
+fn tells_whether_the_writer_took_all(rt: HostRuntime) {
+    for &(takes, status, replies, note) in ROWS {
+        assert!(rt;
+            takes_so(rt.alloc(), takes, status, replies, note) == Ok(true),
+            "at {note}"
+        );
     }
-    Ok(())
 }
 
-fn assert_takes<R: Abort + AllocGlobal>(
-    rt: &R,
+/// Whether a run into such a writer ends with this status and this note, and leaves these replies.
+fn takes_so(
+    alloc: Global,
     takes: Takes,
     status: u8,
     replies: &str,
     note: &str,
-) -> Result<(), Fail> {
-    let session = bytes_of(rt.alloc(), "install atom2 atom3 cut")?;
-    let mut input = StdSource::new(session.as_slice());
+) -> Result<bool, AllocError> {
+    let session = bytes_of(alloc, "install atom2 atom3 cut")?;
+    let replies = bytes_of(alloc, replies)?;
     let mut taking = Taking {
         takes,
-        bytes: Vec::new(rt.alloc()),
+        bytes: Vec::new(alloc),
     };
-    assert_status(rt, &mut input, &mut StdSink::new(&mut taking), status, note)?;
-    assert!(rt;
-        taking.bytes == bytes_of(rt.alloc(), replies)?,
-        "replies of {status}"
-    );
-    Ok(())
+    let mut input = StdSource::new(session.as_slice());
+    let ends = ends_with(
+        alloc,
+        &mut input,
+        &mut StdSink::new(&mut taking),
+        status,
+        note,
+    )?;
+    Ok(ends && taking.bytes == replies)
 }

@@ -1,9 +1,7 @@
 //! Words of a command line that the engine doesn't take.
-use super::parts::bytes_of;
-use super::run::{SOUND, assert_left, run};
-use std::test::Fail;
+use super::run::{Run, SOUND, assert_run};
 
-const ROWS: [(&str, &str); 8] = [
+const ROWS: &[(&str, &str)] = &[
     ("no word", ""),
     ("a word more", "replay x"),
     ("a check of a word more", "check x"),
@@ -15,12 +13,16 @@ const ROWS: [(&str, &str); 8] = [
 ];
 
 #[test]
-fn takes_no_other_words(rt: HostRuntime) -> Result<(), Fail> {
-    let note = "statsd: usage: replay | check | load SEED FRAMES\n";
-    for (name, words) in ROWS {
-        let session = bytes_of(rt.alloc(), "report")?;
-        let outcome = run(rt.alloc(), words, session, SOUND)?;
-        assert_left(&rt, name, &outcome, 2, &[], note);
+fn takes_no_other_words(rt: HostRuntime) {
+    for &(name, words) in ROWS {
+        let row = Run {
+            words,
+            session: "report",
+            streams: SOUND,
+            status: 2,
+            replies: "",
+            note: "statsd: usage: replay | check | load SEED FRAMES\n",
+        };
+        assert_run(&rt, name, &row);
     }
-    Ok(())
 }
