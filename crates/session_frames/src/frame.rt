@@ -76,23 +76,31 @@ pub const LATE: u8 = 4;
 pub const TOO_MANY_ATOMS: u8 = 5;
 
 /// Why a session can't be read on: a fault of its first bad frame, or its own.
-#[derive(Clone, Copy, Debug)]
+#[derive(Clone, Copy, Debug, Error)]
 pub enum SessionFault {
     /// The bytes end inside a frame.
+    #[error("cut")]
     Cut,
     /// A frame's length is above the limit.
+    #[error("too long: {0} bytes")]
     TooLong(u32),
     /// A frame's length is 0.
+    #[error("bad length")]
     BadLength,
     /// There is no such kind of frame.
+    #[error("unknown kind {0}")]
     UnknownKind(u8),
     /// A frame's body isn't of its kind's form, for one of the reasons above.
+    #[error("bad body {0}")]
     BadBody(u8),
     /// An atom isn't well-formed, with the reason's number.
+    #[error("bad atom {0}")]
     BadAtom(u8),
     /// A log time is below the one before: the previous time, and this one, in nanoseconds.
+    #[error("time backwards: {1} after {0}")]
     TimeBackwards(u64, u64),
     /// The session has more than 2^30 bytes.
+    #[error("too many frames")]
     TooManyFrames,
 }
 
@@ -119,7 +127,7 @@ impl From<FrameFault> for SessionFault {
 #[derive(Debug, Drop, Error)]
 pub enum FrameError {
     /// The session has a fault, at a frame whose first byte has this offset.
-    #[error("bad session at {at}: {fault:?}")]
+    #[error("bad session at {at}: {fault}")]
     Session { at: u64, fault: SessionFault },
     /// The source failed.
     #[error("the source failed")]
