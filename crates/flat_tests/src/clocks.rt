@@ -89,14 +89,21 @@ fn the_longest_jump_is_one_division(rt: HostRuntime) {
     assert!(rt; whole.next_end() == 1 << 63);
 }
 
+// Whether the clock keeps its full end over cuts at 7, and at 13 leaves a part of length 0, since no frame crossed the
+// end yet.
+fn keeps_the_full_end(clock: &mut Clock) -> bool {
+    cuts(clock, 7, 3)
+        && cuts(clock, 7, 7)
+        && sees(clock, 13, true, None)
+        && cuts(clock, 13, 7)
+        && is_at(clock, 3, 10, 13, 13)
+        && sees(clock, 13, false, Some((13, 13, 0, 10)))
+}
+
 #[test]
 fn a_cut_keeps_the_full_end(rt: HostRuntime) {
     let mut clock = Clock::new(3, 10);
-    assert!(rt; cuts(&mut clock, 7, 3) && cuts(&mut clock, 7, 7));
-    assert!(rt; sees(&mut clock, 13, true, None));
-    // At a full end that no frame crossed yet, the part after the cut has length 0.
-    assert!(rt; cuts(&mut clock, 13, 7) && is_at(&clock, 3, 10, 13, 13));
-    assert!(rt; sees(&mut clock, 13, false, Some((13, 13, 0, 10))));
+    assert!(rt; keeps_the_full_end(&mut clock));
     assert!(rt; is_at(&clock, 3, 10, 13, 23));
 }
 

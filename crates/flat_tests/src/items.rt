@@ -95,13 +95,13 @@ fn push_all(whole: &mut Vec<u8>) -> Result<(), AllocError> {
     Ok(())
 }
 
-// Whether these bytes are those of the five items of the sample, both ways.
+// Whether these bytes spell the five items of the sample, and are spelled by them.
 fn is_whole(alloc: Global, whole: &[u8]) -> Result<bool, AllocError> {
     let expected = items(alloc)?;
     Ok(are_read(alloc, whole, &expected) && is_spelled_again(alloc, whole, 5))
 }
 
-// Whether the bytes of all items in a row are.
+// Whether the bytes of all items, one after the other, are read and spelled.
 fn is_row_whole(alloc: Global) -> Result<bool, AllocError> {
     let mut whole = Vec::new(alloc);
     push_all(&mut whole)?;

@@ -4,7 +4,6 @@ use atom_record::{Atom, DimKey, MetricKey};
 use flat_form::{Flat, FlatError, Items, rebuild, save};
 use sd_base::Seq;
 use std::alloc::{AllocError, Global};
-use std::test::*;
 
 // A number and a key, one after the other.
 fn number_and_key(alloc: Global) -> Result<Items, AllocError> {
@@ -61,7 +60,7 @@ fn is_saved_in(alloc: Global, list: &Seq<u64>, len: usize) -> bool {
     }
 }
 
-// Whether this value stands at the place after the number or with it, up to the next one.
+// Whether the number and the key have this value at the place, up to the next one.
 fn is_in_sample<T: Flat + Drop + PartialEq>(
     alloc: Global,
     place: usize,
@@ -72,19 +71,19 @@ fn is_in_sample<T: Flat + Drop + PartialEq>(
     Ok(is_built(alloc, &items, place, value, next))
 }
 
-// Whether the key is built of its items.
+// Whether a key is built of its items.
 fn builds_key(alloc: Global) -> Result<bool, AllocError> {
     let key = key(alloc)?;
     Ok(is_in_sample(alloc, 1, &key, 3) == Ok(true))
 }
 
-// Whether the dimensions are, and rebuilt.
+// Whether dimensions are built of their item, and rebuilt.
 fn builds_dims(alloc: Global) -> Result<bool, AllocError> {
     let dims = dims(alloc)?;
     Ok(is_rebuilt(alloc, &dims) && is_in_sample(alloc, 1, &dims, 2) == Ok(true))
 }
 
-// Whether the number and the key are, as a pair, and rebuilt.
+// Whether a pair of a number and a key is built of their items, and rebuilt.
 fn builds_pair(alloc: Global) -> Result<bool, AllocError> {
     let pair = (7u64, key(alloc)?);
     Ok(is_rebuilt(alloc, &pair) && is_in_sample(alloc, 0, &pair, 3) == Ok(true))
@@ -100,7 +99,7 @@ fn is_built_again<T: Flat + Drop + PartialEq>(
     Ok(items.len() == len && is_built(alloc, &items, 0, value, len))
 }
 
-// Whether the atom is.
+// Whether an atom is built of its item.
 fn builds_atom(alloc: Global) -> Result<bool, AllocError> {
     let atom = atom(alloc)?;
     Ok(is_built_again(alloc, &atom, 1) == Ok(true))
@@ -165,23 +164,22 @@ fn is_no_number(alloc: Global, items: &Items, place: usize) -> bool {
         && is_bad::<Seq<u64>>(alloc, items, place)
 }
 
+// Whether nothing but the number at place 0 and the key at place 1 stands at the place.
+fn is_nothing_else(alloc: Global, place: usize) -> Result<bool, AllocError> {
+    let items = number_and_key(alloc)?;
+    let is_so = (place == 1 || is_no_tree(alloc, &items, place))
+        && (place == 0 || is_no_number(alloc, &items, place));
+    Ok(is_so)
+}
+
 #[test]
-fn builds_nothing_of_other_items(rt: HostRuntime) -> Result<(), Fail> {
-    let items = number_and_key(rt.alloc())?;
+fn builds_nothing_of_other_items(rt: HostRuntime) {
     for place in 0..5 {
-        // The key stands at place 1, and the number at place 0.
-        let is_tree = place == 1;
         assert!(rt;
-            is_tree || is_no_tree(rt.alloc(), &items, place),
-            "at {place}"
-        );
-        let is_number = place == 0;
-        assert!(rt;
-            is_number || is_no_number(rt.alloc(), &items, place),
+            is_nothing_else(rt.alloc(), place) == Ok(true),
             "at {place}"
         );
     }
-    Ok(())
 }
 
 // Whether a list that is cut is none, and its last number no pair.
