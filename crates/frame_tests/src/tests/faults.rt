@@ -71,22 +71,22 @@ fn assert_breaks(rt: &impl Abort, alloc: Global, rows: &[(&[u8], &str)]) {
 // Bytes after good frames, and their faults.
 const LENGTHS_AND_TICKS: &[(&[u8], &str)] = &[
     // Lengths: none, a body that is cut, 0, one too long, the longest, and a kind that there isn't.
-    (b"\x0d\0\0", "Cut"),
-    (b"\x0d\0\0\0\x02\x03\0\0\0\0\0\0\0\x05\0\0", "Cut"),
-    (b"\0\0\0\0", "BadLength"),
-    (b"\x01\0\x10\0", "TooLong(1048577)"),
-    (b"\0\0\x10\0", "Cut"),
-    (b"\x01\0\0\0\x09", "UnknownKind(9)"),
+    (b"\x0d\0\0", "cut"),
+    (b"\x0d\0\0\0\x02\x03\0\0\0\0\0\0\0\x05\0\0", "cut"),
+    (b"\0\0\0\0", "bad length"),
+    (b"\x01\0\x10\0", "too long: 1048577 bytes"),
+    (b"\0\0\x10\0", "cut"),
+    (b"\x01\0\0\0\x09", "unknown kind 9"),
     // Ticks: a byte short, a byte over, a late time before it, the clock, the byte over before the clock, 2^63.
-    (b"\x08\0\0\0\x01\x03\0\0\0\0\0\0", "BadBody(1)"),
-    (b"\x0a\0\0\0\x01\x03\0\0\0\0\0\0\0\0", "BadBody(2)"),
-    (b"\x0a\0\0\0\x01\0\0\0\0\0\0\0\x80\0", "BadBody(4)"),
+    (b"\x08\0\0\0\x01\x03\0\0\0\0\0\0", "bad body 1"),
+    (b"\x0a\0\0\0\x01\x03\0\0\0\0\0\0\0\0", "bad body 2"),
+    (b"\x0a\0\0\0\x01\0\0\0\0\0\0\0\x80\0", "bad body 4"),
     (
         b"\x09\0\0\0\x01\x02\0\0\0\0\0\0\0",
-        "TimeBackwards(3, 2)",
+        "time backwards: 2 after 3",
     ),
-    (b"\x0a\0\0\0\x01\x02\0\0\0\0\0\0\0\0", "BadBody(2)"),
-    (b"\x09\0\0\0\x01\0\0\0\0\0\0\0\x80", "BadBody(4)"),
+    (b"\x0a\0\0\0\x01\x02\0\0\0\0\0\0\0\0", "bad body 2"),
+    (b"\x09\0\0\0\x01\0\0\0\0\0\0\0\x80", "bad body 4"),
 ];
 
 #[test]
@@ -97,38 +97,38 @@ fn finds_faults_of_lengths_and_ticks(rt: HostRuntime) {
 // The same of atoms.
 const ATOMS: &[(&[u8], &str)] = &[
     // No time, a late time before the id, no id, an id out of range before the clock.
-    (b"\x08\0\0\0\x02\x03\0\0\0\0\0\0", "BadBody(1)"),
-    (b"\x09\0\0\0\x02\0\0\0\0\0\0\0\x80", "BadBody(4)"),
-    (b"\x0c\0\0\0\x02\x03\0\0\0\0\0\0\0\x05\0\0", "BadAtom(2)"),
-    (b"\x0d\0\0\0\x02\x02\0\0\0\0\0\0\0\0\0\0\0", "BadAtom(2)"),
-    (b"\x0d\0\0\0\x02\x03\0\0\0\0\0\0\0\0\0\0\x80", "BadAtom(2)"),
+    (b"\x08\0\0\0\x02\x03\0\0\0\0\0\0", "bad body 1"),
+    (b"\x09\0\0\0\x02\0\0\0\0\0\0\0\x80", "bad body 4"),
+    (b"\x0c\0\0\0\x02\x03\0\0\0\0\0\0\0\x05\0\0", "bad atom 2"),
+    (b"\x0d\0\0\0\x02\x02\0\0\0\0\0\0\0\0\0\0\0", "bad atom 2"),
+    (b"\x0d\0\0\0\x02\x03\0\0\0\0\0\0\0\0\0\0\x80", "bad atom 2"),
     // Entries: one that is cut, a field of 0, the same place twice, a Bool of 2, unknown flags.
     (
         b"\x0e\0\0\0\x02\x03\0\0\0\0\0\0\0\x05\0\0\0\x01",
-        "BadAtom(3)",
+        "bad atom 3",
     ),
     (
         b"\x16\0\0\0\x02\x03\0\0\0\0\0\0\0\x05\0\0\0\0\0\0\0\x01\x07\0\0\0",
-        "BadAtom(4)",
+        "bad atom 4",
     ),
     (
         b"\x1f\0\0\0\x02\x03\0\0\0\0\0\0\0\x05\0\0\0\x01\0\0\0\x01\x07\0\0\0\x01\0\0\0\x01\x07\0\0\0",
-        "BadAtom(5)",
+        "bad atom 5",
     ),
     (
         b"\x13\0\0\0\x02\x03\0\0\0\0\0\0\0\x05\0\0\0\x01\0\0\0\x03\x02",
-        "BadAtom(6)",
+        "bad atom 6",
     ),
     (
         b"\x16\0\0\0\x02\x03\0\0\0\0\0\0\0\x05\0\0\0\x01\0\0\x08\x01\x07\0\0\0",
-        "BadAtom(7)",
+        "bad atom 7",
     ),
     // The clock, and 2^63.
     (
         b"\x16\0\0\0\x02\x02\0\0\0\0\0\0\0\x05\0\0\0\x01\0\0\0\x01\x07\0\0\0",
-        "TimeBackwards(3, 2)",
+        "time backwards: 2 after 3",
     ),
-    (b"\x0d\0\0\0\x02\0\0\0\0\0\0\0\x80\x05\0\0\0", "BadBody(4)"),
+    (b"\x0d\0\0\0\x02\0\0\0\0\0\0\0\x80\x05\0\0\0", "bad body 4"),
 ];
 
 #[test]
@@ -139,73 +139,73 @@ fn finds_faults_of_atoms(rt: HostRuntime) {
 // The same of pulls.
 const PULLS: &[(&[u8], &str)] = &[
     // The id before the flag, the flag before what comes after it, the count before the atoms.
-    (b"\x0c\0\0\0\x03\x03\0\0\0\0\0\0\0\x11\x27\0", "BadBody(1)"),
+    (b"\x0c\0\0\0\x03\x03\0\0\0\0\0\0\0\x11\x27\0", "bad body 1"),
     (
         b"\x0e\0\0\0\x03\x03\0\0\0\0\0\0\0\0\0\0\0\x02",
-        "BadAtom(2)",
+        "bad atom 2",
     ),
     (
         b"\x0e\0\0\0\x03\x03\0\0\0\0\0\0\0\0\0\0\x80\x02",
-        "BadAtom(2)",
+        "bad atom 2",
     ),
     (
         b"\x0d\0\0\0\x03\x03\0\0\0\0\0\0\0\x11\x27\0\0",
-        "BadBody(1)",
+        "bad body 1",
     ),
     (
         b"\x0f\0\0\0\x03\x03\0\0\0\0\0\0\0\x11\x27\0\0\x02\0",
-        "BadBody(3)",
+        "bad body 3",
     ),
     (
         b"\x0f\0\0\0\x03\x03\0\0\0\0\0\0\0\x11\x27\0\0\x01\0",
-        "BadBody(2)",
+        "bad body 2",
     ),
     (
         b"\x0f\0\0\0\x03\x03\0\0\0\0\0\0\0\x11\x27\0\0\0\x01",
-        "BadBody(1)",
+        "bad body 1",
     ),
     (
         b"\x10\0\0\0\x03\x03\0\0\0\0\0\0\0\x11\x27\0\0\0\xc9\0",
-        "BadBody(5)",
+        "bad body 5",
     ),
     (
         b"\x10\0\0\0\x03\x03\0\0\0\0\0\0\0\x11\x27\0\0\0\xc8\0",
-        "BadBody(1)",
+        "bad body 1",
     ),
     // Atoms: cut before its id, no id before another one, another one before its entries, these before the end.
     (
         b"\x16\0\0\0\x03\x03\0\0\0\0\0\0\0\x11\x27\0\0\0\x01\0\x05\0\0\0\0\0",
-        "BadBody(1)",
+        "bad body 1",
     ),
     (
         b"\x16\0\0\0\x03\x03\0\0\0\0\0\0\0\x11\x27\0\0\0\x01\0\x04\0\0\0\0\0",
-        "BadAtom(2)",
+        "bad atom 2",
     ),
     (
         b"\x12\0\0\0\x03\x03\0\0\0\0\0\0\0\x11\x27\0\0\0\x01\0\0\0",
-        "BadAtom(2)",
+        "bad atom 2",
     ),
     (
         b"\x17\0\0\0\x03\x03\0\0\0\0\0\0\0\x11\x27\0\0\0\x01\0\x05\0\x12\x27\0\0\x01",
-        "BadAtom(8)",
+        "bad atom 8",
     ),
     (
         b"\x27\0\0\0\x03\x03\0\0\0\0\0\0\0\x11\x27\0\0\0\x02\0\
             \x0d\0\x11\x27\0\0\x01\0\0\0\x01\x07\0\0\0\x05\0\x11\x27\0\0\x01\0",
-        "BadAtom(3)",
+        "bad atom 3",
     ),
     (
         b"\x17\0\0\0\x03\x02\0\0\0\0\0\0\0\x11\x27\0\0\0\x01\0\x04\0\x11\x27\0\0\0",
-        "BadBody(2)",
+        "bad body 2",
     ),
     // The clock, and 2^63 before an id out of range.
     (
         b"\x0e\0\0\0\x03\x02\0\0\0\0\0\0\0\x11\x27\0\0\x01",
-        "TimeBackwards(3, 2)",
+        "time backwards: 2 after 3",
     ),
     (
         b"\x0e\0\0\0\x03\0\0\0\0\0\0\0\x80\0\0\0\0\x01",
-        "BadBody(4)",
+        "bad body 4",
     ),
 ];
 
@@ -217,21 +217,21 @@ fn finds_faults_of_pulls(rt: HostRuntime) {
 // The same of commands.
 const COMMANDS: &[(&[u8], &str)] = &[
     // An id that is cut, bytes left over, a flag of 2 before them.
-    (b"\x0c\0\0\0\x10\x0a\0\0\0\x07\0\0\0\0\0\0", "BadBody(1)"),
-    (b"\x04\0\0\0\x11\x0a\0\0", "BadBody(1)"),
-    (b"\x0c\0\0\0\x11\x0a\0\0\0\x07\0\0\0\0\0\0", "BadBody(1)"),
+    (b"\x0c\0\0\0\x10\x0a\0\0\0\x07\0\0\0\0\0\0", "bad body 1"),
+    (b"\x04\0\0\0\x11\x0a\0\0", "bad body 1"),
+    (b"\x0c\0\0\0\x11\x0a\0\0\0\x07\0\0\0\0\0\0", "bad body 1"),
     (
         b"\x0e\0\0\0\x11\x0a\0\0\0\x07\0\0\0\0\0\0\0\0",
-        "BadBody(2)",
+        "bad body 2",
     ),
-    (b"\x0d\0\0\0\x12\x0a\0\0\0\x07\0\0\0\0\0\0\0", "BadBody(1)"),
+    (b"\x0d\0\0\0\x12\x0a\0\0\0\x07\0\0\0\0\0\0\0", "bad body 1"),
     (
         b"\x0f\0\0\0\x12\x0a\0\0\0\x07\0\0\0\0\0\0\0\x02\0",
-        "BadBody(3)",
+        "bad body 3",
     ),
     (
         b"\x0f\0\0\0\x12\x0a\0\0\0\x07\0\0\0\0\0\0\0\x01\0",
-        "BadBody(2)",
+        "bad body 2",
     ),
 ];
 
