@@ -101,7 +101,7 @@ abbrev pub filter_of : Option (List FieldOf) → List FieldOf
 filter_of filter = unwrap_or filter []
 
 -- these are what a gauge's filter says of its samples: whether they have all entries, and which they have else
-pub record AreEntries (filter : List FieldOf) (include_all : Bool) (entries : Option FieldMatcher) : Type 0 where
+pub record IsGaugeFilter (filter : List FieldOf) (include_all : Bool) (entries : Option FieldMatcher) : Type 0 where
   pub whole : include_all ≡ unwrap_or (bool_field filter_include_all filter) false
   pub named : entries ≡ fields_at filter_fields filter
 

@@ -193,7 +193,7 @@ fn filter<'a>(alloc: Global, message: &Message<'a>) -> Result<Message<'a>, Alloc
 
 // Whether the samples of a gauge have all entries, and which they have else.
 fn entries(alloc: Global, message: &Message<'_>) -> Result<(bool, Option<FieldMatcher>), AllocError>
-    ensures { IfOk result (λ read. metrics.AreEntries
+    ensures { IfOk result (λ read. metrics.IsGaugeFilter
         (metrics.filter_of (values.message gauge_fields_filter message.now)) read.0 read.1) }
 {
     let filter = filter(alloc, message)?;
