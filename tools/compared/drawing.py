@@ -210,11 +210,11 @@ class Drawn:
 
 
 def draw(random):
-    """A session and its replies: two clients, and a last report of all that is live."""
+    """A session, its replies and its status: two clients, and a last report of all that is live."""
     drawn = Drawn(random)
     drawn.install(10, 1)
     for _ in range(random.randint(20, 120)):
         drawn.step()
     for uid, config_id in list(drawn.live):
         drawn.report(uid, config_id, True)
-    return drawn.session, drawn.replies
+    return drawn.session, drawn.replies, 0

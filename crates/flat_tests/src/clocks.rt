@@ -163,6 +163,12 @@ fn is_restored(base: u64, size: u64, start: u64, next_end: u64, is_clock: bool) 
     }
 }
 
+// Whether three numbers build no clock, from the first and after the last.
+fn are_three_bad(alloc: Global) -> Result<bool, AllocError> {
+    let items = numbers(alloc, &[3, 10, 3])?;
+    Ok(is_bad(alloc, &items, 0) && is_bad(alloc, &items, 3))
+}
+
 #[test]
 fn restores_and_builds_what_a_clock_may_be(rt: HostRuntime) {
     assert!(rt; MAX_BUCKET == DAY);
@@ -173,17 +179,7 @@ fn restores_and_builds_what_a_clock_may_be(rt: HostRuntime) {
             "at {base} {size} {start} {next_end}"
         );
     }
-}
-
-// Whether three numbers build no clock, from the first and after the last.
-fn are_three_bad(alloc: Global) -> Result<bool, AllocError> {
-    let items = numbers(alloc, &[3, 10, 3])?;
-    Ok(is_bad(alloc, &items, 0) && is_bad(alloc, &items, 3))
-}
-
-#[test]
-fn builds_no_clock_of_three_numbers(rt: HostRuntime) {
-    assert!(rt; are_three_bad(rt.alloc()) == Ok(true));
+    assert!(rt; are_three_bad(rt.alloc()) == Ok(true), "three numbers");
 }
 
 // Whether a clock is rebuilt with these numbers.

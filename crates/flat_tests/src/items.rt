@@ -65,11 +65,6 @@ fn are_all_read(alloc: Global) -> Result<bool, AllocError> {
     Ok(are_rows_read(alloc, &expected))
 }
 
-#[test]
-fn decodes_each_item(rt: HostRuntime) {
-    assert!(rt; are_all_read(rt.alloc()) == Ok(true));
-}
-
 // Whether no part of these bytes spells an item.
 fn is_no_part_read(alloc: Global, bytes: &[u8]) -> bool {
     let mut all = true;
@@ -108,11 +103,6 @@ fn is_row_whole(alloc: Global) -> Result<bool, AllocError> {
     is_whole(alloc, &whole)
 }
 
-#[test]
-fn decodes_and_encodes_items_in_a_row(rt: HostRuntime) {
-    assert!(rt; is_row_whole(rt.alloc()) == Ok(true));
-}
-
 // Whether a number after no items is spelled by its bytes.
 fn is_number_spelled(alloc: Global) -> Result<bool, AllocError> {
     let mut items = Items::new(alloc);
@@ -124,12 +114,6 @@ fn is_number_spelled(alloc: Global) -> Result<bool, AllocError> {
 fn are_none_spelled(alloc: Global) -> bool {
     let items = Items::new(alloc);
     are_spelled(alloc, &items, b"")
-}
-
-#[test]
-fn encodes_no_items_and_a_number(rt: HostRuntime) {
-    assert!(rt; are_none_spelled(rt.alloc()));
-    assert!(rt; is_number_spelled(rt.alloc()) == Ok(true));
 }
 
 // Adds 65,537 bytes.
@@ -148,8 +132,13 @@ fn is_long_chunk_spelled(alloc: Global) -> Result<bool, AllocError> {
 }
 
 #[test]
-fn decodes_a_long_chunk(rt: HostRuntime) {
-    assert!(rt; is_long_chunk_spelled(rt.alloc()) == Ok(true));
+fn decodes_and_encodes_items(rt: HostRuntime) {
+    let alloc = rt.alloc();
+    assert!(rt; are_all_read(alloc) == Ok(true), "each item");
+    assert!(rt; is_row_whole(alloc) == Ok(true), "items in a row");
+    assert!(rt; are_none_spelled(alloc), "no items");
+    assert!(rt; is_number_spelled(alloc) == Ok(true), "a number");
+    assert!(rt; is_long_chunk_spelled(alloc) == Ok(true), "a long chunk");
 }
 
 // Bytes of no items.

@@ -117,15 +117,6 @@ fn builds_three(alloc: Global) -> Result<bool, AllocError> {
     Ok(is_list(alloc, &list, &[3, 3, 1, 2]) == Ok(true))
 }
 
-#[test]
-fn builds_values_of_their_items(rt: HostRuntime) {
-    assert!(rt; builds_key(rt.alloc()) == Ok(true), "a key");
-    assert!(rt; builds_dims(rt.alloc()) == Ok(true), "dimensions");
-    assert!(rt; builds_pair(rt.alloc()) == Ok(true), "a pair");
-    assert!(rt; builds_atom(rt.alloc()) == Ok(true), "an atom");
-    assert!(rt; builds_three(rt.alloc()) == Ok(true), "a list of three");
-}
-
 // Adds the numbers below 1,000.
 fn push_long(list: &mut Seq<u64>) -> Result<(), AllocError> {
     for number in 0..1000u64 {
@@ -143,11 +134,6 @@ fn builds_long(alloc: Global) -> Result<bool, AllocError> {
             && is_saved_in(alloc, &list, 9009)
             && is_built_again(alloc, &list, 1001) == Ok(true),
     )
-}
-
-#[test]
-fn builds_a_long_list(rt: HostRuntime) {
-    assert!(rt; builds_long(rt.alloc()) == Ok(true));
 }
 
 // Whether no key, no dimensions and no atom stand at the place.
@@ -189,6 +175,13 @@ fn is_cut_bad(alloc: Global) -> Result<bool, AllocError> {
 }
 
 #[test]
-fn builds_no_list_that_is_cut(rt: HostRuntime) {
-    assert!(rt; is_cut_bad(rt.alloc()) == Ok(true));
+fn builds_values_of_their_items(rt: HostRuntime) {
+    let alloc = rt.alloc();
+    assert!(rt; builds_key(alloc) == Ok(true), "a key");
+    assert!(rt; builds_dims(alloc) == Ok(true), "dimensions");
+    assert!(rt; builds_pair(alloc) == Ok(true), "a pair");
+    assert!(rt; builds_atom(alloc) == Ok(true), "an atom");
+    assert!(rt; builds_three(alloc) == Ok(true), "a list of three");
+    assert!(rt; builds_long(alloc) == Ok(true), "a long list");
+    assert!(rt; is_cut_bad(alloc) == Ok(true), "a list that is cut");
 }

@@ -60,11 +60,6 @@ const CAUSES: &[Malformed] = &[
     (b"\xff\xff\xff\xff\x0f", 0, 3),
 ];
 
-#[test]
-fn tells_each_cause_by_its_number(rt: HostRuntime) {
-    assert_malformed(&rt, rt.alloc(), CAUSES);
-}
-
 /// Faults inside of messages, packed numbers and groups.
 const FIRST: &[Malformed] = &[
     // A record that is cut.
@@ -108,11 +103,6 @@ const FIRST: &[Malformed] = &[
         3,
     ),
 ];
-
-#[test]
-fn tells_the_first_fault_and_its_place(rt: HostRuntime) {
-    assert_malformed(&rt, rt.alloc(), FIRST);
-}
 
 /// Fields and wire types that no configuration may have.
 const NOT_SUPPORTED: &[Unsupported] = &[
@@ -167,11 +157,6 @@ const NOT_SUPPORTED: &[Unsupported] = &[
     // A filter's key as a number.
     (b"\x2a\x04\x1a\x02\x10\x05", &[5, 3, 2]),
 ];
-
-#[test]
-fn tells_what_is_not_supported(rt: HostRuntime) {
-    assert_unsupported(&rt, rt.alloc(), NOT_SUPPORTED);
-}
 
 /// Numbers outside a strict enum, alone, before and after a good one.
 const STRICT: &[Unsupported] = &[
@@ -238,6 +223,15 @@ const STRICT: &[Unsupported] = &[
 ];
 
 #[test]
-fn tells_numbers_that_a_strict_enum_has_not(rt: HostRuntime) {
-    assert_unsupported(&rt, rt.alloc(), STRICT);
+fn tells_each_cause_and_the_first_fault(rt: HostRuntime) {
+    let alloc = rt.alloc();
+    assert_malformed(&rt, alloc, CAUSES);
+    assert_malformed(&rt, alloc, FIRST);
+}
+
+#[test]
+fn tells_what_is_not_supported(rt: HostRuntime) {
+    let alloc = rt.alloc();
+    assert_unsupported(&rt, alloc, NOT_SUPPORTED);
+    assert_unsupported(&rt, alloc, STRICT);
 }

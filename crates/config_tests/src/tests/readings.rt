@@ -34,11 +34,6 @@ const LAST: &[Reading] = &[
     ),
 ];
 
-#[test]
-fn takes_the_last_record_of_a_number(rt: HostRuntime) {
-    assert_reads(&rt, rt.alloc(), LAST);
-}
-
 /// Members of a oneof, one after another.
 const MEMBERS: &[Reading] = &[
     // A simple matcher, a combination, and a simple matcher with a test.
@@ -124,11 +119,6 @@ const MEMBERS: &[Reading] = &[
     ),
 ];
 
-#[test]
-fn begins_a_member_anew_or_joins_its_run(rt: HostRuntime) {
-    assert_reads(&rt, rt.alloc(), MEMBERS);
-}
-
 /// Truths of more than 32 bits.
 const TRUTHS: &[Reading] = &[
     // 2^32.
@@ -153,11 +143,6 @@ const TRUTHS: &[Reading] = &[
             Some(EqBool(true)) }] })) }]\n",
     ),
 ];
-
-#[test]
-fn looks_at_all_bits_of_a_truth(rt: HostRuntime) {
-    assert_reads(&rt, rt.alloc(), TRUTHS);
-}
 
 /// Each number of an enum, and numbers outside it.
 const ENUMS: &[Reading] = &[
@@ -280,11 +265,6 @@ const ENUMS: &[Reading] = &[
     ),
 ];
 
-#[test]
-fn passes_over_numbers_that_no_enum_has(rt: HostRuntime) {
-    assert_reads(&rt, rt.alloc(), ENUMS);
-}
-
 /// Entities of which little is said.
 const ABSENT: &[Reading] = &[
     // A predicate of which nothing is said.
@@ -371,11 +351,6 @@ const ABSENT: &[Reading] = &[
     ),
 ];
 
-#[test]
-fn knows_what_is_absent(rt: HostRuntime) {
-    assert_reads(&rt, rt.alloc(), ABSENT);
-}
-
 /// Lists of numbers, packed and not.
 const NUMBERS: &[Reading] = &[
     // 1, then 2 and -1 packed, nothing packed, and 3.
@@ -405,11 +380,6 @@ const NUMBERS: &[Reading] = &[
         "predicates: [PredicateDef { id: None, body: Some(Combo(Combo { op: None, children: [1, 2, 3] })) }]\n",
     ),
 ];
-
-#[test]
-fn joins_packed_numbers_with_others(rt: HostRuntime) {
-    assert_reads(&rt, rt.alloc(), NUMBERS);
-}
 
 /// Messages in more than one record.
 const JOINED: &[Reading] = &[
@@ -450,11 +420,6 @@ const JOINED: &[Reading] = &[
             None }, LinkDef { condition: None, in_what: None, in_condition: Some({ field: Some(6) }) }] } }]\n",
     ),
 ];
-
-#[test]
-fn joins_records_of_one_message(rt: HostRuntime) {
-    assert_reads(&rt, rt.alloc(), JOINED);
-}
 
 /// Records that have no effect.
 const NO_EFFECT: &[Reading] = &[
@@ -498,6 +463,14 @@ const NO_EFFECT: &[Reading] = &[
 ];
 
 #[test]
-fn passes_over_what_has_no_effect(rt: HostRuntime) {
-    assert_reads(&rt, rt.alloc(), NO_EFFECT);
+fn reads_records_by_their_rules(rt: HostRuntime) {
+    let alloc = rt.alloc();
+    assert_reads(&rt, alloc, LAST);
+    assert_reads(&rt, alloc, MEMBERS);
+    assert_reads(&rt, alloc, TRUTHS);
+    assert_reads(&rt, alloc, ENUMS);
+    assert_reads(&rt, alloc, ABSENT);
+    assert_reads(&rt, alloc, NUMBERS);
+    assert_reads(&rt, alloc, JOINED);
+    assert_reads(&rt, alloc, NO_EFFECT);
 }

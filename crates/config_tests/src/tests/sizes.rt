@@ -81,11 +81,6 @@ const MOST: &[Counted] = &[
     ("records of one matcher", b"\x12\0", 131_060, &[7], 1),
 ];
 
-#[test]
-fn reads_as_many_records_as_there_can_be(rt: HostRuntime) {
-    assert_items(&rt, rt.alloc(), MOST);
-}
-
 /// 10,000 records of each kind.
 const EACH_KIND: &[Counted] = &[
     ("predicates", b"\x42\0", 10_000, &[], 10_000),
@@ -98,11 +93,6 @@ const EACH_KIND: &[Counted] = &[
     ("records of one key", b"\x22\0", 10_000, &[3], 1),
     ("groups that are passed over", b"\x0b\x0c", 10_000, &[], 0),
 ];
-
-#[test]
-fn reads_10000_records_of_each_kind(rt: HostRuntime) {
-    assert_items(&rt, rt.alloc(), EACH_KIND);
-}
 
 /// Records that stand so often in fields, of which the innermost comes first, and the text of their tree: what comes
 /// before so many items, an item, and what comes after.
@@ -184,11 +174,6 @@ const NUMBERS: &[Wide] = &[
     },
 ];
 
-#[test]
-fn reads_wide_lists_of_numbers(rt: HostRuntime) {
-    assert_wide(&rt, rt.alloc(), NUMBERS);
-}
-
 /// Children of combinations, and slices.
 const COMBINATIONS: &[Wide] = &[
     Wide {
@@ -225,11 +210,6 @@ const COMBINATIONS: &[Wide] = &[
     },
 ];
 
-#[test]
-fn reads_wide_combinations_and_slices(rt: HostRuntime) {
-    assert_wide(&rt, rt.alloc(), COMBINATIONS);
-}
-
 /// States, their groups and the values of a group.
 const STATES: &[Wide] = &[
     Wide {
@@ -263,11 +243,6 @@ const STATES: &[Wide] = &[
         after: "]\n",
     },
 ];
-
-#[test]
-fn reads_wide_states(rt: HostRuntime) {
-    assert_wide(&rt, rt.alloc(), STATES);
-}
 
 /// Texts that a field is tested for.
 const TEXTS: &[Wide] = &[
@@ -308,11 +283,6 @@ const TEXTS: &[Wide] = &[
         after: "])) }] })) }]\n",
     },
 ];
-
-#[test]
-fn reads_long_texts(rt: HostRuntime) {
-    assert_wide(&rt, rt.alloc(), TEXTS);
-}
 
 /// Tests of fields.
 const TESTS: &[Wide] = &[
@@ -360,11 +330,6 @@ const TESTS: &[Wide] = &[
     },
 ];
 
-#[test]
-fn reads_many_tests(rt: HostRuntime) {
-    assert_wide(&rt, rt.alloc(), TESTS);
-}
-
 /// Fields of a key, and links.
 const KEYS: &[Wide] = &[
     Wide {
@@ -403,11 +368,6 @@ const KEYS: &[Wide] = &[
     },
 ];
 
-#[test]
-fn reads_wide_keys_and_links(rt: HostRuntime) {
-    assert_wide(&rt, rt.alloc(), KEYS);
-}
-
 /// Matchers, predicates and events.
 const ENTITIES: &[Wide] = &[
     Wide {
@@ -441,11 +401,6 @@ const ENTITIES: &[Wide] = &[
         after: "]\n",
     },
 ];
-
-#[test]
-fn reads_many_matchers_and_predicates(rt: HostRuntime) {
-    assert_wide(&rt, rt.alloc(), ENTITIES);
-}
 
 /// Metrics of each other kind.
 const METRICS: &[Wide] = &[
@@ -502,6 +457,21 @@ const METRICS: &[Wide] = &[
 ];
 
 #[test]
-fn reads_many_metrics(rt: HostRuntime) {
-    assert_wide(&rt, rt.alloc(), METRICS);
+fn reads_as_many_records_as_there_can_be(rt: HostRuntime) {
+    let alloc = rt.alloc();
+    assert_items(&rt, alloc, MOST);
+    assert_items(&rt, alloc, EACH_KIND);
+}
+
+#[test]
+fn reads_wide_lists_and_long_texts(rt: HostRuntime) {
+    let alloc = rt.alloc();
+    assert_wide(&rt, alloc, NUMBERS);
+    assert_wide(&rt, alloc, COMBINATIONS);
+    assert_wide(&rt, alloc, STATES);
+    assert_wide(&rt, alloc, TEXTS);
+    assert_wide(&rt, alloc, TESTS);
+    assert_wide(&rt, alloc, KEYS);
+    assert_wide(&rt, alloc, ENTITIES);
+    assert_wide(&rt, alloc, METRICS);
 }

@@ -116,11 +116,6 @@ const WHOLE: &[Reading] = &[
     (TESTS_OF_FIELDS, TESTS_OF_FIELDS_TREE),
 ];
 
-#[test]
-fn reads_whole_configurations(rt: HostRuntime) {
-    assert_reads(&rt, rt.alloc(), WHOLE);
-}
-
 /// Each field of each kind of entity.
 const EACH_FIELD: &[Reading] = &[
     // An event.
@@ -217,6 +212,8 @@ const EACH_FIELD: &[Reading] = &[
 ];
 
 #[test]
-fn reads_each_field_of_each_kind(rt: HostRuntime) {
-    assert_reads(&rt, rt.alloc(), EACH_FIELD);
+fn reads_whole_configurations_and_each_field(rt: HostRuntime) {
+    let alloc = rt.alloc();
+    assert_reads(&rt, alloc, WHOLE);
+    assert_reads(&rt, alloc, EACH_FIELD);
 }

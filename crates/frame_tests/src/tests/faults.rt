@@ -89,11 +89,6 @@ const LENGTHS_AND_TICKS: &[(&[u8], &str)] = &[
     (b"\x09\0\0\0\x01\0\0\0\0\0\0\0\x80", "bad body 4"),
 ];
 
-#[test]
-fn finds_faults_of_lengths_and_ticks(rt: HostRuntime) {
-    assert_breaks(&rt, rt.alloc(), LENGTHS_AND_TICKS);
-}
-
 // The same of atoms.
 const ATOMS: &[(&[u8], &str)] = &[
     // No time, a late time before the id, no id, an id out of range before the clock.
@@ -130,11 +125,6 @@ const ATOMS: &[(&[u8], &str)] = &[
     ),
     (b"\x0d\0\0\0\x02\0\0\0\0\0\0\0\x80\x05\0\0\0", "bad body 4"),
 ];
-
-#[test]
-fn finds_faults_of_atoms(rt: HostRuntime) {
-    assert_breaks(&rt, rt.alloc(), ATOMS);
-}
 
 // The same of pulls.
 const PULLS: &[(&[u8], &str)] = &[
@@ -209,11 +199,6 @@ const PULLS: &[(&[u8], &str)] = &[
     ),
 ];
 
-#[test]
-fn finds_faults_of_pulls(rt: HostRuntime) {
-    assert_breaks(&rt, rt.alloc(), PULLS);
-}
-
 // The same of commands.
 const COMMANDS: &[(&[u8], &str)] = &[
     // An id that is cut, bytes left over, a flag of 2 before them.
@@ -236,6 +221,10 @@ const COMMANDS: &[(&[u8], &str)] = &[
 ];
 
 #[test]
-fn finds_faults_of_commands(rt: HostRuntime) {
-    assert_breaks(&rt, rt.alloc(), COMMANDS);
+fn finds_the_first_fault_of_each_frame(rt: HostRuntime) {
+    let alloc = rt.alloc();
+    assert_breaks(&rt, alloc, LENGTHS_AND_TICKS);
+    assert_breaks(&rt, alloc, ATOMS);
+    assert_breaks(&rt, alloc, PULLS);
+    assert_breaks(&rt, alloc, COMMANDS);
 }

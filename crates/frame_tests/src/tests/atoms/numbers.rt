@@ -32,16 +32,6 @@ const IDS: &[(u32, bool, bool)] = &[
     (0xffff_ffff, false, false),
 ];
 
-#[test]
-fn knows_which_ids_are_pulled_and_which_atoms_have(rt: HostRuntime) {
-    for &(id, pulled, lawful) in IDS {
-        assert!(rt;
-            is_pulled(id) == pulled && is_atom_id(id) == lawful,
-            "at {id}"
-        );
-    }
-}
-
 /// Flags of an entry, one of them, and whether it is there.
 const FLAGS: &[(u8, u8, bool)] = &[
     (0, EXCLUSIVE, false),
@@ -54,7 +44,13 @@ const FLAGS: &[(u8, u8, bool)] = &[
 ];
 
 #[test]
-fn knows_its_flags(rt: HostRuntime) {
+fn knows_which_ids_are_pulled_and_its_flags(rt: HostRuntime) {
+    for &(id, pulled, lawful) in IDS {
+        assert!(rt;
+            is_pulled(id) == pulled && is_atom_id(id) == lawful,
+            "at {id}"
+        );
+    }
     for &(flags, flag, there) in FLAGS {
         assert!(rt; has_flag(flags, flag) == there, "at {flags}, {flag}");
     }
