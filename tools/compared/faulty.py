@@ -12,6 +12,7 @@ from compared.verdict import (
     MOST_KEYS,
     NOT,
     RANDOM_ONE,
+    TESTS,
     leaves,
     line_of,
 )
@@ -32,6 +33,8 @@ DOMAINS = {
 }
 SMALL = (-1, 0, 1, 2, 3, 4, 5, 6, 20, 21, 100, 101, 127, 128, 800, 3_000, 3_001)
 NUMBERS = SMALL + (9_999, 10_000, 99_999, 100_000, 149_999, 150_000, 199_999, 200_000, 2**31 - 1)
+
+ONEOFS = (("simple", "combination"), TESTS)
 
 # How many entities are one too many.
 CROWDS = {"matchers": 801, "predicates": 301, "states": 17, "counts": 101}
@@ -239,6 +242,18 @@ def change_list(random, listed):
         listed.pop(random.randrange(len(listed)))
 
 
+def copy_field(random, source, message):
+    """Puts a field of another message of the kind. A member of a oneof takes the place of the others."""
+    if not source:
+        return
+    name, value = random.choice(list(source.items()))
+    put = deepcopy(value)
+    for oneof in ONEOFS:
+        for other in oneof if name in oneof else ():
+            message.pop(other, None)
+    message[name] = put
+
+
 def change(random, tree):
     """Changes a tree at one place."""
     holder, name = random.choice(list(places(tree)))
@@ -247,10 +262,7 @@ def change(random, tree):
     if isinstance(value, list):
         change_list(random, value)
     elif isinstance(value, dict) and isinstance(holder, list) and drawn < 0.7:
-        # What another of its list has at a field.
-        other = random.choice(holder)
-        for field in random.sample(list(other), min(1, len(other))):
-            value[field] = deepcopy(other[field])
+        copy_field(random, random.choice(holder), value)
     elif isinstance(value, dict) or drawn < 0.3:
         del holder[name]
     else:
