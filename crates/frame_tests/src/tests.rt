@@ -1,5 +1,5 @@
-//! Sessions read to their end or to their fault, and replies as bytes; atoms and streams below them. All bytes and texts
-//! were worked by hand.
+//! Sessions read to their end or to their fault, and replies as bytes; atoms and streams below them. All bytes and
+//! texts were worked by hand.
 mod atoms;
 mod faults;
 mod large;

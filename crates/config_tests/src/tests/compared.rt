@@ -94,8 +94,8 @@ const SHORT: Rules = &[
     ("Seq { items: ", ""),
     ("] }", "]"),
     (
-        "common: Common { id: None, what: None, condition: None, links: [] }, sliced: Sliced { dims: None, bucket: None, \
-        bound: None, slices: [], state_links: [] }",
+        "common: Common { id: None, what: None, condition: None, links: [] }, sliced: Sliced { dims: None, \
+        bucket: None, bound: None, slices: [], state_links: [] }",
         "..",
     ),
     (", condition: None, links: [] }", " }"),

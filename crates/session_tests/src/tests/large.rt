@@ -20,7 +20,7 @@ const ROUNDS: &[(&str, &str)] = &[
 /// An atom of the id 5 with 4096 bytes, at 2.
 const LONG_ATOM: &str = "09100000_02_0200000000000000_05000000_0100000005f50f 00*4085";
 
-/// A text of every owner: ten configurations of the client 1, which is then full, and one of each of fifty clients more.
+/// A text of every owner: ten configurations of the client 1, which is then full, and one of each of fifty others.
 fn push_round(bytes: &mut Vec<u8>, text: &str) -> Result<(), AllocError> {
     for id in 1..11 {
         push_text(bytes, text, Owner { uid: 1, id })?;
