@@ -1,10 +1,11 @@
-//! Sessions that are answered to their end, by the tables of the modules beside this one.
-use super::run::assert_replay;
+//! Sessions that are answered to their end, by the tables of the modules beside this one. A table is a text. Its rows
+//! stand apart by an empty line. A row has a name, the frames of a session in lines that begin with `>`, and the replies
+//! to it in lines that begin with `<`.
+use super::parts::{TEN, push_text};
+use super::run::answers;
 use super::{buckets, clients, commands, conditions, configs, limits, links, matchers};
+use std::alloc::{AllocError, Global};
 use std::process::Abort;
-
-/// A name, a session and the replies to it.
-pub type Replay = (&'static str, &'static str, &'static str);
 
 #[test]
 fn answers_each_session(rt: HostRuntime) {
@@ -18,8 +19,27 @@ fn answers_each_session(rt: HostRuntime) {
     assert_replays(&rt, buckets::ROWS);
 }
 
-fn assert_replays<R: Abort + AllocGlobal>(rt: &R, rows: &[Replay]) {
-    for (name, session, replies) in rows {
-        assert_replay(rt, name, session, 0, replies, "");
+fn assert_replays<R: Abort + AllocGlobal>(rt: &R, rows: &str) {
+    for row in rows.split("\n\n") {
+        assert!(rt; is_answered(rt.alloc(), row) == Ok(true), "at{row}");
     }
+}
+
+/// Whether the session of a row has its replies.
+fn is_answered(alloc: Global, row: &str) -> Result<bool, AllocError> {
+    let mut replies = Vec::new(alloc);
+    push_lines(&mut replies, row, "< ")?;
+    let mut session = Vec::new(alloc);
+    push_lines(&mut session, row, "> ")?;
+    answers(alloc, session, replies.as_slice())
+}
+
+/// Puts the bytes of the lines of a row that begin with a mark.
+fn push_lines(bytes: &mut Vec<u8>, row: &str, mark: &str) -> Result<(), AllocError> {
+    for line in row.lines() {
+        if let Some(text) = line.trim_start().strip_prefix(mark) {
+            push_text(bytes, text, TEN)?;
+        }
+    }
+    Ok(())
 }
