@@ -14,18 +14,16 @@ const SECOND: u64 = 1_000_000_000;
 fn push_session(bytes: &mut Vec<u8>) -> Result<(), AllocError> {
     push_text(bytes, "1e000000_10 own matcher 1a0708641001_28e807", TEN)?;
     for second in 0..=MOST_ROWS {
-        push_text(bytes, "0d000000_02", TEN)?;
-        push_time(bytes, second)?;
-        push_text(bytes, "05000000", TEN)?;
+        push_at(bytes, "0d000000_02", second, "05000000")?;
     }
-    push_text(bytes, "09000000_01", TEN)?;
-    push_time(bytes, MOST_ROWS + 1)?;
-    push_text(bytes, "report", TEN)
+    push_at(bytes, "09000000_01", MOST_ROWS + 1, "report")
 }
 
-/// A time in seconds, as a frame has it.
-fn push_time(bytes: &mut Vec<u8>, second: u64) -> Result<(), AllocError> {
-    bytes.extend_from_slice(&second.saturating_mul(SECOND).to_le_bytes())
+/// A time in seconds, as a frame has it, between two texts.
+fn push_at(bytes: &mut Vec<u8>, before: &str, second: u64, after: &str) -> Result<(), AllocError> {
+    push_text(bytes, before, TEN)?;
+    bytes.extend_from_slice(&second.saturating_mul(SECOND).to_le_bytes())?;
+    push_text(bytes, after, TEN)
 }
 
 /// The answers to the install and to the report: the rows of the only key, which have 318,810 bytes, and one row that

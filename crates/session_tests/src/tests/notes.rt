@@ -1,5 +1,5 @@
 //! Each note by its line, and each front of the line where the room ends.
-use sd_io::{MemSink, WriteFailed};
+use sd_io::MemSink;
 use session_frames::SessionFault;
 use statsd_cli::{Note, write_note};
 use std::alloc::Global;
@@ -77,29 +77,19 @@ fn writes_each_line_or_a_front_of_it(rt: HostRuntime) {
 
 /// Asserts that a note is this line, and in less room the front that the room takes.
 fn assert_line<R: Abort + AllocGlobal>(rt: &R, note: &Note, line: &str) {
-    assert!(rt;
-        writes(rt.alloc(), note, 128, Ok(()), line.as_bytes()),
-        "at {line}"
-    );
-    for room in 0..line.len() {
-        let front = line.as_bytes().get(..room).unwrap_or_default();
+    for room in 0..=line.len() {
         assert!(rt;
-            writes(rt.alloc(), note, room, Err(WriteFailed), front),
+            writes(rt.alloc(), note, room, line.as_bytes()),
             "at {room} of {line}"
         );
     }
 }
 
-/// Whether a note into so much room is answered so, and leaves these bytes.
-fn writes(
-    alloc: Global,
-    note: &Note,
-    room: usize,
-    answer: Result<(), WriteFailed>,
-    bytes: &[u8],
-) -> bool {
+/// Whether a note into so much room leaves what there is room for of a line, and is answered so.
+fn writes(alloc: Global, note: &Note, room: usize, line: &[u8]) -> bool {
     let Ok(mut notes) = MemSink::new(alloc, room, Vec::new(alloc)) else {
         return false;
     };
-    write_note(note, &mut notes) == answer && notes.bytes() == bytes
+    let written = write_note(note, &mut notes).is_ok();
+    written == (line.len() <= room) && notes.bytes() == line.get(..room).unwrap_or(line)
 }

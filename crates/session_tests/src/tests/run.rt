@@ -93,7 +93,7 @@ fn outcome_of(
 }
 
 /// The words of a text, with blanks between them.
-fn words_of(alloc: Global, text: &str) -> Result<Vec<Bytes>, AllocError> {
+pub fn words_of(alloc: Global, text: &str) -> Result<Vec<Bytes>, AllocError> {
     let mut words = Vec::new(alloc);
     for word in text.split_whitespace() {
         words.push(Bytes::from_slice(alloc, word.as_bytes())?)?;

@@ -1,12 +1,23 @@
 //! The engine over readers and writers of std.
 use super::parts::bytes_of;
-use super::run::AMPLE;
-use atom_record::Bytes;
+use super::run::{AMPLE, words_of};
 use sd_io::{MemSink, Sink, Source, StdSink, StdSource};
 use statsd_cli::statsd_top;
 use std::alloc::{AllocError, Global};
 use std::io;
 use std::io::{ErrorKind, Read, Write};
+
+/// Runs `replay` over these, and gives its status and its notes.
+fn replay<S: Source, K: Sink>(
+    alloc: Global,
+    input: &mut S,
+    out: &mut K,
+) -> Result<(u8, MemSink), AllocError> {
+    let words = words_of(alloc, "replay")?;
+    let mut notes = MemSink::new(alloc, AMPLE, Vec::new(alloc))?;
+    let status = statsd_top(alloc, words.as_slice(), input, out, &mut notes);
+    Ok((status, notes))
+}
 
 /// Whether `replay` over these ends with this status and this note.
 fn ends_with<S: Source, K: Sink>(
@@ -15,11 +26,11 @@ fn ends_with<S: Source, K: Sink>(
     out: &mut K,
     status: u8,
     note: &str,
-) -> Result<bool, AllocError> {
-    let words = [Bytes::from_slice(alloc, b"replay")?];
-    let mut notes = MemSink::new(alloc, AMPLE, Vec::new(alloc))?;
-    let ended = statsd_top(alloc, &words, input, out, &mut notes);
-    Ok(ended == status && notes.bytes() == note.as_bytes())
+) -> bool {
+    match replay(alloc, input, out) {
+        Ok((ended, notes)) => ended == status && notes.bytes() == note.as_bytes(),
+        Err(AllocError) => false,
+    }
 }
 
 /// Gives its bytes one a call, and then fails.
@@ -49,7 +60,7 @@ fn answers_nothing(alloc: Global) -> Result<bool, AllocError> {
     let session = bytes_of(alloc, "install atom2")?;
     let mut input = StdSource::new(Failing(session.as_slice()));
     let mut out = MemSink::new(alloc, AMPLE, Vec::new(alloc))?;
-    let ends = ends_with(alloc, &mut input, &mut out, 4, "statsd: read fault\n")?;
+    let ends = ends_with(alloc, &mut input, &mut out, 4, "statsd: read fault\n");
     Ok(ends && out.bytes().is_empty())
 }
 
@@ -122,6 +133,6 @@ fn takes_so(
         &mut StdSink::new(&mut taking),
         status,
         note,
-    )?;
+    );
     Ok(ends && taking.bytes == replies)
 }

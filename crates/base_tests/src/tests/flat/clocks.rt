@@ -1,5 +1,5 @@
 //! Crossings, cuts and saved clocks that were worked out by hand.
-use crate::samples::numbers;
+use super::samples::numbers;
 use bucket_clock::{Clock, MAX_BUCKET};
 use flat_form::{Flat, FlatError, Items, rebuild};
 use std::alloc::{AllocError, Global};

@@ -1,5 +1,5 @@
 //! Values through their items: what is built, and where nothing is.
-use crate::samples::{atom, dims, key, numbers};
+use super::samples::{atom, dims, key, numbers};
 use atom_record::{Atom, DimKey, MetricKey};
 use flat_form::{Flat, FlatError, Items, rebuild, save};
 use sd_base::Seq;

@@ -1,7 +1,7 @@
 //! Items and their bytes.
 ghost use Rattle.flat_form.specs.Savable.{AreSavable};
 
-use crate::samples::{ATOM, CHUNK, DIMS, NUM, SLICES, items};
+use super::samples::{ATOM, CHUNK, DIMS, NUM, SLICES, items};
 use flat_form::{FlatError, Item, Items, decode_items, encode_items};
 use std::alloc::{AllocError, Global};
 

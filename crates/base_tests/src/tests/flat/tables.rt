@@ -1,5 +1,5 @@
 //! Arrivals and saved tables that were worked out by hand.
-use crate::samples::numbers;
+use super::samples::numbers;
 use dim_table::Admit::{At, Full};
 use dim_table::{Admit, Guarded, MAX_KEYS};
 use flat_form::{Flat, FlatError, Items, rebuild};

@@ -1,0 +1,10 @@
+//! Sessions read to their end or to their fault, and replies as bytes; atoms, streams, the flat form, clocks and tables
+//! below them. All bytes and texts were worked by hand.
+mod atoms;
+mod faults;
+mod flat;
+mod large;
+mod reading;
+mod replies;
+mod sessions;
+mod streams;
