@@ -23,18 +23,18 @@ use Rattle.atom_record.proofs.AtomReadingPlaces.{in_range_is, in_range_again, af
 use Rattle.atom_record.proofs.AtomReadingFlags.{may_have_is, may_have_again, one_state-push}
 
 -- the steps of reading an entry, from the last to the first
-abbrev with_value : Place → ℕ → Value × List ℕ → Result (AtomField × List ℕ) ℕ
+abbrev pub with_value : Place → ℕ → Value × List ℕ → Result (AtomField × List ℕ) ℕ
 with_value place flags value =
     Ok (record { field = place.field; index = place.index; sub = place.sub; flags = flags; value = value.0 }, value.1)
 
 -- what is read once the type is known: the flags are judged, and the value is read
-abbrev after_flags : List AtomField → Place → ℕ → List ℕ → Kind → Result (AtomField × List ℕ) ℕ
+abbrev pub after_flags : List AtomField → Place → ℕ → List ℕ → Kind → Result (AtomField × List ℕ) ℕ
 after_flags before place flags bytes kind =
     if not (may_have (list_any is_exclusive before) place kind flags) then Err reason_bad_flags
     else (value_at kind bytes >>= with_value place flags)
 
 -- what is read once the place is judged
-abbrev after_place : List AtomField → Place → ℕ → ℕ → List ℕ → Result (AtomField × List ℕ) ℕ
+abbrev pub after_place : List AtomField → Place → ℕ → ℕ → List ℕ → Result (AtomField × List ℕ) ℕ
 after_place before place flags number bytes = kind_at number >>= after_flags before place flags bytes
 
 -- what was read as an entry, after these

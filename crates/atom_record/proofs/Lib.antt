@@ -7,3 +7,5 @@ pub mod AtomReadingPlaces
 pub mod AtomReadingValues
 pub mod AtomSoundLemmas
 pub mod TypedLaws
+pub mod LoopLemmas
+mod AtomReadingSteps

@@ -82,10 +82,7 @@ fn encode_entry(entry: &AtomField, out: &mut Vec<u8>) -> Result<(), AllocError>
     requires { HasShortText entry.now.value }
     ensures { OnOk result (out.new.items ≡ out.old.items ++ entry_bytes entry.now) }
 {
-    out.push(entry.field)?;
-    out.push(entry.index)?;
-    out.push(entry.sub)?;
-    out.push(entry.flags)?;
+    out.extend_from_slice(&[entry.field, entry.index, entry.sub, entry.flags])?;
     encode_value(&entry.value, out)
 }
 

@@ -6,7 +6,7 @@ use crate::Atom;
 use sd_base::Seq;
 
 /// What a recorded pull gave.
-#[derive(Debug, Drop, PartialEq, Eq)]
+#[derive(Debug, Drop)]
 pub enum PullOutcome {
     /// The atoms of a snapshot.
     Atoms(Seq<Atom>),
@@ -15,7 +15,7 @@ pub enum PullOutcome {
 }
 
 /// One frame of the log. Times are in nanoseconds, below 2^63.
-#[derive(Debug, Drop, PartialEq, Eq)]
+#[derive(Debug, Drop)]
 pub enum LogFrame {
     /// Time passed.
     Tick {

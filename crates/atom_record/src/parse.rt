@@ -153,7 +153,9 @@ fn bool_of(bytes: &[u8]) -> Result<(bool, &[u8]), AtomFault>
 fn text_of(alloc: Global, bytes: &[u8]) -> Result<(Bytes, &[u8]), AtomFault>
     ensures { GivesBy reason_of (λ x. (x.0, x.1.now)) result (text_at bytes.now) }
 {
-    let (text, rest) = split_counted(bytes).ok_or(AtomFault::Bad(CUT))?;
+    let Some((text, rest)) = split_counted(bytes) else {
+        return Err(AtomFault::Bad(CUT));
+    };
     Ok((Seq::from_slice(alloc, text)?, rest))
 }
 
@@ -251,7 +253,9 @@ fn entries_of(alloc: Global, bytes: &[u8]) -> Result<Seq<AtomField>, AtomFault>
 fn id_of(bytes: &[u8]) -> Result<(u32, &[u8]), AtomFault>
     ensures { GivesBy reason_of (λ x. (x.0, x.1.now)) result (id_at bytes.now) }
 {
-    let (id, rest) = split_u32(bytes).ok_or(AtomFault::Bad(BAD_ID))?;
+    let Some((id, rest)) = split_u32(bytes) else {
+        return Err(AtomFault::Bad(BAD_ID));
+    };
     if !is_atom_id(id) {
         return Err(AtomFault::Bad(BAD_ID));
     }

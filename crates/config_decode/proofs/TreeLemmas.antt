@@ -1,5 +1,6 @@
 -- Lemmas on `specs/Tree.antt`, for `field_matcher` and `field_test`: one level of messages, and what is below it.
-use Rattle.std.proofs.Common.{◌≡◌, ℕ, zero, suc, ◌-◌, ◌<◌, List, map, refl, arith}
+use Rattle.std.proofs.Common.{◌≡◌, ℕ, zero, suc, ◌+◌, ◌-◌, ◌<◌, List, [], ◌∷◌, ◌++◌, length, map, drop, get_or, refl, arith, append_assoc, add-one}
+use Rattle.std.proofs.Math.Seq.{drop-cons}
 use native.Mathlib.Numerals.{unary_clauses}
 use Rattle.proto_wire.specs.Fields.{FieldOf}
 use Rattle.config_decode.specs.Tree.{field_matcher_with, field_matcher_in, children_in, field_test_with, field_test_in, tests_in}
@@ -25,3 +26,11 @@ pub tests_step : (levels : ℕ) (messages : List (List FieldOf)) → 0 < levels
     → tests_in levels messages ≡ map (field_test_in (levels - 1)) messages
 tests_step zero messages h = absurd (omega arith)
 tests_step (suc levels) messages h = simp unary_clauses refl
+
+-- one more item is read, and the rest is left
+pub one_more : {A B : Type 0} (read : A → B) (items : List A) (i : ℕ) (d : A) (before now : List B) (next : B)
+    → i < length items → next ≡ read (get_or items i d) → now ≡ before ++ next ∷ []
+    → before ++ map read (drop i items) ≡ map read items
+    → now ++ map read (drop (i + 1) items) ≡ map read items
+one_more read items i d before now next below is added done =
+    rw (add-one, added, append_assoc, is) (rw (drop-cons items i d) at done)

@@ -1,12 +1,12 @@
 -- Lemmas on `specs/Values.antt`, for the loops of `message.rt`: fields of a message, while its records are gone through
 -- one by one.
-use Rattle.std.proofs.Common.{◌≡◌, ℕ, zero, suc, ◌+◌, ◌^◌, ◌<◌, Bool, true, false, refl, sym, ap, ◌∙◌, subst, arith}
+use Rattle.std.proofs.Common.{◌≡◌, ℕ, zero, suc, ◌+◌, ◌^◌, ◌<◌, ◌≤◌, Bool, true, false, refl, sym, ap, ◌∙◌, subst, arith}
 use Rattle.std.proofs.Common.{List, [], ◌∷◌, ◌++◌, length, map, take, get_or, Option, Some, None, Ok, Err}
 use Rattle.std.specs.Prelude.{◌==◌}
 use Rattle.std.specs.List.{filter, flat_map, last_or}
 use Rattle.std.specs.Option.{option_to_list, IsSome}
 use Rattle.std.proofs.lemmas.Bool.{eqb-true, eqb-false}
-use Rattle.std.proofs.lemmas.List.{map_more, map-append}
+use Rattle.std.proofs.lemmas.List.{map_more, map-append, take_all}
 use Rattle.std.proofs.lemmas.List.Concat.{flat_map-append}
 use Rattle.std.proofs.lemmas.List.Elements.{filter-append}
 use Rattle.proto_wire.specs.declared.field.Field.{Field}
@@ -71,6 +71,11 @@ module _ (number : ℕ) (fields : List Field) (i : ℕ) (d : Field) (below : i <
 pub payloads_append : (number : ℕ) (fields others : List FieldOf)
     → payloads number (fields ++ others) ≡ payloads number fields ++ payloads number others
 payloads_append number fields others = found-append _ _ fields others
+
+-- once all records of a message were gone through, they are the message
+pub all_taken : (fields items : List Field) (n : ℕ) (message : List FieldOf) → fields ≡ items → length fields ≤ n
+    → map field_view items ≡ message → map field_view (take n fields) ≡ message
+all_taken fields items n message is all view = ap (map field_view) (take_all n fields all ∙ is) ∙ view
 
 -- the last of further items, if there are any
 pub last_append : {A : Type 0} (o : Option A) (xs ys : List A) → last_or o (xs ++ ys) ≡ last_or (last_or o xs) ys

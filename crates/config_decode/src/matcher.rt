@@ -5,7 +5,7 @@ ghost use Rattle.config_decode.specs.Values as values;
 
 use crate::message::Message;
 use crate::numbers;
-use crate::tree::{FromMessage, repeated};
+use crate::tree::{FromMessage, merged, repeated};
 use config_types::{Combo, MatcherBody, MatcherDef, SimpleMatcher};
 use std::alloc::{AllocError, Global};
 
@@ -59,9 +59,8 @@ fn body(alloc: Global, run: &Message<'_>) -> Result<Option<MatcherBody>, AllocEr
         return Ok(None);
     };
     if number == numbers::MATCHER_SIMPLE {
-        let simple = run.read_merged(alloc, number)?;
-        return Ok(Some(MatcherBody::Simple(SimpleMatcher::from_message(alloc, &simple)?)));
+        return Ok(Some(MatcherBody::Simple(merged(alloc, run, number)?)));
     }
-    let combo = run.read_merged(alloc, numbers::MATCHER_COMBINATION)?;
-    Ok(Some(MatcherBody::Combo(Combo::from_message(alloc, &combo)?)))
+    let combo = merged(alloc, run, numbers::MATCHER_COMBINATION)?;
+    Ok(Some(MatcherBody::Combo(combo)))
 }

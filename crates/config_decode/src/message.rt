@@ -73,12 +73,12 @@ impl<'a> Message<'a> {
         requires { length bytes.now < 2 ^ 32 }
         ensures { IfOk result (λ message. message ≡ records_of bytes.now) }
     {
-        let mut message = Message::new(alloc);
+        let mut fields = Vec::new(alloc);
         let mut records = Records::new(bytes, 0, 0);
         while let Ok(Some(field)) = records.next() {
-            message.records.push(field)?;
+            fields.push(field)?;
         }
-        Ok(message)
+        Ok(Message { records: fields })
     }
 
     /// A field that holds one number: what the last that means anything means.
@@ -165,8 +165,7 @@ impl<'a> Message<'a> {
             message ≡ values.records_of_all (values.payloads number self.now)) }
     {
         let messages = self.read_messages(alloc, number)?;
-        let message = Message::of_all(alloc, messages.as_slice())?;
-        Ok(message)
+        Message::of_all(alloc, messages.as_slice())
     }
 
     /// A field that is a message, if there is any.
@@ -186,24 +185,15 @@ impl<'a> Message<'a> {
     }
 
     // The records of all these messages, as one.
-    #[tactic(auto, using(std::proofs::lemmas::List::flat_map_more))]
+    #[tactic(auto, using(std::proofs::lemmas::List::flat_map_more, crate::proofs::ValuesLemmas::short_append))]
     fn of_all(alloc: Global, messages: &[Message<'a>]) -> Result<Message<'a>, AllocError>
         ensures { IfOk result (λ message. message ≡ values.together messages.now) }
     {
-        let mut all = Message::new(alloc);
+        let mut fields = Vec::new(alloc);
         for message in messages {
-            all.append(message)?;
+            fields.extend_from_slice(message.records.as_slice())?;
         }
-        Ok(all)
-    }
-
-    // Adds the records of another message.
-    #[tactic(auto, using(crate::proofs::ValuesLemmas::short_append))]
-    fn append(&mut self, other: &Message<'a>) -> Result<(), AllocError>
-        ensures { OnOk result (self.new ≡ self.old ++ other.now) }
-    {
-        self.records.extend_from_slice(other.records.as_slice())?;
-        Ok(())
+        Ok(Message { records: fields })
     }
 
     /// The records of the member of a oneof that was set last, back to where another member was set.

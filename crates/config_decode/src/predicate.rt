@@ -5,7 +5,7 @@ ghost use Rattle.config_decode.specs.Tree as tree;
 use crate::message::Message;
 use crate::numbers;
 use crate::scalar::InitialValue;
-use crate::tree::{FromMessage, optional};
+use crate::tree::{FromMessage, merged, optional};
 use config_types::{Combo, PredicateBody, PredicateDef, SimplePredicate};
 use std::alloc::{AllocError, Global};
 
@@ -56,9 +56,8 @@ fn body(alloc: Global, run: &Message<'_>) -> Result<Option<PredicateBody>, Alloc
         return Ok(None);
     };
     if number == numbers::PREDICATE_SIMPLE {
-        let simple = run.read_merged(alloc, number)?;
-        return Ok(Some(PredicateBody::Simple(SimplePredicate::from_message(alloc, &simple)?)));
+        return Ok(Some(PredicateBody::Simple(merged(alloc, run, number)?)));
     }
-    let combo = run.read_merged(alloc, numbers::PREDICATE_COMBINATION)?;
-    Ok(Some(PredicateBody::Combo(Combo::from_message(alloc, &combo)?)))
+    let combo = merged(alloc, run, numbers::PREDICATE_COMBINATION)?;
+    Ok(Some(PredicateBody::Combo(combo)))
 }

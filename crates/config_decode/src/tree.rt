@@ -31,6 +31,19 @@ pub fn optional<T: FromMessage>(
     }
 }
 
+/// What a field that is a message says, whose payloads are read as one.
+pub fn merged<T: FromMessage>(
+    alloc: Global,
+    message: &Message<'_>,
+    number: u32,
+) -> Result<T, AllocError>
+    ensures { IfOk result (λ read.
+        read ≡ T.tree (values.records_of_all (values.payloads number message.now))) }
+{
+    let inner = message.read_merged(alloc, number)?;
+    T::from_message(alloc, &inner)
+}
+
 /// What each message of a repeated field says.
 pub fn repeated<T: FromMessage>(
     alloc: Global,

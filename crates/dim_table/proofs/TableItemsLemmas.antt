@@ -1,17 +1,17 @@
 -- Rows that stand one after the other, and the table that is built from them.
-use Rattle.std.proofs.Common.{◌≡◌, ◌≢◌, ℕ, suc, ◌+◌, ◌<◌, ◌≤◌, true, false, List, [], ◌∷◌, ◌++◌, length, take, All, AllPairs, Option, Some, None, Result, Ok, Err, slice_get, get_or, Contains, IfSome, IfNone, is_some, ⊎_elim, refl, sym, ap, subst, ◌∙◌, append_assoc, arith}
+use Rattle.std.proofs.Common.{◌≡◌, ◌≢◌, ℕ, suc, ◌+◌, ◌<◌, ◌≤◌, true, false, List, [], ◌∷◌, ◌++◌, length, take, All, AllPairs, Option, Some, None, Result, Ok, Err, slice_get, get_or, Contains, IfSome, IfNone, is_some, ⊎_elim, refl, sym, ap, subst, ◌∙◌, append_assoc, arith, inl, inr}
 use Rattle.std.specs.List.{flat_map}
 use Rattle.std.specs.Map.{keys_of}
 use Rattle.std.proofs.lemmas.Bool.{true≢false, false≢true}
-use Rattle.std.proofs.lemmas.List.{append-nil, length-append, take_more, get_or_append_left, get_or-append-add}
+use Rattle.std.proofs.lemmas.List.{append-nil, length-append, take_more, take_all, get_or_append_left, get_or-append-add}
 use Rattle.std.proofs.lemmas.List.Concat.{flat_map-append}
 use Rattle.std.proofs.lemmas.List.Elements.{All-push, Contains-get_or}
 use Rattle.std.proofs.lemmas.List.Quantifiers.{all_pairs_push}
-use Rattle.std.proofs.lemmas.Option.{slice_get_within, get_or_from_slice_get}
+use Rattle.std.proofs.lemmas.Option.{slice_get_within, slice_get_cases, get_or_from_slice_get}
 use Rattle.flat_form.specs.declared.item.Item.{Item}
 use Rattle.flat_form.specs.declared.flat_error.FlatError.{FlatError}
 use Rattle.flat_form.specs.declared.flat_error.FlatError.TheVariants.{Bad, Memory}
-use Rattle.flat_form.specs.Flat.{Anything, IsValidPair, StandsAt, IsBuilt, Builds, AreBuilt, number_items, pair_items}
+use Rattle.flat_form.specs.Flat.{Anything, IsFront, IsValidPair, StandsAt, IsBuilt, Builds, AreBuilt, number_items, pair_items}
 use Rattle.flat_form.proofs.FlatLaws as laws
 use Rattle.dim_table.specs.declared.answer.Admit.{Admit}
 use Rattle.dim_table.specs.declared.answer.Admit.TheVariants.{At, Full}
@@ -45,6 +45,28 @@ valid_more valid rows place row at all valid_row =
     take_more rows place row (slice_get_within rows place row at)
     ∙ ap (λ r. take place rows ++ r ∷ []) (get_or_from_slice_get rows place row row at) in
     subst (All valid) (sym is) (All-push valid (take place rows) row all valid_row)
+
+-- past the last row nothing stands
+pub past_rows : {X : Type 0} (rows : List X) (place : ℕ) → slice_get rows place ≡ None → length rows ≤ place
+past_rows rows place none = elim ((slice_get_cases rows place).1) [ inl h ↦ absurd (cc (h.2)) | inr h ↦ h.0 ]
+
+-- all rows are valid, where those up to their end are
+pub valid_all : {X : Type 0} (valid : X → Type 0) (rows : List X) (place : ℕ)
+    → length rows ≤ place → All valid (take place rows) → All valid rows
+valid_all valid rows place end all = subst (All valid) (take_all place rows end) all
+
+-- the items of all rows were added, where those of the rows up to their end were
+pub added_all : {X : Type 0} (flat : X → List Item) (rows : List X) (place : ℕ) (old out : List Item)
+    → length rows ≤ place → out ≡ old ++ flat_map flat (take place rows) → out ≡ old ++ flat_map flat rows
+added_all flat rows place old out end added =
+    added ∙ ap (λ (l : List _). old ++ flat_map flat l) (take_all place rows end)
+
+-- what was added before a fault stands in front
+pub front_more : (old out new more : List Item) → out ≡ old ++ more → IsFront out new → IsFront old new
+front_more old out new more added front = record {
+  more = more ++ front.more;
+  parts = front.parts ∙ ap (λ l. l ++ front.more) added ∙ append_assoc old more front.more;
+}
 
 -- a key that has a place is there, and one without a place isn't
 pub there_from_is_some : {K : Type 0} (ks : List K) (key : K) (place : Option ℕ) → is_some place ≡ true

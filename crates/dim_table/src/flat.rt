@@ -1,9 +1,9 @@
 //! The flat form of a table: its bound, its count of drops, and its rows.
-ghost use Rattle.std.specs.Prelude.{◌≡◌, [], ◌++◌, List, length, OnOk, OnErr, All, IsTrue, ◌↔◌};
+ghost use Rattle.std.specs.Prelude.{◌≡◌, ℕ, ◌+◌, ◌<◌, ◌≤◌, [], ◌++◌, List, length, Err, MatchResult, OnOk, OnErr, All, IsTrue, ◌↔◌};
 ghost use Rattle.std.specs.List.{flat_map};
 ghost use Rattle.flat_form.specs.Flat.{IsFront, IsValidPair, pair_items};
-ghost use Rattle.dim_table.specs.Table.{IsBounded};
-ghost use Rattle.dim_table.specs.TableItems.{BuildsRows};
+ghost use Rattle.dim_table.specs.Table.{Table, IsBounded};
+ghost use Rattle.dim_table.specs.TableItems.{AreRows, BuildsRows};
 
 use crate::{Guarded, MAX_KEYS};
 use flat_form::{Flat, FlatError, Items};
@@ -69,6 +69,28 @@ fn show_row<K: Flat, V: Flat>(key: &K, value: &V)
     value.show_valid();
 }
 
+// One more row of a table, with a key that the table doesn't have. The answer is the place after it.
+fn build_row<K: Flat + Exact + Hash + Drop, V: Flat + Drop>(
+    alloc: Global,
+    items: &Items,
+    place: usize,
+    table: &mut Guarded<K, V>,
+) -> Result<usize, FlatError>
+    ensures { (empty : Table K V) (first n count : ℕ)
+        → AreRows K.valid V.valid K.flat V.flat empty items.now first n table.old place
+        → n < count → count ≤ empty.bound
+        → MatchResult result
+        (λ next. AreRows K.valid V.valid K.flat V.flat empty items.now first (n + 1) table.new next)
+        (λ e. BuildsRows K.valid V.valid K.flat V.flat empty items.now first count (Err e)) }
+{
+    let ((key, value), after) = <(K, V)>::build(alloc, items, place)?;
+    if table.place_of(&key).is_some() {
+        return Err(FlatError::Bad);
+    }
+    table.admit(key, value)?;
+    Ok(after)
+}
+
 // A table of so many rows, which stand one after the other.
 fn build_rows<K: Flat + Exact + Hash + Drop, V: Flat + Drop>(
     alloc: Global,
@@ -84,12 +106,7 @@ fn build_rows<K: Flat + Exact + Hash + Drop, V: Flat + Drop>(
     let mut table = empty;
     let mut next = place;
     for _turn in 0..count {
-        let ((key, value), after) = <(K, V)>::build(alloc, items, next)?;
-        if table.place_of(&key).is_some() {
-            return Err(FlatError::Bad);
-        }
-        table.admit(key, value)?;
-        next = after;
+        next = build_row(alloc, items, next, &mut table)?;
     }
     Ok((table, next))
 }

@@ -2,4 +2,5 @@ pub mod FlatLaws
 pub mod ItemReadingLaws
 pub mod ItemRangeLaws
 pub mod WeightLaws
-mod LoopLemmas
+mod AddedLemmas
+mod TagLemmas

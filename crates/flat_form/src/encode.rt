@@ -2,12 +2,13 @@
 ghost use Rattle.std.specs.Prelude.{◌≡◌, ℕ, List, [], ◌∷◌, ◌++◌, ◌<◌, ◌^◌, length, IfOk, OnOk, All};
 ghost use Rattle.std.specs.Int.{w16, w32, w64, to_le_bytes, cast_unsigned};
 ghost use Rattle.std.specs.List.{flat_map};
-ghost use Rattle.atom_record.specs.AtomSpelling.{sized_bytes};
-ghost use Rattle.flat_form.specs.ItemSpelling.{spelled_items};
+ghost use Rattle.atom_record.specs.AtomSpelling.{sized_bytes, payload_of};
+ghost use Rattle.atom_record.specs.AtomSound.{HasNoFault};
+ghost use Rattle.flat_form.specs.ItemSpelling.{spelled_slice, spelled_items};
 ghost use Rattle.flat_form.specs.Savable.{AreSavable};
 
 use crate::{Item, Items};
-use atom_record::{Bytes, Leaf, Slice, Value, encode_atom, encode_value};
+use atom_record::{Atom, Bytes, Leaf, Slice, Value, encode_atom, encode_value};
 use sd_base::Seq;
 use std::alloc::{AllocError, Global};
 
@@ -66,6 +67,18 @@ impl Encode for Value {
     }
 }
 
+// Adds the tag 2, the number of values in two bytes, and their spellings.
+fn encode_many<T: Encode>(values: &[T], alloc: Global, out: &mut Vec<u8>) -> Result<(), AllocError>
+    requires count { length values.now < 2 ^ 16 }
+    requires each { All T.can_be values.now }
+    ensures { OnOk result (out.new.items ≡ out.old.items
+        ++ 2 ∷ (to_le_bytes w16 (length values.now) ++ flat_map T.spelling values.now)) }
+{
+    out.push(2)?;
+    put_u16(values.len() as u16, out)?;
+    encode_all(values, alloc, out)
+}
+
 impl Encode for Leaf {
     ghost use Rattle.flat_form.specs.ItemSpelling.{spelled_leaf};
     ghost use Rattle.flat_form.specs.Savable.{IsShortLeaf};
@@ -81,11 +94,7 @@ impl Encode for Leaf {
                 out.push(1)?;
                 encode_value(value, out)
             }
-            Leaf::Many(values) => {
-                out.push(2)?;
-                put_u16(values.len() as u16, out)?;
-                encode_all(values.as_slice(), alloc, out)
-            }
+            Leaf::Many(values) => encode_many(values.as_slice(), alloc, out),
         }
     }
 }
@@ -107,8 +116,6 @@ fn put_group(atom_id: u32, bits: u64, out: &mut Vec<u8>) -> Result<(), AllocErro
 }
 
 impl Encode for Slice {
-    ghost use Rattle.flat_form.specs.ItemSpelling.{spelled_slice};
-
     ghost spelling = { spelled_slice };
 
     ghost can_be = { λ slice. Unit {0} };
@@ -124,13 +131,53 @@ impl Encode for Slice {
     }
 }
 
-// Adds the number of a payload's bytes, and these.
+// Adds the tag 1 and a number.
+fn put_num(number: u64, out: &mut Vec<u8>) -> Result<(), AllocError>
+    ensures { OnOk result (out.new.items ≡ out.old.items ++ 1 ∷ to_le_bytes w64 number) }
+{
+    out.push(1)?;
+    put_u64(number, out)
+}
+
+// Adds the tag 3, the number of slices in one byte, and these.
+fn encode_slices(slices: &[Slice], alloc: Global, out: &mut Vec<u8>) -> Result<(), AllocError>
+    requires { length slices.now < 2 ^ 8 }
+    ensures { OnOk result (out.new.items
+        ≡ out.old.items ++ 3 ∷ length slices.now ∷ flat_map spelled_slice slices.now) }
+{
+    out.push(3)?;
+    out.push(slices.len() as u8)?;
+    encode_all(slices, alloc, out)
+}
+
+// Adds the tag 4, the number of a payload's bytes, and these.
 fn put_payload(payload: &[u8], out: &mut Vec<u8>) -> Result<(), AllocError>
     requires { length payload.now < 2 ^ 16 }
-    ensures { OnOk result (out.new.items ≡ out.old.items ++ sized_bytes payload.now) }
+    ensures { OnOk result (out.new.items ≡ out.old.items ++ 4 ∷ sized_bytes payload.now) }
 {
+    out.push(4)?;
     put_u16(payload.len() as u16, out)?;
     out.extend_from_slice(payload)
+}
+
+// Adds the tag 4 and the payload of an atom.
+fn put_atom(alloc: Global, atom: &Atom, out: &mut Vec<u8>) -> Result<(), AllocError>
+    requires { HasNoFault atom.now }
+    ensures { OnOk result (out.new.items ≡ out.old.items ++ 4 ∷ sized_bytes (payload_of atom.now)) }
+{
+    let payload = encode_atom(alloc, atom)?;
+    put_payload(payload.as_slice(), out)
+}
+
+// Adds the tag 5, the number of bytes, and these.
+fn put_chunk(chunk: &[u8], out: &mut Vec<u8>) -> Result<(), AllocError>
+    requires { length chunk.now < 2 ^ 32 }
+    ensures { OnOk result (out.new.items
+        ≡ out.old.items ++ 5 ∷ (to_le_bytes w32 (length chunk.now) ++ chunk.now)) }
+{
+    out.push(5)?;
+    put_u32(chunk.len() as u32, out)?;
+    out.extend_from_slice(chunk)
 }
 
 impl Encode for Item {
@@ -143,29 +190,11 @@ impl Encode for Item {
 
     fn encode(&self, alloc: Global, out: &mut Vec<u8>) -> Result<(), AllocError> {
         match self {
-            Item::Num(number) => {
-                out.push(1)?;
-                put_u64(*number, out)
-            }
-            Item::Dims(dims) => {
-                out.push(2)?;
-                put_u16(dims.len() as u16, out)?;
-                encode_all(dims.as_slice(), alloc, out)
-            }
-            Item::Slices(slices) => {
-                out.push(3)?;
-                out.push(slices.len() as u8)?;
-                encode_all(slices.as_slice(), alloc, out)
-            }
-            Item::AtomItem(atom) => {
-                out.push(4)?;
-                put_payload(encode_atom(alloc, atom)?.as_slice(), out)
-            }
-            Item::Chunk(bytes) => {
-                out.push(5)?;
-                put_u32(bytes.len() as u32, out)?;
-                out.extend_from_slice(bytes.as_slice())
-            }
+            Item::Num(number) => put_num(*number, out),
+            Item::Dims(dims) => encode_many(dims.as_slice(), alloc, out),
+            Item::Slices(slices) => encode_slices(slices.as_slice(), alloc, out),
+            Item::AtomItem(atom) => put_atom(alloc, atom, out),
+            Item::Chunk(chunk) => put_chunk(chunk.as_slice(), out),
         }
     }
 }

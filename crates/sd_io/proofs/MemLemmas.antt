@@ -1,10 +1,28 @@
 -- Lemmas on `specs/MemSource.antt` and `specs/MemSink.antt`, for the two objects: what they do, in the words of all
 -- sources and sinks.
-use Rattle.std.proofs.Common.{◌≡◌, ℕ, ◌<◌, ◌≤◌, Some, List, [], ◌++◌, length, take, drop, refl, sym, ap, ◌∙◌, append-nil, arith}
-use Rattle.std.proofs.lemmas.List.{take-append-le, take-append-drop, take-take, length-take}
+use Rattle.std.proofs.Common.{◌≡◌, ℕ, ◌+◌, ◌-◌, ◌<◌, ◌≤◌, min, Some, List, [], ◌++◌, length, take, drop, refl, sym, ap, ◌∙◌, append-nil, arith}
+use Rattle.std.proofs.lemmas.List.{take-append-le, take-append-drop, take-take, take_rest, drop-drop, length-take}
 use Rattle.std.proofs.Math.ListN.{drop_of_length-le}
 use Rattle.sd_io.specs.Causes.{AppendsFront}
 use Rattle.sd_io.specs.MemSource.{SourceContents, GivesPiece}
+
+-- what is copied from a place in the bytes that a source holds
+pub GivesPiece-at : (bytes held : List ℕ) (at : ℕ) (source : SourceContents) (buffer : List ℕ) (count : ℕ)
+    (buffer_after : List ℕ)
+    → source.left ≡ drop at bytes
+    → held ≡ bytes
+    → let rest = take (length held - at) (drop at held) in
+    count ≡ min source.piece (min (length buffer) (length rest))
+    → buffer_after ≡ take count rest ++ drop count buffer
+    → GivesPiece source buffer count (drop (at + count) bytes) buffer_after
+GivesPiece-at bytes held at source buffer count buffer_after left same most given =
+    let rest_is : take (length held - at) (drop at held) ≡ source.left =
+    take_rest held at ∙ ap (drop at) same ∙ sym left in
+    record {
+      most = most ∙ ap (λ l. min source.piece (min (length buffer) (length l))) rest_is;
+      given = given ∙ ap (λ l. take count l ++ drop count buffer) rest_is;
+      left = sym (drop-drop count at bytes) ∙ ap (drop count) (sym left);
+    }
 
 module _ (source : SourceContents) (buffer : List ℕ) (count : ℕ) (left buffer_after : List ℕ)
     (h : GivesPiece source buffer count left buffer_after) where

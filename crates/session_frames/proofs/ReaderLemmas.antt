@@ -1,9 +1,9 @@
 -- On specs/Reader.antt, for the reader: how far it came with its source, the place after a frame, and a call in its
 -- two steps.
-use Rattle.std.proofs.Common.{◌≡◌, ℕ, ◌+◌, ◌-◌, ◌<◌, ◌≤◌, Bool, true, false, IsTrue, List, ◌++◌, length, take, drop, Option, Some, None, Result, Ok, Err, IfOk, IfErr, IfNone, nat_lt, refl, sym, ap, ap₂, ◌∙◌, subst, subst₂, arith, inl, inr}
+use Rattle.std.proofs.Common.{◌≡◌, ℕ, ◌+◌, ◌-◌, ◌<◌, ◌≤◌, Bool, true, false, IsTrue, List, [], ◌++◌, length, take, drop, Option, Some, None, Result, Ok, Err, IfOk, IfErr, IfNone, nat_lt, refl, sym, ap, ap₂, ◌∙◌, subst, subst₂, arith, inl, inr}
 use Rattle.std.proofs.lemmas.Bool.Decides.{nat_tests}
-use Rattle.std.proofs.lemmas.List.{length-drop, drop-drop, take_rest, take-take, take-append-le}
-use Rattle.std.proofs.KnownBytes.{Consumes-trans}
+use Rattle.std.proofs.lemmas.List.{length-drop, drop-drop, take_rest, take-take, take-append-le, append-nil}
+use Rattle.std.proofs.KnownBytes.{Consumes-nil, Consumes-trans}
 use Rattle.std.specs.Io.KnownBytes.{Consumes, IsAtEnd}
 use Rattle.session_frames.specs.declared.frame.Frame.{Frame}
 use Rattle.session_frames.specs.declared.frame.FrameError.{FrameError}
@@ -148,6 +148,28 @@ Fills-first old new held bytes at clock frames ended holds unended consumes at_e
       place = refl;
       ended = refl;
       within = omega (arith, length-drop at bytes, first.1, within);
+    }
+
+-- a reader that saw its source's end has all of it
+pub Fills-ended : (left : Option (List ℕ)) (held : List ℕ) (at clock frames : ℕ) (ended : Bool)
+    → IsHeld held at clock frames ended
+    → IsTrue ended
+    → IsAtEnd left
+    → let reading : Reading = record {
+      pending = drop at held;
+      place = record { bytes = at; clock = clock; frames = frames };
+      ended = ended;
+    } in
+    Fills left left reading reading
+Fills-ended left held at clock frames ended holds true_ended at_end =
+    record {
+      taken = [];
+      consumes = Consumes-nil left;
+      at_end = at_end;
+      pending = sym (append-nil (drop at held));
+      place = refl;
+      ended = true_ended;
+      within = omega (arith, length-drop at held, holds.placed, holds.within);
     }
 
 -- A call in its two steps: the source is read, and what stands next is judged.

@@ -1,5 +1,6 @@
 -- One more is valid, and its items come after those of the others.
-use Rattle.flat_form.proofs.LoopLemmas.{adds_one, holds_one}
+use Rattle.flat_form.proofs.AddedLemmas.{front_before, on_failure}
+use Rattle.atom_record.proofs.LoopLemmas.{adds_one, adds_all, holds_one, holds_all}
 use Rattle.flat_form.proofs.flat.flatten_all.Goals as goal
 
 pub loop-value-preserved : goal.loop-value-preserved
@@ -9,3 +10,16 @@ loop-value-preserved g c = (
   holds_one c.args.all.now c.loop-value.value-index c.value-item.result c.loop-value-test.true c.value-item.is
       g.T.Flat.valid c.loop-value.invariant.1 c.in_ok-flatten.ensures.valid,
 )
+
+pub returns-clause-added : goal.returns-clause-added
+returns-clause-added g c = adds_all c.args.all.now c.loop-value.value-index c.loop-value-test.false g.T.Flat.flat _ _
+    c.loop-value.invariant.0
+
+pub returns-clause-valid : goal.returns-clause-valid
+returns-clause-valid g c = holds_all c.args.all.now c.loop-value.value-index c.loop-value-test.false g.T.Flat.valid
+    c.loop-value.invariant.1
+
+-- some of the items of one stand after those of the others
+pub returns-in_err-flatten-clause-err : goal.returns-in_err-flatten-clause-err
+returns-in_err-flatten-clause-err g c =
+    on_failure c.from_residual.result (front_before _ _ _ _ c.loop-value.invariant.0 c.in_err-flatten.ensures.err)

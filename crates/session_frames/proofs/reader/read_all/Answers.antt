@@ -4,7 +4,7 @@ use Rattle.std.proofs.lemmas.Result.{err_from_is_err_and}
 use Rattle.std.proofs.KnownBytes.{Consumes-nil, Consumes-trans, Consumes-kept}
 use Rattle.std.proofs.lemmas.List.{length-take, length-append, length-drop}
 use Rattle.std.specs.Io.KnownBytes.{Consumes}
-use Rattle.session_frames.proofs.ReaderLemmas.{Refuses-Read, Refuses-Memory, Consumes-piece}
+use Rattle.session_frames.proofs.ReaderLemmas.{Refuses-Read, Refuses-Memory, Refuses-too_much, Consumes-piece}
 use Rattle.session_frames.proofs.reader.read_all.Goals as goal
 
 pub returns-in_err-count-clause-refuses : goal.returns-in_err-count-clause-refuses
@@ -22,6 +22,25 @@ returns-in_err-extend_from_slice-clause-refuses g c =
     rw (p.1, p.2) (Refuses-Memory _ _ _ (Consumes-trans (g.S.Source.left c.args.src.now) (g.S.Source.left c.reads.src)
     (g.S.Source.left c.read.new.self) c.reads.bytes.items _ c.reads.invariant.consumes
     c.in_ok-count.ensures.bytes.0))
+
+pub returns-then-len-gt-MAX_INPUT-clause-refuses : goal.returns-then-len-gt-MAX_INPUT-clause-refuses
+returns-then-len-gt-MAX_INPUT-clause-refuses g c =
+    let buf = c.read.new.buf in
+    let behind = drop (length buf) c.reads.piece.items in
+    Refuses-too_much _ _ c.extend_from_slice.new.self.items
+    (Consumes-piece (g.S.Source.left c.args.src.now) (g.S.Source.left c.reads.src) (g.S.Source.left c.read.new.self)
+    c.reads.bytes.items c.extend_from_slice.new.self.items buf behind c.deref.result.now c.reads.piece.len
+    c.in_ok-count.count c.reads.invariant.consumes c.in_ok-count.ensures.bytes.0 c.deref.ensures.value
+    (omega (
+      arith,
+      c.in_ok-count.ensures.bound.0,
+      c.in_ok-count.ensures.bound.1,
+      c.deref.ensures.len,
+      c.deref_mut.ensures.len,
+      c.reads.piece.ok,
+    ))
+    c.in_ok-count.ensures.bound.0 c.in_ok-extend_from_slice.ensures.items)
+    (omega (arith, c.len.ensures, c.extend_from_slice.new.self.ok, c.if-len-gt-MAX_INPUT.true))
 
 -- nothing was read yet
 pub reads-init : goal.reads-init

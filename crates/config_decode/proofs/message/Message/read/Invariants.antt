@@ -8,8 +8,8 @@ use Rattle.config_decode.proofs.message.Message.read.Given as goal
 
 abbrev pub invariant-loop-field : goal.invariant-loop-field
 invariant-loop-field l = record {
-  read : map field_view l.message-inside.records.items ++ (walk_from l.records).fields ≡ records_of l.bytes;
-  short : HaveShortPayloads (map field_view l.message-inside.records.items);
+  read : map field_view l.fields.items ++ (walk_from l.records).fields ≡ records_of l.bytes;
+  short : HaveShortPayloads (map field_view l.fields.items);
 }
 
 abbrev pub decreases-loop-field : goal.decreases-loop-field

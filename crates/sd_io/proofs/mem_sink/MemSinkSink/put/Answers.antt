@@ -1,8 +1,17 @@
--- What was written of a failed put is a front of the piece: what fits, or nothing.
-use Rattle.std.proofs.Common.{◌-◌, arith, rules, vec_len}
+-- What was written is the piece, or of a failed put a front of it: what fits, or nothing.
+use Rattle.std.proofs.Common.{◌≡◌, ◌-◌, ◌≤◌, ◌++◌, length, refl, ap, ◌∙◌, subst, arith, rules, vec_len}
+use Rattle.std.proofs.lemmas.List.{take_all}
+use Rattle.sd_io.specs.MemSink.{SinkContents}
 use Rattle.sd_io.proofs.MemLemmas.{AppendsFront-take, AppendsFront-nil}
 use Rattle.sd_io.proofs.mem_sink.MemSinkSink.put.Goals as goal
 use Rattle.sd_io.proofs.mem_sink.MemSinkSink.put.Goals.{else-not-fails-via-then-not-fails+else-append, else-not-fails-via-else-not-fails}
+
+pub returns-then-append-clause-bytes : goal.returns-then-append-clause-bytes
+returns-then-append-clause-bytes c =
+    let left = c.self.inside.room - vec_len c.self.inside.bytes in
+    let fits : length c.args.piece.now ≤ left = omega (arith, c.if-append.ensures.whole.0 refl) in
+    subst (λ (sink : SinkContents). c.append.new.bytes.items ≡ sink.written ++ c.args.piece.now) c.self.view_is
+    (c.append.ensures.front ∙ ap (λ l. c.self.inside.bytes.items ++ l) (take_all left c.args.piece.now fits))
 
 pub returns-clause-bytes : goal.returns-clause-bytes
 returns-clause-bytes c =

@@ -1,16 +1,22 @@
 -- What a read gives is what was left, in the words of all sources.
-use Rattle.std.proofs.Common.{◌+◌, ◌≤◌, drop, arith}
-use Rattle.std.proofs.lemmas.Grind.{common_steps}
-use Rattle.sd_io.specs.MemSource.{GivesPiece}
-use Rattle.sd_io.proofs.MemLemmas.{left-given, ended-given}
+use Rattle.std.proofs.Common.{◌+◌, ◌≤◌, drop, refl, subst, arith}
+use Rattle.sd_io.specs.MemSource.{SourceContents, GivesPiece}
+use Rattle.sd_io.proofs.MemLemmas.{GivesPiece-at, left-given, ended-given}
 use Rattle.sd_io.proofs.mem_source.MemSourceSource.read.Goals as goal
+
+pub returns-clause-gives : goal.returns-clause-gives
+returns-clause-gives c =
+    let held = c.self.inside in
+    let given = c.give-count in
+    subst (λ source. GivesPiece source c.args.buf.now given.result (drop (held.at + given.result) held.bytes.items)
+    given.new.buf) c.self.view_is
+    (GivesPiece-at held.bytes.items c.deref-2.result.now held.at _ c.args.buf.now given.result given.new.buf refl
+    c.deref-2.ensures.value given.ensures.most given.ensures.given)
 
 pub returns-clause-bytes : goal.returns-clause-bytes
 returns-clause-bytes c =
-    let left_after = drop (c.self.inside.at + c.give-count.result) c.self.inside.bytes.items in
-    let gives : GivesPiece c.args.self.now c.args.buf.now c.give-count.result left_after c.give-count.new.buf =
-    grind (arith, common_steps) in
-    let some : 1 ≤ c.args.self.now.piece = grind arith in (
+    let gives = returns-clause-gives c in
+    let some = subst (λ (source : SourceContents). 1 ≤ source.piece) c.self.view_is c.self.invariant.1 in (
       left-given _ _ _ _ _ gives,
       λ none room. ended-given _ _ _ _ _ gives some none (omega (arith, c.give-count.auto.buf)),
     )
