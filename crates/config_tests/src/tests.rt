@@ -1,4 +1,5 @@
 //! Configurations and their trees, or why they are refused. All trees and faults were worked by hand.
+mod asserts;
 mod builds;
 mod compared;
 mod depths;

@@ -1,4 +1,5 @@
 //! Sessions and what they leave, by tables of texts. All expected bytes were worked by hand.
+mod asserts;
 mod buckets;
 mod check;
 mod clients;

@@ -1,4 +1,5 @@
 //! The first fault after good frames, by its text: near the beginning of a session, and far from it.
+use super::asserts::assert_holds;
 use super::reading::{LEAST, Session, read_bytes};
 use std::alloc::{AllocError, Global};
 use std::process::Abort;
@@ -64,7 +65,7 @@ fn breaks(alloc: Global, after: &[u8], fault: &str) -> bool {
 // Asserts that bytes have their faults.
 fn assert_breaks(rt: &impl Abort, alloc: Global, rows: &[(&[u8], &str)]) {
     for &(after, fault) in rows {
-        assert!(rt; breaks(alloc, after, fault), "at {after:?}");
+        assert_holds(rt, breaks(alloc, after, fault), &after);
     }
 }
 

@@ -1,4 +1,5 @@
 //! Replies by their bytes, and what a short sink keeps of one.
+use super::asserts::assert_found;
 use sd_base::{Path, Seq};
 use sd_io::{MemSink, WriteFailed};
 use session_frames::{Refusal, Reply, ReplyBody, write_reply};
@@ -27,13 +28,29 @@ fn writes_body(
 fn writes_what_became_of_installs_and_removes(rt: HostRuntime) {
     let alloc = rt.alloc();
     let installed = b"\x0d\0\0\0\0\0\0\0\x01\x0a\0\0\0\x07\0\0\0\0\0\0\0";
-    assert!(rt; writes_body(alloc, 10, 7, ReplyBody::Installed, installed) == Ok(true));
+    assert_found(
+        &rt,
+        writes_body(alloc, 10, 7, ReplyBody::Installed, installed),
+        &"installed",
+    );
     let replaced = b"\x0d\0\0\0\0\0\0\0\x02\xff\xff\xff\xff\xfe\xff\xff\xff\xff\xff\xff\xff";
-    assert!(rt; writes_body(alloc, -1, -2, ReplyBody::Replaced, replaced) == Ok(true));
+    assert_found(
+        &rt,
+        writes_body(alloc, -1, -2, ReplyBody::Replaced, replaced),
+        &"replaced",
+    );
     let removed = b"\x0d\0\0\0\0\0\0\0\x04\0\0\0\x80\0\0\0\0\0\0\0\x80";
-    assert!(rt; writes_body(alloc, i32::MIN, i64::MIN, ReplyBody::Removed, removed) == Ok(true));
+    assert_found(
+        &rt,
+        writes_body(alloc, i32::MIN, i64::MIN, ReplyBody::Removed, removed),
+        &"removed",
+    );
     let no_config = b"\x0d\0\0\0\0\0\0\0\x05\x01\0\0\0\x02\x01\0\0\0\0\0\0";
-    assert!(rt; writes_body(alloc, 1, 258, ReplyBody::NoConfig, no_config) == Ok(true));
+    assert_found(
+        &rt,
+        writes_body(alloc, 1, 258, ReplyBody::NoConfig, no_config),
+        &"no configuration",
+    );
 }
 
 // A reply with a report of three bytes.
@@ -57,9 +74,13 @@ fn writes_report(alloc: Global) -> Result<bool, AllocError> {
 #[test]
 fn writes_reports_and_what_stands_for_them(rt: HostRuntime) {
     let alloc = rt.alloc();
-    assert!(rt; writes_report(alloc) == Ok(true));
+    assert_found(&rt, writes_report(alloc), &"a report");
     let client_full = b"\x11\0\0\0\0\0\0\0\x07\x0a\0\0\0\x07\0\0\0\0\0\0\0\x0a\0\0\0";
-    assert!(rt; writes_body(alloc, 10, 7, ReplyBody::ClientFull(10), client_full) == Ok(true));
+    assert_found(
+        &rt,
+        writes_body(alloc, 10, 7, ReplyBody::ClientFull(10), client_full),
+        &"client full",
+    );
 }
 
 // The bytes of a refusal of the install of the client 10 under the id 7: its length, its kind and ids, and these bytes.
@@ -97,22 +118,30 @@ fn writes_three_numbers(alloc: Global) -> Result<bool, AllocError> {
 fn writes_each_refusal(rt: HostRuntime) {
     let alloc = rt.alloc();
     let too_large = Refusal::TooLarge(262145);
-    assert!(rt; refuses(alloc, 18, too_large, b"\x01\x01\0\x04\0") == Ok(true));
+    assert_found(
+        &rt,
+        refuses(alloc, 18, too_large, b"\x01\x01\0\x04\0"),
+        &"too large",
+    );
     let wire = Refusal::Wire {
         cause: 6,
         offset: 513,
     };
-    assert!(rt; refuses(alloc, 19, wire, b"\x02\x06\x01\x02\0\0") == Ok(true));
+    assert_found(
+        &rt,
+        refuses(alloc, 19, wire, b"\x02\x06\x01\x02\0\0"),
+        &"wire",
+    );
     let link = Refusal::Link {
         number: 9,
         reason: 19,
         value: -3,
     };
     let bytes = b"\x04\x09\x13\xfd\xff\xff\xff\xff\xff\xff\xff";
-    assert!(rt; refuses(alloc, 24, link, bytes) == Ok(true));
+    assert_found(&rt, refuses(alloc, 24, link, bytes), &"link");
     let none = Refusal::Unsupported(Path::new(alloc));
-    assert!(rt; refuses(alloc, 15, none, b"\x03\0") == Ok(true));
-    assert!(rt; writes_three_numbers(alloc) == Ok(true));
+    assert_found(&rt, refuses(alloc, 15, none, b"\x03\0"), &"no path");
+    assert_found(&rt, writes_three_numbers(alloc), &"three numbers");
 }
 
 // Whether of a reply these bytes are kept where the sink has this room, and fails at these calls.
@@ -139,9 +168,9 @@ fn keeps(alloc: Global, room: usize, fails: &[u64], kept: usize) -> Result<bool,
 fn keeps_a_front_where_a_put_fails(rt: HostRuntime) {
     let alloc = rt.alloc();
     for room in 0..24 {
-        assert!(rt; keeps(alloc, room, &[], room) == Ok(true), "at {room}");
+        assert_found(&rt, keeps(alloc, room, &[], room), &room);
     }
     // The first put is the head, of 21 bytes.
-    assert!(rt; keeps(alloc, 24, &[0], 0) == Ok(true));
-    assert!(rt; keeps(alloc, 24, &[1], 21) == Ok(true));
+    assert_found(&rt, keeps(alloc, 24, &[0], 0), &"the first put");
+    assert_found(&rt, keeps(alloc, 24, &[1], 21), &"the second put");
 }

@@ -1,4 +1,5 @@
 //! Frames by their bytes, in any pieces, and sources that fail.
+use super::asserts::assert_found;
 use super::reading::{LEAST, Session, read, reads_as};
 use sd_io::MemSource;
 use std::alloc::{AllocError, Global};
@@ -11,9 +12,10 @@ fn gives_the_same_frames_in_any_pieces(rt: HostRuntime) {
         Log(AtomAt { at: 3, atom: Atom { id: 5, fields: Seq { items: [] } } }), \
         Report { uid: 10, id: 7, include_current: true }]";
     for &piece in &[1, 16, 100] {
-        assert!(rt;
-            reads_as(rt.alloc(), &LEAST, piece, text, "end") == Ok(true),
-            "at {piece}"
+        assert_found(
+            &rt,
+            reads_as(rt.alloc(), &LEAST, piece, text, "end"),
+            &piece,
         );
     }
 }
@@ -83,10 +85,7 @@ const EACH_KIND: &[(&[u8], &str)] = &[
 #[test]
 fn reads_each_kind_of_frame(rt: HostRuntime) {
     for &(bytes, text) in EACH_KIND {
-        assert!(rt;
-            reads_as(rt.alloc(), bytes, 7, text, "end") == Ok(true),
-            "at {bytes:?}"
-        );
+        assert_found(&rt, reads_as(rt.alloc(), bytes, 7, text, "end"), &bytes);
     }
 }
 
@@ -113,7 +112,7 @@ fn fails_at(alloc: Global, call: u64) -> Result<bool, AllocError> {
 fn gives_no_frame_of_a_source_that_fails(rt: HostRuntime) {
     // The first call, one in mid-stream, and the one that would tell the end.
     for call in 0..4 {
-        assert!(rt; fails_at(rt.alloc(), call) == Ok(true), "at {call}");
+        assert_found(&rt, fails_at(rt.alloc(), call), &call);
     }
     // The source isn't asked again after its end.
     assert!(rt; fails_at(rt.alloc(), 4) == Ok(false));

@@ -1,5 +1,6 @@
 //! What the rows of all tables are compared by.
 
+use super::asserts::assert_holds;
 use config_decode::{DecodeFault, decode};
 use config_types::{Config, MatcherBody, SimpleMatcher};
 use sd_base::Seq;
@@ -19,21 +20,21 @@ pub type Unsupported = (&'static [u8], &'static [u32]);
 /// Asserts that the bytes of each row are read as its tree.
 pub fn assert_reads(rt: &impl Abort, alloc: Global, rows: &[Reading]) {
     for &(bytes, want) in rows {
-        assert!(rt; reads_shortly_as(alloc, bytes, want), "at {bytes:?}");
+        assert_holds(rt, reads_shortly_as(alloc, bytes, want), &bytes);
     }
 }
 
 /// Asserts that the bytes of each row have its fault of the wire.
 pub fn assert_malformed(rt: &impl Abort, alloc: Global, rows: &[Malformed]) {
     for &(bytes, offset, cause) in rows {
-        assert!(rt; is_malformed(alloc, bytes, offset, cause), "at {bytes:?}");
+        assert_holds(rt, is_malformed(alloc, bytes, offset, cause), &bytes);
     }
 }
 
 /// Asserts that the bytes of each row have its record that isn't supported.
 pub fn assert_unsupported(rt: &impl Abort, alloc: Global, rows: &[Unsupported]) {
     for &(bytes, numbers) in rows {
-        assert!(rt; is_unsupported(alloc, bytes, numbers), "at {bytes:?}");
+        assert_holds(rt, is_unsupported(alloc, bytes, numbers), &bytes);
     }
 }
 

@@ -1,5 +1,6 @@
 //! Messages and groups up to the greatest depth, and one below it.
 
+use super::asserts::assert_found;
 use super::builds::{add_times, nest, put_in_fields, repeated};
 use super::compared::{is_malformed, is_unsupported, reads_as};
 use std::alloc::{AllocError, Global};
@@ -80,8 +81,8 @@ fn reads_tuples(alloc: Global, others: usize, tuples: usize) -> Result<bool, All
 
 #[test]
 fn reads_messages_of_depth_100(rt: HostRuntime) {
-    assert!(rt; reads_a_key(rt.alloc(), 97) == Ok(true), "a key");
-    assert!(rt; reads_tuples(rt.alloc(), 48, 49) == Ok(true), "tuples");
+    assert_found(&rt, reads_a_key(rt.alloc(), 97), &"a key");
+    assert_found(&rt, reads_tuples(rt.alloc(), 48, 49), &"tuples");
 }
 
 /// Whether the record that begins so many bytes before the end has this cause.
@@ -123,12 +124,9 @@ fn test_is_too_deep(alloc: Global, tuples: usize) -> Result<bool, AllocError> {
 fn refuses_a_message_of_depth_101(rt: HostRuntime) {
     for &(name, times, inner, from_end, cause) in DEEP_KEYS {
         let fails = key_fails(rt.alloc(), times, inner, from_end, cause);
-        assert!(rt; fails == Ok(true), "at {name}");
+        assert_found(&rt, fails, &name);
     }
-    assert!(rt;
-        test_is_too_deep(rt.alloc(), 48) == Ok(true),
-        "a test in a tuple"
-    );
+    assert_found(&rt, test_is_too_deep(rt.alloc(), 48), &"a test in a tuple");
 }
 
 /// Whether this path leads to what isn't supported at depth 100 of a key.
@@ -144,7 +142,7 @@ fn tells_a_path_of_101_numbers(rt: HostRuntime) {
     path[1] = 2;
     path[2] = 6;
     path[100] = 4;
-    assert!(rt; has_path(rt.alloc(), &path) == Ok(true));
+    assert_found(&rt, has_path(rt.alloc(), &path), &"a path");
 }
 
 /// Whether so many groups, one in another, are read as nothing.
@@ -168,5 +166,5 @@ fn goes_a_hundred_groups_deep(rt: HostRuntime) {
     let starts = [0x0b; 101];
     assert!(rt; is_malformed(rt.alloc(), &starts[..100], 99, 2));
     assert!(rt; is_malformed(rt.alloc(), &starts, 100, 6));
-    assert!(rt; reads_groups(rt.alloc(), 100) == Ok(true));
+    assert_found(&rt, reads_groups(rt.alloc(), 100), &"a hundred");
 }

@@ -1,5 +1,6 @@
 //! The most bytes of a configuration, and shapes that ask for much work and memory.
 
+use super::asserts::assert_found;
 use super::builds::{add_items, repeated, repeated_in_fields};
 use super::compared::{is_too_large, reads_as, reads_as_items};
 use std::alloc::{AllocError, Global};
@@ -31,10 +32,18 @@ fn refuses(alloc: Global, piece: &[u8], times: usize, size: u32) -> Result<bool,
 
 #[test]
 fn reads_262144_bytes_and_no_more(rt: HostRuntime) {
-    assert!(rt; reads_ids(rt.alloc(), 131_072, 262_144) == Ok(true));
-    assert!(rt; refuses_one_more(rt.alloc(), b"\x08\x01", 131_072, 262_145) == Ok(true));
+    assert_found(&rt, reads_ids(rt.alloc(), 131_072, 262_144), &"as many");
+    assert_found(
+        &rt,
+        refuses_one_more(rt.alloc(), b"\x08\x01", 131_072, 262_145),
+        &"one more",
+    );
     // However the bytes go on.
-    assert!(rt; refuses(rt.alloc(), b"\x0e", 300_000, 300_000) == Ok(true));
+    assert_found(
+        &rt,
+        refuses(rt.alloc(), b"\x0e", 300_000, 300_000),
+        &"many more",
+    );
 }
 
 /// Whether so many items are read where so many records stand in these fields, the innermost of which comes first.
@@ -56,7 +65,7 @@ type Counted = (&'static str, &'static [u8], usize, &'static [u8], usize);
 fn assert_items(rt: &impl Abort, alloc: Global, rows: &[Counted]) {
     for &(name, record, times, fields, items) in rows {
         let reads = reads_items(alloc, record, times, fields, items);
-        assert!(rt; reads == Ok(true), "at {name}");
+        assert_found(rt, reads, &name);
     }
 }
 
@@ -126,7 +135,7 @@ fn reads_wide(alloc: Global, wide: &Wide) -> Result<bool, AllocError> {
 /// Asserts that the records of each row are read.
 fn assert_wide(rt: &impl Abort, alloc: Global, rows: &[Wide]) {
     for wide in rows {
-        assert!(rt; reads_wide(alloc, wide) == Ok(true), "at {}", wide.name);
+        assert_found(rt, reads_wide(alloc, wide), &wide.name);
     }
 }
 

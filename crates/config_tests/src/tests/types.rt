@@ -1,5 +1,6 @@
 //! How long buckets are, and copies of matchers.
 
+use super::asserts::{assert_found, assert_holds};
 use super::builds::{nest, put_in_fields, repeated_in_fields};
 use super::compared::{copies_as, copies_as_it_is};
 use super::samples::TESTS_OF_FIELDS;
@@ -29,7 +30,7 @@ const BUCKETS: &[(Option<TimeUnit>, i32, u64)] = &[
 fn knows_how_long_buckets_are(rt: HostRuntime) {
     for &(unit, uid, seconds) in BUCKETS {
         let nanos = seconds.saturating_mul(1_000_000_000);
-        assert!(rt; bucket_nanos(unit, uid) == nanos, "at {seconds} {uid}");
+        assert_holds(&rt, bucket_nanos(unit, uid) == nanos, &(seconds, uid));
     }
 }
 
@@ -86,13 +87,18 @@ fn copies_tuples(alloc: Global, times: usize) -> Result<bool, AllocError> {
 #[test]
 fn copies_equal_their_sources(rt: HostRuntime) {
     let alloc = rt.alloc();
-    assert!(rt; copies_as(alloc, EACH_KIND, EACH_KIND_TREE), "each kind");
-    assert!(rt; copies_as_it_is(alloc, TESTS_OF_FIELDS), "tests of fields");
+    assert_holds(
+        &rt,
+        copies_as(alloc, EACH_KIND, EACH_KIND_TREE),
+        &"each kind",
+    );
+    assert_holds(
+        &rt,
+        copies_as_it_is(alloc, TESTS_OF_FIELDS),
+        &"tests of fields",
+    );
     for &(name, record, times, fields) in LONG {
-        assert!(rt;
-            copies_long(alloc, record, times, fields) == Ok(true),
-            "{name}"
-        );
+        assert_found(&rt, copies_long(alloc, record, times, fields), &name);
     }
-    assert!(rt; copies_tuples(alloc, 48) == Ok(true), "tuples in tuples");
+    assert_found(&rt, copies_tuples(alloc, 48), &"tuples in tuples");
 }

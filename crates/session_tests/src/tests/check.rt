@@ -1,4 +1,5 @@
 //! The word `check`: a configuration, its line, the status and the note.
+use super::asserts::assert_found;
 use super::parts::bytes_of;
 use super::run::{Left, SOUND, Streams, leaves};
 use std::alloc::{AllocError, Global};
@@ -69,10 +70,7 @@ fn assert_check<R: Abort + AllocGlobal>(
         replies: line.as_bytes(),
         note,
     };
-    assert!(rt;
-        is_checked(rt.alloc(), config, &streams, &left) == Ok(true),
-        "at {name}"
-    );
+    assert_found(rt, is_checked(rt.alloc(), config, &streams, &left), &name);
 }
 
 fn is_checked(

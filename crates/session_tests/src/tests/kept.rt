@@ -1,4 +1,5 @@
 //! More buckets than a report shows rows of: the first are kept, and the others are counted.
+use super::asserts::assert_found;
 use super::messages::{len_of, push_varint};
 use super::parts::{TEN, push_text};
 use super::run::answers;
@@ -59,7 +60,7 @@ fn push_row(bytes: &mut Vec<u8>, second: u64) -> Result<(), AllocError> {
 
 #[test]
 fn keeps_the_first_rows_and_counts_the_others(rt: HostRuntime) {
-    assert!(rt; keeps_the_first_rows(rt.alloc()) == Ok(true));
+    assert_found(&rt, keeps_the_first_rows(rt.alloc()), &"16,385 buckets");
 }
 
 fn keeps_the_first_rows(alloc: Global) -> Result<bool, AllocError> {

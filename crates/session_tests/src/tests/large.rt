@@ -1,4 +1,5 @@
 //! A session of two MiB, of many clients and configurations, answered to its end.
+use super::asserts::assert_found;
 use super::parts::{Owner, push_text};
 use super::run::answers;
 use std::alloc::{AllocError, Global};
@@ -53,7 +54,7 @@ fn push_replies(bytes: &mut Vec<u8>) -> Result<(), AllocError> {
 
 #[test]
 fn answers_two_mib_to_the_end(rt: HostRuntime) {
-    assert!(rt; answers_two_mib(rt.alloc()) == Ok(true));
+    assert_found(&rt, answers_two_mib(rt.alloc()), &"two MiB");
 }
 
 fn answers_two_mib(alloc: Global) -> Result<bool, AllocError> {

@@ -1,5 +1,6 @@
 //! As much as a configuration may have, and one more: matchers, metrics, predicates and states; the longest chains of
 //! matchers and of predicates; and more ids of state atoms than are kept.
+use super::asserts::assert_found;
 use super::messages::push_varint;
 use super::parts::{TEN, bytes_of, push_text};
 use super::run::answers;
@@ -225,7 +226,7 @@ fn set_frame_len(bytes: &mut [u8]) {
 #[test]
 fn takes_as_many_as_it_may(rt: HostRuntime) {
     for (name, many) in ROWS {
-        assert!(rt; are_taken(rt.alloc(), many) == Ok(true), "at {name}");
+        assert_found(&rt, are_taken(rt.alloc(), many), &name);
     }
 }
 
@@ -249,7 +250,7 @@ fn push_states(bytes: &mut Vec<u8>) -> Result<(), AllocError> {
 
 #[test]
 fn answers_after_257_ids_of_state_atoms(rt: HostRuntime) {
-    assert!(rt; answers_after_states(rt.alloc()) == Ok(true));
+    assert_found(&rt, answers_after_states(rt.alloc()), &"257 states");
 }
 
 fn answers_after_states(alloc: Global) -> Result<bool, AllocError> {

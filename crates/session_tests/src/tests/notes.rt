@@ -1,4 +1,5 @@
 //! Each note by its line, and each front of the line where the room ends.
+use super::asserts::assert_holds;
 use sd_io::MemSink;
 use session_frames::SessionFault;
 use statsd_cli::{Note, write_note};
@@ -78,10 +79,7 @@ fn writes_each_line_or_a_front_of_it(rt: HostRuntime) {
 /// Asserts that a note is this line, and in less room the front that the room takes.
 fn assert_line<R: Abort + AllocGlobal>(rt: &R, note: &Note, line: &str) {
     for room in 0..=line.len() {
-        assert!(rt;
-            writes(rt.alloc(), note, room, line.as_bytes()),
-            "at {room} of {line}"
-        );
+        assert_holds(rt, writes(rt.alloc(), note, room, line.as_bytes()), &line);
     }
 }
 

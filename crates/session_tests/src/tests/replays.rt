@@ -1,6 +1,7 @@
 //! Sessions that are answered to their end, by the tables of the modules beside this one. A table is a text. Its rows
 //! stand apart by an empty line. A row has a name, the frames of a session in lines that begin with `>`, and the replies
 //! to it in lines that begin with `<`.
+use super::asserts::assert_found;
 use super::parts::{TEN, push_text};
 use super::run::answers;
 use super::{buckets, clients, commands, conditions, configs, limits, links, matchers};
@@ -21,7 +22,7 @@ fn answers_each_session(rt: HostRuntime) {
 
 fn assert_replays<R: Abort + AllocGlobal>(rt: &R, rows: &str) {
     for row in rows.split("\n\n") {
-        assert!(rt; is_answered(rt.alloc(), row) == Ok(true), "at{row}");
+        assert_found(rt, is_answered(rt.alloc(), row), &row);
     }
 }
 

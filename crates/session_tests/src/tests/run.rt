@@ -1,4 +1,5 @@
 //! Runs of the top call over memory.
+use super::asserts::assert_found;
 use super::parts::bytes_of;
 use atom_record::Bytes;
 use sd_io::{MemSink, MemSource};
@@ -144,7 +145,7 @@ pub fn answers(alloc: Global, session: Vec<u8>, replies: &[u8]) -> Result<bool, 
 
 /// Asserts what a run leaves.
 pub fn assert_run<R: Abort + AllocGlobal>(rt: &R, name: &str, row: &Run) {
-    assert!(rt; is_left(rt.alloc(), row) == Ok(true), "at {name}");
+    assert_found(rt, is_left(rt.alloc(), row), &name);
 }
 
 fn is_left(alloc: Global, row: &Run) -> Result<bool, AllocError> {

@@ -1,4 +1,5 @@
 //! The engine over readers and writers of std.
+use super::asserts::assert_found;
 use super::parts::bytes_of;
 use super::run::{AMPLE, words_of};
 use sd_io::{MemSink, Sink, Source, StdSink, StdSource};
@@ -53,7 +54,7 @@ impl Read for Failing<'_> {
 
 #[test]
 fn answers_nothing_where_the_reader_fails(rt: HostRuntime) {
-    assert!(rt; answers_nothing(rt.alloc()) == Ok(true));
+    assert_found(&rt, answers_nothing(rt.alloc()), &"a reader");
 }
 
 fn answers_nothing(alloc: Global) -> Result<bool, AllocError> {
@@ -105,9 +106,10 @@ const ROWS: &[(Takes, u8, &str, &str)] = &[
 #[test]
 fn tells_whether_the_writer_took_all(rt: HostRuntime) {
     for &(takes, status, replies, note) in ROWS {
-        assert!(rt;
-            takes_so(rt.alloc(), takes, status, replies, note) == Ok(true),
-            "at {note}"
+        assert_found(
+            &rt,
+            takes_so(rt.alloc(), takes, status, replies, note),
+            &note,
         );
     }
 }

@@ -1,4 +1,5 @@
 //! Copies of values and of atoms.
+use super::super::asserts::assert_found;
 use super::keys::values;
 use super::payloads::{EACH_KIND, filled};
 use atom_record::{Atom, Value, parse_atom};
@@ -48,9 +49,9 @@ fn are_long_ones_copied(alloc: Global, len: usize) -> Result<bool, AllocError> {
 
 #[test]
 fn copies_of_values_equal_their_sources(rt: HostRuntime) {
-    assert!(rt; are_six_copied(rt.alloc(), b"a") == Ok(true));
+    assert_found(&rt, are_six_copied(rt.alloc(), b"a"), &"six");
     // One byte more than a payload could spell.
-    assert!(rt; are_long_ones_copied(rt.alloc(), 65_536) == Ok(true));
+    assert_found(&rt, are_long_ones_copied(rt.alloc(), 65_536), &"long ones");
 }
 
 /// Whether an atom is copied whole.
@@ -96,6 +97,6 @@ fn is_text_copied(alloc: Global) -> Result<bool, AllocError> {
 fn copies_of_atoms_equal_their_sources(rt: HostRuntime) {
     assert!(rt; is_copied(rt.alloc(), b"\x05\0\0\0"));
     assert!(rt; is_copied(rt.alloc(), EACH_KIND));
-    assert!(rt; is_text_copied(rt.alloc()) == Ok(true));
-    assert!(rt; are_entries_copied(rt.alloc()) == Ok(true));
+    assert_found(&rt, is_text_copied(rt.alloc()), &"a text");
+    assert_found(&rt, are_entries_copied(rt.alloc()), &"entries");
 }

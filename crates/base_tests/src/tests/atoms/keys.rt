@@ -1,4 +1,5 @@
 //! Keys of metrics: they are found by what they hold, and copied whole.
+use super::super::asserts::assert_found;
 use atom_record::{CloneKey, DimKey, Leaf, MetricKey, Slice, Value};
 use sd_base::Seq;
 use std::alloc::{AllocError, Global};
@@ -130,9 +131,6 @@ fn are_copies_whole(alloc: Global, times: usize, leaves: usize) -> Result<bool, 
 fn copies_of_keys_equal_their_sources(rt: HostRuntime) {
     // 3,000 leaves and 2,000 slices in the largest.
     for &(times, leaves) in &[(0, 0), (1, 3), (1_000, 3_000)] {
-        assert!(rt;
-            are_copies_whole(rt.alloc(), times, leaves) == Ok(true),
-            "at {times}"
-        );
+        assert_found(&rt, are_copies_whole(rt.alloc(), times, leaves), &times);
     }
 }

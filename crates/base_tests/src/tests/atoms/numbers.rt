@@ -1,4 +1,5 @@
 //! The numbers that the crate names, and which ids atoms have.
+use super::super::asserts::assert_holds;
 use atom_record::{
     BAD_FLAGS, BAD_ID, BAD_PLACE, BAD_TYPE, CUT, EXCLUSIVE, MAX_BYTES, NOT_ABOVE, OTHER_ID,
     PRIMARY, RESET, TOO_LONG, has_flag, is_atom_id, is_pulled,
@@ -46,12 +47,13 @@ const FLAGS: &[(u8, u8, bool)] = &[
 #[test]
 fn knows_which_ids_are_pulled_and_its_flags(rt: HostRuntime) {
     for &(id, pulled, lawful) in IDS {
-        assert!(rt;
+        assert_holds(
+            &rt,
             is_pulled(id) == pulled && is_atom_id(id) == lawful,
-            "at {id}"
+            &id,
         );
     }
     for &(flags, flag, there) in FLAGS {
-        assert!(rt; has_flag(flags, flag) == there, "at {flags}, {flag}");
+        assert_holds(&rt, has_flag(flags, flag) == there, &(flags, flag));
     }
 }

@@ -1,4 +1,5 @@
 //! Payloads that are read, and those that are refused, each for the first reason that it has.
+use super::super::asserts::{assert_found, assert_holds};
 use atom_record::{AtomFault, parse_atom};
 use std::alloc::{AllocError, Global};
 use std::process::Abort;
@@ -15,7 +16,7 @@ pub fn reason_of(alloc: Global, payload: &[u8]) -> u8 {
 /// Asserts that each payload is read, or refused for its reason.
 fn assert_reasons(rt: &impl Abort, alloc: Global, rows: &[(&[u8], u8)]) {
     for &(payload, reason) in rows {
-        assert!(rt; reason_of(alloc, payload) == reason, "at {payload:?}");
+        assert_holds(rt, reason_of(alloc, payload) == reason, &payload);
     }
 }
 
@@ -133,8 +134,16 @@ fn reads_4096_from(alloc: Global, front: &[u8]) -> Result<bool, AllocError> {
 #[test]
 fn reads_4096_bytes_and_no_more(rt: HostRuntime) {
     // A Str and a Raw of 4,085 bytes, and then the same with a byte after it.
-    assert!(rt; reads_4096_from(rt.alloc(), b"\x05\0\0\0\x01\0\0\0\x04\xf5\x0f") == Ok(true));
-    assert!(rt; reads_4096_from(rt.alloc(), b"\x05\0\0\0\x01\0\0\0\x05\xf5\x0f") == Ok(true));
+    assert_found(
+        &rt,
+        reads_4096_from(rt.alloc(), b"\x05\0\0\0\x01\0\0\0\x04\xf5\x0f"),
+        &"a Str",
+    );
+    assert_found(
+        &rt,
+        reads_4096_from(rt.alloc(), b"\x05\0\0\0\x01\0\0\0\x05\xf5\x0f"),
+        &"a Raw",
+    );
 }
 
 /// An atom with one value of each kind.
@@ -154,9 +163,10 @@ fn finds_each_cut(rt: HostRuntime) {
     assert!(rt; EACH_KIND.len() == 58);
     for len in 4..=EACH_KIND.len() {
         let reason = if ENDS.contains(&len) { 0 } else { 3 };
-        assert!(rt;
+        assert_holds(
+            &rt,
             reason_of(rt.alloc(), &EACH_KIND[..len]) == reason,
-            "at {len}"
+            &len,
         );
     }
 }

@@ -1,4 +1,5 @@
 //! What payloads are read as: the atom, as it is printed.
+use super::super::asserts::assert_holds;
 use super::payloads::EACH_KIND;
 use atom_record::{Atom, parse_atom};
 use std::alloc::{AllocError, Global};
@@ -62,6 +63,6 @@ const ROWS: &[(&[u8], &str)] = &[
 #[test]
 fn reads_each_kind_of_value(rt: HostRuntime) {
     for &(payload, text) in ROWS {
-        assert!(rt; reads_as(rt.alloc(), payload, text), "at {payload:?}");
+        assert_holds(&rt, reads_as(rt.alloc(), payload, text), &payload);
     }
 }

@@ -1,4 +1,5 @@
 //! Crossings, cuts and saved clocks that were worked out by hand.
+use super::super::asserts::{assert_found, assert_holds};
 use super::samples::numbers;
 use bucket_clock::{Clock, MAX_BUCKET};
 use flat_form::{Flat, FlatError, Items, rebuild};
@@ -70,7 +71,7 @@ const FRAMES: &[(u64, bool, Crossed)] = &[
 fn frames_cross_the_ends_before_them(rt: HostRuntime) {
     let mut clock = Clock::new(0, 8 * SECOND);
     for &(time, is_pull, crossed) in FRAMES {
-        assert!(rt; sees(&mut clock, time, is_pull, crossed), "at {time}");
+        assert_holds(&rt, sees(&mut clock, time, is_pull, crossed), &time);
     }
     assert!(rt; is_at(&clock, 0, 8 * SECOND, 56 * SECOND, 64 * SECOND));
 }
@@ -173,13 +174,14 @@ fn are_three_bad(alloc: Global) -> Result<bool, AllocError> {
 fn restores_and_builds_what_a_clock_may_be(rt: HostRuntime) {
     assert!(rt; MAX_BUCKET == DAY);
     for &(base, size, start, next_end, is_clock) in ROWS {
-        assert!(rt;
+        assert_holds(
+            &rt,
             is_restored(base, size, start, next_end, is_clock)
                 && is_judged(rt.alloc(), base, size, start, next_end, is_clock) == Ok(true),
-            "at {base} {size} {start} {next_end}"
+            &(base, size, start, next_end),
         );
     }
-    assert!(rt; are_three_bad(rt.alloc()) == Ok(true), "three numbers");
+    assert_found(&rt, are_three_bad(rt.alloc()), &"three numbers");
 }
 
 // Whether a clock is rebuilt with these numbers.

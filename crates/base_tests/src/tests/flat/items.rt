@@ -1,6 +1,7 @@
 //! Items and their bytes.
 ghost use Rattle.flat_form.specs.Savable.{AreSavable};
 
+use super::super::asserts::{assert_found, assert_holds};
 use super::samples::{ATOM, CHUNK, DIMS, NUM, SLICES, items};
 use flat_form::{FlatError, Item, Items, decode_items, encode_items};
 use std::alloc::{AllocError, Global};
@@ -77,8 +78,8 @@ fn is_no_part_read(alloc: Global, bytes: &[u8]) -> bool {
 #[test]
 fn decodes_no_part_of_an_item_and_encodes_each(rt: HostRuntime) {
     for bytes in ROWS {
-        assert!(rt; is_no_part_read(rt.alloc(), bytes), "at {bytes:?}");
-        assert!(rt; is_spelled_again(rt.alloc(), bytes, 1), "at {bytes:?}");
+        assert_holds(&rt, is_no_part_read(rt.alloc(), bytes), &bytes);
+        assert_holds(&rt, is_spelled_again(rt.alloc(), bytes, 1), &bytes);
     }
 }
 
@@ -134,11 +135,11 @@ fn is_long_chunk_spelled(alloc: Global) -> Result<bool, AllocError> {
 #[test]
 fn decodes_and_encodes_items(rt: HostRuntime) {
     let alloc = rt.alloc();
-    assert!(rt; are_all_read(alloc) == Ok(true), "each item");
-    assert!(rt; is_row_whole(alloc) == Ok(true), "items in a row");
-    assert!(rt; are_none_spelled(alloc), "no items");
-    assert!(rt; is_number_spelled(alloc) == Ok(true), "a number");
-    assert!(rt; is_long_chunk_spelled(alloc) == Ok(true), "a long chunk");
+    assert_found(&rt, are_all_read(alloc), &"each item");
+    assert_found(&rt, is_row_whole(alloc), &"items in a row");
+    assert_holds(&rt, are_none_spelled(alloc), &"no items");
+    assert_found(&rt, is_number_spelled(alloc), &"a number");
+    assert_found(&rt, is_long_chunk_spelled(alloc), &"a long chunk");
 }
 
 // Bytes of no items.
@@ -166,6 +167,6 @@ const BAD: &[&[u8]] = &[
 #[test]
 fn refuses_bytes_of_no_items(rt: HostRuntime) {
     for bytes in BAD {
-        assert!(rt; is_bad(rt.alloc(), bytes), "at {bytes:?}");
+        assert_holds(&rt, is_bad(rt.alloc(), bytes), &bytes);
     }
 }

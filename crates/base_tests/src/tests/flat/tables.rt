@@ -1,4 +1,5 @@
 //! Arrivals and saved tables that were worked out by hand.
+use super::super::asserts::{assert_found, assert_holds};
 use super::samples::numbers;
 use dim_table::Admit::{At, Full};
 use dim_table::{Admit, Guarded, MAX_KEYS};
@@ -45,9 +46,10 @@ fn has_rows(table: &Guarded<u32, u64>, rows: &[(u32, u64)]) -> bool {
 // Asserts that each arrival of a key is answered so, and that so many are dropped then.
 fn assert_arrivals(rt: &impl Abort, table: &mut Guarded<u32, u64>, rows: &[(u32, Admit, u64)]) {
     for &(key, admit, dropped) in rows {
-        assert!(rt;
+        assert_holds(
+            rt,
             answers(table, key, admit) && table.dropped() == dropped,
-            "at {key}"
+            &key,
         );
     }
 }
@@ -232,6 +234,6 @@ const TABLES: &[(&[u64], Option<usize>)] = &[
 #[test]
 fn builds_the_tables_that_may_be_and_no_others(rt: HostRuntime) {
     for &(row, len) in TABLES {
-        assert!(rt; is_judged(rt.alloc(), row, len) == Ok(true), "at {row:?}");
+        assert_found(&rt, is_judged(rt.alloc(), row, len), &row);
     }
 }

@@ -1,4 +1,5 @@
 //! Values through their items: what is built, and where nothing is.
+use super::super::asserts::assert_found;
 use super::samples::{atom, dims, key, numbers};
 use atom_record::{Atom, DimKey, MetricKey};
 use flat_form::{Flat, FlatError, Items, rebuild, save};
@@ -161,10 +162,7 @@ fn is_nothing_else(alloc: Global, place: usize) -> Result<bool, AllocError> {
 #[test]
 fn builds_nothing_of_other_items(rt: HostRuntime) {
     for place in 0..5 {
-        assert!(rt;
-            is_nothing_else(rt.alloc(), place) == Ok(true),
-            "at {place}"
-        );
+        assert_found(&rt, is_nothing_else(rt.alloc(), place), &place);
     }
 }
 
@@ -177,11 +175,11 @@ fn is_cut_bad(alloc: Global) -> Result<bool, AllocError> {
 #[test]
 fn builds_values_of_their_items(rt: HostRuntime) {
     let alloc = rt.alloc();
-    assert!(rt; builds_key(alloc) == Ok(true), "a key");
-    assert!(rt; builds_dims(alloc) == Ok(true), "dimensions");
-    assert!(rt; builds_pair(alloc) == Ok(true), "a pair");
-    assert!(rt; builds_atom(alloc) == Ok(true), "an atom");
-    assert!(rt; builds_three(alloc) == Ok(true), "a list of three");
-    assert!(rt; builds_long(alloc) == Ok(true), "a long list");
-    assert!(rt; is_cut_bad(alloc) == Ok(true), "a list that is cut");
+    assert_found(&rt, builds_key(alloc), &"a key");
+    assert_found(&rt, builds_dims(alloc), &"dimensions");
+    assert_found(&rt, builds_pair(alloc), &"a pair");
+    assert_found(&rt, builds_atom(alloc), &"an atom");
+    assert_found(&rt, builds_three(alloc), &"a list of three");
+    assert_found(&rt, builds_long(alloc), &"a long list");
+    assert_found(&rt, is_cut_bad(alloc), &"a list that is cut");
 }

@@ -1,4 +1,5 @@
 //! Sources and sinks over memory.
+use super::super::asserts::assert_holds;
 use sd_io::{MemSink, MemSource, Sink, Source};
 use std::alloc::{AllocError, Global};
 use std::process::Abort;
@@ -39,7 +40,7 @@ const READS: &[(Option<usize>, &[u8; 3])] = &[
 fn assert_reads(rt: &impl Abort, source: &mut MemSource) {
     let mut buf = [0; 3];
     for &(count, bytes) in READS {
-        assert!(rt; reads(source, &mut buf, count, bytes), "at {bytes:?}");
+        assert_holds(rt, reads(source, &mut buf, count, bytes), &bytes);
     }
 }
 
@@ -84,7 +85,7 @@ const PUTS: &[(&str, bool, &str)] = &[
 
 fn assert_puts(rt: &impl Abort, sink: &mut MemSink) {
     for &(piece, is_fine, bytes) in PUTS {
-        assert!(rt; puts(sink, piece, is_fine, bytes), "at {piece}, {bytes}");
+        assert_holds(rt, puts(sink, piece, is_fine, bytes), &(piece, bytes));
     }
 }
 

@@ -1,4 +1,5 @@
 //! Readers of std as sources.
+use super::super::asserts::{assert_found, assert_holds};
 use sd_io::{ReadFailed, Source, StdSource};
 use std::alloc::{AllocError, Global};
 use std::io;
@@ -79,7 +80,7 @@ const ROWS: &[(&[Call], &[Option<u8>])] = &[
 #[test]
 fn tells_each_failed_read(rt: HostRuntime) {
     for (at, (calls, answers)) in ROWS.iter().enumerate() {
-        assert!(rt; reads_as(calls, answers), "at row {at}");
+        assert_holds(&rt, reads_as(calls, answers), &at);
     }
 }
 
@@ -118,6 +119,6 @@ fn fills_large(alloc: Global, count: usize) -> Result<bool, AllocError> {
 #[test]
 fn fills_a_large_buffer(rt: HostRuntime) {
     for &count in &[4_097, 65_537, 200_000] {
-        assert!(rt; fills_large(rt.alloc(), count) == Ok(true), "at {count}");
+        assert_found(&rt, fills_large(rt.alloc(), count), &count);
     }
 }

@@ -1,4 +1,5 @@
 //! What the errors of sources and sinks say.
+use super::super::asserts::assert_found;
 use sd_io::{ReadFailed, WriteFailed};
 use std::alloc::{AllocError, Global};
 
@@ -12,5 +13,5 @@ fn are_printed(alloc: Global, text: &str) -> Result<bool, AllocError> {
 #[test]
 fn tells_which_side_failed(rt: HostRuntime) {
     let text = "the input cannot be read, the output cannot be written";
-    assert!(rt; are_printed(rt.alloc(), text) == Ok(true));
+    assert_found(&rt, are_printed(rt.alloc(), text), &"both");
 }

@@ -1,4 +1,5 @@
 //! Writers of std as sinks.
+use super::super::asserts::{assert_found, assert_holds};
 use sd_io::{Sink, StdSink};
 use std::alloc::{AllocError, Global};
 use std::io;
@@ -158,9 +159,10 @@ const ROWS: &[(&[Call], Call, [bool; 5], &[u8])] = &[
 #[test]
 fn tells_each_failed_write(rt: HostRuntime) {
     for (at, (calls, later, answers, bytes)) in ROWS.iter().enumerate() {
-        assert!(rt;
+        assert_holds(
+            &rt,
             writes_as(rt.alloc(), calls, *later, answers, bytes),
-            "at row {at}"
+            &at,
         );
     }
 }
@@ -194,9 +196,6 @@ const LARGE: &[(usize, usize)] = &[
 #[test]
 fn writes_a_large_piece(rt: HostRuntime) {
     for &(count, most) in LARGE {
-        assert!(rt;
-            writes_large(rt.alloc(), count, most) == Ok(true),
-            "at {count}, {most}"
-        );
+        assert_found(&rt, writes_large(rt.alloc(), count, most), &(count, most));
     }
 }

@@ -1,4 +1,5 @@
 //! Each cause by its number, where it is met.
+use super::super::asserts::{assert_found, assert_holds};
 use proto_wire::{Body, Field, Records, WireFault};
 use std::alloc::{AllocError, Global};
 
@@ -89,7 +90,7 @@ const ROWS: &[(u32, &[u8], Option<(u32, u8)>)] = &[
 #[test]
 fn tells_each_cause_where_it_is_met(rt: HostRuntime) {
     for &(depth, bytes, want) in ROWS {
-        assert!(rt; faults_as(depth, bytes, want), "at {depth}, {bytes:?}");
+        assert_holds(&rt, faults_as(depth, bytes, want), &(depth, bytes));
     }
 }
 
@@ -144,5 +145,5 @@ fn prints_a_fault(rt: HostRuntime) {
         cause: 3,
     };
     let text = "the record at byte 12 can't be read, by cause 3";
-    assert!(rt; prints_as(rt.alloc(), fault, text) == Ok(true));
+    assert_found(&rt, prints_as(rt.alloc(), fault, text), &text);
 }

@@ -1,4 +1,5 @@
 //! Fields and numbers as they are read and written.
+use super::super::asserts::assert_holds;
 use proto_wire::{Body, Field, Records, Writer, varint_of};
 use std::alloc::{AllocError, Global};
 
@@ -29,7 +30,7 @@ const NUMBERS: &[(&[u8], u64)] = &[
 #[test]
 fn reads_numbers_as_they_may_be_written(rt: HostRuntime) {
     for &(bytes, number) in NUMBERS {
-        assert!(rt; holds(bytes, number), "at {bytes:?}");
+        assert_holds(&rt, holds(bytes, number), &bytes);
     }
 }
 
@@ -94,7 +95,7 @@ fn reads_what_protoc_wrote(rt: HostRuntime) {
             payload_at,
             body,
         };
-        assert!(rt; gives(&mut records, field), "at {at}");
+        assert_holds(&rt, gives(&mut records, field), &at);
     }
     assert!(rt; records.next() == Ok(None));
 }
