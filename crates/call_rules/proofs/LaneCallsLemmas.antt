@@ -131,7 +131,7 @@ module _ {Event : Type 0} (demands : Demands Event) where
         (cases_lt 0 demands.size)
 
     -- the calls of all steps may come
-    walk : (before steps : List (LaneStep News)) (last : ℕ) (standing : Standing)
+    pub walk : (before steps : List (LaneStep News)) (last : ℕ) (standing : Standing)
         → IsAlong demands before last standing
         → AreTimely last steps → AskWell demands asks before steps
         → MayComeAll demands standing (outputs_after (calls_at demands asks) before steps)
@@ -153,7 +153,7 @@ module _ {Event : Type 0} (demands : Demands Event) where
         (goes.along) timely.1 well)
 
     -- what holds after all steps
-    walk_on : (before steps : List (LaneStep News)) (last : ℕ) (standing : Standing)
+    pub walk_on : (before steps : List (LaneStep News)) (last : ℕ) (standing : Standing)
         → IsAlong demands before last standing
         → AreTimely last steps → AskWell demands asks before steps
         → IsAlong demands (before ++ steps) (last_of last steps)

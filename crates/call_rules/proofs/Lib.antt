@@ -2,5 +2,6 @@ pub mod RuleLemmas
 pub mod LaneReach
 pub mod LaneCrossing
 pub mod LaneCallsLemmas
+pub mod OpeningLemmas
 pub mod ClockOfCalls
 mod Worked

@@ -1,9 +1,13 @@
 -- The parts of an instance, one step more.
-use Rattle.std.proofs.Common.{◌≡◌, ℕ, ℤ, ◌<◌, ◌≤◌, Bool, List, [], ◌∷◌, ◌++◌, true, length, map, get_or, filter, All, refl, sym, ap, subst, ◌∙◌, arith}
+use Rattle.std.proofs.Common.{◌≡◌, ℕ, ℤ, ◌<◌, ◌≤◌, Bool, List, [], ◌∷◌, ◌++◌, true, length, map, get_or, filter, All, refl, sym, ap, subst, ◌∙◌, append_assoc, arith}
 use Rattle.std.specs.Prelude.{Option, Some, None}
 use Rattle.std.proofs.Props.{props}
 use Rattle.std.specs.List.{list_all}
+use Rattle.std.specs.List.{flat_map}
+use Rattle.std.proofs.lemmas.List.{append-nil}
+use Rattle.std.proofs.lemmas.List.Concat.{flat_map-append}
 use Rattle.std.proofs.lemmas.List.Elements.{All-nil, All-cons, All-weaker}
+use Rattle.state_slicer.specs.StateBooks.{StateBookStandsFor}
 use mathlib.Core.Logic.{∥∥₁_elim}
 use Rattle.atom_record.specs.declared.log.LogFrame.{LogFrame}
 use Rattle.bucket_meaning.specs.Limits.{time_limit}
@@ -17,18 +21,24 @@ use Rattle.config_links.specs.declared.linked.LPredBody.TheVariants.{Simple, Com
 use Rattle.config_links.specs.SoundConfig.{IsBound, IsSize, MayBeWithin, IsSoundKind, IsSoundBody, IsSoundPredicate, IsSoundMetric, IsSoundConfig}
 use Rattle.config_links.proofs.SoundUses.{references_end}
 use Rattle.session_frames.specs.FrameReading.{log_time}
-use Rattle.metric_meaning.specs.Histories.{Step, What, Reported, Logged, History, with_step}
+use Rattle.metric_meaning.specs.Histories.{Step, What, Reported, Logged, Installation, History, with_step, frames_at, logged_frames, log_after, log_of_history}
+use Rattle.metric_meaning.specs.ShownFrames.{shown_as}
+use Rattle.metric_meaning.specs.Scenes.{scene_after}
+use Rattle.metric_meaning.specs.StateDrops.{drops_of_states, dropped_for}
 use Rattle.metric_meaning.specs.PredicateSteps.{table_spec, tables_after, predicate_drops, table_after, drop_above_zero}
 use Rattle.metric_meaning.specs.Forms.{is_count, is_built_metric, is_built}
 use Rattle.metric_meaning.specs.Reports.{report_of, last_report, metric_tree}
 use Rattle.metric_meaning.proofs.PredicateStepsLemmas.{tables_after-idle}
 use Rattle.report_writer.specs.declared.tree.ReportTree.{ReportTree}
-use Rattle.client_engine.specs.TrackStands.{logged_step, reported_step, ComesInTime, ComeInTime, last_from}
+use Rattle.client_engine.specs.TrackStands.{logged_step, reported_step, ComesInTime, ComeInTime, MayLog, MayReport, last_from}
 use Rattle.client_engine.specs.Known.{Known, KnowsAfter, drops_in}
+use Rattle.client_engine.specs.Handed.{BookOfStates, handed}
+use Rattle.client_engine.proofs.ShownLemmas.{shown_time, shown_tables}
 use Rattle.client_engine.specs.KeptPredicates.{HasItsLeaves, KeepsItsLeaves, HasBound, CanBeKept}
 use Rattle.client_engine.specs.Tracks.{CanBeTracked, metric_in, AsksWithin, AreNew, AllStandFor, AllReport}
-use Rattle.client_engine.specs.InsideParts.{tree_with, linked_of_inside, AreAsked, InsideStandsFor, IsFreshInside, InsideLogs, InsideReports}
+use Rattle.client_engine.specs.InsideParts.{tree_with, linked_of_inside, AreAsked, InsideStandsFor, new_history, IsFreshInside, InsideLogs, AreStateDrops, InsideReports}
 use Rattle.client_engine.specs.declared.inside.Inside.{Inside}
+use Rattle.client_engine.specs.declared.inside.Drops.{Drops}
 
 -- the clock at the last report, after a step at a time
 abbrev reported_or : ℕ → ℕ → What → ℕ
@@ -66,18 +76,37 @@ drops_are (predicate ∷ predicates) steps =
     ap (λ l. drop_above_zero (record { id = predicate.id; number = (table_after predicate steps).state.dropped }) ++ l)
     (drops_are predicates steps)
 
--- an instance takes one more frame of the log
-pub inside_logs : (old new : Inside) (frame : LogFrame) (truths : List Bool) → InsideLogs frame truths old new
-    → log_time frame < time_limit → (history : History) → InsideStandsFor old history
-    → last_from history.base history.steps ≤ log_time frame
+-- the whole log after one more frame
+log_after-push : (installed : Installation) (steps : List Step) (frame : LogFrame) (truths : List Bool)
+    → log_after installed (steps ++ logged_step frame truths ∷ []) ≡ log_after installed steps ++ frame ∷ []
+log_after-push installed steps frame truths =
+    ap (λ l. installed.opening ++ l)
+    (flat_map-append (λ (step : Step). frames_at step.what) steps (logged_step frame truths ∷ []))
+    ∙ sym (append_assoc installed.opening (logged_frames steps) (frame ∷ []))
+
+-- an instance takes one more frame of the log, which is shown so
+pub inside_logs : (old new : Inside) (shown : LogFrame) (truths : List Bool) (book : BookOfStates)
+    → InsideLogs shown truths book old new → log_time shown < time_limit
+    → (history : History) (frame : LogFrame) → InsideStandsFor old history
+    → last_from history.installed.base history.steps ≤ log_time frame
+    → shown ≡ shown_as (log_of_history history) frame
+    → StateBookStandsFor book (log_of_history history ++ frame ∷ [])
     → InsideStandsFor new (with_step history (logged_step frame truths))
-inside_logs old new frame truths logs fits history has later =
+inside_logs old new shown truths book logs fits history frame has later shown_is book_is =
     let step = logged_step frame truths in
+    let installed = history.installed in
+    let linked = installed.linked in
+    let log = log_of_history history in
     let base : new.base ≡ old.base = ap (λ (it : Inside). it.base) logs.same in
-    let in_time = in_time-push history.base history.steps step has.in_time (later, fits) in
-    let knows = logs.known.tables history.steps has.knows in
-    let predicates : new.conditions.predicates ≡ history.linked.predicates =
-    logs.known.predicates ∙ ap (λ (linked : Linked). linked.predicates) has.linked in
+    let time : log_time shown ≡ log_time frame = ap log_time shown_is ∙ shown_time log frame in
+    let in_time = in_time-push installed.base history.steps step has.in_time
+    (later, subst (λ t. t < time_limit) time fits) in
+    let predicates : new.conditions.predicates ≡ linked.predicates =
+    logs.known.predicates ∙ ap (λ (l : Linked). l.predicates) has.linked in
+    let knows : new.conditions.tables ≡ tables_after new.conditions.predicates (history.steps ++ step ∷ []) =
+    logs.known.tables history.steps has.knows
+    ∙ ap (λ f. tables_after new.conditions.predicates (history.steps ++ logged_step f truths ∷ [])) shown_is
+    ∙ shown_tables new.conditions.predicates history.steps log frame truths in
     record {
       linked = ap linked_of_inside logs.same
           ∙ ap (λ predicates. record (linked_of_inside old) {
@@ -87,68 +116,102 @@ inside_logs old new frame truths logs fits history has later =
           ∙ ap (λ metrics. record (linked_of_inside old) { metrics = metrics }) logs.tracks.metrics ∙ has.linked;
       base = base ∙ has.base;
       last = ap (λ (it : Inside). it.last) logs.same ∙ has.last
-          ∙ sym (last_report-push history.base history.steps step);
+          ∙ sym (last_report-push installed.base history.steps step);
       in_time = in_time;
       knows = knows;
-      tracks = subst (λ ps. AllStandFor ps history.base (history.steps ++ step ∷ []) new.tracks.items) predicates
-          (logs.tracks.stand history.base history.steps
-          (subst (λ ps. AllStandFor ps history.base history.steps old.tracks.items) (sym predicates) has.tracks)
-          knows in_time);
+      tracks = logs.tracks.stand installed history.steps frame has.tracks (record {
+        shown_is = shown_is;
+        found = record {
+          predicates = predicates;
+          tables = knows ∙ ap (λ ps. tables_after ps (history.steps ++ step ∷ [])) predicates;
+          states = ap (λ (l : Linked). l.states) has.linked;
+          book = subst (StateBookStandsFor book) (sym (log_after-push installed history.steps frame truths)) book_is;
+        };
+        in_time = in_time;
+      });
     }
 
 -- what metrics ask stays over a frame of the log
-pub asked_after_log : (old new : Inside) (frame : LogFrame) (truths : List Bool) → InsideLogs frame truths old new
-    → AreAsked old → AreAsked new
-asked_after_log old new frame truths logs asked =
+pub asked_after_log : (old new : Inside) (shown : LogFrame) (truths : List Bool) (book : BookOfStates)
+    → InsideLogs shown truths book old new → AreAsked old → AreAsked new
+asked_after_log old new shown truths book logs asked =
     subst (λ ps. All (AsksWithin (length ps)) (map metric_in new.tracks.items)) (sym logs.known.predicates)
     (subst (All (AsksWithin (length old.conditions.predicates))) (sym logs.tracks.metrics) asked)
 
 -- what metrics ask stays over a report
-pub asked_after_report : (old new : Inside) (uid id : ℤ) (include_current : Bool) (at : ℕ) (tree : ReportTree)
-    → InsideReports uid id include_current at old new tree → AreAsked old → AreAsked new
-asked_after_report old new uid id include_current at tree reports asked =
+pub asked_after_report : (old new : Inside) (uid id : ℤ) (include_current : Bool) (at : ℕ) (book : BookOfStates)
+    (tree : ReportTree) → InsideReports uid id include_current at book old new tree → AreAsked old → AreAsked new
+asked_after_report old new uid id include_current at book tree reports asked =
     subst (λ (known : Known). All (AsksWithin (length known.predicates)) (map metric_in new.tracks.items))
     (sym (ap (λ (it : Inside). it.conditions) reports.same))
     (subst (All (AsksWithin (length old.conditions.predicates))) (sym reports.tracks.metrics) asked)
 
 -- an instance takes one more report
-pub inside_reports : (old new : Inside) (uid id : ℤ) (include_current : Bool) (at : ℕ) (tree : ReportTree)
-    → InsideReports uid id include_current at old new tree
-    → (history : History) → InsideStandsFor old history → last_from history.base history.steps ≡ at
+pub inside_reports : (old new : Inside) (uid id : ℤ) (include_current : Bool) (at : ℕ) (book : BookOfStates)
+    (tree : ReportTree) → InsideReports uid id include_current at book old new tree
+    → (history : History) → InsideStandsFor old history → last_from history.installed.base history.steps ≡ at
     → InsideStandsFor new (with_step history (reported_step include_current at))
-    × (tree ≡ report_of history uid id include_current at)
+    × (StateBookStandsFor book (log_of_history history) → tree ≡ report_of history uid id include_current at)
 unfolding report_of
-inside_reports old new uid id include_current at tree reports history has now =
+inside_reports old new uid id include_current at book tree reports history has now =
     let step = reported_step include_current at in
     let steps = history.steps in
-    let predicates = history.linked.predicates in
-    let in_time = in_time-push history.base steps step has.in_time (sym now) in
-    let tracks = subst (λ base. AllReport base include_current at old.tracks.items new.tracks.items tree.metrics)
-    has.base reports.tracks in
-    let predicates_are : old.conditions.predicates ≡ predicates = ap (λ (linked : Linked). linked.predicates) has.linked
+    let installed = history.installed in
+    let linked = installed.linked in
+    let in_time = in_time-push installed.base steps step has.in_time (sym now) in
+    let may : MayReport installed steps old.base include_current at = record {
+      base_is = sym has.base;
+      in_time = in_time;
+    } in
+    let predicates_are : old.conditions.predicates ≡ linked.predicates = ap (λ (l : Linked). l.predicates) has.linked
     in
-    let known : new.conditions ≡ old.conditions = ap (λ (it : Inside). it.conditions) reports.same in (
+    let states_are : old.states ≡ linked.states = ap (λ (l : Linked). l.states) has.linked in
+    let known : new.conditions ≡ old.conditions = ap (λ (it : Inside). it.conditions) reports.same in
+    let last = last_report installed.base steps in
+    let trees = tree.metrics in
+    let drops = reports.drops in (
       record {
         linked = ap linked_of_inside reports.same
             ∙ ap (λ metrics. record (linked_of_inside old) { metrics = metrics }) reports.tracks.metrics ∙ has.linked;
         base = ap (λ (it : Inside). it.base) reports.same ∙ has.base;
-        last = ap (λ (it : Inside). it.last) reports.same ∙ sym (last_report-push history.base steps step);
+        last = ap (λ (it : Inside). it.last) reports.same ∙ sym (last_report-push installed.base steps step);
         in_time = in_time;
         knows = subst (KnowsAfter (steps ++ step ∷ [])) (sym known)
             (has.knows ∙ sym (tables_after-idle old.conditions.predicates steps step (λ predicate. refl)));
-        tracks = tracks.stand predicates steps has.tracks in_time;
+        tracks = reports.tracks.stand installed steps has.tracks may;
       },
-      reports.tree_is
-          ∙ ap (λ time. tree_with uid id time at tree.metrics
-          (drops_in old.conditions.predicates old.conditions.tables)) has.last
-          ∙ ap (λ drops. tree_with uid id (last_report history.base steps) at tree.metrics drops)
-          (ap (drops_in old.conditions.predicates) has.knows ∙ drops_are old.conditions.predicates steps
-          ∙ ap (λ ps. predicate_drops ps steps) predicates_are)
-          ∙ ap (λ trees. tree_with uid id (last_report history.base steps) at trees (predicate_drops predicates steps))
-          (tracks.shown predicates steps has.tracks in_time
-          ∙ ap (λ metrics. map (metric_tree history.base predicates steps include_current at)
+      λ book_is.
+          let of_predicates : drops.of_predicates ≡ predicate_drops linked.predicates steps =
+          reports.of_predicates ∙ ap (drops_in old.conditions.predicates) has.knows
+          ∙ drops_are old.conditions.predicates steps ∙ ap (λ ps. predicate_drops ps steps) predicates_are in
+          let of_states : drops.of_states ≡ drops_of_states linked.states (log_of_history history) =
+          reports.of_states.keys (log_of_history history) book_is
+          ∙ ap (λ states. drops_of_states states (log_of_history history)) states_are in
+          let of_atoms : drops.of_atoms ≡ dropped_for linked.states (log_of_history history) =
+          reports.of_states.atoms (log_of_history history) book_is
+          ∙ ap (λ states. dropped_for states (log_of_history history)) states_are in
+          reports.tree_is
+          ∙ ap (λ time. tree_with uid id time at trees drops) has.last
+          ∙ ap (λ l. tree_with uid id last at trees (record drops { of_predicates = l })) of_predicates
+          ∙ ap (λ l. tree_with uid id last at trees (record {
+            of_predicates = predicate_drops linked.predicates steps;
+            of_states = l;
+            of_atoms = drops.of_atoms;
+          })) of_states
+          ∙ ap (λ n. tree_with uid id last at trees (record {
+            of_predicates = predicate_drops linked.predicates steps;
+            of_states = drops_of_states linked.states (log_of_history history);
+            of_atoms = n;
+          })) of_atoms
+          ∙ ap (λ shown. tree_with uid id last at shown (record {
+            of_predicates = predicate_drops linked.predicates steps;
+            of_states = drops_of_states linked.states (log_of_history history);
+            of_atoms = dropped_for linked.states (log_of_history history);
+          }))
+          (reports.tracks.shown installed steps has.tracks may
+          ∙ ap (λ metrics. map (metric_tree installed steps include_current at)
           (filter (λ (metric : LMetric). metric.shown) metrics))
-          (ap (λ (linked : Linked). linked.metrics) has.linked)),
+          (ap (λ (l : Linked). l.metrics) has.linked)),
     )
 
 -- a sound predicate's table has as many leaves as it has dimensions
@@ -187,7 +250,7 @@ fresh_inside linked base it sound matchers predicates states base_is last_is kno
     All-weaker (IsSoundMetric linked) (AsksWithin (length linked.predicates)) (λ metric s. s.condition) linked.metrics
     sound.metrics in
     record {
-      stands = record {
+      stands = λ opening. record {
         linked = ap (λ ms. record (linked_of_inside it) { matchers = ms }) matchers
             ∙ ap (λ ps. record linked { predicates = ps; states = it.states; metrics = map metric_in it.tracks.items })
             predicates
@@ -197,7 +260,7 @@ fresh_inside linked base it sound matchers predicates states base_is last_is kno
         last = last_is;
         in_time = tt;
         knows = knows;
-        tracks = are.stand linked.predicates;
+        tracks = are.stand (new_history base opening linked).installed refl;
       };
       asked = subst (λ ps. All (AsksWithin (length ps)) (map metric_in it.tracks.items)) (sym predicates)
           (subst (All (AsksWithin (length linked.predicates))) (sym metrics) asks);
@@ -240,7 +303,6 @@ has_size linked metric (kinds.MaxSparse spec) is sound = absurd cc
 pub all_tracked : (linked : Linked) → IsSoundConfig linked → is_built linked ≡ true → All CanBeTracked linked.metrics
 all_tracked linked sound built = λ k d within.
     let metric = get_or linked.metrics k d in
-    let is = each_built linked.metrics (grind (arith, built)) k d within in
+    let is = each_built linked.metrics built k d within in
     let whole : IsSoundMetric linked metric = sound.metrics k d within in
-    let counts : is_count metric.kind ≡ true = grind (arith, is) in
-    record { built = is; sized = has_size linked metric metric.kind counts whole.kind; bound = whole.bound }
+    record { built = is; sized = has_size linked metric metric.kind is whole.kind; bound = whole.bound }

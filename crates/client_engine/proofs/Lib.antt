@@ -2,6 +2,9 @@ pub mod GroupsLemmas
 pub mod LeavesLemmas
 pub mod MatchedLemmas
 pub mod KeptPredicatesLemmas
+pub mod ShownLemmas
+pub mod SliceLemmas
+pub mod StateDropsLemmas
 pub mod TrackLemmas
 pub mod TracksLemmas
 pub mod InsidePartsLemmas

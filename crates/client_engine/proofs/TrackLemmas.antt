@@ -10,7 +10,6 @@ use Rattle.bucket_meaning.specs.Limits.{time_limit}
 use Rattle.call_rules.specs.LaneCalls.{LaneStep, event_asks, AreTimely}
 use Rattle.call_rules.proofs.LaneCallsLemmas.{events_ask_well}
 use Rattle.config_links.specs.declared.linked.LMetric.{LMetric}
-use Rattle.config_links.specs.declared.linked.LPredicate.{LPredicate}
 use Rattle.config_links.specs.declared.linked.LKind.{LKind}
 use Rattle.config_links.specs.declared.linked.LKind.TheVariants as kinds
 use Rattle.count_metric.specs.declared.count.CountProducer.{CountProducer}
@@ -23,15 +22,18 @@ use Rattle.session_frames.specs.FrameReading.{log_time}
 use Rattle.metric_lane.specs.LaneStands.{LaneHas, LaneStandsFor, LogsEvent, GetsReport}
 use Rattle.metric_lane.specs.declared.lane.Lane.{Lane}
 use Rattle.metric_lane.proofs.LaneStepsLemmas.{lane_reports}
-use Rattle.metric_meaning.specs.Histories.{What, Logged, Reported, Step, truth_at, moment_of, lane_step, lane_steps}
+use Rattle.metric_meaning.specs.Histories.{What, Logged, Reported, Step, Installation, truth_at, moment_of, lane_step, lane_steps, log_after}
+use Rattle.metric_meaning.specs.ShownFrames.{shown_as}
+use Rattle.metric_meaning.specs.Scenes.{Scene, scene_after}
 use Rattle.metric_meaning.specs.Forms.{is_count, is_built_metric}
 use Rattle.metric_meaning.specs.CountSteps.{atom_key, arrival_by, arrival_at, count_params, counts_shown}
 use Rattle.metric_meaning.specs.MetricConditions.{is_condition_true}
 use Rattle.metric_meaning.specs.Reports.{metric_tree}
 use Rattle.metric_meaning.proofs.StepLemmas.{lane_step_after}
 use Rattle.metric_meaning.proofs.CountStepsLemmas.{count_calls-mean}
-use Rattle.client_engine.specs.Known.{Known, KnowsAfter}
-use Rattle.client_engine.specs.TrackStands.{logged_step, reported_step, ComesInTime, ComeInTime, CountsAlong, LaneAlong, TrackStandsFor, TrackReports, closed_tree}
+use Rattle.client_engine.specs.Handed.{Handed, IsOfScene}
+use Rattle.client_engine.specs.TrackStands.{logged_step, reported_step, ComesInTime, ComeInTime, CountsAlong, LaneAlong, TrackStandsFor, MayLog, MayReport, TrackReports, closed_tree}
+use Rattle.client_engine.proofs.ShownLemmas.{shown_moment, shown_arrival}
 use Rattle.client_engine.specs.declared.track.MetricLane.{MetricLane}
 use Rattle.client_engine.specs.declared.track.MetricLane.TheVariants.{Counts}
 
@@ -74,140 +76,143 @@ steps-push : {News : Type 0} (news : List Step → Step → News) (steps : List 
     → lane_steps news (steps ++ step ∷ []) ≡ lane_steps news steps ++ lane_step (news steps) step ∷ []
 steps-push news steps step = outputs-push (lane_step_after news) steps step
 
--- a lane of counts takes one more frame of the log, of which predicates know already
-counts_log : (known : Known) (metric : LMetric) (frame : LogFrame) (truths : List Bool) (old new : CountLane)
+-- a lane of counts takes one more frame of the log, which is shown so
+counts_log : (given : Handed) (metric : LMetric) (shown : LogFrame) (truths : List Bool) (old new : CountLane)
     (key : Option MetricKey)
-    → key ≡ arrival_by known.predicates known.tables metric (logged_step frame truths)
-    → LogsEvent CountStandsFor count_demands old new (moment_of frame (log_time frame)) key
-    → (base : ℕ) (steps : List Step) → CountsAlong known.predicates base steps metric old
-    → KnowsAfter (steps ++ logged_step frame truths ∷ []) known
-    → ComeInTime base (steps ++ logged_step frame truths ∷ [])
-    → CountsAlong known.predicates base (steps ++ logged_step frame truths ∷ []) metric new
-counts_log known metric frame truths old new key is logs base steps along knows in_time =
+    → ((scene : Scene) → IsOfScene given scene → key ≡ arrival_by scene metric (logged_step shown truths))
+    → LogsEvent CountStandsFor count_demands old new (moment_of shown (log_time shown)) key
+    → (installed : Installation) (steps : List Step) (frame : LogFrame) → CountsAlong installed steps metric old
+    → MayLog installed steps given shown frame truths
+    → CountsAlong installed (steps ++ logged_step frame truths ∷ []) metric new
+counts_log given metric shown truths old new key is logs installed steps frame along may =
     let step = logged_step frame truths in
-    let news = arrival_at known.predicates metric in
-    let params = count_params base metric in
+    let news = arrival_at installed metric in
+    let scene = scene_after installed (steps ++ step ∷ []) in
+    let log = log_after installed steps in
+    let params = count_params installed.base metric in
     let seen = lane_steps news steps in
     let arrives : key ≡ news steps step =
-    is ∙ ap (λ tables. arrival_by known.predicates tables metric step) knows in
+    is scene may.found ∙ ap (λ f. arrival_by scene metric (logged_step f truths)) may.shown_is
+    ∙ shown_arrival scene metric log frame truths in
+    let moment : moment_of shown (log_time shown) ≡ moment_of frame (log_time frame) =
+    ap (λ f. moment_of f (log_time f)) may.shown_is ∙ shown_moment log frame in
     let pushed : seen ++ lane_step (news steps) step ∷ [] ≡ lane_steps news (steps ++ step ∷ []) =
     sym (steps-push news steps step) in
-    let timely : AreTimely base (seen ++ lane_step (news steps) step ∷ []) =
-    subst (AreTimely base) (sym pushed) (timely_from news base (steps ++ step ∷ []) in_time) in
+    let timely : AreTimely installed.base (seen ++ lane_step (news steps) step ∷ []) =
+    subst (AreTimely installed.base) (sym pushed)
+    (timely_from news installed.base (steps ++ step ∷ []) may.in_time) in
     let logs_it : LogsEvent CountStandsFor count_demands old new (moment_of frame (log_time frame))
     (news steps step) =
-    subst (LogsEvent CountStandsFor count_demands old new (moment_of frame (log_time frame))) arrives logs in
+    subst (LogsEvent CountStandsFor count_demands old new (moment_of frame (log_time frame))) arrives
+    (subst (λ m. LogsEvent CountStandsFor count_demands old new m key) moment logs) in
     record {
       fits = along.fits;
       sized = along.sized;
       stands = subst (LaneStandsFor CountStandsFor count_demands event_asks new params) pushed
           (logs_it params seen along.stands along.fits timely
-          (events_ask_well MetricKey (Unit {0}) base metric.size [] (seen ++ lane_step (news steps) step ∷ [])));
+          (events_ask_well MetricKey (Unit {0}) installed.base metric.size []
+          (seen ++ lane_step (news steps) step ∷ [])));
     }
 
 -- the same by the metric's kind
-pub lane_log : (known : Known) (metric : LMetric) (kind : LKind) (frame : LogFrame) (truths : List Bool)
+pub lane_log : (given : Handed) (metric : LMetric) (kind : LKind) (shown : LogFrame) (truths : List Bool)
     (old : MetricLane) (new : CountLane) (key : Option MetricKey)
-    → key ≡ arrival_by known.predicates known.tables metric (logged_step frame truths)
-    → LogsEvent CountStandsFor count_demands (the_lane old) new (moment_of frame (log_time frame)) key
-    → (base : ℕ) (steps : List Step) → LaneAlong known.predicates base steps metric kind old
-    → KnowsAfter (steps ++ logged_step frame truths ∷ []) known
-    → ComeInTime base (steps ++ logged_step frame truths ∷ [])
-    → LaneAlong known.predicates base (steps ++ logged_step frame truths ∷ []) metric kind (Counts new)
-lane_log known metric kinds.Count frame truths (Counts old) new key is logs base steps along knows in_time =
-    counts_log known metric frame truths old new key is logs base steps along knows in_time
-lane_log known metric _ frame truths (Counts old) new key is logs base steps along knows in_time = absurd along
+    → ((scene : Scene) → IsOfScene given scene → key ≡ arrival_by scene metric (logged_step shown truths))
+    → LogsEvent CountStandsFor count_demands (the_lane old) new (moment_of shown (log_time shown)) key
+    → (installed : Installation) (steps : List Step) (frame : LogFrame) → LaneAlong installed steps metric kind old
+    → MayLog installed steps given shown frame truths
+    → LaneAlong installed (steps ++ logged_step frame truths ∷ []) metric kind (Counts new)
+lane_log given metric kinds.Count shown truths (Counts old) new key is logs installed steps frame along may =
+    counts_log given metric shown truths old new key is logs installed steps frame along may
+lane_log given metric _ shown truths (Counts old) new key is logs installed steps frame along may = absurd along
 
 -- what a lane of counts hands out is what a report shows of the metric
-counts_report : (predicates : List LPredicate) (metric : LMetric) (include_current : Bool) (at : ℕ)
-    (old new : CountLane) (closed : Closed ℕ)
+counts_report : (metric : LMetric) (include_current : Bool) (at : ℕ) (old new : CountLane) (closed : Closed ℕ)
     → GetsReport CountStandsFor count_demands count_collecting old new at include_current closed
-    → (base : ℕ) (steps : List Step) → CountsAlong predicates base steps metric old
-    → ComeInTime base (steps ++ reported_step include_current at ∷ [])
-    → CountsAlong predicates base (steps ++ reported_step include_current at ∷ []) metric new
-    × (closed ≡ closed_of (counts_shown base predicates metric steps include_current at))
-counts_report predicates metric include_current at old new closed reports base steps along in_time =
+    → (installed : Installation) (steps : List Step) → CountsAlong installed steps metric old
+    → ComeInTime installed.base (steps ++ reported_step include_current at ∷ [])
+    → CountsAlong installed (steps ++ reported_step include_current at ∷ []) metric new
+    × (closed ≡ closed_of (counts_shown installed metric steps include_current at))
+counts_report metric include_current at old new closed reports installed steps along in_time =
     let step = reported_step include_current at in
-    let news = arrival_at predicates metric in
-    let params = count_params base metric in
+    let news = arrival_at installed metric in
+    let params = count_params installed.base metric in
     let seen = lane_steps news steps in
     let pushed : seen ++ lane_step (news steps) step ∷ [] ≡ lane_steps news (steps ++ step ∷ []) =
     sym (steps-push news steps step) in
-    let timely : AreTimely base (seen ++ lane_step (news steps) step ∷ []) =
-    subst (AreTimely base) (sym pushed) (timely_from news base (steps ++ step ∷ []) in_time) in
+    let timely : AreTimely installed.base (seen ++ lane_step (news steps) step ∷ []) =
+    subst (AreTimely installed.base) (sym pushed) (timely_from news installed.base (steps ++ step ∷ []) in_time) in
     let both = lane_reports CountStandsFor count_demands event_asks params seen along.fits count_collecting old new at
     include_current closed reports along.stands timely
-    (events_ask_well MetricKey (Unit {0}) base metric.size [] (seen ++ lane_step (news steps) step ∷ [])) in (
+    (events_ask_well MetricKey (Unit {0}) installed.base metric.size []
+    (seen ++ lane_step (news steps) step ∷ [])) in (
       record {
         fits = along.fits;
         sized = along.sized;
         stands = subst (LaneStandsFor CountStandsFor count_demands event_asks new params) pushed both.0;
       },
-      both.1 ∙ ap closed_of (count_calls-mean base predicates metric along.sized steps include_current at),
+      both.1 ∙ ap closed_of (count_calls-mean installed metric along.sized steps include_current at),
     )
 
 -- the same by the metric's kind, with what the report shows
-pub lane_report : (predicates : List LPredicate) (metric : LMetric) (kind : LKind) (kind_is : kind ≡ metric.kind)
+pub lane_report : (metric : LMetric) (kind : LKind) (kind_is : kind ≡ metric.kind)
     (include_current : Bool) (at : ℕ) (old : MetricLane) (new : CountLane) (closed : Closed ℕ)
     → GetsReport CountStandsFor count_demands count_collecting (the_lane old) new at include_current closed
-    → (base : ℕ) (steps : List Step) → LaneAlong predicates base steps metric kind old
-    → ComeInTime base (steps ++ reported_step include_current at ∷ [])
-    → LaneAlong predicates base (steps ++ reported_step include_current at ∷ []) metric kind (Counts new)
-    × (closed_tree base metric closed ≡ metric_tree base predicates steps include_current at metric)
-lane_report predicates metric kinds.Count kind_is include_current at (Counts old) new closed reports base steps along
+    → (installed : Installation) (steps : List Step) → LaneAlong installed steps metric kind old
+    → ComeInTime installed.base (steps ++ reported_step include_current at ∷ [])
+    → LaneAlong installed (steps ++ reported_step include_current at ∷ []) metric kind (Counts new)
+    × (closed_tree installed.base metric closed ≡ metric_tree installed steps include_current at metric)
+lane_report metric kinds.Count kind_is include_current at (Counts old) new closed reports installed steps along
     in_time =
-    let both = counts_report predicates metric include_current at old new closed reports base steps along in_time in (
+    let both = counts_report metric include_current at old new closed reports installed steps along in_time in (
       both.0,
-      ap (closed_tree base metric) both.1
-          ∙ ap (λ kind. metric_tree base predicates steps include_current at (record metric { kind = kind })) kind_is,
+      ap (closed_tree installed.base metric) both.1
+          ∙ ap (λ kind. metric_tree installed steps include_current at (record metric { kind = kind })) kind_is,
     )
-lane_report predicates metric _ kind_is include_current at (Counts old) new closed reports base steps along in_time =
+lane_report metric _ kind_is include_current at (Counts old) new closed reports installed steps along in_time =
     absurd along
 
 -- a new lane of counts has seen no step
-counts_begin : (predicates : List LPredicate) (base : ℕ) (metric : LMetric) (lane : CountLane) → base < time_limit
+counts_begin : (installed : Installation) (metric : LMetric) (lane : CountLane) → installed.base < time_limit
     → 0 < metric.size
-    → LaneHas CountStandsFor count_demands lane (count_params base metric) [] []
-    → CountsAlong predicates base [] metric lane
-counts_begin predicates base metric lane fits sized has = record { fits = fits; sized = sized; stands = has }
+    → LaneHas CountStandsFor count_demands lane (count_params installed.base metric) [] []
+    → CountsAlong installed [] metric lane
+counts_begin installed metric lane fits sized has = record { fits = fits; sized = sized; stands = has }
 
 -- the same by the metric's kind
-lane_begins : (predicates : List LPredicate) (base : ℕ) (metric : LMetric) (kind : LKind) (lane : CountLane)
+lane_begins : (installed : Installation) (metric : LMetric) (kind : LKind) (lane : CountLane)
     → is_count kind ≡ true
-    → CountsAlong predicates base [] metric lane → LaneAlong predicates base [] metric kind (Counts lane)
-lane_begins predicates base metric kinds.Count lane is along = along
-lane_begins predicates base metric kinds.Event lane is along = absurd cc
-lane_begins predicates base metric (kinds.PushedValue atom_id leaf agg) lane is along = absurd cc
-lane_begins predicates base metric (kinds.PulledValue atom_id leaf spec) lane is along = absurd cc
-lane_begins predicates base metric (kinds.PushedGauge fields samples) lane is along = absurd cc
-lane_begins predicates base metric (kinds.PulledGauge fields samples mode trigger) lane is along = absurd cc
-lane_begins predicates base metric (kinds.SumDuration spec) lane is along = absurd cc
-lane_begins predicates base metric (kinds.MaxSparse spec) lane is along = absurd cc
+    → CountsAlong installed [] metric lane → LaneAlong installed [] metric kind (Counts lane)
+lane_begins installed metric kinds.Count lane is along = along
+lane_begins installed metric kinds.Event lane is along = absurd cc
+lane_begins installed metric (kinds.PushedValue atom_id leaf agg) lane is along = absurd cc
+lane_begins installed metric (kinds.PulledValue atom_id leaf spec) lane is along = absurd cc
+lane_begins installed metric (kinds.PushedGauge fields samples) lane is along = absurd cc
+lane_begins installed metric (kinds.PulledGauge fields samples mode trigger) lane is along = absurd cc
+lane_begins installed metric (kinds.SumDuration spec) lane is along = absurd cc
+lane_begins installed metric (kinds.MaxSparse spec) lane is along = absurd cc
 
--- a metric that is acted on counts
-acted_on : (metric : LMetric) → is_built_metric metric ≡ true → is_count metric.kind ≡ true
-acted_on metric built = grind (arith, built)
-
--- a new track
-pub track_begins : (predicates : List LPredicate) (base : ℕ) (metric : LMetric) (lane : CountLane) → base < time_limit
-    → is_built_metric metric ≡ true
+-- a new track, of what was installed at this clock
+pub track_begins : (installed : Installation) (base : ℕ) (metric : LMetric) (lane : CountLane)
+    → installed.base ≡ base → base < time_limit → is_built_metric metric ≡ true
     → 0 < metric.size → LaneHas CountStandsFor count_demands lane (count_params base metric) [] []
-    → TrackStandsFor predicates base [] (record { metric = metric; lane = Counts lane })
-track_begins predicates base metric lane fits built sized has =
-    lane_begins predicates base metric metric.kind lane (acted_on metric built)
-    (counts_begin predicates base metric lane fits sized has)
+    → TrackStandsFor installed [] (record { metric = metric; lane = Counts lane })
+track_begins installed base metric lane base_is fits built sized has =
+    lane_begins installed metric metric.kind lane built
+    (counts_begin installed metric lane (subst (λ b. b < time_limit) (sym base_is) fits) sized
+    (subst (λ b. LaneHas CountStandsFor count_demands lane (count_params b metric) [] []) (sym base_is) has))
 
 -- a track takes one more report
-pub track_reports : (predicates : List LPredicate) (metric : LMetric) (base : ℕ) (include_current : Bool) (at : ℕ)
+pub track_reports : (metric : LMetric) (base : ℕ) (include_current : Bool) (at : ℕ)
     (old new : CountLane) (closed : Closed ℕ)
     → GetsReport CountStandsFor count_demands count_collecting old new at include_current closed
     → (tree : MetricTree) → tree ≡ closed_tree base metric closed
-    → TrackReports predicates base include_current at (record { metric = metric; lane = Counts old })
+    → TrackReports base include_current at (record { metric = metric; lane = Counts old })
     (record { metric = metric; lane = Counts new }) tree
-track_reports predicates metric base include_current at old new closed reports tree is steps along in_time =
-    let both = lane_report predicates metric metric.kind refl include_current at (Counts old) new closed reports base
-    steps along in_time in
-    (both.0, is ∙ both.1)
+track_reports metric base include_current at old new closed reports tree is installed steps along may =
+    let both = lane_report metric metric.kind refl include_current at (Counts old) new closed reports installed
+    steps along may.in_time in
+    (both.0, is ∙ ap (λ b. closed_tree b metric closed) (sym may.base_is) ∙ both.1)
 
 -- a key that isn't there, where one of two truths isn't
 none_without : {A : Type 0} (first second : Bool) (x : A) → second ≡ false
@@ -216,23 +221,32 @@ none_without true second x is = ap (λ b. if b then Some x else None) (sym is)
 none_without false second x is = refl
 
 -- where the condition isn't true, nothing arrives
-pub not_arrived : (known : Known) (metric : LMetric) (frame : LogFrame) (at : ℕ) (atom : Atom) (truths : List Bool)
+pub not_arrived : (scene : Scene) (metric : LMetric) (frame : LogFrame) (at : ℕ) (atom : Atom) (truths : List Bool)
     (holds : Bool) → frame ≡ AtomAt at atom
-    → holds ≡ is_condition_true known.predicates known.tables metric atom → holds ≡ false
-    → None ≡ arrival_by known.predicates known.tables metric (logged_step frame truths)
-not_arrived known metric frame at atom truths holds is means off =
-    subst (λ (f : LogFrame). None ≡ arrival_by known.predicates known.tables metric (logged_step f truths)) (sym is)
-    (none_without (truth_at metric.what truths) (is_condition_true known.predicates known.tables metric atom)
-    (atom_key metric atom) (sym means ∙ off))
+    → holds ≡ is_condition_true scene.linked.predicates scene.tables metric atom → holds ≡ false
+    → None ≡ arrival_by scene metric (logged_step frame truths)
+not_arrived scene metric frame at atom truths holds is means off =
+    subst (λ (f : LogFrame). None ≡ arrival_by scene metric (logged_step f truths)) (sym is)
+    (none_without (truth_at metric.what truths) (is_condition_true scene.linked.predicates scene.tables metric atom)
+    (atom_key scene metric atom) (sym means ∙ off))
 
 -- where both are true, the atom's key arrives
-pub arrived : (known : Known) (metric : LMetric) (frame : LogFrame) (at : ℕ) (atom : Atom) (truths : List Bool)
+pub arrived : (scene : Scene) (metric : LMetric) (frame : LogFrame) (at : ℕ) (atom : Atom) (truths : List Bool)
     (holds : Bool) (key : MetricKey) → frame ≡ AtomAt at atom → true ≡ truth_at metric.what truths
-    → holds ≡ is_condition_true known.predicates known.tables metric atom → holds ≡ true → key ≡ atom_key metric atom
-    → Some key ≡ arrival_by known.predicates known.tables metric (logged_step frame truths)
-arrived known metric frame at atom truths holds key is what means on key_is =
-    subst (λ (f : LogFrame). Some key ≡ arrival_by known.predicates known.tables metric (logged_step f truths)) (sym is)
+    → holds ≡ is_condition_true scene.linked.predicates scene.tables metric atom → holds ≡ true
+    → key ≡ atom_key scene metric atom
+    → Some key ≡ arrival_by scene metric (logged_step frame truths)
+arrived scene metric frame at atom truths holds key is what means on key_is =
+    subst (λ (f : LogFrame). Some key ≡ arrival_by scene metric (logged_step f truths)) (sym is)
     (ap (λ k. Some k) key_is
-    ∙ ap (λ b. if b then Some (atom_key metric atom) else None) (sym on ∙ means)
-    ∙ ap (λ b. if b && is_condition_true known.predicates known.tables metric atom then Some (atom_key metric atom)
-    else None) what)
+    ∙ ap (λ b. if b then Some (atom_key scene metric atom) else None) (sym on ∙ means)
+    ∙ ap (λ b. if b && is_condition_true scene.linked.predicates scene.tables metric atom
+    then Some (atom_key scene metric atom) else None) what)
+
+-- what is handed has the truth of the condition there
+pub condition_there : (given : Handed) (scene : Scene) (metric : LMetric) (atom : Atom) → IsOfScene given scene
+    → is_condition_true given.known.predicates given.known.tables metric atom
+    ≡ is_condition_true scene.linked.predicates scene.tables metric atom
+condition_there given scene metric atom found =
+    ap (λ predicates. is_condition_true predicates given.known.tables metric atom) found.predicates
+    ∙ ap (λ tables. is_condition_true scene.linked.predicates tables metric atom) found.tables

@@ -5,30 +5,30 @@ use Rattle.std.proofs.lemmas.List.{append-nil, map-append, length-set, length-ma
 use Rattle.std.proofs.lemmas.List.Elements.{All-nil, All-push, All-get_or}
 use Rattle.atom_record.specs.declared.log.LogFrame.{LogFrame}
 use Rattle.config_links.specs.declared.linked.LMetric.{LMetric}
-use Rattle.config_links.specs.declared.linked.LPredicate.{LPredicate}
-use Rattle.metric_meaning.specs.Histories.{Step}
+use Rattle.metric_meaning.specs.Histories.{Step, Installation}
 use Rattle.metric_meaning.specs.Reports.{metric_tree}
 use Rattle.report_writer.specs.Writable.{IsWritableMetric}
 use Rattle.report_writer.specs.declared.tree.MetricTree.{MetricTree}
-use Rattle.client_engine.specs.TrackStands.{ComeInTime, TrackStandsFor, TrackLogs, TrackReports, logged_step, reported_step}
-use Rattle.client_engine.specs.Known.{Known, KnowsAfter}
+use Rattle.client_engine.specs.TrackStands.{TrackStandsFor, MayLog, MayReport, TrackLogs, TrackReports, logged_step, reported_step}
+use Rattle.client_engine.specs.Known.{Known}
+use Rattle.client_engine.specs.Handed.{Handed}
 use Rattle.client_engine.specs.Tracks.{metric_in, AsksWithin, AreNew, AllStandFor, AllStep, AllReport}
 use Rattle.client_engine.specs.declared.track.Track.{Track}
 
 -- no metric has a track yet
 pub none_new : (base : ℕ) → AreNew base [] []
-none_new base = record { metrics_are = refl; stand = λ predicates. All-nil (TrackStandsFor predicates base []) }
+none_new base = record { metrics_are = refl; stand = λ installed is. All-nil (TrackStandsFor installed []) }
 
 -- one more metric has its track
 pub one_new : (base : ℕ) (metrics : List LMetric) (tracks : List Track) (metric : LMetric) (track : Track)
     → AreNew base metrics tracks → track.metric ≡ metric
-    → ((predicates : List LPredicate) → TrackStandsFor predicates base [] track)
+    → ((installed : Installation) → installed.base ≡ base → TrackStandsFor installed [] track)
     → AreNew base (metrics ++ metric ∷ []) (tracks ++ track ∷ [])
 one_new base metrics tracks metric track are is stands = record {
   metrics_are = map-append metric_in tracks (track ∷ []) ∙ ap (λ l. l ++ track.metric ∷ []) are.metrics_are
       ∙ ap (λ m. metrics ++ m ∷ []) is;
-  stand = λ predicates. All-push (TrackStandsFor predicates base []) tracks track (are.stand predicates)
-      (stands predicates);
+  stand = λ installed same. All-push (TrackStandsFor installed []) tracks track (are.stand installed same)
+      (stands installed same);
 }
 
 -- an element is replaced by one with the same image
@@ -46,58 +46,57 @@ same_here now old i none rest =
     ap (λ n. get_or now n none) (sym (add-zero i)) ∙ sym (get_or-drop i now 0 none) ∙ ap (λ l. get_or l 0 none) rest
     ∙ get_or-drop i old 0 none ∙ ap (λ n. get_or old n none) (add-zero i)
 
--- So many of the tracks took a frame of which predicates know already, and the others are as they were.
-pub record AreStepped (known : Known) (frame : LogFrame) (truths : List Bool) (old now : List Track) (index : ℕ)
+-- So many of the tracks took a frame, and the others are as they were.
+pub record AreStepped (given : Handed) (shown : LogFrame) (truths : List Bool) (old now : List Track) (index : ℕ)
     : Type 0 where
   pub len : length now ≡ length old
   pub metrics : map metric_in now ≡ map metric_in old
   pub rest : drop index now ≡ drop index old
-  pub stand : (base : ℕ) (steps : List Step) → AllStandFor known.predicates base steps old
-      → KnowsAfter (steps ++ logged_step frame truths ∷ []) known
-      → ComeInTime base (steps ++ logged_step frame truths ∷ [])
-      → AllStandFor known.predicates base (steps ++ logged_step frame truths ∷ []) (take index now)
+  pub stand : (installed : Installation) (steps : List Step) (frame : LogFrame) → AllStandFor installed steps old
+      → MayLog installed steps given shown frame truths
+      → AllStandFor installed (steps ++ logged_step frame truths ∷ []) (take index now)
 
-module _ (known : Known) (frame : LogFrame) (truths : List Bool) where
+module _ (given : Handed) (shown : LogFrame) (truths : List Bool) where
   -- none took it yet
-  pub none_stepped : (tracks : List Track) → AreStepped known frame truths tracks tracks 0
+  pub none_stepped : (tracks : List Track) → AreStepped given shown truths tracks tracks 0
   none_stepped tracks = record {
     len = refl;
     metrics = refl;
     rest = refl;
-    stand = λ base steps all knows in_time.
-        All-nil (TrackStandsFor known.predicates base (steps ++ logged_step frame truths ∷ []));
+    stand = λ installed steps frame all may.
+        All-nil (TrackStandsFor installed (steps ++ logged_step frame truths ∷ []));
   }
 
   -- one more took it
   pub one_stepped : (old now : List Track) (index : ℕ) (track none : Track) → index < length now
-      → AreStepped known frame truths old now index → track.metric ≡ (get_or now index none).metric
-      → (now_known : Known) → now_known ≡ known → TrackLogs now_known frame truths (get_or now index none) track
-      → AreStepped known frame truths old (set now index track) (index + 1)
-  one_stepped old now index track none within are metric now_known same logs = record {
+      → AreStepped given shown truths old now index → track.metric ≡ (get_or now index none).metric
+      → (now_given : Handed) → now_given ≡ given → TrackLogs now_given shown truths (get_or now index none) track
+      → AreStepped given shown truths old (set now index track) (index + 1)
+  one_stepped old now index track none within are metric now_given same logs = record {
     len = length-set now index track ∙ are.len;
     metrics = map-set_same metric_in now index track none within metric ∙ are.metrics;
     rest = drop-set-lt (index + 1) now index track (omega arith) ∙ sym (drop-drop 1 index now)
         ∙ ap (drop 1) are.rest ∙ drop-drop 1 index old;
-    stand = λ base steps all knows in_time.
+    stand = λ installed steps frame all may.
         let after = steps ++ logged_step frame truths ∷ [] in
-        let here : TrackStandsFor known.predicates base steps (get_or now index none) =
-        subst (TrackStandsFor known.predicates base steps) (sym (same_here now old index none are.rest))
-        (All-get_or (TrackStandsFor known.predicates base steps) old index none
+        let here : TrackStandsFor installed steps (get_or now index none) =
+        subst (TrackStandsFor installed steps) (sym (same_here now old index none are.rest))
+        (All-get_or (TrackStandsFor installed steps) old index none
         (subst (λ n. index < n) are.len within) all) in
-        subst (AllStandFor known.predicates base after) (sym (take_more_set now index track within))
-        (All-push (TrackStandsFor known.predicates base after) (take index now) track
-        (are.stand base steps all knows in_time)
-        (subst (λ k. TrackLogs k frame truths (get_or now index none) track) same logs base steps here knows in_time));
+        subst (AllStandFor installed after) (sym (take_more_set now index track within))
+        (All-push (TrackStandsFor installed after) (take index now) track (are.stand installed steps frame all may)
+        (subst (λ g. TrackLogs g shown truths (get_or now index none) track) same logs installed steps frame here
+        may));
   }
 
   -- all took it
   pub all_stepped : (old now : List Track) (index : ℕ) → length now ≡ index
-      → AreStepped known frame truths old now index → AllStep known frame truths old now
+      → AreStepped given shown truths old now index → AllStep given shown truths old now
   all_stepped old now index ends are = record {
     metrics = are.metrics;
-    stand = λ base steps all knows in_time.
-        subst (AllStandFor known.predicates base (steps ++ logged_step frame truths ∷ []))
-        (take_all index now (omega (arith, ends))) (are.stand base steps all knows in_time);
+    stand = λ installed steps frame all may.
+        subst (AllStandFor installed (steps ++ logged_step frame truths ∷ []))
+        (take_all index now (omega (arith, ends))) (are.stand installed steps frame all may);
   }
 
 -- what each metric asks of predicates stays where the metrics and the predicates do
@@ -126,12 +125,12 @@ pub record AreReported (base : ℕ) (include_current : Bool) (at : ℕ) (old now
   pub len : length now ≡ length old
   pub metrics : map metric_in now ≡ map metric_in old
   pub rest : drop index now ≡ drop index old
-  pub stand : (predicates : List LPredicate) (steps : List Step) → AllStandFor predicates base steps old
-      → ComeInTime base (steps ++ reported_step include_current at ∷ [])
-      → AllStandFor predicates base (steps ++ reported_step include_current at ∷ []) (take index now)
-  pub shown : (predicates : List LPredicate) (steps : List Step) → AllStandFor predicates base steps old
-      → ComeInTime base (steps ++ reported_step include_current at ∷ [])
-      → trees ≡ map (metric_tree base predicates steps include_current at)
+  pub stand : (installed : Installation) (steps : List Step) → AllStandFor installed steps old
+      → MayReport installed steps base include_current at
+      → AllStandFor installed (steps ++ reported_step include_current at ∷ []) (take index now)
+  pub shown : (installed : Installation) (steps : List Step) → AllStandFor installed steps old
+      → MayReport installed steps base include_current at
+      → trees ≡ map (metric_tree installed steps include_current at)
       (filter (λ (metric : LMetric). metric.shown) (map metric_in (take index old)))
   pub writable : All IsWritableMetric trees
 
@@ -142,9 +141,9 @@ none_reported base include_current at tracks = record {
   len = refl;
   metrics = refl;
   rest = refl;
-  stand = λ predicates steps all in_time.
-      All-nil (TrackStandsFor predicates base (steps ++ reported_step include_current at ∷ []));
-  shown = λ predicates steps all in_time. refl;
+  stand = λ installed steps all may.
+      All-nil (TrackStandsFor installed (steps ++ reported_step include_current at ∷ []));
+  shown = λ installed steps all may. refl;
   writable = All-nil IsWritableMetric;
 }
 
@@ -181,8 +180,7 @@ pub one_reported : (base : ℕ) (include_current : Bool) (at : ℕ) (old now : L
     (trees more : List MetricTree) (track none : Track) (tree : MetricTree) (is_shown : Bool) → index < length now
     → AreReported base include_current at old now index trees → track.metric ≡ (get_or now index none).metric
     → is_shown ≡ (get_or now index none).metric.shown
-    → ((predicates : List LPredicate)
-    → TrackReports predicates base include_current at (get_or now index none) track tree) → IsWritableMetric tree
+    → TrackReports base include_current at (get_or now index none) track tree → IsWritableMetric tree
     → more ≡ trees ++ (if is_shown then tree ∷ [] else [])
     → AreReported base include_current at old (set now index track) (index + 1) more
 one_reported base include_current at old now index trees more track none tree is_shown within are metric shown_is
@@ -191,20 +189,20 @@ one_reported base include_current at old now index trees more track none tree is
       metrics = map-set_same metric_in now index track none within metric ∙ are.metrics;
       rest = drop-set-lt (index + 1) now index track (omega arith) ∙ sym (drop-drop 1 index now)
           ∙ ap (drop 1) are.rest ∙ drop-drop 1 index old;
-      stand = λ predicates steps all in_time.
+      stand = λ installed steps all may.
           let step = reported_step include_current at in
-          let here = stands_here predicates steps all in
-          subst (AllStandFor predicates base (steps ++ step ∷ [])) (sym (take_more_set now index track within))
-          (All-push (TrackStandsFor predicates base (steps ++ step ∷ [])) (take index now) track
-          (are.stand predicates steps all in_time) (reports predicates steps here in_time).0);
-      shown = λ predicates steps all in_time.
-          let here = stands_here predicates steps all in
-          let show = metric_tree base predicates steps include_current at in
+          let here = stands_here installed steps all in
+          subst (AllStandFor installed (steps ++ step ∷ [])) (sym (take_more_set now index track within))
+          (All-push (TrackStandsFor installed (steps ++ step ∷ [])) (take index now) track
+          (are.stand installed steps all may) (reports installed steps here may).0);
+      shown = λ installed steps all may.
+          let here = stands_here installed steps all in
+          let show = metric_tree installed steps include_current at in
           let those = filter (λ (m : LMetric). m.shown) (map metric_in (take index old)) in
           let own = (get_or now index none).metric in
           more_is
-          ∙ ap (λ l. l ++ (if is_shown then tree ∷ [] else [])) (are.shown predicates steps all in_time)
-          ∙ ap (λ t. map show those ++ (if is_shown then t ∷ [] else [])) (reports predicates steps here in_time).1
+          ∙ ap (λ l. l ++ (if is_shown then tree ∷ [] else [])) (are.shown installed steps all may)
+          ∙ ap (λ t. map show those ++ (if is_shown then t ∷ [] else [])) (reports installed steps here may).1
           ∙ ap (λ b. map show those ++ (if b then show own ∷ [] else [])) shown_is
           ∙ ap (λ l. map show those ++ l) (sym (map_if show own.shown own))
           ∙ sym (map-append show those (if own.shown then own ∷ [] else []))
@@ -216,11 +214,11 @@ one_reported base include_current at old now index trees more track none tree is
       writable = subst (All IsWritableMetric) (sym more_is) (writable_if is_shown trees tree are.writable writable);
     }
   where
-    stands_here : (predicates : List LPredicate) (steps : List Step) → AllStandFor predicates base steps old
-        → TrackStandsFor predicates base steps (get_or now index none)
-    stands_here predicates steps all =
-        subst (TrackStandsFor predicates base steps) (sym (same_here now old index none are.rest))
-        (All-get_or (TrackStandsFor predicates base steps) old index none (subst (λ n. index < n) are.len within)
+    stands_here : (installed : Installation) (steps : List Step) → AllStandFor installed steps old
+        → TrackStandsFor installed steps (get_or now index none)
+    stands_here installed steps all =
+        subst (TrackStandsFor installed steps) (sym (same_here now old index none are.rest))
+        (All-get_or (TrackStandsFor installed steps) old index none (subst (λ n. index < n) are.len within)
         all)
 
 -- all were reported
@@ -229,11 +227,11 @@ pub all_reported : (base : ℕ) (include_current : Bool) (at : ℕ) (old now : L
     → AllReport base include_current at old now trees
 all_reported base include_current at old now index trees ends are = record {
   metrics = are.metrics;
-  stand = λ predicates steps all in_time.
-      subst (AllStandFor predicates base (steps ++ reported_step include_current at ∷ []))
-      (take_all index now (omega (arith, ends))) (are.stand predicates steps all in_time);
-  shown = λ predicates steps all in_time. are.shown predicates steps all in_time
-      ∙ ap (λ l. map (metric_tree base predicates steps include_current at)
+  stand = λ installed steps all may.
+      subst (AllStandFor installed (steps ++ reported_step include_current at ∷ []))
+      (take_all index now (omega (arith, ends))) (are.stand installed steps all may);
+  shown = λ installed steps all may. are.shown installed steps all may
+      ∙ ap (λ l. map (metric_tree installed steps include_current at)
       (filter (λ (metric : LMetric). metric.shown) (map metric_in l)))
       (take_all index old (let len = are.len in omega (arith, len, ends)));
   writable = are.writable;

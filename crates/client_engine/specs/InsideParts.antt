@@ -3,15 +3,19 @@
 use Rattle.std.specs.Prelude.{◌≡◌, ℕ, ℤ, Bool, List, [], map}
 use Rattle.atom_record.specs.declared.log.LogFrame.{LogFrame}
 use Rattle.config_links.specs.declared.linked.Linked.{Linked}
-use Rattle.report_writer.specs.declared.tree.Drop64.{Drop64}
+use Rattle.config_links.specs.declared.linked.LState.{LState}
+use Rattle.state_slicer.specs.StateBooks.{StateBookStandsFor}
 use Rattle.report_writer.specs.declared.tree.MetricTree.{MetricTree}
 use Rattle.report_writer.specs.declared.tree.ReportTree.{ReportTree}
-use Rattle.metric_meaning.specs.Histories.{History}
+use Rattle.metric_meaning.specs.Histories.{Installation, History}
+use Rattle.metric_meaning.specs.StateDrops.{drops_of_states, dropped_for}
 use Rattle.metric_meaning.specs.Reports.{last_report}
 use Rattle.client_engine.specs.Known.{KnowsAfter, KnowsStep, drops_in}
+use Rattle.client_engine.specs.Handed.{BookOfStates, handed}
 use Rattle.client_engine.specs.TrackStands.{ComeInTime, logged_step}
 use Rattle.client_engine.specs.Tracks.{metric_in, AllAskWithin, AllStandFor, AllStep, AllReport}
 use Rattle.client_engine.specs.declared.inside.Inside.{Inside}
+use Rattle.client_engine.specs.declared.inside.Drops.{Drops}
 
 -- the configuration that stands inside
 abbrev pub linked_of_inside : Inside → Linked
@@ -29,41 +33,55 @@ AreAsked it = AllAskWithin it.conditions it.tracks.items
 -- What an instance stands for, part by part: its configuration, the clock at its installation and at its last report,
 -- steps whose times don't fall, what predicates know after these steps, and for each metric what they make of it.
 pub record InsideStandsFor (it : Inside) (history : History) : Type 0 where
-  pub linked : linked_of_inside it ≡ history.linked
-  pub base : it.base ≡ history.base
-  pub last : it.last ≡ last_report history.base history.steps
-  pub in_time : ComeInTime history.base history.steps
+  pub linked : linked_of_inside it ≡ history.installed.linked
+  pub base : it.base ≡ history.installed.base
+  pub last : it.last ≡ last_report history.installed.base history.steps
+  pub in_time : ComeInTime history.installed.base history.steps
   pub knows : KnowsAfter history.steps it.conditions
-  pub tracks : AllStandFor history.linked.predicates history.base history.steps it.tracks.items
+  pub tracks : AllStandFor history.installed history.steps it.tracks.items
 
--- the parts of an instance that has seen nothing
+-- the history of what was just installed
+abbrev pub new_history : ℕ → List LogFrame → Linked → History
+new_history base opening linked = record {
+  installed = record { base = base; opening = opening; linked = linked };
+  steps = [];
+}
+
+-- the parts of an instance that has seen nothing, after any log
 pub record IsFreshInside (linked : Linked) (base : ℕ) (it : Inside) : Type 0 where
-  pub stands : InsideStandsFor it (record { base = base; linked = linked; steps = [] })
+  pub stands : (opening : List LogFrame) → InsideStandsFor it (new_history base opening linked)
   pub asked : AreAsked it
 
--- the tree of a report, with what it shows of metrics and of predicates
-abbrev pub tree_with : ℤ → ℤ → ℕ → ℕ → List MetricTree → List Drop64 → ReportTree
+-- the tree of a report, with what it shows of metrics, predicates and states
+abbrev pub tree_with : ℤ → ℤ → ℕ → ℕ → List MetricTree → Drops → ReportTree
 tree_with uid id last now trees drops = record {
   uid = uid;
   id = id;
   last = last;
   now = now;
   metrics = trees;
-  predicate_drops = drops;
-  state_drops = [];
-  state_atoms_dropped = 0;
+  predicate_drops = drops.of_predicates;
+  state_drops = drops.of_states;
+  state_atoms_dropped = drops.of_atoms;
 }
 
--- a frame acted on predicates, then it came to each metric, and nothing else changed
-pub record InsideLogs (frame : LogFrame) (truths : List Bool) (old new : Inside) : Type 0 where
+-- a frame that is shown so acted on predicates, then it came to each metric, and nothing else changed
+pub record InsideLogs (shown : LogFrame) (truths : List Bool) (book : BookOfStates) (old new : Inside) : Type 0 where
   pub same : new ≡ record old { conditions = new.conditions; tracks = new.tracks }
-  pub known : KnowsStep (logged_step frame truths) old.conditions new.conditions
-  pub tracks : AllStep new.conditions frame truths old.tracks.items new.tracks.items
+  pub known : KnowsStep (logged_step shown truths) old.conditions new.conditions
+  pub tracks : AllStep (handed new.conditions old.states book) shown truths old.tracks.items new.tracks.items
+
+-- what is shown of states that found no room is what this book says of these states
+pub record AreStateDrops (states : List LState) (book : BookOfStates) (drops : Drops) : Type 0 where
+  pub keys : (log : List LogFrame) → StateBookStandsFor book log → drops.of_states ≡ drops_of_states states log
+  pub atoms : (log : List LogFrame) → StateBookStandsFor book log → drops.of_atoms ≡ dropped_for states log
 
 -- each metric was reported, the clock of the report before was told, and nothing else changed
-pub record InsideReports (uid id : ℤ) (include_current : Bool) (at : ℕ) (old new : Inside) (tree : ReportTree)
-    : Type 0 where
+pub record InsideReports (uid id : ℤ) (include_current : Bool) (at : ℕ) (book : BookOfStates) (old new : Inside)
+    (tree : ReportTree) : Type 0 where
   pub same : new ≡ record old { tracks = new.tracks; last = at }
-  pub tree_is : tree
-      ≡ tree_with uid id old.last at tree.metrics (drops_in old.conditions.predicates old.conditions.tables)
+  pub drops : Drops
+  pub tree_is : tree ≡ tree_with uid id old.last at tree.metrics drops
+  pub of_predicates : drops.of_predicates ≡ drops_in old.conditions.predicates old.conditions.tables
+  pub of_states : AreStateDrops old.states book drops
   pub tracks : AllReport old.base include_current at old.tracks.items new.tracks.items tree.metrics

@@ -1,6 +1,7 @@
 pub mod Leaves
 pub mod Groups
 pub mod Known
+pub mod Handed
 pub mod KeptPredicates
 pub mod TrackStands
 pub mod Tracks

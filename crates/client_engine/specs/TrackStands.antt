@@ -5,7 +5,6 @@ use Rattle.atom_record.specs.declared.value.MetricKey.{MetricKey}
 use Rattle.bucket_meaning.specs.Limits.{time_limit}
 use Rattle.call_rules.specs.LaneCalls.{event_asks}
 use Rattle.config_links.specs.declared.linked.LMetric.{LMetric}
-use Rattle.config_links.specs.declared.linked.LPredicate.{LPredicate}
 use Rattle.config_links.specs.declared.linked.LKind.{LKind}
 use Rattle.config_links.specs.declared.linked.LKind.TheVariants as kinds
 use Rattle.count_metric.specs.declared.count.CountProducer.{CountProducer}
@@ -14,13 +13,15 @@ use Rattle.count_metric.specs.CountStands.{CountStandsFor}
 use Rattle.session_frames.specs.FrameReading.{log_time}
 use Rattle.metric_lane.specs.LaneStands.{LaneStandsFor}
 use Rattle.metric_lane.specs.declared.lane.Lane.{Lane}
-use Rattle.metric_meaning.specs.Histories.{What, Logged, Reported, Step, lane_steps}
+use Rattle.metric_meaning.specs.Histories.{What, Logged, Reported, Step, Installation, lane_steps, log_after}
+use Rattle.metric_meaning.specs.ShownFrames.{shown_as}
+use Rattle.metric_meaning.specs.Scenes.{scene_after}
 use Rattle.metric_meaning.specs.CountSteps.{arrival_at, count_params}
 use Rattle.metric_meaning.specs.Reports.{metric_tree, count_groups}
 use Rattle.report_writer.specs.declared.tree.MetricTree.{MetricTree}
 use Rattle.report_writer.specs.declared.tree.MetricBody.TheVariants as bodies
 use Rattle.count_metric.specs.declared.row.Closed.{Closed}
-use Rattle.client_engine.specs.Known.{Known, KnowsAfter}
+use Rattle.client_engine.specs.Handed.{Handed, IsOfScene}
 use Rattle.client_engine.specs.declared.track.MetricLane.{MetricLane}
 use Rattle.client_engine.specs.declared.track.MetricLane.TheVariants.{Counts}
 use Rattle.client_engine.specs.declared.track.Track.{Track}
@@ -50,31 +51,36 @@ abbrev pub ComeInTime : ℕ → List Step → Type 0
 ComeInTime last [] = Unit {0}
 ComeInTime last (step ∷ steps) = ComesInTime last step × ComeInTime step.at steps
 
--- the lane of a metric of counts, after these steps of a configuration with these predicates
-pub record CountsAlong (predicates : List LPredicate) (base : ℕ) (steps : List Step) (metric : LMetric)
+-- the lane of a metric of counts, after these steps of what was installed
+pub record CountsAlong (installed : Installation) (steps : List Step) (metric : LMetric)
     (lane : Lane CountProducer MetricKey (Unit {0}) ℕ) : Type 0 where
-  pub fits : base < time_limit
+  pub fits : installed.base < time_limit
   pub sized : 0 < metric.size
-  pub stands : LaneStandsFor CountStandsFor count_demands event_asks lane (count_params base metric)
-      (lane_steps (arrival_at predicates metric) steps)
+  pub stands : LaneStandsFor CountStandsFor count_demands event_asks lane (count_params installed.base metric)
+      (lane_steps (arrival_at installed metric) steps)
 
 -- a lane collects for its metric, by the metric's kind
-abbrev pub LaneAlong : List LPredicate → ℕ → List Step → LMetric → LKind → MetricLane → Type 0
-LaneAlong predicates base steps metric kinds.Count (Counts lane) = CountsAlong predicates base steps metric lane
-LaneAlong predicates base steps metric _ lane = ⊥
+abbrev pub LaneAlong : Installation → List Step → LMetric → LKind → MetricLane → Type 0
+LaneAlong installed steps metric kinds.Count (Counts lane) = CountsAlong installed steps metric lane
+LaneAlong installed steps metric _ lane = ⊥
 
 -- a metric with its lane is what these steps make of it
-abbrev pub TrackStandsFor : List LPredicate → ℕ → List Step → Track → Type 0
-TrackStandsFor predicates base steps track = LaneAlong predicates base steps track.metric track.metric.kind track.lane
+abbrev pub TrackStandsFor : Installation → List Step → Track → Type 0
+TrackStandsFor installed steps track = LaneAlong installed steps track.metric track.metric.kind track.lane
 
--- whatever steps the old one stood for, the new one stands for those and a frame of the log, where times don't fall and
--- predicates know of that frame already
-abbrev pub TrackLogs : Known → LogFrame → List Bool → Track → Track → Type 0
-TrackLogs known frame truths old new =
-    (base : ℕ) (steps : List Step) → TrackStandsFor known.predicates base steps old
-    → KnowsAfter (steps ++ logged_step frame truths ∷ []) known
-    → ComeInTime base (steps ++ logged_step frame truths ∷ [])
-    → TrackStandsFor known.predicates base (steps ++ logged_step frame truths ∷ []) new
+-- a frame of the log comes in time after these steps, it is shown so, and what is handed with it is what is found then
+pub record MayLog (installed : Installation) (steps : List Step) (given : Handed) (shown frame : LogFrame)
+    (truths : List Bool) : Type 0 where
+  pub shown_is : shown ≡ shown_as (log_after installed steps) frame
+  pub found : IsOfScene given (scene_after installed (steps ++ logged_step frame truths ∷ []))
+  pub in_time : ComeInTime installed.base (steps ++ logged_step frame truths ∷ [])
+
+-- whatever steps the old one stood for, the new one stands for those and a frame of the log, which is shown so
+abbrev pub TrackLogs : Handed → LogFrame → List Bool → Track → Track → Type 0
+TrackLogs given shown truths old new =
+    (installed : Installation) (steps : List Step) (frame : LogFrame) → TrackStandsFor installed steps old
+    → MayLog installed steps given shown frame truths
+    → TrackStandsFor installed (steps ++ logged_step frame truths ∷ []) new
 
 -- a metric of counts as a report shows it, of what its producer handed out
 abbrev pub closed_tree : ℕ → LMetric → Closed ℕ → MetricTree
@@ -88,10 +94,16 @@ closed_tree base metric closed = record {
   body = bodies.Counts (count_groups closed.rows);
 }
 
+-- a report comes in time after these steps of what was installed at this clock
+pub record MayReport (installed : Installation) (steps : List Step) (base : ℕ) (include_current : Bool) (at : ℕ)
+    : Type 0 where
+  pub base_is : installed.base ≡ base
+  pub in_time : ComeInTime installed.base (steps ++ reported_step include_current at ∷ [])
+
 -- whatever steps the old one stood for, the new one stands for those and a report, and the report shows the metric so
-abbrev pub TrackReports : List LPredicate → ℕ → Bool → ℕ → Track → Track → MetricTree → Type 0
-TrackReports predicates base include_current at old new tree =
-    (steps : List Step) → TrackStandsFor predicates base steps old
-    → ComeInTime base (steps ++ reported_step include_current at ∷ [])
-    → TrackStandsFor predicates base (steps ++ reported_step include_current at ∷ []) new
-    × (tree ≡ metric_tree base predicates steps include_current at old.metric)
+abbrev pub TrackReports : ℕ → Bool → ℕ → Track → Track → MetricTree → Type 0
+TrackReports base include_current at old new tree =
+    (installed : Installation) (steps : List Step) → TrackStandsFor installed steps old
+    → MayReport installed steps base include_current at
+    → TrackStandsFor installed (steps ++ reported_step include_current at ∷ []) new
+    × (tree ≡ metric_tree installed steps include_current at old.metric)

@@ -5,13 +5,12 @@ ghost use Rattle.metric_meaning.specs.Forms.{is_built, is_built_metric};
 
 use config_links::{LKind, LMetric, Linked};
 
-/// Whether a configuration is acted on: any matchers and predicates, no states, and metrics that count, under any
-/// condition.
+/// Whether a configuration is acted on: any matchers, predicates and states, and metrics that count, under any condition
+/// and sliced by any states.
 pub fn built(linked: &Linked) -> bool
     ensures { result ≡ is_built linked.now }
 {
-    let metrics = are_acted_on(linked.metrics.as_slice());
-    linked.states.is_empty() && metrics
+    are_acted_on(linked.metrics.as_slice())
 }
 
 // Whether all metrics are acted on.
@@ -25,8 +24,5 @@ fn are_acted_on(metrics: &[LMetric]) -> bool
 fn is_acted_on(metric: &LMetric) -> bool
     ensures { result ≡ is_built_metric metric.now }
 {
-    match metric.kind {
-        LKind::Count => metric.slices.is_empty(),
-        _ => false,
-    }
+    matches!(metric.kind, LKind::Count)
 }

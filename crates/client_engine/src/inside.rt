@@ -5,15 +5,20 @@ ghost use Rattle.bucket_meaning.specs.Limits.{time_limit};
 ghost use Rattle.config_links.specs.SoundConfig.{IsSoundConfig};
 ghost use Rattle.report_writer.specs.Writable.{IsWritableReport};
 ghost use Rattle.metric_meaning.specs.Forms.{is_built};
+ghost use Rattle.client_engine.specs.Known.{drops_in};
+ghost use Rattle.client_engine.specs.Handed.{handed};
 ghost use Rattle.client_engine.specs.Tracks.{CanBeTracked, AllAskWithin, AreNew, AllStep, AllReport};
-ghost use Rattle.client_engine.specs.InsideParts.{AreAsked, tree_with, IsFreshInside, InsideLogs, InsideReports};
+ghost use Rattle.client_engine.specs.InsideParts.{AreAsked, tree_with, IsFreshInside, InsideLogs, InsideReports, AreStateDrops};
 
 use crate::conditions::Conditions;
+use crate::instance::LogView;
+use crate::state_drops::{dropped_atoms, state_drops};
 use crate::track::Track;
 use atom_record::LogFrame;
 use config_links::{LMatcher, LMetric, LState, Linked};
 use report_writer::{Drop64, MetricTree, ReportTree};
 use sd_base::Seq;
+use state_slicer::StateBook;
 use std::alloc::{AllocError, Global};
 
 /// The parts of a configuration, its predicates with what they know, its metrics with their lanes, and when it was
@@ -27,6 +32,14 @@ pub struct Inside {
     pub tracks: Vec<Track>,
     pub base: u64,
     pub last: u64,
+}
+
+/// What a report shows beside its metrics: what found no room.
+#[derive(Drop)]
+pub struct Drops {
+    pub of_predicates: Seq<Drop64>,
+    pub of_states: Seq<Drop64>,
+    pub of_atoms: u64,
 }
 
 impl Inside {
@@ -57,18 +70,20 @@ impl Inside {
     }
 
     /// A frame of the log comes: it acts on predicates, and then comes to each metric.
-    pub fn log(&mut self, frame: &LogFrame, matched: &[bool]) -> Result<(), AllocError>
+    pub fn log(&mut self, frame: &LogFrame, view: &LogView<'_>) -> Result<(), AllocError>
         requires asked { AreAsked self.old }
-        ensures { OnOk result (InsideLogs frame.now matched.now self.old self.new) }
+        ensures { OnOk result
+            (InsideLogs frame.now view.now.matched.now view.now.states.now self.old self.new) }
     {
         let Inside {
             alloc,
             conditions,
+            states,
             tracks,
             ..
         } = self;
-        conditions.log(*alloc, frame, matched)?;
-        log_all(*alloc, conditions, tracks, frame, matched)
+        conditions.log(*alloc, frame, view.matched)?;
+        log_all(*alloc, conditions, states.as_slice(), tracks, frame, view)
     }
 
     /// A report at the clock, for a client's configuration.
@@ -78,15 +93,31 @@ impl Inside {
         id: i64,
         include_current: bool,
         at: u64,
+        book: &StateBook,
     ) -> Result<ReportTree, AllocError>
-        ensures reports { IfOk result (InsideReports uid id include_current at self.old self.new) }
+        ensures reports { IfOk result
+            (InsideReports uid id include_current at book.now self.old self.new) }
         ensures writable { IfOk result IsWritableReport }
     {
         let last = self.last;
         self.last = at;
         let metrics = report_all(self.alloc, self.base, &mut self.tracks, include_current, at)?;
-        let drops = self.conditions.drops(self.alloc)?;
-        Ok(tree_of(self.alloc, uid, id, last, at, metrics, drops))
+        let drops = self.drops(book)?;
+        Ok(tree_of(uid, id, last, at, metrics, drops))
+    }
+
+    // What found no room, as a report shows it.
+    fn drops(&self, book: &StateBook) -> Result<Drops, AllocError>
+        ensures of_predicates { IfOk result (λ drops. drops.of_predicates
+            ≡ drops_in self.now.conditions.predicates self.now.conditions.tables) }
+        ensures of_states { IfOk result (AreStateDrops self.now.states book.now) }
+    {
+        let states = self.states.as_slice();
+        Ok(Drops {
+            of_predicates: self.conditions.drops(self.alloc)?,
+            of_states: state_drops(self.alloc, states, book)?,
+            of_atoms: dropped_atoms(states, book),
+        })
     }
 }
 
@@ -107,17 +138,19 @@ fn tracks_of(alloc: Global, base: u64, metrics: Seq<LMetric>) -> Result<Vec<Trac
 fn log_all(
     alloc: Global,
     conditions: &mut Conditions,
+    states: &[LState],
     tracks: &mut Vec<Track>,
     frame: &LogFrame,
-    matched: &[bool],
+    view: &LogView<'_>,
 ) -> Result<(), AllocError>
     requires within { AllAskWithin conditions.old tracks.old.items }
     ensures logs { OnOk result
-        (AllStep conditions.old frame.now matched.now tracks.old.items tracks.new.items) }
+        (AllStep (handed conditions.old states.now view.now.states.now) frame.now view.now.matched.now
+        tracks.old.items tracks.new.items) }
     ensures known { conditions.new ≡ conditions.old }
 {
     for track in tracks.iter_mut() {
-        track.log(alloc, frame, matched, conditions)?;
+        track.log(alloc, frame, view, states, conditions)?;
     }
     Ok(())
 }
@@ -152,17 +185,16 @@ fn show(trees: &mut Seq<MetricTree>, tree: MetricTree, is_shown: bool) -> Result
     Ok(())
 }
 
-// The tree of a report, with what it shows of metrics and predicates. There are no states yet.
+// The tree of a report, with what it shows of metrics, predicates and states.
 fn tree_of(
-    alloc: Global,
     uid: i32,
     id: i64,
     last: u64,
     now: u64,
     metrics: Seq<MetricTree>,
-    predicate_drops: Seq<Drop64>,
+    drops: Drops,
 ) -> ReportTree
-    ensures { result ≡ tree_with uid id last now metrics predicate_drops }
+    ensures { result ≡ tree_with uid id last now metrics drops }
 {
     ReportTree {
         uid,
@@ -170,8 +202,8 @@ fn tree_of(
         last,
         now,
         metrics,
-        predicate_drops,
-        state_drops: Seq::new(alloc),
-        state_atoms_dropped: 0,
+        predicate_drops: drops.of_predicates,
+        state_drops: drops.of_states,
+        state_atoms_dropped: drops.of_atoms,
     }
 }

@@ -1,17 +1,25 @@
 //! One installed configuration.
-ghost use Rattle.std.specs.Prelude.{◌≡◌, ◌<◌, true, OnOk, IfOk};
+ghost use Rattle.std.specs.Prelude.{◌≡◌, ◌<◌, true, List, OnOk, IfOk};
+ghost use Rattle.atom_record.specs.declared.log.LogFrame.{LogFrame};
+ghost use Rattle.pull_book.specs.PullBooks.{PullBookStandsFor};
+ghost use Rattle.state_slicer.specs.StateBooks.{StateBookStandsFor};
 ghost use Rattle.client_engine.specs.InsideParts.{AreAsked};
 
 use crate::inside::Inside;
 use atom_record::LogFrame;
 use config_links::{LMatcher, Linked};
+use pull_book::PullBook;
 use report_writer::ReportTree;
+use state_slicer::StateBook;
 use std::alloc::{AllocError, Global};
 
-/// What a frame of the log comes with: for an atom the truth of each matcher, in config order, and else nothing.
-#[derive(Debug, Clone, Copy)]
+/// What a frame of the log comes with.
+#[derive(Clone, Copy)]
 pub struct LogView<'a> {
+    /// For an atom the truth of each matcher, in config order, and else nothing.
     pub matched: &'a [bool],
+    /// The states that the log gave, with this frame.
+    pub states: &'a StateBook,
 }
 
 /// An installed configuration. It is consumed by want of memory.
@@ -29,12 +37,20 @@ impl Instance {
     ghost use Rattle.metric_meaning.specs.Forms.{is_built};
     ghost use Rattle.client_engine.specs.InstanceStands.{linked_in, IsFresh, Logs, Reports};
 
-    /// A configuration that is installed when the clock stands at `base`. It has seen nothing.
-    pub fn new(alloc: Global, linked: Linked, base: u64) -> Result<Instance, AllocError>
+    /// A configuration that is installed when the clock stands at `base`, and the log gave this. It has seen nothing.
+    pub fn new(
+        alloc: Global,
+        linked: Linked,
+        base: u64,
+        _pulls: &PullBook,
+        _states: &StateBook,
+    ) -> Result<Instance, AllocError>
         requires sound { IsSoundConfig linked }
         requires built { is_built linked ≡ true }
         requires fits { base < time_limit }
-        ensures { IfOk result (IsFresh linked base) }
+        ensures fresh { (opening : List LogFrame) → PullBookStandsFor _pulls.now opening
+            → StateBookStandsFor _states.now opening → IfOk result (IsFresh linked base opening) }
+        ensures linked { IfOk result (λ new. linked_in new ≡ linked) }
     {
         let inside = Inside::new(alloc, linked, base)?;
         let inside = Box::new(alloc, inside)?;
@@ -48,32 +64,33 @@ impl Instance {
         self.inside.matchers.as_slice()
     }
 
-    /// A frame of the log comes, with the truth of each matcher for an atom.
+    /// A frame of the log comes as it is shown, with the truth of each matcher for an atom, and the states after it.
     pub fn log(self, frame: &LogFrame, view: &LogView<'_>) -> Result<Instance, AllocError>
         requires faultless { IsFaultlessLog frame.now }
-        ensures logs { IfOk result (Logs self frame.now view.now.matched.now) }
+        ensures logs { IfOk result (Logs self frame.now view.now.matched.now view.now.states.now) }
         ensures linked { IfOk result (λ new. linked_in new ≡ linked_in self) }
     {
         let Instance { mut inside } = self;
-        inside.log(frame, view.matched)?;
+        inside.log(frame, view)?;
         Ok(Instance { inside })
     }
 
-    /// A report at the clock, for a client's configuration, with or without a cut.
+    /// A report at the clock, for a client's configuration, with or without a cut, where the log gave these states.
     pub fn report(
         self,
         uid: i32,
         id: i64,
         include_current: bool,
         at: u64,
+        states: &StateBook,
     ) -> Result<(Instance, ReportTree), AllocError>
         requires fits { at < time_limit }
-        ensures reports { IfOk result (λ r. Reports self uid id include_current at r.0 r.1) }
+        ensures reports { IfOk result (λ r. Reports self uid id include_current at states.now r.0 r.1) }
         ensures linked { IfOk result (λ r. linked_in r.0 ≡ linked_in self) }
         ensures writable { IfOk result (λ r. IsWritableReport r.1) }
     {
         let Instance { mut inside } = self;
-        let tree = inside.report(uid, id, include_current, at)?;
+        let tree = inside.report(uid, id, include_current, at, states)?;
         Ok((Instance { inside }, tree))
     }
 }

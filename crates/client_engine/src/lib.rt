@@ -9,6 +9,8 @@ mod inside;
 mod instance;
 mod leaves;
 mod matched;
+mod slices;
+mod state_drops;
 mod tables;
 mod track;
 

@@ -141,8 +141,8 @@ pub fn drops_of(
     Ok(drops)
 }
 
-// Adds a count that is above 0.
-fn add_if_any(drops: &mut Seq<Drop64>, drop: Drop64) -> Result<(), AllocError>
+/// Adds a count that is above 0.
+pub fn add_if_any(drops: &mut Seq<Drop64>, drop: Drop64) -> Result<(), AllocError>
     ensures { OnOk result (drops.new ≡ drops.old ++ drop_above_zero drop) }
 {
     if drop.number > 0 {

@@ -1,26 +1,28 @@
 //! A metric of a configuration, and the lane that collects for it.
-ghost use Rattle.std.specs.Prelude.{◌≡◌, ◌<◌, true, [], List, length, OnOk, IfOk};
+ghost use Rattle.std.specs.Prelude.{◌≡◌, ◌<◌, true, [], length, OnOk, IfOk};
 ghost use Rattle.bucket_meaning.specs.Limits.{time_limit};
 ghost use Rattle.config_links.specs.SoundConfig.{IsSize, IsBound};
 ghost use Rattle.session_frames.specs.FrameReading.{log_time};
 ghost use Rattle.config_links.specs.SoundConfig.{MayBeWithin};
-ghost use Rattle.config_links.specs.declared.linked.LPredicate.{LPredicate};
-ghost use Rattle.metric_meaning.specs.Histories.{is_pull};
+ghost use Rattle.metric_meaning.specs.Histories.{Installation, is_pull};
+ghost use Rattle.metric_meaning.specs.Scenes.{Scene};
 ghost use Rattle.metric_meaning.specs.Forms.{is_built_metric};
 ghost use Rattle.metric_meaning.specs.CountSteps.{arrival_by};
 ghost use Rattle.report_writer.specs.Writable.{IsWritableMetric};
+ghost use Rattle.client_engine.specs.Handed.{handed, IsOfScene};
 ghost use Rattle.client_engine.specs.TrackStands.{logged_step, TrackStandsFor, TrackLogs, TrackReports, closed_tree};
 
 use crate::conditions::Conditions;
 use crate::groups::groups_of;
+use crate::instance::LogView;
 use crate::matched::is_true_at;
+use crate::slices::slices_of;
 use atom_record::{LogFrame, MetricKey};
-use config_links::LMetric;
+use config_links::{LMetric, LState};
 use count_metric::{Closed, CountProducer};
 use field_select::key_of;
 use metric_lane::Lane;
 use report_writer::{MetricBody, MetricTree};
-use sd_base::Seq;
 use std::alloc::{AllocError, Global};
 
 /// The lane of a metric, by its kind.
@@ -45,7 +47,8 @@ impl Track {
         requires sized { IsSize metric.size }
         requires bound { IsBound metric.bound }
         ensures metric { result.metric ≡ metric }
-        ensures stands { (predicates : List LPredicate) → TrackStandsFor predicates base [] result }
+        ensures stands { (installed : Installation) → installed.base ≡ base
+            → TrackStandsFor installed [] result }
     {
         let bound = metric.bound as usize;
         let producer = CountProducer::new(alloc, base, metric.size, bound);
@@ -60,19 +63,21 @@ impl Track {
         &mut self,
         alloc: Global,
         frame: &LogFrame,
-        matched: &[bool],
+        view: &LogView<'_>,
+        states: &[LState],
         conditions: &mut Conditions,
     ) -> Result<(), AllocError>
         requires within { MayBeWithin (length conditions.old.predicates) self.old.metric.condition }
         ensures metric { OnOk result (self.new.metric ≡ self.old.metric) }
         ensures logs { OnOk result
-            (TrackLogs conditions.old frame.now matched.now self.old self.new) }
+            (TrackLogs (handed conditions.old states.now view.now.states.now) frame.now
+            view.now.matched.now self.old self.new) }
         ensures known { conditions.new ≡ conditions.old }
     {
         let Track { metric, lane } = self;
         match lane {
             MetricLane::Counts(lane) => {
-                let key = arrival(alloc, metric, frame, matched, conditions)?;
+                let key = arrival(alloc, metric, frame, view, states, conditions)?;
                 lane.log(time_of(frame), comes_by_pull(frame), key)
             }
         }
@@ -87,8 +92,7 @@ impl Track {
         at: u64,
     ) -> Result<MetricTree, AllocError>
         ensures metric { OnOk result (self.new.metric ≡ self.old.metric) }
-        ensures reports { IfOk result (λ tree. (predicates : List LPredicate)
-            → TrackReports predicates base include_current at self.old self.new tree) }
+        ensures reports { IfOk result (TrackReports base include_current at self.old self.new) }
         ensures writable { IfOk result IsWritableMetric }
     {
         let Track { metric, lane } = self;
@@ -127,28 +131,30 @@ fn arrival(
     alloc: Global,
     metric: &LMetric,
     frame: &LogFrame,
-    matched: &[bool],
+    view: &LogView<'_>,
+    states: &[LState],
     conditions: &mut Conditions,
 ) -> Result<Option<MetricKey>, AllocError>
     requires within { MayBeWithin (length conditions.old.predicates) metric.now.condition }
-    ensures key { IfOk result (λ key. key ≡ arrival_by conditions.old.predicates
-        conditions.old.tables metric.now (logged_step frame.now matched.now)) }
+    ensures key { (scene : Scene)
+        → IsOfScene (handed conditions.old states.now view.now.states.now) scene
+        → IfOk result (λ key. key ≡ arrival_by scene metric.now
+        (logged_step frame.now view.now.matched.now)) }
     ensures known { conditions.new ≡ conditions.old }
 {
     let LogFrame::AtomAt { atom, .. } = frame else {
         return Ok(None);
     };
-    if !is_true_at(matched, metric.what) {
+    if !is_true_at(view.matched, metric.what) {
         return Ok(None);
     }
     if !conditions.holds(alloc, metric, atom)? {
         return Ok(None);
     }
     let dims = key_of(alloc, &metric.dims, atom)?;
-    Ok(Some(MetricKey {
-        dims,
-        slices: Seq::new(alloc),
-    }))
+    let by = metric.slices.as_slice();
+    let slices = slices_of(alloc, states, by, atom, view.states)?;
+    Ok(Some(MetricKey { dims, slices }))
 }
 
 // The time of a frame of the log.

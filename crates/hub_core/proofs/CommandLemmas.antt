@@ -1,5 +1,5 @@
 -- A configuration that goes in under its name.
-use Rattle.std.proofs.Common.{◌≡◌, ℕ, ◌+◌, ℤ, false, cond, Some, is_some, Result, Ok, Err, sym, ap, subst, ◌∙◌}
+use Rattle.std.proofs.Common.{◌≡◌, ℕ, ◌+◌, ℤ, false, cond, List, Some, is_some, Result, Ok, Err, sym, ap, subst, ◌∙◌}
 use Rattle.std.specs.Prelude.{nat_le, IfOk}
 use Rattle.std.specs.Bool.{MatchBool}
 use Rattle.std.specs.Ordering.{int_eq}
@@ -7,7 +7,10 @@ use Rattle.config_types.specs.declared.config.Config.{Config}
 use Rattle.session_frames.specs.declared.reply.ReplyBody.{ReplyBody}
 use Rattle.session_frames.specs.declared.reply.ReplyBody.TheVariants as answers
 use Rattle.config_links.specs.declared.linked.Linked.{Linked}
+use Rattle.atom_record.specs.declared.log.LogFrame.{LogFrame}
 use Rattle.client_engine.specs.InstanceStands.{IsFresh}
+use Rattle.hub_core.specs.declared.books.Books.{Books}
+use Rattle.hub_core.specs.BookStands.{BooksStandFor}
 use Rattle.hub_core.specs.declared.live_id.LiveId.{LiveId}
 use Rattle.hub_core.specs.declared.live_instance.LiveInstance.{LiveInstance}
 use Rattle.hub_core.specs.declared.lives.Lives.{Lives}
@@ -17,15 +20,15 @@ use Rattle.hub_core.specs.Slots.{live_id, same_id, slot_at, count_at}
 use Rattle.hub_core.specs.Commands.{held_at, others, StaysWith, PutsIn, InstallsLinked, Installs}
 
 -- it stands under its name, and its client's count is one more than that of the others
-pub puts_in : (clock : ℕ) (uid id : ℤ) (linked : Linked) (old new : Lives) (body : ReplyBody) (fresh : LiveInstance)
-    (count : ℕ) → IsFresh linked clock fresh.instance
+pub puts_in : (clock : ℕ) (books : Books) (uid id : ℤ) (linked : Linked) (old new : Lives) (body : ReplyBody) (fresh : LiveInstance)
+    (count : ℕ) → ((opening : List LogFrame) → BooksStandFor books opening → IsFresh linked clock opening fresh.instance)
     → ((name : LiveId) → slot_at name new.slots.entries
     ≡ cond (same_id (live_id uid id) name) (Some (Some fresh)) (slot_at name old.slots.entries))
     → ((client : ℤ) → count_at client new.counts.entries
     ≡ cond (int_eq uid client) (count + 1) (count_at client old.counts.entries))
     → count ≡ others uid id old → body ≡ cond (is_some (held_at uid id old)) answers.Replaced answers.Installed
-    → PutsIn clock uid id linked old new body
-puts_in clock uid id linked old new body fresh count is_fresh slots counts is answer = record {
+    → PutsIn clock books uid id linked old new body
+puts_in clock books uid id linked old new body fresh count is_fresh slots counts is answer = record {
   fresh = fresh;
   is_fresh = is_fresh;
   changes = record {
@@ -37,12 +40,12 @@ puts_in clock uid id linked old new body fresh count is_fresh slots counts is an
 }
 
 -- what goes in with room for it, and without a refusal, is installed
-pub installs : {E : Type 0} (clock : ℕ) (uid id : ℤ) (config : Config) (linked : Linked) (old : Lives)
+pub installs : {E : Type 0} (clock : ℕ) (books : Books) (uid id : ℤ) (config : Config) (linked : Linked) (old : Lives)
     (result : Result (Lives × ReplyBody) E) → nat_le most_configs (others uid id old) ≡ false
-    → linked_read uid config ≡ Ok linked → IfOk result (λ r. PutsIn clock uid id linked old r.0 r.1)
-    → IfOk result (λ r. Installs clock uid id (Ok config) old r.0 r.1)
-installs clock uid id config linked old (Err e) room is puts = tt
-installs clock uid id config linked old (Ok r) room is puts =
+    → linked_read uid config ≡ Ok linked → IfOk result (λ r. PutsIn clock books uid id linked old r.0 r.1)
+    → IfOk result (λ r. Installs clock books uid id (Ok config) old r.0 r.1)
+installs clock books uid id config linked old (Err e) room is puts = tt
+installs clock books uid id config linked old (Ok r) room is puts =
     subst (λ full. MatchBool full (StaysWith (answers.ClientFull most_configs) old r.0 r.1)
-    (InstallsLinked clock uid id (linked_read uid config) old r.0 r.1)) (sym room)
-    (subst (λ read. InstallsLinked clock uid id read old r.0 r.1) (sym is) puts)
+    (InstallsLinked clock books uid id (linked_read uid config) old r.0 r.1)) (sym room)
+    (subst (λ read. InstallsLinked clock books uid id read old r.0 r.1) (sym is) puts)

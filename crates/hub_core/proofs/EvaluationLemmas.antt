@@ -18,7 +18,9 @@ use Rattle.config_links.specs.SoundConfig.{IsSoundMatcher, IsSoundConfig}
 use Rattle.config_links.proofs.SoundUses.{references_end}
 use Rattle.link_graph.specs.Links.{AreInRange, IsOrder}
 use Rattle.matcher_truths.specs.MatcherTruths.{named_places, matches, MayBeAsked}
-use Rattle.metric_meaning.specs.Histories.{with_step}
+use Rattle.metric_meaning.specs.Histories.{with_step, log_of_history}
+use Rattle.metric_meaning.specs.ShownFrames.{shown_as}
+use Rattle.client_engine.specs.Handed.{BookOfStates}
 use Rattle.hub_meaning.specs.LiveConfigs.{truths_at}
 use Rattle.client_engine.specs.declared.instance.Instance.{Instance}
 use Rattle.client_engine.specs.TrackStands.{logged_step}
@@ -75,12 +77,22 @@ module _ (says : SimpleMatcher → Atom → Bool) where
       (length linked.matchers)
   is_view linked (Pull at id outcome) = refl
 
+  -- they are those of the frame that is shown
+  truths_shown : (linked : Linked) (log : List LogFrame) (frame : LogFrame)
+      → truths_at says linked (shown_as log frame) ≡ truths_at says linked frame
+  truths_shown linked log (Tick at) = refl
+  truths_shown linked log (AtomAt at atom) = refl
+  truths_shown linked log (Pull at id outcome) = refl
+
   -- an instance that took a frame with the truths of its matchers took it as the judge says
-  pub logs_by : (frame : LogFrame) (old new : Instance) (truths : List Bool)
-      → truths ≡ truths_by says (linked_in old).matchers frame → Logs old frame truths new
-      → LogsBy says frame old new
-  logs_by frame old new truths are logs history stands in_time =
-      let same : truths ≡ truths_at says history.linked frame =
-      are ∙ truths_are (linked_in old) frame ∙ ap (λ linked. truths_at says linked frame) stands.linked in
+  pub logs_by : (shown : LogFrame) (book : BookOfStates) (old new : Instance) (truths : List Bool)
+      → truths ≡ truths_by says (linked_in old).matchers shown → Logs old shown truths book new
+      → LogsBy says shown book old new
+  logs_by shown book old new truths are logs history frame stands in_time shown_is book_is =
+      let linked = history.installed.linked in
+      let same : truths ≡ truths_at says linked frame =
+      are ∙ truths_are (linked_in old) shown ∙ ap (λ l. truths_at says l shown) stands.linked
+      ∙ ap (truths_at says linked) shown_is ∙ truths_shown linked (log_of_history history) frame in
       subst (λ (given : List Bool). InstanceStandsFor new (with_step history (logged_step frame given))) same
-      (logs history stands in_time (subst (IsView history.linked frame) (sym same) (is_view history.linked frame)))
+      (logs history frame stands in_time (subst (IsView linked frame) (sym same) (is_view linked frame)) shown_is
+      book_is)

@@ -13,6 +13,7 @@ use Rattle.atom_record.specs.declared.atom.Atom.{Atom}
 use Rattle.atom_record.specs.declared.log.LogFrame.{LogFrame}
 use Rattle.config_types.specs.declared.matcher.SimpleMatcher.{SimpleMatcher}
 use Rattle.hub_core.specs.declared.live_instance.LiveInstance.{LiveInstance}
+use Rattle.client_engine.specs.Handed.{BookOfStates}
 use Rattle.hub_core.specs.declared.live_id.LiveId.{LiveId}
 use Rattle.hub_core.specs.SlotLogs.{AllLog}
 use Rattle.hub_core.specs.Slots.{live_id, same_id, slot_at, count_at, held_by}
@@ -143,14 +144,14 @@ held-found name (row ∷ rows) there = by_case (same_id name row.0) refl there (
   by_case false e h rest = omega (arith, held-cons name.uid row rows, rest h)
 
 -- a frame of the log leaves the number
-pub held-logged : (says : SimpleMatcher → Atom → Bool) (frame : LogFrame) (uid : ℤ) (olds news : List
-    (LiveId × Option LiveInstance)) → AllLog says frame olds news → held_by uid news ≡ held_by uid olds
-held-logged says frame uid [] [] all = refl
-held-logged says frame uid [] (new ∷ news) all = absurd all
-held-logged says frame uid (old ∷ olds) [] all = absurd all
-held-logged says frame uid (old ∷ olds) (new ∷ news) all =
+pub held-logged : (says : SimpleMatcher → Atom → Bool) (frame : LogFrame) (book : BookOfStates) (uid : ℤ) (olds news : List
+    (LiveId × Option LiveInstance)) → AllLog says frame book olds news → held_by uid news ≡ held_by uid olds
+held-logged says frame book uid [] [] all = refl
+held-logged says frame book uid [] (new ∷ news) all = absurd all
+held-logged says frame book uid (old ∷ olds) [] all = absurd all
+held-logged says frame book uid (old ∷ olds) (new ∷ news) all =
     let one : one_of uid new ≡ one_of uid old = ap (λ (n : LiveId). cond (int_eq n.uid uid) 1 0) all.0 in
-    omega (arith, held-cons uid old olds, held-cons uid new news, one, held-logged says frame uid olds news all.2)
+    omega (arith, held-cons uid old olds, held-cons uid new news, one, held-logged says frame book uid olds news all.2)
 
 -- both facts of one client
 abbrev IsCounted : ℤ → List (LiveId × Option LiveInstance) → List (ℤ × ℕ) → Type 0

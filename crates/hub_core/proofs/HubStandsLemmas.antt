@@ -23,16 +23,21 @@ use Rattle.session_frames.specs.Frames.{log_time, clock_after}
 use Rattle.report_writer.specs.ReportSpelling.{report_message}
 use Rattle.config_links.specs.declared.linked.Linked.{Linked}
 use Rattle.config_links.specs.Verdict.{linked_form}
-use Rattle.metric_meaning.specs.Histories.{Step, History, with_steps}
+use Rattle.metric_meaning.specs.Histories.{Step, History, with_steps, log_of_history}
+use Rattle.metric_meaning.specs.ShownFrames.{shown_as}
 use Rattle.metric_meaning.specs.Reports.{report_of}
-use Rattle.hub_meaning.specs.SessionLog.{is_own, own, clock_of}
+use Rattle.state_slicer.specs.StateBooks.{StateBookStandsFor}
+use Rattle.hub_meaning.specs.SessionLog.{is_own, own, log_frame_in, log_frames, clock_of}
 use Rattle.hub_meaning.specs.Acceptance.{LiveConfig, most_configs, has_other_id, is_full, acceptance}
 use Rattle.hub_meaning.specs.LiveConfigs.{with_config, without_id, config_at, live_with, live_after, live, truths_at, step_at, history_of}
 use Rattle.hub_meaning.specs.ClientAnswers.{install_answer, remove_answer, report_answer, reply_of, reply_to}
-use Rattle.hub_meaning.proofs.SessionLogLaws.{own-push_own, own-push_other, clock_of-push, clock_of-own}
-use Rattle.hub_meaning.proofs.LiveConfigLaws.{live-push, live_placed, live_distinct, history_of-push, history_of-new, one_if, config_at-with_config, config_at-without_id, length-with_config, length-without_id, placed_at}
+use Rattle.hub_meaning.proofs.SessionLogLaws.{own-push_own, own-push_other, log_frames-push, log_frames-own, clock_of-push, clock_of-own}
+use Rattle.hub_meaning.proofs.LiveConfigLaws.{live-push, live_placed, live_distinct, history_of-push, history_of-new, history_of-log, one_if, config_at-with_config, config_at-without_id, length-with_config, length-without_id, placed_at}
 use Rattle.client_engine.specs.TrackStands.{last_from, logged_step, reported_step}
-use Rattle.client_engine.specs.InstanceStands.{InstanceStandsFor, last_step_time}
+use Rattle.client_engine.specs.Handed.{BookOfStates}
+use Rattle.client_engine.specs.InstanceStands.{InstanceStandsFor, last_step_time, new_history}
+use Rattle.hub_core.specs.declared.books.Books.{Books}
+use Rattle.hub_core.specs.BookStands.{BooksStandFor}
 use Rattle.hub_core.specs.declared.live_id.LiveId.{LiveId}
 use Rattle.hub_core.specs.declared.live_instance.LiveInstance.{LiveInstance}
 use Rattle.hub_core.specs.declared.lives.Lives.{Lives}
@@ -59,51 +64,55 @@ last_from-push time (first ∷ steps) step = last_from-push first.at steps step
 
 module _ (says : SimpleMatcher → Atom → Bool) where
   -- what is found under a name before and after a frame of the log
-  abbrev pub FoundLogs : LogFrame → Option (Option LiveInstance) → Option (Option LiveInstance) → Type 0
-  FoundLogs frame None None = Unit {0}
-  FoundLogs frame (Some old) (Some new) = SlotLogs says frame old new
-  FoundLogs frame None (Some new) = ⊥
-  FoundLogs frame (Some old) None = ⊥
+  abbrev pub FoundLogs : LogFrame → BookOfStates → Option (Option LiveInstance) → Option (Option LiveInstance) → Type 0
+  FoundLogs frame book None None = Unit {0}
+  FoundLogs frame book (Some old) (Some new) = SlotLogs says frame book old new
+  FoundLogs frame book None (Some new) = ⊥
+  FoundLogs frame book (Some old) None = ⊥
 
   -- where each slot took a frame, what is found under a name took it
-  found_logs : (frame : LogFrame) (test : LiveId → Bool) (olds news : List (LiveId × Option LiveInstance))
-      → AllLog says frame olds news → FoundLogs frame (lookup test olds) (lookup test news)
-  found_logs frame test [] [] all = tt
-  found_logs frame test [] (new ∷ news) all = absurd all
-  found_logs frame test (old ∷ olds) [] all = absurd all
-  found_logs frame test (old ∷ olds) (new ∷ news) all =
-      subst (λ name. FoundLogs frame (lookup test (old ∷ olds)) (cond (test name) (Some new.1) (lookup test news)))
-      (sym all.0) (by_case (test old.0) (found_logs frame test olds news all.2)) where
-        by_case : (passes : Bool) → FoundLogs frame (lookup test olds) (lookup test news)
-            → FoundLogs frame (cond passes (Some old.1) (lookup test olds)) (cond passes (Some new.1)
+  found_logs : (frame : LogFrame) (book : BookOfStates) (test : LiveId → Bool) (olds news : List (LiveId × Option LiveInstance))
+      → AllLog says frame book olds news → FoundLogs frame book (lookup test olds) (lookup test news)
+  found_logs frame book test [] [] all = tt
+  found_logs frame book test [] (new ∷ news) all = absurd all
+  found_logs frame book test (old ∷ olds) [] all = absurd all
+  found_logs frame book test (old ∷ olds) (new ∷ news) all =
+      subst (λ name. FoundLogs frame book (lookup test (old ∷ olds)) (cond (test name) (Some new.1) (lookup test news)))
+      (sym all.0) (by_case (test old.0) (found_logs frame book test olds news all.2)) where
+        by_case : (passes : Bool) → FoundLogs frame book (lookup test olds) (lookup test news)
+            → FoundLogs frame book (cond passes (Some old.1) (lookup test olds)) (cond passes (Some new.1)
             (lookup test news))
         by_case true rest = all.1
         by_case false rest = rest
 
   -- a frame of the log comes to what is found under a name
-  slot_logged : (uid : ℤ) (frames : List Frame) (frame : LogFrame) (old new : Option (Option LiveInstance))
+  slot_logged : (uid : ℤ) (frames : List Frame) (shown : LogFrame) (book : BookOfStates) (frame : LogFrame) (old new : Option (Option LiveInstance))
       (config : Option LiveConfig)
       → ((c : LiveConfig) → config ≡ Some c → c.place < length frames) → clock_of frames ≤ log_time frame
-      → FoundLogs frame old new → SlotStandsFor says uid frames old config
+      → shown ≡ shown_as (log_frames frames) frame → StateBookStandsFor book (log_frames frames ++ frame ∷ [])
+      → FoundLogs shown book old new → SlotStandsFor says uid frames old config
       → SlotStandsFor says uid (frames ++ Log frame ∷ []) new config
-  slot_logged uid frames frame None None None placed in_time logs h = tt
-  slot_logged uid frames frame (Some (Some old)) (Some (Some new)) (Some config) placed in_time logs h =
+  slot_logged uid frames shown book frame None None None placed in_time shown_is book_is logs h = tt
+  slot_logged uid frames shown book frame (Some (Some old)) (Some (Some new)) (Some config) placed in_time shown_is
+      book_is logs h =
       let before = history_of says uid frames config in
+      let log : log_of_history before ≡ log_frames frames = history_of-log says uid frames config in
       let step = logged_step frame (truths_at says (linked_form config.config uid) frame) in
       let history : history_of says uid (frames ++ Log frame ∷ []) config
       ≡ with_steps before (step ∷ []) = history_of-push says uid frames (Log frame) config (placed config refl) in
       record {
-        instance = subst (InstanceStandsFor new.instance) (sym history) (logs before h.instance (omega
-            (arith, in_time, h.time)));
-        time = ap last_step_time history ∙ last_from-push before.base before.steps step
+        instance = subst (InstanceStandsFor new.instance) (sym history) (logs before frame h.instance
+            (omega (arith, in_time, h.time)) (shown_is ∙ ap (λ l. shown_as l frame) (sym log))
+            (subst (λ l. StateBookStandsFor book (l ++ frame ∷ [])) (sym log) book_is));
+        time = ap last_step_time history ∙ last_from-push before.installed.base before.steps step
             ∙ sym (clock_of-push frames (Log frame));
       }
-  slot_logged uid frames frame (Some (Some old)) (Some None) (Some config) placed in_time logs h = absurd logs
-  slot_logged uid frames frame (Some None) new (Some config) placed in_time logs h = absurd h
-  slot_logged uid frames frame (Some slot) new None placed in_time logs h = absurd h
-  slot_logged uid frames frame None new (Some config) placed in_time logs h = absurd h
-  slot_logged uid frames frame None (Some new) None placed in_time logs h = absurd logs
-  slot_logged uid frames frame (Some (Some old)) None (Some config) placed in_time logs h = absurd logs
+  slot_logged uid frames shown book frame (Some (Some old)) (Some None) (Some config) placed in_time shown_is book_is logs h = absurd logs
+  slot_logged uid frames shown book frame (Some None) new (Some config) placed in_time shown_is book_is logs h = absurd h
+  slot_logged uid frames shown book frame (Some slot) new None placed in_time shown_is book_is logs h = absurd h
+  slot_logged uid frames shown book frame None new (Some config) placed in_time shown_is book_is logs h = absurd h
+  slot_logged uid frames shown book frame None (Some new) None placed in_time shown_is book_is logs h = absurd logs
+  slot_logged uid frames shown book frame (Some (Some old)) None (Some config) placed in_time shown_is book_is logs h = absurd logs
 
   -- a frame that is no step to a configuration leaves what is held for it
   slot_idle : (uid : ℤ) (frames : List Frame) (frame : Frame) (slot : Option (Option LiveInstance))
@@ -136,21 +145,25 @@ module _ (says : SimpleMatcher → Atom → Bool) where
   both_there uid frames None (Some config) h = absurd h
 
   -- a frame of the log comes to all
-  pub stands_log : (old new : Lives) (frames : List Frame) (frame : LogFrame) → clock_of frames ≤ log_time frame
-      → AllLog says frame old.slots.entries new.slots.entries → new.counts ≡ old.counts
+  pub stands_log : (old new : Lives) (frames : List Frame) (shown : LogFrame) (book : BookOfStates) (frame : LogFrame)
+      → clock_of frames ≤ log_time frame → shown ≡ shown_as (log_frames frames) frame
+      → StateBookStandsFor book (log_frames frames ++ frame ∷ [])
+      → AllLog says shown book old.slots.entries new.slots.entries → new.counts ≡ old.counts
       → LivesStandFor says old frames → LivesStandFor says new (frames ++ Log frame ∷ [])
-  stands_log old new frames frame in_time all counts h = record {
+  stands_log old new frames shown book frame in_time shown_is book_is all counts h = record {
     slots = λ uid id.
         let mine = own uid frames in
         subst (λ l. SlotStandsFor says uid l (slot_at (live_id uid id) new.slots.entries) (config_at id (live l)))
         (sym (own-push_own uid frames (Log frame) refl))
         (subst (λ l. SlotStandsFor says uid (mine ++ Log frame ∷ []) (slot_at (live_id uid id) new.slots.entries)
         (config_at id l)) (sym (live-push mine (Log frame)))
-        (slot_logged uid mine frame (slot_at (live_id uid id) old.slots.entries) (slot_at
+        (slot_logged uid mine shown book frame (slot_at (live_id uid id) old.slots.entries) (slot_at
         (live_id uid id) new.slots.entries) (config_at id (live mine))
         (λ c is. (placed_at (length mine) id (live mine) (live_placed mine) c is).0)
         (omega (arith, in_time, clock_of-own uid frames))
-        (found_logs frame (same_id (live_id uid id)) old.slots.entries new.slots.entries all)
+        (shown_is ∙ ap (λ l. shown_as l frame) (sym (log_frames-own uid frames)))
+        (subst (λ l. StateBookStandsFor book (l ++ frame ∷ [])) (sym (log_frames-own uid frames)) book_is)
+        (found_logs shown book (same_id (live_id uid id)) old.slots.entries new.slots.entries all)
         (h.slots uid id)));
     counts = λ uid.
         let mine = own uid frames in
@@ -357,16 +370,17 @@ module _ (says : SimpleMatcher → Atom → Bool) where
     same_count n false e = refl
 
     -- by what is held and what is live
-    report_case : (clock : ℕ) (include_current : Bool) → clock ≡ clock_of frames
+    report_case : (clock : ℕ) (book : BookOfStates) (include_current : Bool) → clock ≡ clock_of frames
+        → StateBookStandsFor book (log_frames frames)
         → (slot : Option (Option LiveInstance)) (config : Option LiveConfig) → config_at id lives_before ≡ config
         → SlotStandsFor says uid (own uid frames) slot config
         → new.counts ≡ old.counts
         → MatchOption slot ((new.slots.entries ≡ old.slots.entries) × (body
-        ≡ answers.NoConfig)) (λ slot. MatchOption slot (Unit {0}) (λ instance. ShowsAt clock
+        ≡ answers.NoConfig)) (λ slot. MatchOption slot (Unit {0}) (λ instance. ShowsAt clock book
         (live_id uid id) include_current instance old.slots.entries new.slots.entries body))
         → LivesStandFor says new (frames ++ Report uid id include_current ∷ []) × (body
         ≡ report_answer says uid id (own uid frames) include_current config)
-    report_case clock include_current now None None none s counts r = (
+    report_case clock book include_current now book_is None None none s counts r = (
       stays frames (Report uid id include_current) uid id (λ n. refl) (λ clock. refl) old new h
           (record { slots = r.0; counts = counts }) (λ other config is. idle other config is
           (int_eq id config.id) refl) (λ other. refl) refl,
@@ -383,7 +397,7 @@ module _ (says : SimpleMatcher → Atom → Bool) where
           absurd (cc)
       idle other config is false e = ap (λ b. cond b (reported_step include_current (clock_of
           (own uid frames)) ∷ []) []) e
-    report_case clock include_current now (Some (Some it)) (Some config) is s counts r =
+    report_case clock book include_current now book_is (Some (Some it)) (Some config) is s counts r =
         let mine = own uid frames in
         let at = placed_at (length mine) id lives_before (live_placed mine) config is in
         let time : clock ≡ clock_of mine = now ∙ sym (clock_of-own uid frames) in
@@ -396,6 +410,8 @@ module _ (says : SimpleMatcher → Atom → Bool) where
         ≡ with_steps (history_of says uid mine config) (reported_step include_current clock ∷ []) =
         history_of-push says uid mine (Report uid id include_current) config at.0
         ∙ ap (with_steps (history_of says uid mine config)) step in
+        let log : log_of_history (history_of says uid mine config) ≡ log_frames frames =
+        history_of-log says uid mine config ∙ log_frames-own uid frames in
         let done = r.steps (history_of says uid mine config) s.instance (s.time ∙ sym time) in (
           changed frames (Report uid id include_current) uid id (λ n. refl) (λ clock. refl) old new h (Some
               (Some r.next)) (count_at uid old.counts.entries) (record {
@@ -416,24 +432,26 @@ module _ (says : SimpleMatcher → Atom → Bool) where
               (λ n. int_eq id n) other_id ∙ e))
               (λ other e. refl)
               (h.counts uid),
-          r.answer ∙ ap (λ t. answers.ReportBytes (report_message t)) done.1
+          r.answer ∙ ap (λ t. answers.ReportBytes (report_message t))
+              (done.1 (subst (StateBookStandsFor book) (sym log) book_is))
               ∙ ap (λ t. answers.ReportBytes (report_message (report_of
               (history_of says uid mine config) uid id include_current t))) time,
         )
-    report_case clock include_current now None (Some config) is s counts r = absurd s
-    report_case clock include_current now (Some None) (Some config) is s counts r = absurd s
-    report_case clock include_current now (Some (Some it)) None is s counts r = absurd s
-    report_case clock include_current now (Some None) None is s counts r = absurd s
+    report_case clock book include_current now book_is None (Some config) is s counts r = absurd s
+    report_case clock book include_current now book_is (Some None) (Some config) is s counts r = absurd s
+    report_case clock book include_current now book_is (Some (Some it)) None is s counts r = absurd s
+    report_case clock book include_current now book_is (Some None) None is s counts r = absurd s
 
     -- what a report makes of what is held, and its answer
-    pub serves_report : (clock : ℕ) (include_current : Bool) → clock ≡ clock_of frames
-        → ReportsLive clock uid id include_current old new body
+    pub serves_report : (clock : ℕ) (book : BookOfStates) (include_current : Bool) → clock ≡ clock_of frames
+        → StateBookStandsFor book (log_frames frames) → ReportsLive clock book uid id include_current old new body
         → LivesStandFor says new (frames ++ Report uid id include_current ∷ []) × (body
         ≡ report_answer says uid id (own uid frames) include_current (config_at id lives_before))
-    serves_report clock include_current now r = report_case clock include_current now (held_at uid id old)
+    serves_report clock book include_current now book_is r = report_case clock book include_current now book_is (held_at uid id old)
         (config_at id lives_before) refl (h.slots uid id) r.counts r.slots
 
-    module _ (config : List ℕ) (clock : ℕ) (now : clock ≡ clock_of frames) where
+    module _ (config : List ℕ) (clock : ℕ) (now : clock ≡ clock_of frames) (books : Books)
+        (books_are : BooksStandFor books (log_frames frames)) where
       -- what the install brings
       abbrev brought : Result Config ReplyBody
       brought = acceptance uid id config lives_before
@@ -452,7 +470,7 @@ module _ (says : SimpleMatcher → Atom → Bool) where
 
       -- it is accepted
       accepted_case : (decoded : Config) (linked : Linked) → linked ≡ linked_form decoded uid
-          → brought ≡ Ok decoded → PutsIn clock uid id linked old new body
+          → brought ≡ Ok decoded → PutsIn clock books uid id linked old new body
           → LivesStandFor says new (frames ++ Install uid id config ∷ []) × (body
           ≡ install_answer brought (config_at id lives_before))
       accepted_case decoded linked form is r =
@@ -461,14 +479,17 @@ module _ (says : SimpleMatcher → Atom → Bool) where
           let after_is : live_after mine (Install uid id config) lives_before
           ≡ with_config put lives_before = ap (λ a. live_with (length mine) id a lives_before) is in
           let time : clock ≡ clock_of mine = now ∙ sym (clock_of-own uid frames) in
+          let opening = log_frames (mine ++ Install uid id config ∷ []) in
+          let opening_is : log_frames frames ≡ opening =
+          sym (log_frames-push mine (Install uid id config) ∙ append-nil (log_frames mine)
+          ∙ log_frames-own uid frames) in
           let history = history_of-new says uid mine (Install uid id config) put refl in
           let fresh : InstanceStandsFor r.fresh.instance (history_of says uid
           (mine ++ Install uid id config ∷ []) put) =
           subst (InstanceStandsFor r.fresh.instance) (sym history)
-          (subst (λ t. InstanceStandsFor r.fresh.instance
-          (record { base = t; linked = linked_form decoded uid; steps = [] })) time
-          (subst (λ l. InstanceStandsFor r.fresh.instance
-          (record { base = clock; linked = l; steps = [] })) form r.is_fresh)) in
+          (subst (λ t. InstanceStandsFor r.fresh.instance (new_history t opening (linked_form decoded uid))) time
+          (subst (λ l. InstanceStandsFor r.fresh.instance (new_history clock opening l)) form
+          (r.is_fresh opening (subst (BooksStandFor books) opening_is books_are)))) in
           let at_id : config_at id (live_after mine (Install uid id config) lives_before) ≡ Some put =
           ap (config_at id) after_is ∙ config_at-with_config put id lives_before
           ∙ ap (λ b. cond b (Some put) (config_at id lives_before)) (int_eq_refl id) in
@@ -499,7 +520,7 @@ module _ (says : SimpleMatcher → Atom → Bool) where
 
       -- it was linked, or refused by a fault of its references or by its form
       linked_case : (decoded : Config) (read : Result Linked Refusal) → linked_read uid decoded ≡ read
-          → brought ≡ accepted_as decoded read → InstallsLinked clock uid id read old new body
+          → brought ≡ accepted_as decoded read → InstallsLinked clock books uid id read old new body
           → LivesStandFor says new (frames ++ Install uid id config ∷ []) × (body
           ≡ install_answer brought (config_at id lives_before))
       linked_case decoded (Err refusal) read is r = refused (answers.Refused refusal) is r
@@ -507,7 +528,7 @@ module _ (says : SimpleMatcher → Atom → Bool) where
 
       -- the client is full or not
       full_case : (decoded : Config) (full : Bool) → brought ≡ accepted_read uid full (Ok decoded)
-          → MatchBool full (StaysWith (answers.ClientFull most_configs) old new body) (InstallsLinked clock uid id
+          → MatchBool full (StaysWith (answers.ClientFull most_configs) old new body) (InstallsLinked clock books uid id
           (linked_read uid decoded) old new body)
           → LivesStandFor says new (frames ++ Install uid id config ∷ []) × (body
           ≡ install_answer brought (config_at id lives_before))
@@ -516,7 +537,7 @@ module _ (says : SimpleMatcher → Atom → Bool) where
 
       -- it was decoded or not
       read_case : (read : Result Config Refusal) → brought
-          ≡ accepted_read uid (nat_le most_configs (others uid id old)) read → Installs clock uid id read old new body
+          ≡ accepted_read uid (nat_le most_configs (others uid id old)) read → Installs clock books uid id read old new body
           → LivesStandFor says new (frames ++ Install uid id config ∷ []) × (body
           ≡ install_answer brought (config_at id lives_before))
       read_case (Err refusal) is r = refused (answers.Refused refusal) is r
@@ -533,7 +554,7 @@ module _ (says : SimpleMatcher → Atom → Bool) where
           ∙ ap (accepted_read uid (nat_le most_configs (others uid id old))) (sym is)
 
       pub serves_install : (read : Result Config Refusal) → read ≡ config_read (config_of config)
-          → Installs clock uid id read old new body
+          → Installs clock books uid id read old new body
           → LivesStandFor says new (frames ++ Install uid id config ∷ []) × (body
           ≡ install_answer brought (config_at id lives_before))
       serves_install read is r = read_case read (brought_is read is) r
@@ -552,20 +573,32 @@ module _ (says : SimpleMatcher → Atom → Bool) where
       ≡ reply_to says frames f)) (sym is) (s.stands, s.answer)
 
   module _ {J : Type 0} (hub new : Hub J) (frames : List Frame) (h : HubStandsFor says hub frames) where
-    pub hub_log : (frame : LogFrame) → clock_of frames ≤ log_time frame → new.clock.time ≡ log_time frame
-        → AllLog says frame hub.lives.slots.entries new.lives.slots.entries → new.lives.counts ≡ hub.lives.counts
-        → Serves new frames (Log frame) None
-    unfolding reply_to
-    hub_log frame in_time clock all counts = record {
-      stands = record {
-        clock = clock ∙ sym (clock_of-push frames
-            (Log frame));
-        lives = stands_log hub.lives new.lives frames frame in_time all counts h.lives;
-      };
-      answer = refl;
+    pub hub_log : (frame shown : LogFrame) → clock_of frames ≤ log_time frame → new.clock.time ≡ log_time frame
+        → shown ≡ shown_as (log_frames frames) frame → BooksStandFor new.books (log_frames frames ++ frame ∷ [])
+        → AllLog says shown new.books.states hub.lives.slots.entries new.lives.slots.entries
+        → new.lives.counts ≡ hub.lives.counts → HubStandsFor says new (frames ++ Log frame ∷ [])
+    hub_log frame shown in_time clock shown_is books all counts = record {
+      clock = clock ∙ sym (clock_of-push frames (Log frame));
+      books = subst (BooksStandFor new.books) (sym (log_frames-push frames (Log frame))) books;
+      lives = stands_log hub.lives new.lives frames shown new.books.states frame in_time shown_is books.states all counts
+          h.lives;
     }
 
-    module _ (uid id : ℤ) (body : ReplyBody) (same_clock : new.clock.time ≡ hub.clock.time) where
+    -- a frame of the log has no answer
+    pub served_log : (frame : LogFrame) → HubStandsFor says new (frames ++ Log frame ∷ [])
+        → Serves new frames (Log frame) None
+    unfolding reply_to
+    served_log frame stands = record { stands = stands; answer = refl }
+
+    module _ (uid id : ℤ) (body : ReplyBody) (same_clock : new.clock.time ≡ hub.clock.time)
+        (same_books : new.books ≡ hub.books) where
+      -- a command leaves the books
+      books_stay : (frame : Frame) → log_frame_in frame ≡ [] → BooksStandFor new.books (log_frames (frames ++ frame ∷ []))
+      books_stay frame none =
+          subst (BooksStandFor new.books)
+          (sym (log_frames-push frames frame ∙ ap (λ l. log_frames frames ++ l) none ∙ append-nil (log_frames frames)))
+          (subst (λ books. BooksStandFor books (log_frames frames)) (sym same_books) h.books)
+
       pub hub_remove : Removes uid id hub.lives new.lives body
           → Serves new frames (Remove uid id) (reply_of uid id body)
       unfolding reply_to
@@ -575,21 +608,23 @@ module _ (says : SimpleMatcher → Atom → Bool) where
             stands = record {
               clock = same_clock ∙ h.clock
                   ∙ sym (clock_of-push frames (Remove uid id));
+              books = books_stay (Remove uid id) refl;
               lives = done.0;
             };
             answer = ap (reply_of uid id) done.1;
           }
 
-      pub hub_report : (include_current : Bool) → ReportsLive hub.clock.time uid id include_current hub.lives
+      pub hub_report : (include_current : Bool) → ReportsLive hub.clock.time hub.books.states uid id include_current hub.lives
           new.lives body → Serves new frames (Report uid id include_current) (reply_of uid id body)
       unfolding reply_to
       hub_report include_current r =
-          let done = serves_report frames uid id hub.lives new.lives body h.lives hub.clock.time include_current
-          h.clock r in
+          let done = serves_report frames uid id hub.lives new.lives body h.lives hub.clock.time hub.books.states
+          include_current h.clock h.books.states r in
           record {
             stands = record {
               clock = same_clock ∙ h.clock
                   ∙ sym (clock_of-push frames (Report uid id include_current));
+              books = books_stay (Report uid id include_current) refl;
               lives = done.0;
             };
             answer = ap
@@ -597,16 +632,17 @@ module _ (says : SimpleMatcher → Atom → Bool) where
           }
 
       pub hub_install : (config : List ℕ) (read : Result Config Refusal) → read ≡ config_read (config_of config)
-          → Installs hub.clock.time uid id read hub.lives new.lives body
+          → Installs hub.clock.time hub.books uid id read hub.lives new.lives body
           → Serves new frames (Install uid id config) (reply_of uid id body)
       unfolding reply_to
       hub_install config read is r =
-          let done = serves_install frames uid id hub.lives new.lives body h.lives config hub.clock.time h.clock read
-          is r in
+          let done = serves_install frames uid id hub.lives new.lives body h.lives config hub.clock.time h.clock hub.books
+          h.books read is r in
           record {
             stands = record {
               clock = same_clock ∙ h.clock
                   ∙ sym (clock_of-push frames (Install uid id config));
+              books = books_stay (Install uid id config) refl;
               lives = done.0;
             };
             answer = ap

@@ -1,4 +1,5 @@
 mod HeldLemmas
+mod BookLemmas
 mod SlotLogsLemmas
 mod EvaluationLemmas
 mod InstallReadingLemmas

@@ -1,27 +1,31 @@
 -- The loop over the slots.
-use Rattle.std.proofs.Common.{◌≡◌, ℕ, zero, suc, ◌+◌, List, [], ◌∷◌, length, take, slice_get, Option, Some, None, refl, sym, ap, subst, arith}
+use Rattle.std.proofs.Common.{◌≡◌, ℕ, zero, suc, ◌+◌, List, [], ◌∷◌, length, take, slice_get, Option, Some, None, refl, sym, ap, subst, ◌∙◌, arith}
 use Rattle.std.specs.Map.{values_of}
 use Rattle.atom_record.specs.declared.atom.Atom.{Atom}
 use Rattle.atom_record.specs.declared.log.LogFrame.{LogFrame}
+use Rattle.config_links.specs.declared.linked.LMatcher.{LMatcher}
+use Rattle.client_engine.specs.InstanceStands.{linked_in}
+use Rattle.hub_core.specs.FrameTruths.{asked_by}
 use Rattle.config_types.specs.declared.matcher.SimpleMatcher.{SimpleMatcher}
 use Rattle.std.specs.Prelude.{Bool}
 use Rattle.indexmap.specs.IndexMap.{set_value_at}
 use Rattle.hub_core.specs.declared.live_instance.LiveInstance.{LiveInstance}
+use Rattle.client_engine.specs.Handed.{BookOfStates}
 use Rattle.hub_core.specs.declared.live_id.LiveId.{LiveId}
 use Rattle.hub_core.specs.SlotLogs.{SlotLogs, AllLog, asked_of, asked_by_all}
 use Rattle.std.proofs.lemmas.List.Sums.{sum_by-cons}
 
-module _ (says : SimpleMatcher → Atom → Bool) (frame : LogFrame) where
+module _ (says : SimpleMatcher → Atom → Bool) (frame : LogFrame) (book : BookOfStates) where
   -- the first so many slots took the frame, and the others stay
   abbrev pub PartLog : ℕ → List (LiveId × Option LiveInstance) → List (LiveId × Option LiveInstance) → Type 0
   PartLog zero olds news = news ≡ olds
   PartLog (suc n) [] news = ⊥
   PartLog (suc n) (old ∷ olds) [] = ⊥
-  PartLog (suc n) (old ∷ olds) (new ∷ news) = (new.0 ≡ old.0) × SlotLogs says frame old.1 new.1 × PartLog n olds news
+  PartLog (suc n) (old ∷ olds) (new ∷ news) = (new.0 ≡ old.0) × SlotLogs says frame book old.1 new.1 × PartLog n olds news
 
   -- one more slot takes it
   pub one_more : (n : ℕ) (olds news : List (LiveId × Option LiveInstance)) (old new : Option LiveInstance)
-      → PartLog n olds news → slice_get (values_of news) n ≡ Some old → SlotLogs says frame old new
+      → PartLog n olds news → slice_get (values_of news) n ≡ Some old → SlotLogs says frame book old new
       → PartLog (suc n) olds (set_value_at news n new)
   one_more zero [] news old new part at logs = let none : None ≡ Some old = subst (λ l. slice_get (values_of l) 0
       ≡ Some old) part at in absurd (cc)
@@ -31,7 +35,7 @@ module _ (says : SimpleMatcher → Atom → Bool) (frame : LogFrame) where
       subst (λ l. PartLog 1 (first ∷ olds) (set_value_at l 0 new)) (sym part) (
         refl,
         subst
-            (λ o. SlotLogs says frame o new) (sym same) logs,
+            (λ o. SlotLogs says frame book o new) (sym same) logs,
         refl,
       )
   one_more (suc n) [] news old new part at logs = absurd part
@@ -41,7 +45,7 @@ module _ (says : SimpleMatcher → Atom → Bool) (frame : LogFrame) where
 
   -- the same, counted as the code counts
   pub next_slot : (n : ℕ) (olds news : List (LiveId × Option LiveInstance)) (old new : Option LiveInstance)
-      → PartLog n olds news → slice_get (values_of news) n ≡ Some old → SlotLogs says frame old new
+      → PartLog n olds news → slice_get (values_of news) n ≡ Some old → SlotLogs says frame book old new
       → PartLog (n + 1) olds (set_value_at news n new)
   next_slot n olds news old new part at logs =
       let next : suc n ≡ n + 1 = omega arith in
@@ -49,8 +53,8 @@ module _ (says : SimpleMatcher → Atom → Bool) (frame : LogFrame) where
 
   -- all slots took it
   pub all_log : (n : ℕ) (olds news : List (LiveId × Option LiveInstance)) → n ≡ length olds → PartLog n olds news
-      → AllLog says frame olds news
-  all_log zero [] news is part = subst (AllLog says frame []) (sym part) tt
+      → AllLog says frame book olds news
+  all_log zero [] news is part = subst (AllLog says frame book []) (sym part) tt
   all_log zero (old ∷ olds) news is part = absurd (omega (arith, is))
   all_log (suc n) [] news is part = absurd part
   all_log (suc n) (old ∷ olds) [] is part = absurd part
@@ -91,3 +95,18 @@ module _ (says : SimpleMatcher → Atom → Bool) (frame : LogFrame) where
       let next : suc n ≡ n + 1 = omega arith in
       subst (λ k. asked_by_all frame (take k olds) ≡ asked_by_all frame (take n olds) + asked_of frame slot) next
       (asked_next n olds news slot part at)
+
+-- a frame is worth as many questions as the one that is shown for it, where each list of matchers is
+module _ (shown frame : LogFrame) (same : (matchers : List LMatcher) → asked_by shown matchers ≡ asked_by frame matchers)
+    where
+  asked_shown_of : (slot : Option LiveInstance) → asked_of shown slot ≡ asked_of frame slot
+  asked_shown_of None = refl
+  asked_shown_of (Some live) = same (linked_in live.instance).matchers
+
+  pub asked_shown : (rows : List (LiveId × Option LiveInstance)) → asked_by_all shown rows ≡ asked_by_all frame rows
+  asked_shown [] = refl
+  asked_shown (row ∷ rows) =
+      sum_by-cons (λ (row : LiveId × Option LiveInstance). asked_of shown row.1) row rows
+      ∙ ap (λ n. n + asked_by_all shown rows) (asked_shown_of row.1)
+      ∙ ap (λ n. asked_of frame row.1 + n) (asked_shown rows)
+      ∙ sym (sum_by-cons (λ (row : LiveId × Option LiveInstance). asked_of frame row.1) row rows)

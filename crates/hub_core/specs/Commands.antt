@@ -1,5 +1,5 @@
 -- The live configurations as the hub holds them, and what a command makes of them.
-use Rattle.std.specs.Prelude.{◌≡◌, ℕ, ◌+◌, ℤ, Bool, Option, Some, None, is_some, Result, Ok, Err, nat_le, if◌then◌else◌}
+use Rattle.std.specs.Prelude.{◌≡◌, ℕ, ◌+◌, ℤ, Bool, List, Option, Some, None, is_some, Result, Ok, Err, nat_le, if◌then◌else◌}
 use Rattle.std.specs.Bool.{MatchBool}
 use Rattle.std.specs.Option.{MatchOption}
 use Rattle.std.specs.Ordering.{int_eq}
@@ -9,7 +9,11 @@ use Rattle.session_frames.specs.declared.reply.ReplyBody.{ReplyBody}
 use Rattle.session_frames.specs.declared.reply.ReplyBody.TheVariants as answers
 use Rattle.config_links.specs.declared.linked.Linked.{Linked}
 use Rattle.hub_meaning.specs.Acceptance.{most_configs}
+use Rattle.atom_record.specs.declared.log.LogFrame.{LogFrame}
+use Rattle.client_engine.specs.Handed.{BookOfStates}
 use Rattle.client_engine.specs.InstanceStands.{IsFresh}
+use Rattle.hub_core.specs.declared.books.Books.{Books}
+use Rattle.hub_core.specs.BookStands.{BooksStandFor}
 use Rattle.hub_core.specs.declared.live_id.LiveId.{LiveId}
 use Rattle.hub_core.specs.declared.live_instance.LiveInstance.{LiveInstance}
 use Rattle.hub_core.specs.declared.lives.Lives.{Lives}
@@ -42,23 +46,24 @@ pub record StaysWith (given : ReplyBody) (old new : Lives) (body : ReplyBody) : 
   pub answer : body ≡ given
 
 -- A configuration that wasn't refused goes where the one of its id stands, or it is new.
-pub record PutsIn (clock : ℕ) (uid id : ℤ) (linked : Linked) (old new : Lives) (body : ReplyBody) : Type 0 where
+pub record PutsIn (clock : ℕ) (books : Books) (uid id : ℤ) (linked : Linked) (old new : Lives) (body : ReplyBody)
+    : Type 0 where
   pub fresh : LiveInstance
-  pub is_fresh : IsFresh linked clock fresh.instance
+  pub is_fresh : (opening : List LogFrame) → BooksStandFor books opening → IsFresh linked clock opening fresh.instance
   pub changes : Changes uid id (Some (Some fresh)) (others uid id old + 1) old new
   pub answer : body ≡ (if is_some (held_at uid id old) then answers.Replaced else answers.Installed)
 
--- an install with room for it, when the clock stood so and this is the linked form
-abbrev pub InstallsLinked : ℕ → ℤ → ℤ → Result Linked Refusal → Lives → Lives → ReplyBody → Type 0
-InstallsLinked clock uid id (Err refusal) old new body = StaysWith (answers.Refused refusal) old new body
-InstallsLinked clock uid id (Ok linked) old new body = PutsIn clock uid id linked old new body
+-- an install with room for it, when the clock and the books stood so and this is the linked form
+abbrev pub InstallsLinked : ℕ → Books → ℤ → ℤ → Result Linked Refusal → Lives → Lives → ReplyBody → Type 0
+InstallsLinked clock books uid id (Err refusal) old new body = StaysWith (answers.Refused refusal) old new body
+InstallsLinked clock books uid id (Ok linked) old new body = PutsIn clock books uid id linked old new body
 
--- an install, when the clock stood so and this was read: a full client is told so before the references are judged
-abbrev pub Installs : ℕ → ℤ → ℤ → Result Config Refusal → Lives → Lives → ReplyBody → Type 0
-Installs clock uid id (Err refusal) old new body = StaysWith (answers.Refused refusal) old new body
-Installs clock uid id (Ok config) old new body =
+-- an install, when the clock and the books stood so and this was read: a full client is told so before the references are judged
+abbrev pub Installs : ℕ → Books → ℤ → ℤ → Result Config Refusal → Lives → Lives → ReplyBody → Type 0
+Installs clock books uid id (Err refusal) old new body = StaysWith (answers.Refused refusal) old new body
+Installs clock books uid id (Ok config) old new body =
     MatchBool (nat_le most_configs (others uid id old)) (StaysWith (answers.ClientFull most_configs) old new body)
-    (InstallsLinked clock uid id (linked_read uid config) old new body)
+    (InstallsLinked clock books uid id (linked_read uid config) old new body)
 
 -- one is taken out
 pub record TakesOut (uid id : ℤ) (old new : Lives) (body : ReplyBody) : Type 0 where
@@ -71,7 +76,7 @@ Removes uid id old new body =
     MatchOption (held_at uid id old) (StaysWith answers.NoConfig old new body) (λ slot. TakesOut uid id old new body)
 
 -- a report of what stands at a client's id; the counts stay
-pub record ReportsLive (clock : ℕ) (uid id : ℤ) (include_current : Bool) (old new : Lives)
+pub record ReportsLive (clock : ℕ) (book : BookOfStates) (uid id : ℤ) (include_current : Bool) (old new : Lives)
     (body : ReplyBody) : Type 0 where
-  pub slots : ReportsAt clock (live_id uid id) include_current old.slots.entries new.slots.entries body
+  pub slots : ReportsAt clock book (live_id uid id) include_current old.slots.entries new.slots.entries body
   pub counts : new.counts ≡ old.counts

@@ -1,5 +1,5 @@
 -- What a frame of the log makes of an instance, with the truths that a judge says.
-use Rattle.std.specs.Prelude.{ℕ, ◌≤◌, Bool, List, [], count_by}
+use Rattle.std.specs.Prelude.{◌≡◌, ℕ, ◌≤◌, Bool, List, [], ◌∷◌, ◌++◌, count_by}
 use Rattle.atom_record.specs.declared.atom.Atom.{Atom}
 use Rattle.atom_record.specs.declared.log.LogFrame.{LogFrame}
 use Rattle.atom_record.specs.declared.log.LogFrame.TheVariants.{AtomAt}
@@ -7,11 +7,14 @@ use Rattle.config_types.specs.declared.matcher.SimpleMatcher.{SimpleMatcher}
 use Rattle.session_frames.specs.FrameReading.{log_time}
 use Rattle.config_links.specs.declared.linked.LMatcher.{LMatcher}
 use Rattle.matcher_truths.specs.MatcherTruths.{all_truths, is_question}
-use Rattle.metric_meaning.specs.Histories.{History, with_step}
+use Rattle.metric_meaning.specs.Histories.{History, with_step, log_of_history}
+use Rattle.metric_meaning.specs.ShownFrames.{shown_as}
 use Rattle.hub_meaning.specs.LiveConfigs.{truths_at}
 use Rattle.client_engine.specs.declared.instance.Instance.{Instance}
 use Rattle.client_engine.specs.InstanceStands.{InstanceStandsFor, last_step_time}
 use Rattle.client_engine.specs.TrackStands.{logged_step}
+use Rattle.client_engine.specs.Handed.{BookOfStates}
+use Rattle.state_slicer.specs.StateBooks.{StateBookStandsFor}
 
 -- how many questions of a judge these matchers are worth: one for each simple matcher of an atom's id
 abbrev pub asked_by : LogFrame → List LMatcher → ℕ
@@ -24,9 +27,11 @@ module _ (says : SimpleMatcher → Atom → Bool) where
   truths_by matchers (AtomAt at atom) = all_truths says atom matchers
   truths_by matchers _ = []
 
-  -- whatever history the old stood for, if its last step isn't later, the new stands for that with this frame, by the
-  -- truths of the history's matchers
-  abbrev pub LogsBy : LogFrame → Instance → Instance → Type 0
-  LogsBy frame old new =
-      (history : History) → InstanceStandsFor old history → last_step_time history ≤ log_time frame
-      → InstanceStandsFor new (with_step history (logged_step frame (truths_at says history.linked frame)))
+  -- whatever history the old stood for, if its last step isn't later than this frame, which is shown so, and the book is
+  -- that of the log with it, the new stands for that history with this frame, by the truths of the history's matchers
+  abbrev pub LogsBy : LogFrame → BookOfStates → Instance → Instance → Type 0
+  LogsBy shown book old new =
+      (history : History) (frame : LogFrame) → InstanceStandsFor old history
+      → last_step_time history ≤ log_time frame → shown ≡ shown_as (log_of_history history) frame
+      → StateBookStandsFor book (log_of_history history ++ frame ∷ [])
+      → InstanceStandsFor new (with_step history (logged_step frame (truths_at says history.installed.linked frame)))

@@ -4,13 +4,14 @@ use Rattle.atom_record.specs.declared.atom.Atom.{Atom}
 use Rattle.config_types.specs.declared.matcher.SimpleMatcher.{SimpleMatcher}
 use Rattle.session_frames.specs.declared.frame.Frame.{Frame}
 use Rattle.session_frames.specs.declared.frame.Frame.TheVariants.{Log}
-use Rattle.hub_meaning.specs.SessionLog.{own, clock_of}
+use Rattle.hub_meaning.specs.SessionLog.{own, log_frames, clock_of}
 use Rattle.hub_meaning.specs.Acceptance.{LiveConfig}
 use Rattle.hub_meaning.specs.LiveConfigs.{config_at, live, history_of}
 use Rattle.client_engine.specs.InstanceStands.{InstanceStandsFor, last_step_time}
 use Rattle.hub_core.specs.declared.live_instance.LiveInstance.{LiveInstance}
 use Rattle.hub_core.specs.declared.lives.Lives.{Lives}
 use Rattle.hub_core.specs.declared.hub.Hub.{Hub}
+use Rattle.hub_core.specs.BookStands.{BooksStandFor}
 use Rattle.hub_core.specs.SlotLogs.{asked_by_all}
 use Rattle.hub_core.specs.Slots.{live_id, slot_at, count_at}
 
@@ -47,4 +48,5 @@ module _ (says : SimpleMatcher → Atom → Bool) where
   -- The hub is what these frames make of a new one, for every client. No field keeps the frames.
   pub record HubStandsFor {J : Type 0} (hub : Hub J) (frames : List Frame) : Type 0 where
     pub clock : hub.clock.time ≡ clock_of frames
+    pub books : BooksStandFor hub.books (log_frames frames)
     pub lives : LivesStandFor hub.lives frames

@@ -3,6 +3,7 @@ use Rattle.std.specs.Prelude.{◌≡◌, ℕ, sum_by, Bool, List, [], ◌∷◌,
 use Rattle.atom_record.specs.declared.atom.Atom.{Atom}
 use Rattle.atom_record.specs.declared.log.LogFrame.{LogFrame}
 use Rattle.config_types.specs.declared.matcher.SimpleMatcher.{SimpleMatcher}
+use Rattle.client_engine.specs.Handed.{BookOfStates}
 use Rattle.client_engine.specs.InstanceStands.{linked_in}
 use Rattle.hub_core.specs.declared.live_id.LiveId.{LiveId}
 use Rattle.hub_core.specs.declared.live_instance.LiveInstance.{LiveInstance}
@@ -17,11 +18,11 @@ asked_of frame (Some live) = asked_by frame (linked_in live.instance).matchers
 abbrev pub asked_by_all : LogFrame → List (LiveId × Option LiveInstance) → ℕ
 asked_by_all frame rows = sum_by (λ (row : LiveId × Option LiveInstance). asked_of frame row.1) rows
 
-module _ (says : SimpleMatcher → Atom → Bool) (frame : LogFrame) where
-  -- what is in a slot took the frame; an empty slot stays so
+module _ (says : SimpleMatcher → Atom → Bool) (shown : LogFrame) (book : BookOfStates) where
+  -- what is in a slot took the frame that is shown so; an empty slot stays so
   abbrev pub SlotLogs : Option LiveInstance → Option LiveInstance → Type 0
   SlotLogs None None = Unit {0}
-  SlotLogs (Some old) (Some new) = LogsBy says frame old.instance new.instance
+  SlotLogs (Some old) (Some new) = LogsBy says shown book old.instance new.instance
   SlotLogs None (Some new) = ⊥
   SlotLogs (Some old) None = ⊥
 

@@ -7,6 +7,7 @@ use Rattle.session_frames.specs.declared.reply.ReplyBody.{ReplyBody}
 use Rattle.session_frames.specs.declared.reply.ReplyBody.TheVariants as answers
 use Rattle.report_writer.specs.declared.tree.ReportTree.{ReportTree}
 use Rattle.report_writer.specs.ReportSpelling.{report_message}
+use Rattle.client_engine.specs.Handed.{BookOfStates}
 use Rattle.client_engine.specs.InstanceStands.{Reports}
 use Rattle.hub_core.specs.declared.live_id.LiveId.{LiveId}
 use Rattle.hub_core.specs.declared.live_instance.LiveInstance.{LiveInstance}
@@ -37,18 +38,18 @@ abbrev pub held_by : ℤ → List (LiveId × Option LiveInstance) → ℕ
 held_by uid slots = count_by (λ (row : LiveId × Option LiveInstance). int_eq row.0.uid uid) slots
 
 -- A report of what stands under a name.
-pub record ShowsAt (clock : ℕ) (name : LiveId) (include_current : Bool) (live : LiveInstance)
+pub record ShowsAt (clock : ℕ) (book : BookOfStates) (name : LiveId) (include_current : Bool) (live : LiveInstance)
     (old new : List (LiveId × Option LiveInstance)) (body : ReplyBody) : Type 0 where
   pub next : LiveInstance
   pub tree : ReportTree
-  pub steps : Reports live.instance name.uid name.id include_current clock next.instance tree
+  pub steps : Reports live.instance name.uid name.id include_current clock book next.instance tree
   pub slots : (other : LiveId) → slot_at other new ≡ (if same_id name other then Some
       (Some next) else slot_at other old)
   pub answer : body ≡ answers.ReportBytes (report_message tree)
 
 -- a report of what stands under a name; a slot that is found isn't empty
-abbrev pub ReportsAt : ℕ → LiveId → Bool → List (LiveId × Option LiveInstance) → List (LiveId × Option LiveInstance)
+abbrev pub ReportsAt : ℕ → BookOfStates → LiveId → Bool → List (LiveId × Option LiveInstance) → List (LiveId × Option LiveInstance)
     → ReplyBody → Type 0
-ReportsAt clock name include_current old new body =
+ReportsAt clock book name include_current old new body =
     MatchOption (slot_at name old) ((new ≡ old) × (body ≡ answers.NoConfig))
-    (λ slot. MatchOption slot (Unit {0}) (λ live. ShowsAt clock name include_current live old new body))
+    (λ slot. MatchOption slot (Unit {0}) (λ live. ShowsAt clock book name include_current live old new body))

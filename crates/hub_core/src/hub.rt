@@ -1,5 +1,7 @@
 //! The hub of all clients, one frame at a time.
-ghost use Rattle.std.specs.Prelude.{◌≡◌, List, [], ◌++◌, ◌∷◌, IfOk};
+ghost use Rattle.std.specs.Prelude.{◌≡◌, ◌≤◌, List, [], ◌++◌, ◌∷◌, IfOk};
+ghost use Rattle.session_frames.specs.declared.frame.Frame.TheVariants.{Log};
+ghost use Rattle.session_frames.specs.Faultless.{IsFaultlessLog};
 ghost use Rattle.session_frames.specs.declared.frame.Frame.{Frame};
 ghost use Rattle.session_frames.specs.Frames.{log_time, IsFaultless, IsInTime};
 ghost use Rattle.matcher_truths.specs.QuestionCounts.{AreTicks};
@@ -7,6 +9,7 @@ ghost use Rattle.hub_meaning.specs.SessionLog.{clock_of};
 ghost use Rattle.hub_meaning.specs.ClientAnswers.{reply_to};
 ghost use Rattle.hub_meaning.specs.ClientIsolation.{EqualOwnFramesEqualReplies};
 
+use crate::books::{Books, shown_of};
 use crate::configs::read_config;
 use crate::live_id::LiveId;
 use crate::lives::Lives;
@@ -16,12 +19,13 @@ use matcher_eval::Judge;
 use session_frames::{Frame, Reply};
 use std::alloc::{AllocError, Global};
 
-/// All clients with their live configurations, the clock, and the judge. It keeps no frame.
+/// All clients with their live configurations, the clock, the books of the log, and the judge. It keeps no frame.
 #[derive(Drop)]
 pub struct Hub<J: Judge> {
     alloc: Global,
     judge: J,
     clock: LogClock,
+    books: Books,
     lives: Lives,
     /// Room for the truths of one configuration.
     truths: Vec<bool>,
@@ -39,6 +43,7 @@ impl<J: Judge> Hub<J> {
             alloc,
             judge,
             clock: LogClock { time: 0 },
+            books: Books::new(alloc),
             lives: Lives::new(alloc),
             truths: Vec::new(alloc),
         }
@@ -71,6 +76,29 @@ impl<J: Judge> Hub<J> {
         self.serve(frame)
     }
 
+    // Takes in a frame of the log: it is told to the book of states, comes to every configuration as it is shown, and what
+    // it pulled is recorded last.
+    fn log(mut self, frame: LogFrame) -> Result<Hub<J>, AllocError>
+        requires faultless { IsFaultlessLog frame }
+        ensures stands { (frames : List Frame) → HubStandsFor J.says self frames
+            → clock_of frames ≤ log_time frame
+            → IfOk result (λ new. HubStandsFor J.says new (frames ++ Log frame ∷ [])) }
+        ensures asked { IfOk result (λ new. AreTicks (asked_in (Log frame) self)
+            (J.ticks (judge_of self)) (J.ticks (judge_of new))) }
+    {
+        self.clock = LogClock {
+            time: time_of(&frame),
+        };
+        let instead = self.books.shown_instead(&frame);
+        self.books.tell(&frame)?;
+        let shown = shown_of(&instead, &frame);
+        let lives = self.lives;
+        let states = &self.books.states;
+        self.lives = lives.log(&mut self.judge, shown, states, &mut self.truths)?;
+        self.books.record(frame)?;
+        Ok(self)
+    }
+
     // Takes in a frame of its kind.
     #[tactic(auto, using(matcher_truths::proofs::QuestionCountsLemmas::rises_by_none))]
     fn serve(mut self, frame: Frame) -> Result<(Hub<J>, Option<Reply>), AllocError>
@@ -82,17 +110,13 @@ impl<J: Judge> Hub<J> {
             (J.ticks (judge_of self)) (J.ticks (judge_of r.0))) }
     {
         match frame {
-            Frame::Log(frame) => {
-                self.clock = LogClock {
-                    time: time_of(&frame),
-                };
-                self.lives = self.lives.log(&mut self.judge, &frame, &mut self.truths)?;
-                Ok((self, None))
-            }
+            Frame::Log(frame) => Ok((self.log(frame)?, None)),
             Frame::Install { uid, id, config } => {
                 let read = read_config(self.alloc, config.as_slice())?;
                 let name = LiveId { uid, id };
-                let (lives, body) = self.lives.install(self.alloc, self.clock.time, name, read)?;
+                let lives = self.lives;
+                let now = self.clock.time;
+                let (lives, body) = lives.install(self.alloc, now, &self.books, name, read)?;
                 self.lives = lives;
                 Ok((self, Some(Reply { uid, id, body })))
             }
@@ -107,8 +131,11 @@ impl<J: Judge> Hub<J> {
                 include_current,
             } => {
                 let name = LiveId { uid, id };
+                let lives = self.lives;
                 let now = self.clock.time;
-                let (lives, body) = self.lives.report(self.alloc, now, name, include_current)?;
+                let states = &self.books.states;
+                let (lives, body) =
+                    lives.report(self.alloc, now, name, include_current, states)?;
                 self.lives = lives;
                 Ok((self, Some(Reply { uid, id, body })))
             }

@@ -1,6 +1,7 @@
 //! All clients with their live configurations, one frame at a time, under any judge.
 #![tactic(auto)]
 
+mod books;
 mod configs;
 mod hub;
 mod live_id;

@@ -1,5 +1,6 @@
 //! An instance, with the order in which its matchers are evaluated.
-ghost use Rattle.std.specs.Prelude.{◌≡◌, ◌<◌, ◌^◌, IfOk, OnOk};
+ghost use Rattle.std.specs.Prelude.{◌≡◌, ◌<◌, ◌^◌, List, IfOk, OnOk};
+ghost use Rattle.atom_record.specs.declared.log.LogFrame.{LogFrame};
 ghost use Rattle.session_frames.specs.Faultless.{IsFaultlessLog};
 ghost use Rattle.report_writer.specs.Writable.{IsWritableReport};
 ghost use Rattle.link_graph.specs.Links.{AreInRange, IsOrder};
@@ -9,9 +10,11 @@ ghost use Rattle.matcher_truths.specs.QuestionCounts.{AreTicks};
 ghost use Rattle.hub_meaning.specs.LiveConfigs.{truths_at};
 ghost use Rattle.client_engine.specs.InstanceStands.{linked_in, IsFresh, Reports};
 ghost use Rattle.hub_core.specs.InstallReading.{MayRun};
+ghost use Rattle.hub_core.specs.BookStands.{BooksStandFor};
 ghost use Rattle.hub_core.specs.FrameTruths.{truths_by, asked_by, LogsBy};
 ghost use Rattle.std.specs.List.{All};
 
+use crate::books::Books;
 use atom_record::LogFrame;
 use client_engine::{Instance, LogView};
 use config_links::{LMatcher, Linked};
@@ -19,6 +22,7 @@ use matcher_eval::Judge;
 use matcher_truths::{evaluate, evaluation_order};
 use report_writer::ReportTree;
 use sd_base::Seq;
+use state_slicer::StateBook;
 use std::alloc::{AllocError, Global};
 
 /// A live configuration.
@@ -33,26 +37,33 @@ pub struct LiveInstance {
 
 impl LiveInstance {
     /// A configuration that was just installed.
-    pub fn new(alloc: Global, linked: Linked, base: u64) -> Result<LiveInstance, AllocError>
+    pub fn new(
+        alloc: Global,
+        linked: Linked,
+        base: u64,
+        books: &Books,
+    ) -> Result<LiveInstance, AllocError>
         requires may_run { MayRun linked }
         requires timely { base < 2 ^ 63 }
-        ensures { IfOk result (λ live. IsFresh linked base live.instance) }
+        ensures { (opening : List LogFrame) → BooksStandFor books.now opening
+            → IfOk result (λ live. IsFresh linked base opening live.instance) }
     {
         let order = evaluation_order(alloc, linked.matchers.as_slice())?;
-        let instance = Instance::new(alloc, linked, base)?;
+        let instance = Instance::new(alloc, linked, base, &books.pulls, &books.states)?;
         Ok(LiveInstance { instance, order })
     }
 
-    /// Takes in a frame of the log, with the truths that the judge says. The buffer's room is kept.
+    /// Takes in a frame of the log as it is shown, with the truths that the judge says and the states after it. The buffer's room is kept.
     pub fn log<J: Judge>(
         self,
         judge: &mut J,
         frame: &LogFrame,
+        states: &StateBook,
         truths: &mut Vec<bool>,
     ) -> Result<LiveInstance, AllocError>
         requires sound { IsFaultlessLog frame.now }
         ensures logs { IfOk result (λ new.
-            LogsBy J.says frame.now self.instance new.instance) }
+            LogsBy J.says frame.now states.now self.instance new.instance) }
         ensures ticks { OnOk result
             (AreTicks (asked_by frame.now (linked_in self.instance).matchers)
             (J.ticks judge.old) (J.ticks judge.new)) }
@@ -61,6 +72,7 @@ impl LiveInstance {
         judge_all(judge, instance.matchers(), order.as_slice(), frame, truths)?;
         let view = LogView {
             matched: truths.as_slice(),
+            states,
         };
         let instance = instance.log(frame, &view)?;
         Ok(LiveInstance { instance, order })
@@ -73,14 +85,15 @@ impl LiveInstance {
         id: i64,
         include_current: bool,
         at: u64,
+        states: &StateBook,
     ) -> Result<(LiveInstance, ReportTree), AllocError>
         requires timely { at < 2 ^ 63 }
         ensures reports { IfOk result (λ r.
-            Reports self.instance uid id include_current at r.0.instance r.1) }
+            Reports self.instance uid id include_current at states.now r.0.instance r.1) }
         ensures writable { IfOk result (λ r. IsWritableReport r.1) }
     {
         let LiveInstance { instance, order } = self;
-        let (instance, tree) = instance.report(uid, id, include_current, at)?;
+        let (instance, tree) = instance.report(uid, id, include_current, at, states)?;
         Ok((LiveInstance { instance, order }, tree))
     }
 }

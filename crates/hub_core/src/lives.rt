@@ -2,6 +2,7 @@
 ghost use Rattle.std.specs.Prelude.{◌≡◌, ◌≤◌, ◌<◌, ◌^◌, ℤ, [], OnOk, IfOk};
 ghost use Rattle.hub_core.specs.Slots.{held_by, count_at};
 
+use crate::books::Books;
 use crate::configs::link_config;
 use crate::live_id::LiveId;
 use crate::live_instance::LiveInstance;
@@ -13,6 +14,7 @@ use config_types::Config;
 use indexmap::IndexMap;
 use matcher_eval::Judge;
 use session_frames::{Refusal, ReplyBody};
+use state_slicer::StateBook;
 use std::alloc::{AllocError, Global};
 
 /// How many live configurations a client may have.
@@ -52,17 +54,18 @@ impl Lives {
         self,
         judge: &mut J,
         frame: &LogFrame,
+        states: &StateBook,
         truths: &mut Vec<bool>,
     ) -> Result<Lives, AllocError>
         requires sound { IsFaultlessLog frame.now }
         ensures slots { IfOk result (λ new.
-            AllLog J.says frame.now self.slots.entries new.slots.entries) }
+            AllLog J.says frame.now states.now self.slots.entries new.slots.entries) }
         ensures counts { IfOk result (λ new. new.counts ≡ self.counts) }
         ensures ticks { OnOk result (AreTicks (asked_by_all frame.now self.slots.entries)
             (J.ticks judge.old) (J.ticks judge.new)) }
     {
         let Lives { mut slots, counts } = self;
-        log_all(judge, &mut slots, frame, truths)?;
+        log_all(judge, &mut slots, frame, states, truths)?;
         Ok(Lives { slots, counts })
     }
 
@@ -71,11 +74,12 @@ impl Lives {
         self,
         alloc: Global,
         clock: u64,
+        books: &Books,
         name: LiveId,
         read: Result<Config, Refusal>,
     ) -> Result<(Lives, ReplyBody), AllocError>
         requires timely { clock < 2 ^ 63 }
-        ensures { IfOk result (λ r. Installs clock name.uid name.id read self r.0 r.1) }
+        ensures { IfOk result (λ r. Installs clock books.now name.uid name.id read self r.0 r.1) }
     {
         let config = match read {
             Ok(config) => config,
@@ -86,7 +90,7 @@ impl Lives {
             return Ok((self, ReplyBody::ClientFull(MOST_CONFIGS as u32)));
         }
         match link_config(alloc, config, name.uid)? {
-            Ok(linked) => self.put_in(alloc, clock, name, linked),
+            Ok(linked) => self.put_in(alloc, clock, books, name, linked),
             Err(refusal) => Ok((self, ReplyBody::Refused(refusal))),
         }
     }
@@ -96,17 +100,18 @@ impl Lives {
         self,
         alloc: Global,
         clock: u64,
+        books: &Books,
         name: LiveId,
         linked: Linked,
     ) -> Result<(Lives, ReplyBody), AllocError>
         requires timely { clock < 2 ^ 63 }
         requires may_run { MayRun linked }
         requires room { others name.uid name.id self < 10 }
-        ensures { IfOk result (λ r. PutsIn clock name.uid name.id linked self r.0 r.1) }
+        ensures { IfOk result (λ r. PutsIn clock books.now name.uid name.id linked self r.0 r.1) }
     {
         let there = self.slots.contains_key(&name);
         let others = others_of(&self.counts, name.uid, there);
-        let live = LiveInstance::new(alloc, linked, clock)?;
+        let live = LiveInstance::new(alloc, linked, clock, books)?;
         // From here on the two facts may be false.
         let Lives {
             mut slots,
@@ -141,13 +146,14 @@ impl Lives {
         clock: u64,
         name: LiveId,
         include_current: bool,
+        states: &StateBook,
     ) -> Result<(Lives, ReplyBody), AllocError>
         requires timely { clock < 2 ^ 63 }
         ensures { IfOk result (λ r.
-            ReportsLive clock name.uid name.id include_current self r.0 r.1) }
+            ReportsLive clock states.now name.uid name.id include_current self r.0 r.1) }
     {
         let Lives { mut slots, counts } = self;
-        let body = report_at(&mut slots, alloc, clock, name, include_current)?;
+        let body = report_at(&mut slots, alloc, clock, name, include_current, states)?;
         Ok((Lives { slots, counts }, body))
     }
 }

@@ -10,6 +10,7 @@ use indexmap::IndexMap;
 use report_writer::write;
 use sd_base::Seq;
 use session_frames::ReplyBody;
+use state_slicer::StateBook;
 use std::alloc::{AllocError, Global};
 
 /// Puts a configuration under a name.
@@ -46,10 +47,11 @@ pub fn report_at(
     clock: u64,
     name: LiveId,
     include_current: bool,
+    states: &StateBook,
 ) -> Result<ReplyBody, AllocError>
     requires timely { clock < 2 ^ 63 }
     ensures reports { IfOk result
-        (ReportsAt clock name include_current slots.old.entries slots.new.entries) }
+        (ReportsAt clock states.now name include_current slots.old.entries slots.new.entries) }
     ensures held { OnOk result ((uid : ℤ) →
         held_by uid slots.new.entries ≡ held_by uid slots.old.entries) }
 {
@@ -59,7 +61,7 @@ pub fn report_at(
     let Some(live) = slot.take() else {
         return Ok(ReplyBody::NoConfig);
     };
-    let (live, tree) = live.report(name.uid, name.id, include_current, clock)?;
+    let (live, tree) = live.report(name.uid, name.id, include_current, clock, states)?;
     *slot = Some(live);
     Ok(ReplyBody::ReportBytes(Seq::from_vec(write(alloc, &tree)?)))
 }

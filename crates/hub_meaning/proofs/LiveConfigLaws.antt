@@ -4,7 +4,8 @@ use Rattle.std.specs.Prelude.{◌||◌}
 use Rattle.std.specs.List.{list_any}
 use Rattle.std.specs.Ordering.{int_eq}
 use Rattle.std.specs.Cmp.{signed_Decides}
-use Rattle.std.proofs.lemmas.List.{append-nil, take-append-drop, take-append-le, drop-append-le, take_at, drop_all, length-append}
+use Rattle.std.proofs.lemmas.List.Concat.{flat_map-append}
+use Rattle.std.proofs.lemmas.List.{append-nil, take-append-drop, take-append-le, drop-append-le, take_at, take_all, drop_all, length-append}
 use Rattle.sd_base.specs.Outputs.{outputs_after}
 use Rattle.sd_base.proofs.OutputsLemmas.{outputs_after-push}
 use Rattle.atom_record.specs.declared.atom.Atom.{Atom}
@@ -13,9 +14,10 @@ use Rattle.config_types.specs.declared.matcher.SimpleMatcher.{SimpleMatcher}
 use Rattle.session_frames.specs.declared.frame.Frame.{Frame}
 use Rattle.session_frames.specs.declared.frame.Frame.TheVariants.{Log, Install, Remove, Report}
 use Rattle.session_frames.specs.declared.reply.ReplyBody.{ReplyBody}
+use Rattle.config_links.specs.declared.linked.Linked.{Linked}
 use Rattle.config_links.specs.Verdict.{linked_form}
-use Rattle.metric_meaning.specs.Histories.{with_steps}
-use Rattle.hub_meaning.specs.SessionLog.{clock_of}
+use Rattle.metric_meaning.specs.Histories.{Step, Reported, with_steps, logged_frames, log_of_history}
+use Rattle.hub_meaning.specs.SessionLog.{log_frame_in, log_frames, clock_of}
 use Rattle.hub_meaning.specs.Acceptance.{LiveConfig, acceptance}
 use Rattle.hub_meaning.specs.LiveConfigs.{with_config, without_id, config_at, live_with, live_after, live_from, live, step_at, history_of}
 
@@ -124,23 +126,70 @@ module _ (says : SimpleMatcher → Atom → Bool) where
       (take-append-drop (suc config.place) frames)) in
       let base : clock_of (take config.place (frames ++ frame ∷ [])) ≡ clock_of (take config.place frames) =
       ap clock_of before in
+      let opening : log_frames (take (suc config.place) (frames ++ frame ∷ []))
+      ≡ log_frames (take (suc config.place) frames) = ap log_frames front in
       cc
 
   -- a configuration that was just installed has seen nothing, and its base is the clock
   pub history_of-new : (client : ℤ) (frames : List Frame) (frame : Frame) (config : LiveConfig)
       → config.place ≡ length frames
       → history_of says client (frames ++ frame ∷ []) config
-      ≡ record { base = clock_of frames; linked = linked_form config.config client; steps = [] }
+      ≡ record {
+        installed = record {
+          base = clock_of frames;
+          opening = log_frames (frames ++ frame ∷ []);
+          linked = linked_form config.config client;
+        };
+        steps = [];
+      }
   history_of-new client frames frame config here =
       let step = step_at says config.id (linked_form config.config client) in
       let before : take config.place (frames ++ frame ∷ []) ≡ frames =
       take_at frames (frame ∷ []) config.place (sym here) in
       let none : drop (suc config.place) (frames ++ frame ∷ []) ≡ [] =
       drop_all (suc config.place) (frames ++ frame ∷ []) (omega (arith, here, length-append frames (frame ∷ []))) in
+      let all : take (suc config.place) (frames ++ frame ∷ []) ≡ frames ++ frame ∷ [] =
+      take_all (suc config.place) (frames ++ frame ∷ []) (omega (arith, here, length-append frames (frame ∷ []))) in
+      let opening : log_frames (take (suc config.place) (frames ++ frame ∷ [])) ≡ log_frames (frames ++ frame ∷ []) =
+      ap log_frames all in
       let steps : outputs_after step (take (suc config.place) (frames ++ frame ∷ []))
       (drop (suc config.place) (frames ++ frame ∷ [])) ≡ [] = rw none refl in
       let base : clock_of (take config.place (frames ++ frame ∷ [])) ≡ clock_of frames = ap clock_of before in
       cc
+
+  -- the frames of the log among steps are those among the frames that the steps are of
+  logged_steps : (id : ℤ) (linked : Linked) (before frames : List Frame)
+      → logged_frames (outputs_after (step_at says id linked) before frames) ≡ log_frames frames
+  logged_steps id linked before [] = refl
+  logged_steps id linked before (Log frame ∷ frames) =
+      ap (λ l. frame ∷ l) (logged_steps id linked (before ++ Log frame ∷ []) frames)
+  logged_steps id linked before (Install uid of config ∷ frames) =
+      logged_steps id linked (before ++ Install uid of config ∷ []) frames
+  logged_steps id linked before (Remove uid of ∷ frames) =
+      logged_steps id linked (before ++ Remove uid of ∷ []) frames
+  logged_steps id linked before (Report uid of include_current ∷ frames) =
+      by_case (int_eq of id) (logged_steps id linked (before ++ Report uid of include_current ∷ []) frames) where
+        step : Step
+        step = record { at = clock_of before; what = Reported include_current; truths = [] }
+
+        by_case : (same : Bool)
+            → logged_frames (outputs_after (step_at says id linked) (before ++ Report uid of include_current ∷ []) frames)
+            ≡ log_frames frames
+            → logged_frames (cond same (step ∷ []) []
+            ++ outputs_after (step_at says id linked) (before ++ Report uid of include_current ∷ []) frames)
+            ≡ log_frames frames
+        by_case true rest = rest
+        by_case false rest = rest
+
+  -- the whole log of a history is the log of all frames
+  pub history_of-log : (client : ℤ) (frames : List Frame) (config : LiveConfig)
+      → log_of_history (history_of says client frames config) ≡ log_frames frames
+  history_of-log client frames config =
+      let front = take (suc config.place) frames in
+      let back = drop (suc config.place) frames in
+      ap (λ l. log_frames front ++ l) (logged_steps config.id (linked_form config.config client) front back)
+      ∙ sym (flat_map-append log_frame_in front back)
+      ∙ ap log_frames (take-append-drop (suc config.place) frames)
 
 -- two numbers that are equal may be told apart from either side
 pub int_eq_sym : (x y : ℤ) → int_eq x y ≡ int_eq y x

@@ -2,10 +2,12 @@
 use Rattle.std.proofs.Common.{◌≡◌, ℕ, ℤ, Bool, true, false, cond, List, [], ◌∷◌, ◌++◌, refl, ap, ◌∙◌}
 use Rattle.std.proofs.lemmas.List.{append-nil}
 use Rattle.std.proofs.lemmas.List.Elements.{filter-append}
+use Rattle.std.proofs.lemmas.List.Concat.{flat_map-append}
+use Rattle.atom_record.specs.declared.log.LogFrame.{LogFrame}
 use Rattle.session_frames.specs.declared.frame.Frame.{Frame}
 use Rattle.session_frames.specs.declared.frame.Frame.TheVariants.{Log, Install, Remove, Report}
 use Rattle.session_frames.specs.Frames.{clock_after}
-use Rattle.hub_meaning.specs.SessionLog.{is_own, own, clock_from, clock_of}
+use Rattle.hub_meaning.specs.SessionLog.{is_own, log_frame_in, log_frames, own, clock_from, clock_of}
 
 -- a frame of the client comes after its own frames
 pub own-push_own : (client : ℤ) (frames : List Frame) (frame : Frame) → is_own client frame ≡ true
@@ -54,3 +56,30 @@ clock_from-own client clock (Report uid id include_current ∷ frames) =
 -- a client's own frames have the clock of all
 pub clock_of-own : (client : ℤ) (frames : List Frame) → clock_of (own client frames) ≡ clock_of frames
 clock_of-own client frames = clock_from-own client 0 frames
+
+-- the frames of the log after one more frame
+pub log_frames-push : (frames : List Frame) (frame : Frame)
+    → log_frames (frames ++ frame ∷ []) ≡ log_frames frames ++ log_frame_in frame
+log_frames-push frames frame =
+    flat_map-append log_frame_in frames (frame ∷ [])
+    ∙ ap (λ l. log_frames frames ++ l) (append-nil (log_frame_in frame))
+
+-- a command may be left out of them
+passed_over : (mine : Bool) (frame : Frame) (rest : List Frame) → log_frame_in frame ≡ []
+    → log_frames (cond mine (frame ∷ rest) rest) ≡ log_frames rest
+passed_over true frame rest none = ap (λ l. l ++ log_frames rest) none
+passed_over false frame rest none = refl
+
+-- a client's own frames have the log of all
+pub log_frames-own : (client : ℤ) (frames : List Frame) → log_frames (own client frames) ≡ log_frames frames
+log_frames-own client [] = refl
+log_frames-own client (Log frame ∷ frames) = ap (λ l. frame ∷ l) (log_frames-own client frames)
+log_frames-own client (Install uid id config ∷ frames) =
+    passed_over (is_own client (Install uid id config)) (Install uid id config) (own client frames) refl
+    ∙ log_frames-own client frames
+log_frames-own client (Remove uid id ∷ frames) =
+    passed_over (is_own client (Remove uid id)) (Remove uid id) (own client frames) refl
+    ∙ log_frames-own client frames
+log_frames-own client (Report uid id include_current ∷ frames) =
+    passed_over (is_own client (Report uid id include_current)) (Report uid id include_current) (own client frames)
+    refl ∙ log_frames-own client frames

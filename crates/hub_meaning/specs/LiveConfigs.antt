@@ -15,7 +15,7 @@ use Rattle.config_links.specs.declared.linked.Linked.{Linked}
 use Rattle.config_links.specs.Verdict.{linked_form}
 use Rattle.matcher_truths.specs.MatcherTruths.{all_truths}
 use Rattle.metric_meaning.specs.Histories.{Logged, Reported, Step, History}
-use Rattle.hub_meaning.specs.SessionLog.{clock_of}
+use Rattle.hub_meaning.specs.SessionLog.{log_frames, clock_of}
 use Rattle.hub_meaning.specs.Acceptance.{LiveConfig, has_other_id, acceptance}
 
 -- a configuration goes where the one of its id stands, or after all
@@ -70,13 +70,17 @@ module _ (says : SimpleMatcher → Atom → Bool) where
   step_at id linked before (Report uid of include_current) =
       if int_eq of id then record { at = clock_of before; what = Reported include_current; truths = [] } ∷ [] else []
 
-  -- what a live configuration of a client has seen, by the client's own frames: its base is the clock at its install
+  -- what a live configuration of a client has seen, by the client's own frames: its base is the clock at its install, and
+  -- its opening the log up to that
   abbrev pub history_of : ℤ → List Frame → LiveConfig → History
   history_of client frames live =
       let linked = linked_form live.config client in
       record {
-        base = clock_of (take live.place frames);
-        linked = linked;
+        installed = record {
+          base = clock_of (take live.place frames);
+          opening = log_frames (take (suc live.place) frames);
+          linked = linked;
+        };
         steps =
             outputs_after (step_at live.id linked) (take (suc live.place) frames) (drop (suc live.place) frames);
       }

@@ -1,6 +1,8 @@
 -- The log of a session, a client's own frames, and the clock.
 use Rattle.std.specs.Prelude.{ℕ, ℤ, Bool, true, false, List, [], ◌∷◌, filter}
+use Rattle.std.specs.List.{flat_map}
 use Rattle.std.specs.Ordering.{int_eq}
+use Rattle.atom_record.specs.declared.log.LogFrame.{LogFrame}
 use Rattle.session_frames.specs.declared.frame.Frame.{Frame}
 use Rattle.session_frames.specs.declared.frame.Frame.TheVariants.{Log, Install, Remove, Report}
 use Rattle.session_frames.specs.Frames.{clock_after}
@@ -18,6 +20,17 @@ log_of frames = filter is_logged frames where
   is_logged : Frame → Bool
   is_logged (Log frame) = true
   is_logged _ = false
+
+-- the frame of the log that a frame is, if it is one
+abbrev pub log_frame_in : Frame → List LogFrame
+log_frame_in (Log frame) = frame ∷ []
+log_frame_in (Install uid id config) = []
+log_frame_in (Remove uid id) = []
+log_frame_in (Report uid id include_current) = []
+
+-- the frames of the log, without the commands
+abbrev pub log_frames : List Frame → List LogFrame
+log_frames frames = flat_map log_frame_in frames
 
 -- a client's own frames: the log, and its commands
 abbrev pub own : ℤ → List Frame → List Frame

@@ -7,6 +7,7 @@ use Rattle.bucket_clock.specs.Clock.{Told, Saw, Cut}
 use Rattle.call_rules.specs.Calls.{Call, Took, Demands}
 use Rattle.call_rules.specs.Rules.{AreAdmitted}
 use Rattle.call_rules.specs.LaneCalls.{LaneStep, Logged, told_by, crossing, cutting, calls_of, event_asks, AreTimely, AskWell}
+use Rattle.call_rules.specs.OpeningCalls.{calls_with}
 use Rattle.count_metric.specs.declared.row.Row.{Row}
 use Rattle.count_metric.specs.declared.row.Closed.{Closed}
 use Rattle.count_metric.specs.Collecting.{Collecting, calls_mean, closed_of}
@@ -33,6 +34,13 @@ module _ {P Params Event After Value : Type 0} (stands : P → Params → List (
       → Lane P Event After Value → Params → List (LaneStep News) → Type 0
   LaneStandsFor asks lane params steps =
       LaneHas lane params (told_by steps) (calls_of (demands params) asks steps)
+
+  -- The same of a lane whose producer got opening calls before the first step.
+  abbrev pub OpenedStandsFor : {News : Type 0}
+      → (List (LaneStep News) → Moment → News → List (Call Event After)) → List (Call Event After)
+      → Lane P Event After Value → Params → List (LaneStep News) → Type 0
+  OpenedStandsFor asks opening lane params steps =
+      LaneHas lane params (told_by steps) (calls_with (demands params) asks opening steps)
 
   -- whatever a lane had, a frame that may come adds itself for the clock, and what it crosses for the producer
   abbrev pub GetsFrame : Lane P Event After Value → Lane P Event After Value → Moment → Type 0

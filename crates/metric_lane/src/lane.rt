@@ -1,8 +1,8 @@
 //! A producer with its clock.
-ghost use Rattle.std.specs.Prelude.{◌≡◌, ◌<◌, ◌≤◌, [], OnOk, IfOk};
+ghost use Rattle.std.specs.Prelude.{◌≡◌, ◌<◌, ◌≤◌, [], List, OnOk, IfOk};
 ghost use Rattle.bucket_meaning.specs.Limits.{time_limit, longest_bucket};
 ghost use Rattle.bucket_clock.specs.Clock.{frame_at};
-ghost use Rattle.call_rules.specs.Calls.{Got, Learned};
+ghost use Rattle.call_rules.specs.Calls.{Call, Got, Learned};
 ghost use Rattle.call_rules.specs.LaneCalls.{coming};
 ghost use Rattle.metric_lane.specs.LaneClock.{IsNewClock, ClockCrosses, ClockCuts};
 ghost use Rattle.metric_lane.specs.LaneStands.{
@@ -32,13 +32,15 @@ pub struct Lane<P: Producer> {
 }
 
 impl<P: Producer> Lane<P> {
-    /// A lane of a new producer, which begins at `base` with buckets of `size`, or with none where that is 0.
+    /// A lane of a producer that got opening calls or none, which begins at `base` with buckets of `size`, or with none
+    /// where that is 0.
     pub fn new(base: u64, size: u64, producer: P) -> Lane<P>
         requires base_fits { base < time_limit }
         requires most { size ≤ longest_bucket }
-        ensures { (params : P.Params) → (P.demands params).base ≡ base
-            → (P.demands params).size ≡ size → P.stands producer params []
-            → LaneHas P.stands P.demands result params [] [] }
+        ensures { (params : P.Params) (opening : List (Call P.Event P.After))
+            → (P.demands params).base ≡ base → (P.demands params).size ≡ size
+            → P.stands producer params opening
+            → LaneHas P.stands P.demands result params [] opening }
     {
         Lane {
             clock: clock_from(base, size),

@@ -1,5 +1,6 @@
 mod WorkedHistories
 mod WorkedConditions
+mod WorkedStates
 pub mod CrossedLemmas
 pub mod StepLemmas
 pub mod PredicateStepsLemmas

@@ -6,9 +6,10 @@ use Rattle.atom_record.specs.declared.log.LogFrame.{LogFrame}
 use Rattle.atom_record.specs.declared.log.LogFrame.TheVariants.{Tick, AtomAt, Pull}
 use Rattle.atom_record.specs.declared.log.PullOutcome.TheVariants.{Failed}
 use Rattle.config_links.specs.declared.linked.LMetric.{LMetric}
+use Rattle.config_links.specs.declared.linked.LPredicate.{LPredicate}
 use Rattle.config_links.specs.declared.linked.LKind.TheVariants.{Count}
 use Rattle.count_metric.specs.declared.row.Row.{Row}
-use Rattle.metric_meaning.specs.Histories.{Logged, Reported, Step}
+use Rattle.metric_meaning.specs.Histories.{Logged, Reported, Step, Installation}
 use Rattle.metric_meaning.specs.CountSteps.{counts_shown}
 use Rattle.config_links.specs.declared.linked.Linked.{Linked}
 use Rattle.metric_meaning.specs.Forms.{is_built}
@@ -30,6 +31,14 @@ guarded = record {
   bound = 2;
   slices = [];
   kind = Count;
+}
+
+-- an installation with these predicates, at the clock 0 of an empty log
+abbrev pub under : List LPredicate → Installation
+under predicates = record {
+  base = 0;
+  opening = [];
+  linked = record { matchers = []; predicates = predicates; states = []; metrics = [] };
 }
 
 -- a frame of the log, with the truth of the one matcher where it is an atom
@@ -69,7 +78,7 @@ row letter start end count = record {
 abbrev crowd : List Step
 crowd = texted 1 65 ∷ texted 2 66 ∷ texted 3 67 ∷ texted 4 65 ∷ texted 5 67 ∷ tick 1000 ∷ []
 
-third_key_dropped : counts_shown 0 [] guarded crowd false 1000 ≡ record {
+third_key_dropped : counts_shown (under []) guarded crowd false 1000 ≡ record {
   rows = row 65 0 1000 2 ∷ row 66 0 1000 1 ∷ [];
   not_kept = 0;
   dropped = 2;
@@ -79,7 +88,7 @@ third_key_dropped = refl
 
 -- the next bucket admits anew, and its report has the drops since the report before alone
 next_bucket_admits_anew :
-    counts_shown 0 [] guarded
+    counts_shown (under []) guarded
     (texted 1 65 ∷ texted 2 66 ∷ texted 3 67 ∷ tick 1000 ∷ asked 1000 false
     ∷ texted 1001 67 ∷ texted 1002 65 ∷ texted 1003 66 ∷ tick 2000 ∷ []) false 2000 ≡ record {
       rows = row 67 1000 2000 1 ∷ row 65 1000 2000 1 ∷ [];
@@ -90,12 +99,12 @@ next_bucket_admits_anew :
 next_bucket_admits_anew = refl
 
 -- a pull at a full end crosses nothing; a cut there closes the part, and the end is crossed by the next tick
-pull_at_an_end : counts_shown 0 [] guarded (texted 1 65 ∷ pull 1000 ∷ asked 1000 true ∷ tick 1000 ∷ []) true 1000
+pull_at_an_end : counts_shown (under []) guarded (texted 1 65 ∷ pull 1000 ∷ asked 1000 true ∷ tick 1000 ∷ []) true 1000
     ≡ record { rows = []; not_kept = 0; dropped = 0; missing = 0 }
 pull_at_an_end = refl
 
 -- truths are taken as they are handed in, also where the atom says otherwise
-truths_are_handed_in : counts_shown 0 [] guarded
+truths_are_handed_in : counts_shown (under []) guarded
     (logged 1 (AtomAt 1 (record { id = 6; fields = [] })) (true ∷ [])
     ∷ logged 2 (AtomAt 2 (record { id = 5; fields = [] })) (false ∷ []) ∷ []) true 2
     ≡ record {
@@ -124,7 +133,10 @@ bucket start end count = record { start = start; end = end; value = count }
 
 -- a report groups the rows of two buckets by their keys, and tells the clock at the report before
 two_buckets : report_of
-    (record { base = 0; linked = configured; steps = asked 0 false ∷ texted 1 65 ∷ texted 2 66 ∷ texted 1003 65 ∷ [] })
+    (record {
+      installed = record { base = 0; opening = []; linked = configured };
+      steps = asked 0 false ∷ texted 1 65 ∷ texted 2 66 ∷ texted 1003 65 ∷ [];
+    })
     (pos 10) (pos 7) true 1003 ≡ record {
       uid = pos 10;
       id = pos 7;

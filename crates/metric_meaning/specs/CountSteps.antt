@@ -9,33 +9,35 @@ use Rattle.bucket_meaning.specs.Rows.{report}
 use Rattle.call_rules.specs.LaneCalls.{calls_of, event_asks}
 use Rattle.field_select.specs.LeafValues.{key_of}
 use Rattle.config_links.specs.declared.linked.LMetric.{LMetric}
-use Rattle.config_links.specs.declared.linked.LPredicate.{LPredicate}
-use Rattle.predicate_state.specs.PredicateTable.{PredicateTable}
 use Rattle.count_metric.specs.declared.row.Row.{Row}
 use Rattle.count_metric.specs.Counting.{count_kind, CountParams, CountCall, count_demands}
-use Rattle.metric_meaning.specs.Histories.{What, Logged, Step, truth_at, lane_steps}
-use Rattle.metric_meaning.specs.PredicateSteps.{tables_after}
+use Rattle.metric_meaning.specs.Histories.{What, Logged, Step, Installation, truth_at, lane_steps}
 use Rattle.metric_meaning.specs.MetricConditions.{is_condition_true}
+use Rattle.metric_meaning.specs.StateSlices.{slices_at}
+use Rattle.metric_meaning.specs.Scenes.{Scene, scene_after}
 use Rattle.metric_meaning.specs.StepMarks.{StepNews, marks_to}
 
--- the key by which a metric counts an atom
-abbrev pub atom_key : LMetric → Atom → MetricKey
-atom_key metric atom = record { dims = key_of metric.dims atom; slices = [] }
+-- the key by which a metric counts an atom: its values at the metric's dimensions, and its slices by states
+abbrev pub atom_key : Scene → LMetric → Atom → MetricKey
+atom_key scene metric atom = record {
+  dims = key_of metric.dims atom;
+  slices = slices_at scene.linked.states scene.log atom metric.slices;
+}
 
--- the key that arrives at a step, where predicates know this: that of an atom for which the matcher of what is counted
--- holds, and the condition is true
-abbrev pub arrival_by : List LPredicate → List PredicateTable → LMetric → Step → Option MetricKey
-arrival_by predicates tables metric step = of_what step.what where
+-- the key that arrives at a step where this is found: that of an atom for which the matcher of what is counted holds, and
+-- the condition is true
+abbrev pub arrival_by : Scene → LMetric → Step → Option MetricKey
+arrival_by scene metric step = of_what step.what where
   of_what : What → Option MetricKey
   of_what (Logged (AtomAt at atom)) =
-      if truth_at metric.what step.truths && is_condition_true predicates tables metric atom
-      then Some (atom_key metric atom) else None
+      if truth_at metric.what step.truths
+      && is_condition_true scene.linked.predicates scene.tables metric atom
+      then Some (atom_key scene metric atom) else None
   of_what _ = None
 
--- the key that arrives at a step after others: the condition is asked after what the step itself does to predicates
-abbrev pub arrival_at : List LPredicate → LMetric → List Step → Step → Option MetricKey
-arrival_at predicates metric before step =
-    arrival_by predicates (tables_after predicates (before ++ step ∷ [])) metric step
+-- the key that arrives at a step after others: conditions and states are asked after what the step itself does to them
+abbrev pub arrival_at : Installation → LMetric → List Step → Step → Option MetricKey
+arrival_at installed metric before step = arrival_by (scene_after installed (before ++ step ∷ [])) metric step
 
 -- an arrival is a key with a 1
 abbrev pub arrival_mark : Option MetricKey → List (Mark (MetricKey × ℕ))
@@ -43,23 +45,24 @@ arrival_mark None = []
 arrival_mark (Some key) = Came (key, 1) ∷ []
 
 -- nothing stands at the boundaries of counts, and an arrival is all that a step brings
-abbrev pub count_news : List LPredicate → LMetric → StepNews (MetricKey × ℕ)
-count_news predicates metric = record {
+abbrev pub count_news : Installation → LMetric → StepNews (MetricKey × ℕ)
+count_news installed metric = record {
   edges = λ before. no_edges;
-  comes = λ before step. arrival_mark (arrival_at predicates metric before step);
+  comes = λ before step. arrival_mark (arrival_at installed metric before step);
 }
 
 -- what a report shows of a metric of counts, which is made after these steps
-abbrev pub counts_shown : ℕ → List LPredicate → LMetric → List Step → Bool → ℕ → Taken (Row ℕ)
-counts_shown base predicates metric steps include_current now =
-    report count_kind metric.bound base
-    (marks_to (count_news predicates metric) base metric.size steps include_current now)
+abbrev pub counts_shown : Installation → LMetric → List Step → Bool → ℕ → Taken (Row ℕ)
+counts_shown installed metric steps include_current now =
+    report count_kind metric.bound installed.base
+    (marks_to (count_news installed metric) installed.base metric.size steps include_current now)
 
 -- what a metric's producer of counts is made with
 abbrev pub count_params : ℕ → LMetric → CountParams
 count_params base metric = record { base = base; size = metric.size; bound = metric.bound }
 
 -- the calls that these steps make of it
-abbrev pub count_calls : ℕ → List LPredicate → LMetric → List Step → List CountCall
-count_calls base predicates metric steps =
-    calls_of (count_demands (count_params base metric)) event_asks (lane_steps (arrival_at predicates metric) steps)
+abbrev pub count_calls : Installation → LMetric → List Step → List CountCall
+count_calls installed metric steps =
+    calls_of (count_demands (count_params installed.base metric)) event_asks
+    (lane_steps (arrival_at installed metric) steps)

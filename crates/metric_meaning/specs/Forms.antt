@@ -1,5 +1,5 @@
 -- The form of the configurations that are acted on so far.
-use Rattle.std.specs.Prelude.{Bool, true, false, ◌&&◌, ◌==◌, length}
+use Rattle.std.specs.Prelude.{Bool, true, false}
 use Rattle.std.specs.List.{list_all}
 use Rattle.config_links.specs.declared.linked.Linked.{Linked}
 use Rattle.config_links.specs.declared.linked.LMetric.{LMetric}
@@ -11,10 +11,10 @@ abbrev pub is_count : LKind → Bool
 is_count Count = true
 is_count _ = false
 
--- whether a metric is acted on: it counts, under any condition, and isn't sliced by states
+-- whether a metric is acted on: it counts, under any condition, and sliced by any states
 abbrev pub is_built_metric : LMetric → Bool
-is_built_metric metric = is_count metric.kind && length metric.slices == 0
+is_built_metric metric = is_count metric.kind
 
--- whether a configuration is acted on: any matchers and predicates, no states, and such metrics
+-- whether a configuration is acted on: any matchers, predicates and states, and such metrics
 abbrev pub is_built : Linked → Bool
-is_built linked = length linked.states == 0 && list_all is_built_metric linked.metrics
+is_built linked = list_all is_built_metric linked.metrics

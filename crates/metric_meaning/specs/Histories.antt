@@ -1,5 +1,6 @@
 -- What an installed configuration has seen: one step for each later frame of the log, and for each report of it.
 use Rattle.std.specs.Prelude.{ℕ, zero, suc, Bool, true, false, List, [], ◌∷◌, ◌++◌}
+use Rattle.std.specs.List.{flat_map}
 use Rattle.sd_base.specs.Outputs.{outputs}
 use Rattle.atom_record.specs.declared.log.LogFrame.{LogFrame}
 use Rattle.atom_record.specs.declared.log.LogFrame.TheVariants.{Tick, AtomAt, Pull}
@@ -19,10 +20,16 @@ pub record Step : Type 0 where
   pub what : What
   pub truths : List Bool
 
--- A configuration: the clock at its installation, its parts with places in place of ids, and the steps since.
-pub record History : Type 0 where
+-- What was installed, and when: the clock at the installation, the frames of the log up to it, and the configuration's
+-- parts with places in place of ids.
+pub record Installation : Type 0 where
   pub base : ℕ
+  pub opening : List LogFrame
   pub linked : Linked
+
+-- An installed configuration, and the steps since.
+pub record History : Type 0 where
+  pub installed : Installation
   pub steps : List Step
 
 -- a history with more steps
@@ -32,6 +39,23 @@ with_steps history more = record history { steps = history.steps ++ more }
 -- a history with one step more
 abbrev pub with_step : History → Step → History
 with_step history step = with_steps history (step ∷ [])
+
+-- the frame of the log that a step is, if it is one
+abbrev pub frames_at : What → List LogFrame
+frames_at (Logged frame) = frame ∷ []
+frames_at (Reported include_current) = []
+
+-- the frames of the log among these steps
+abbrev pub logged_frames : List Step → List LogFrame
+logged_frames steps = flat_map (λ (step : Step). frames_at step.what) steps
+
+-- the whole log after these steps: the frames up to the installation, and those since
+abbrev pub log_after : Installation → List Step → List LogFrame
+log_after installed steps = installed.opening ++ logged_frames steps
+
+-- the whole log of a history
+abbrev pub log_of_history : History → List LogFrame
+log_of_history history = log_after history.installed history.steps
 
 -- the truth at a place
 abbrev pub truth_at : ℕ → List Bool → Bool

@@ -1,8 +1,12 @@
 pub mod Histories
+pub mod ShownFrames
 pub mod PredicateSteps
 pub mod MetricConditions
+pub mod StateSlices
+pub mod Scenes
 pub mod StepMarks
 pub mod CountSteps
 pub mod KeyTrees
+pub mod StateDrops
 pub mod Reports
 pub mod Forms

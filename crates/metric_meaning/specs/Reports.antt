@@ -2,7 +2,6 @@
 use Rattle.std.specs.Prelude.{ℕ, ℤ, pos, ◌-◌, ◌^◌, min, Bool, List, [], ◌∷◌, map, filter}
 use Rattle.bucket_meaning.specs.Kept.{Taken}
 use Rattle.config_links.specs.declared.linked.LMetric.{LMetric}
-use Rattle.config_links.specs.declared.linked.LPredicate.{LPredicate}
 use Rattle.config_links.specs.declared.linked.LKind.{LKind}
 use Rattle.config_links.specs.declared.linked.LKind.TheVariants.{Count}
 use Rattle.report_writer.specs.declared.tree.NumBucket.{NumBucket}
@@ -12,8 +11,9 @@ use Rattle.report_writer.specs.declared.tree.MetricBody.TheVariants.{Events, Cou
 use Rattle.report_writer.specs.declared.tree.MetricTree.{MetricTree}
 use Rattle.report_writer.specs.declared.tree.ReportTree.{ReportTree}
 use Rattle.count_metric.specs.declared.row.Row.{Row}
-use Rattle.metric_meaning.specs.Histories.{What, Logged, Reported, Step, History}
+use Rattle.metric_meaning.specs.Histories.{What, Logged, Reported, Step, Installation, History, log_of_history}
 use Rattle.metric_meaning.specs.PredicateSteps.{predicate_drops}
+use Rattle.metric_meaning.specs.StateDrops.{drops_of_states, dropped_for}
 use Rattle.metric_meaning.specs.KeyTrees.{groups_of}
 use Rattle.metric_meaning.specs.CountSteps.{counts_shown}
 
@@ -43,13 +43,13 @@ abbrev pub nothing_shown : Taken (Row ℕ)
 nothing_shown = record { rows = []; not_kept = 0; dropped = 0; missing = 0 }
 
 -- what a report shows of a metric, by its kind
-abbrev pub metric_tree : ℕ → List LPredicate → List Step → Bool → ℕ → LMetric → MetricTree
-metric_tree base predicates steps include_current now metric = by_kind metric.kind where
+abbrev pub metric_tree : Installation → List Step → Bool → ℕ → LMetric → MetricTree
+metric_tree installed steps include_current now metric = by_kind metric.kind where
   by_kind : LKind → MetricTree
   by_kind Count =
-      let shown = counts_shown base predicates metric steps include_current now in
-      tree_with_body base metric shown (Counts (count_groups shown.rows))
-  by_kind _ = tree_with_body base metric nothing_shown (Events [])
+      let shown = counts_shown installed metric steps include_current now in
+      tree_with_body installed.base metric shown (Counts (count_groups shown.rows))
+  by_kind _ = tree_with_body installed.base metric nothing_shown (Events [])
 
 -- the clock at the last report, or the base
 abbrev pub last_report : ℕ → List Step → ℕ
@@ -64,12 +64,12 @@ unfoldable pub report_of : History → ℤ → ℤ → Bool → ℕ → ReportTr
 report_of history uid id include_current now = record {
   uid = uid;
   id = id;
-  last = last_report history.base history.steps;
+  last = last_report history.installed.base history.steps;
   now = now;
   metrics =
-      map (metric_tree history.base history.linked.predicates history.steps include_current now)
-      (filter (λ (metric : LMetric). metric.shown) history.linked.metrics);
-  predicate_drops = predicate_drops history.linked.predicates history.steps;
-  state_drops = [];
-  state_atoms_dropped = 0;
+      map (metric_tree history.installed history.steps include_current now)
+      (filter (λ (metric : LMetric). metric.shown) history.installed.linked.metrics);
+  predicate_drops = predicate_drops history.installed.linked.predicates history.steps;
+  state_drops = drops_of_states history.installed.linked.states (log_of_history history);
+  state_atoms_dropped = dropped_for history.installed.linked.states (log_of_history history);
 }

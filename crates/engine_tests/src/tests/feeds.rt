@@ -7,6 +7,8 @@ use atom_record::{LogFrame, PullOutcome, parse_atom};
 use client_engine::{Instance, LogView, built};
 use config_decode::decode;
 use config_links::link;
+use pull_book::PullBook;
+use state_slicer::StateBook;
 use std::alloc::{AllocError, Global};
 use std::test::Fail;
 
@@ -40,15 +42,17 @@ pub fn instance_of(alloc: Global, config: &str, base: u64) -> Result<Option<Inst
     if !built(&linked) {
         return Ok(None);
     }
-    Ok(Some(Instance::new(alloc, linked, base)?))
+    let pulls = PullBook::new(alloc);
+    let states = StateBook::new(alloc);
+    Ok(Some(Instance::new(alloc, linked, base, &pulls, &states)?))
 }
 
 /// The instance after a step, and whether a report showed what it should.
 pub fn fed(alloc: Global, instance: Instance, step: Step) -> Result<(Instance, bool), Fail> {
     match step {
         Step::Atom(at, payload, truths) => log_atom(alloc, instance, at, payload, truths),
-        Step::Tick(at) => log_tick(instance, at),
-        Step::Pull(at) => log_pull(instance, at),
+        Step::Tick(at) => log_tick(alloc, instance, at),
+        Step::Pull(at) => log_pull(alloc, instance, at),
         Step::Report(at, shown) => report(alloc, instance, false, at, shown),
         Step::Cut(at, shown) => report(alloc, instance, true, at, shown),
     }
@@ -78,12 +82,18 @@ pub fn log_payload(
         return Ok((instance, false));
     }
     let frame = LogFrame::AtomAt { at, atom };
-    let instance = instance.log(&frame, &LogView { matched: truths })?;
+    // no atom of these tests tells a state
+    let states = StateBook::new(alloc);
+    let view = LogView {
+        matched: truths,
+        states: &states,
+    };
+    let instance = instance.log(&frame, &view)?;
     Ok((instance, true))
 }
 
 // A pull that failed.
-fn log_pull(instance: Instance, at: u64) -> Result<(Instance, bool), Fail> {
+fn log_pull(alloc: Global, instance: Instance, at: u64) -> Result<(Instance, bool), Fail> {
     if at >= LATE {
         return Ok((instance, false));
     }
@@ -92,16 +102,26 @@ fn log_pull(instance: Instance, at: u64) -> Result<(Instance, bool), Fail> {
         id: 10_001,
         outcome: PullOutcome::Failed,
     };
-    let instance = instance.log(&frame, &LogView { matched: &[] })?;
+    let states = StateBook::new(alloc);
+    let view = LogView {
+        matched: &[],
+        states: &states,
+    };
+    let instance = instance.log(&frame, &view)?;
     Ok((instance, true))
 }
 
 /// The instance after a tick.
-pub fn log_tick(instance: Instance, at: u64) -> Result<(Instance, bool), Fail> {
+pub fn log_tick(alloc: Global, instance: Instance, at: u64) -> Result<(Instance, bool), Fail> {
     if at >= LATE {
         return Ok((instance, false));
     }
-    let instance = instance.log(&LogFrame::Tick { at }, &LogView { matched: &[] })?;
+    let states = StateBook::new(alloc);
+    let view = LogView {
+        matched: &[],
+        states: &states,
+    };
+    let instance = instance.log(&LogFrame::Tick { at }, &view)?;
     Ok((instance, true))
 }
 
@@ -115,7 +135,8 @@ fn report(
     if at >= LATE {
         return Ok((instance, false));
     }
-    let (instance, tree) = instance.report(10, 7, include_current, at)?;
+    let states = StateBook::new(alloc);
+    let (instance, tree) = instance.report(10, 7, include_current, at, &states)?;
     let text = text_of(alloc, &tree)?;
     Ok((instance, text.as_str() == shown))
 }

@@ -3,6 +3,7 @@ use crate::tests::feeds::{instance_of, log_payload, log_tick};
 use atom_record::Value;
 use client_engine::Instance;
 use report_writer::{MetricBody, NumTree, ReportTree};
+use state_slicer::StateBook;
 use std::alloc::Global;
 use std::test::*;
 
@@ -34,7 +35,7 @@ fn feed_buckets(alloc: Global, instance: Instance, buckets: u32) -> Result<Insta
         let at = u64::from(bucket) * SECOND;
         instance = log_payload(alloc, instance, at, &[5, 0, 0, 0], &[true])?.0;
     }
-    Ok(log_tick(instance, u64::from(buckets) * SECOND)?.0)
+    Ok(log_tick(alloc, instance, u64::from(buckets) * SECOND)?.0)
 }
 
 // Whether the buckets that are kept are those of the first seconds, each of one atom.
@@ -58,7 +59,8 @@ fn keeps_16384_buckets_and_counts_the_next(rt: HostRuntime) -> Result<(), Fail> 
         return Err(Fail::new("not acted on"));
     };
     let instance = feed_buckets(rt.alloc(), instance, KEPT + 1)?;
-    let (_instance, tree) = instance.report(10, 7, false, 16_385 * SECOND)?;
+    let states = StateBook::new(rt.alloc());
+    let (_instance, tree) = instance.report(10, 7, false, 16_385 * SECOND, &states)?;
     let (keys, not_kept) = shown(&tree).unwrap_or((&[], 0));
     assert!(rt; has_first_buckets(keys));
     assert!(rt; not_kept == 1);
@@ -74,7 +76,7 @@ fn feed_keys(alloc: Global, instance: Instance, keys: u32) -> Result<Instance, F
         payload.extend_from_slice(&key.to_le_bytes())?;
         instance = log_payload(alloc, instance, at, payload.as_slice(), &[true])?.0;
     }
-    Ok(log_tick(instance, 6 * SECOND)?.0)
+    Ok(log_tick(alloc, instance, 6 * SECOND)?.0)
 }
 
 // Whether the keys are the first numbers in order, each with one bucket of one atom.
@@ -104,7 +106,8 @@ fn shows_16384_keys(rt: HostRuntime) -> Result<(), Fail> {
         return Err(Fail::new("not acted on"));
     };
     let instance = feed_keys(rt.alloc(), instance, KEPT)?;
-    let (_instance, tree) = instance.report(10, 7, false, 6 * SECOND)?;
+    let states = StateBook::new(rt.alloc());
+    let (_instance, tree) = instance.report(10, 7, false, 6 * SECOND, &states)?;
     let (keys, not_kept) = shown(&tree).unwrap_or((&[], 1));
     assert!(rt; has_each_key_once(keys));
     assert!(rt; not_kept == 0);

@@ -7,7 +7,7 @@ use Rattle.hub_core.proofs.logging.log_all.Given as goal
 
 abbrev pub invariant-loop-place : goal.invariant-loop-place
 invariant-loop-place g l = record {
-  part : PartLog g.J.Judge.says l.frame l.place l.fn.slots.entries l.slots.entries;
+  part : PartLog g.J.Judge.says l.frame l.states l.place l.fn.slots.entries l.slots.entries;
   ticks : AreTicks (asked_by_all l.frame (take l.place l.fn.slots.entries))
       (g.J.Judge.ticks l.fn.judge) (g.J.Judge.ticks l.judge);
   len : length l.slots.entries ≡ length l.fn.slots.entries;

@@ -6,13 +6,13 @@ use Rattle.client_engine.proofs.instance.Instance.log.Goals as goal
 
 -- the frame acted on predicates and came to each metric
 pub returns-clause-logs : goal.returns-clause-logs
-returns-clause-logs c = λ history has later view.
-    let frame = c.args.frame.now in
+returns-clause-logs c = λ history frame has later view shown_is book_is.
     let truths = c.args.view.now.matched.now in
+    let book = c.args.view.now.states.now in
     let timely = c.requires.faultless.timely in
-    inside_logs c.args.self.inside.value c.log.new.self frame truths
-    (subst (λ old. InsideLogs frame truths old c.log.new.self) c.deref_mut.ensures.value c.in_ok-log.ensures)
-    (omega (arith, timely)) history has later
+    inside_logs c.args.self.inside.value c.log.new.self c.args.frame.now truths book
+    (subst (λ old. InsideLogs c.args.frame.now truths book old c.log.new.self) c.deref_mut.ensures.value c.in_ok-log.ensures)
+    (omega (arith, timely)) history frame has later shown_is book_is
 
 -- each metric asks for one of the predicates
 pub log-requires : goal.log-requires
@@ -24,6 +24,7 @@ log-requires c = record {
 pub invariant_of-result : goal.invariant_of-result
 invariant_of-result c = record {
   asked = merely (asked_after_log c.args.self.inside.value c.log.new.self c.args.frame.now c.args.view.now.matched.now
-      (subst (λ old. InsideLogs c.args.frame.now c.args.view.now.matched.now old c.log.new.self)
+      c.args.view.now.states.now (subst (λ old. InsideLogs c.args.frame.now c.args.view.now.matched.now
+      c.args.view.now.states.now old c.log.new.self)
       c.deref_mut.ensures.value c.in_ok-log.ensures) (all_asked c.args.self.inside.value c.args.self.asked));
 }

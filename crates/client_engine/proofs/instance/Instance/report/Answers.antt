@@ -12,8 +12,8 @@ returns-clause-reports c = λ history has now.
     let id_fits : SFits w64 c.args.id = search rules in
     let reports = simp to_z-of_z at c.in_ok-tree.ensures.reports in
     inside_reports c.args.self.inside.value c.report.new.self c.args.uid c.args.id c.args.include_current c.args.at
-    c.in_ok-tree.tree
-    (subst (λ old. InsideReports c.args.uid c.args.id c.args.include_current c.args.at old c.report.new.self
+    c.args.states.now c.in_ok-tree.tree
+    (subst (λ old. InsideReports c.args.uid c.args.id c.args.include_current c.args.at c.args.states.now old c.report.new.self
     c.in_ok-tree.tree) c.deref_mut.ensures.value reports) history has now
 
 -- each metric still asks for one of the predicates
@@ -24,8 +24,8 @@ invariant_of-result c =
     let reports = simp to_z-of_z at c.in_ok-tree.ensures.reports in
     record {
       asked = merely (asked_after_report c.args.self.inside.value c.report.new.self c.args.uid c.args.id
-          c.args.include_current c.args.at c.in_ok-tree.tree
-          (subst (λ old. InsideReports c.args.uid c.args.id c.args.include_current c.args.at old c.report.new.self
+          c.args.include_current c.args.at c.args.states.now c.in_ok-tree.tree
+          (subst (λ old. InsideReports c.args.uid c.args.id c.args.include_current c.args.at c.args.states.now old c.report.new.self
           c.in_ok-tree.tree) c.deref_mut.ensures.value reports)
           (all_asked c.args.self.inside.value c.args.self.asked));
     }

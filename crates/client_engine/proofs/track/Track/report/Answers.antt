@@ -9,5 +9,5 @@ returns-clause-reports c =
     let metric = c.args.self.now.metric in
     let reports = rw (is_counts lane) at c.in_ok-closed.ensures in
     rw (is_counts lane) (IfOk-weaker c.counts_tree.result _ _
-    (λ tree is predicates. track_reports predicates metric c.args.base c.args.include_current c.args.at (the_lane lane)
+    (λ tree is. track_reports metric c.args.base c.args.include_current c.args.at (the_lane lane)
     c.report.new.self c.in_ok-closed.closed reports tree is) c.counts_tree.ensures)

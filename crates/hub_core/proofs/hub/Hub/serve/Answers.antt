@@ -6,15 +6,14 @@ use Rattle.session_frames.specs.Frames.{IsInTime}
 use Rattle.config_decode.specs.Config.{config_of}
 use Rattle.hub_meaning.specs.SessionLog.{clock_of}
 use Rattle.hub_core.specs.InstallReading.{config_read}
-use Rattle.hub_core.proofs.HubStandsLemmas.{serves_as, hub_log, hub_remove, hub_report, hub_install}
+use Rattle.hub_core.proofs.HubStandsLemmas.{serves_as, served_log, hub_remove, hub_report, hub_install}
 use Rattle.hub_core.proofs.hub.Hub.serve.Goals as goal
 
-pub returns-in_ok-self-in-Log-clause-serves : goal.returns-in_ok-self-in-Log-clause-serves
-returns-in_ok-self-in-Log-clause-serves g c = λ frames h in_time.
+pub returns-in_ok-log-in-Log-clause-serves : goal.returns-in_ok-log-in-Log-clause-serves
+returns-in_ok-log-in-Log-clause-serves g c = λ frames h in_time.
     serves_as g.J.Judge.says _ frames c.args.frame (Log c.in-Log.frame) None c.in-Log.is
-    (hub_log g.J.Judge.says c.args.self _ frames h c.in-Log.frame (subst (IsInTime
-    (clock_of frames)) c.in-Log.is in_time)
-    c.time_of.ensures c.in_ok-self-in-Log.ensures.slots c.in_ok-self-in-Log.ensures.counts)
+    (served_log g.J.Judge.says c.args.self _ frames h c.in-Log.frame
+    (c.in_ok-log-in-Log.ensures.stands frames h (subst (IsInTime (clock_of frames)) c.in-Log.is in_time)))
 
 pub returns-in_ok-lives-in-Install-clause-serves : goal.returns-in_ok-lives-in-Install-clause-serves
 returns-in_ok-lives-in-Install-clause-serves g c =
@@ -24,7 +23,7 @@ returns-in_ok-lives-in-Install-clause-serves g c =
     simp to_z-of_z (λ frames h in_time.
     serves_as g.J.Judge.says _ frames c.args.frame _ _ c.in-Install.is
     (hub_install g.J.Judge.says c.args.self _ frames h c.in-Install.uid c.in-Install.id c.in_ok-lives-in-Install.body
-    refl
+    refl refl
     c.in-Install.config c.in_ok-read-in-Install.read
     (c.in_ok-read-in-Install.ensures ∙ ap (λ bytes. config_read (config_of bytes)) c.as_slice.ensures) installs))
 
@@ -35,7 +34,7 @@ returns-in_ok-lives-in-Remove-clause-serves g c =
     let removes = simp to_z-of_z at c.in_ok-lives-in-Remove.ensures in
     simp to_z-of_z (λ frames h in_time.
     serves_as g.J.Judge.says _ frames c.args.frame _ _ c.in-Remove.is
-    (hub_remove g.J.Judge.says c.args.self _ frames h c.in-Remove.uid c.in-Remove.id c.in_ok-lives-in-Remove.body refl
+    (hub_remove g.J.Judge.says c.args.self _ frames h c.in-Remove.uid c.in-Remove.id c.in_ok-lives-in-Remove.body refl refl
     removes))
 
 pub returns-in_ok-lives-in-Report-clause-serves : goal.returns-in_ok-lives-in-Report-clause-serves
@@ -45,5 +44,5 @@ returns-in_ok-lives-in-Report-clause-serves g c =
     let reports = simp to_z-of_z at c.in_ok-lives-in-Report.ensures in
     simp to_z-of_z (λ frames h in_time.
     serves_as g.J.Judge.says _ frames c.args.frame _ _ c.in-Report.is
-    (hub_report g.J.Judge.says c.args.self _ frames h c.in-Report.uid c.in-Report.id c.in_ok-lives-in-Report.body refl
+    (hub_report g.J.Judge.says c.args.self _ frames h c.in-Report.uid c.in-Report.id c.in_ok-lives-in-Report.body refl refl
     c.in-Report.include_current reports))

@@ -30,7 +30,7 @@ returns c =
     let set = simp to_z-of_z at c.in_ok-set_count.ensures in
     let there = c.contains_key-there.ensures in
     let is = simp to_z-of_z at c.others_of-others.ensures in
-    puts_in c.args.clock c.args.name.uid c.args.name.id c.args.linked c.args.self _ c.install_answer.result
+    puts_in c.args.clock c.args.books.now c.args.name.uid c.args.name.id c.args.linked c.args.self _ c.install_answer.result
     c.in_ok-live.live c.others_of-others.result c.in_ok-live.ensures slots set
     (is ∙ ap (λ b. others_at c.args.name.uid b c.args.self.counts.entries) there)
     (c.install_answer.ensures ∙ ap (λ b. cond b Replaced Installed) there)

@@ -1,0 +1,10 @@
+-- The slices so far, before those of the states that are left, whatever log the book stands for.
+use Rattle.std.proofs.Common.{◌≡◌, ◌++◌, List, drop}
+use Rattle.atom_record.specs.declared.log.LogFrame.{LogFrame}
+use Rattle.state_slicer.specs.StateBooks.{StateBookStandsFor}
+use Rattle.metric_meaning.specs.StateSlices.{slices_at}
+use Rattle.client_engine.proofs.slices.slices_of.Given as goal
+
+abbrev pub invariant-loop-by : goal.invariant-loop-by
+invariant-loop-by l = (log : List LogFrame) → StateBookStandsFor l.book log
+    → l.shown ++ slices_at l.states log l.atom (drop l.by-index l.slices) ≡ slices_at l.states log l.atom l.slices

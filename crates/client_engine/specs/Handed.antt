@@ -1,0 +1,29 @@
+-- What a metric is handed with a frame of the log, and what it stands for.
+use Rattle.std.specs.Prelude.{◌≡◌, ℕ, ℤ, List}
+use Rattle.atom_record.specs.declared.value.Leaf.{Leaf}
+use Rattle.dim_table.specs.Table.{Table}
+use Rattle.config_links.specs.declared.linked.LState.{LState}
+use Rattle.state_slicer.specs.StateBooks.{StateBookStandsFor}
+use Rattle.metric_meaning.specs.Scenes.{Scene}
+use Rattle.client_engine.specs.Known.{Known}
+
+-- a book of states, as a contract sees it
+abbrev pub BookOfStates : Type 0
+BookOfStates = Table ℕ (Table (List Leaf) ℤ)
+
+-- Predicates with what they know, the states of the configuration, and the book of states, each after the frame.
+pub record Handed : Type 0 where
+  pub known : Known
+  pub states : List LState
+  pub book : BookOfStates
+
+-- what is handed on
+abbrev pub handed : Known → List LState → BookOfStates → Handed
+handed known states book = record { known = known; states = states; book = book }
+
+-- it is what is found there
+pub record IsOfScene (given : Handed) (scene : Scene) : Type 0 where
+  pub predicates : given.known.predicates ≡ scene.linked.predicates
+  pub tables : given.known.tables ≡ scene.tables
+  pub states : given.states ≡ scene.linked.states
+  pub book : StateBookStandsFor given.book scene.log

@@ -1,0 +1,44 @@
+-- The frame is told, shown and recorded, and the hub stands for the log with it.
+use Rattle.std.proofs.Common.{◌≡◌, ◌∙◌, ◌++◌, ◌∷◌, [], sym, ap, subst}
+use Rattle.state_slicer.specs.StateBooks.{StateBookStandsFor}
+use Rattle.pull_book.specs.PullBooks.{PullBookStandsFor}
+use Rattle.matcher_truths.specs.QuestionCounts.{AreTicks}
+use Rattle.metric_meaning.specs.ShownFrames.{shown_as}
+use Rattle.hub_meaning.specs.SessionLog.{log_frames}
+use Rattle.hub_core.specs.HubStands.{judge_of}
+use Rattle.hub_core.specs.FrameTruths.{asked_by}
+use Rattle.hub_core.specs.SlotLogs.{AllLog}
+use Rattle.hub_core.proofs.SlotLogsLemmas.{asked_shown}
+use Rattle.hub_core.proofs.HubStandsLemmas.{hub_log}
+use Rattle.hub_core.proofs.hub.Hub.log.Goals as goal
+
+-- the book of states has the frame before instances see it, and that of pulls after
+pub returns-clause-stands : goal.returns-clause-stands
+returns-clause-stands g c = λ frames h in_time.
+    let log = log_frames frames in
+    let frame = c.args.frame in
+    let shown = c.shown_of-shown.result.now in
+    let shown_is : shown ≡ shown_as log frame =
+    c.shown_of-shown.ensures ∙ c.shown_instead-instead.ensures.shown log h.books.pulls in
+    let told = c.in_ok-tell.ensures.states log h.books.states in
+    let pulls = c.in_ok-record.ensures.pulls log
+    (subst (λ book. PullBookStandsFor book log) (sym c.in_ok-tell.ensures.pulls) h.books.pulls) in
+    hub_log g.J.Judge.says c.args.self _ frames h frame shown in_time c.time_of.ensures shown_is
+    (record {
+      states = subst (λ book. StateBookStandsFor book (log ++ frame ∷ [])) (sym c.in_ok-record.ensures.states) told;
+      pulls = pulls;
+    })
+    (subst (λ book. AllLog g.J.Judge.says shown book c.args.self.lives.slots.entries c.in_ok-self.field-0.slots.entries)
+    (sym c.in_ok-record.ensures.states) c.in_ok-self.ensures.slots)
+    c.in_ok-self.ensures.counts
+
+-- what is shown is worth as many questions as the frame
+pub returns-clause-asked : goal.returns-clause-asked
+returns-clause-asked g c =
+    let shown = c.shown_of-shown.result.now in
+    let rows = c.args.self.lives.slots.entries in
+    subst (λ n. AreTicks n (g.J.Judge.ticks (judge_of c.args.self)) (g.J.Judge.ticks c.log.new.judge))
+    (asked_shown shown c.args.frame
+    (λ matchers. ap (λ f. asked_by f matchers) c.shown_of-shown.ensures
+    ∙ c.shown_instead-instead.ensures.asked matchers) rows)
+    c.in_ok-self.ensures.ticks

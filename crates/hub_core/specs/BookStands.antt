@@ -1,0 +1,11 @@
+-- What the two books of the log stand for.
+use Rattle.std.specs.Prelude.{List}
+use Rattle.atom_record.specs.declared.log.LogFrame.{LogFrame}
+use Rattle.state_slicer.specs.StateBooks.{StateBookStandsFor}
+use Rattle.pull_book.specs.PullBooks.{PullBookStandsFor}
+use Rattle.hub_core.specs.declared.books.Books.{Books}
+
+-- both are what these frames of the log make of empty ones
+pub record BooksStandFor (books : Books) (log : List LogFrame) : Type 0 where
+  pub states : StateBookStandsFor books.states log
+  pub pulls : PullBookStandsFor books.pulls log

@@ -1,0 +1,97 @@
+//! The two books of the log: the states that it gave, and what pulls gave.
+ghost use Rattle.std.specs.Prelude.{◌≡◌, ◌∷◌, ◌++◌, [], List, unwrap_or, IfSome, OnOk};
+ghost use Rattle.atom_record.specs.declared.log.LogFrame.{LogFrame};
+ghost use Rattle.session_frames.specs.Faultless.{IsFaultlessLog};
+ghost use Rattle.state_slicer.specs.StateBooks.{StateBookStandsFor};
+ghost use Rattle.pull_book.specs.PullBooks.{PullBookStandsFor};
+ghost use Rattle.metric_meaning.specs.ShownFrames.{shown_as};
+
+use atom_record::{LogFrame, PullOutcome};
+use pull_book::PullBook;
+use state_slicer::StateBook;
+use std::alloc::{AllocError, Global};
+
+/// The two books of the log.
+#[derive(Drop)]
+pub struct Books {
+    pub states: StateBook,
+    pub pulls: PullBook,
+}
+
+impl Books {
+    ghost use Rattle.config_links.specs.declared.linked.LMatcher.{LMatcher};
+    ghost use Rattle.hub_core.specs.BookStands.{BooksStandFor};
+    ghost use Rattle.hub_core.specs.FrameTruths.{asked_by};
+
+    /// Books of no frame. They take no memory yet.
+    pub fn new(alloc: Global) -> Books
+        ensures { BooksStandFor result [] }
+    {
+        Books {
+            states: StateBook::new(alloc),
+            pulls: PullBook::new(alloc),
+        }
+    }
+
+    /// The failed pull as which a frame is shown, if it is a pull that isn't kept.
+    pub fn shown_instead(&self, frame: &LogFrame) -> Option<LogFrame>
+        requires faultless { IsFaultlessLog frame.now }
+        ensures shown { (log : List LogFrame) → PullBookStandsFor self.now.pulls log
+            → unwrap_or result frame.now ≡ shown_as log frame.now }
+        ensures faultless { IfSome result IsFaultlessLog }
+        ensures asked { (matchers : List LMatcher)
+            → asked_by (unwrap_or result frame.now) matchers ≡ asked_by frame.now matchers }
+    {
+        match frame {
+            LogFrame::Tick { .. } => None,
+            LogFrame::AtomAt { .. } => None,
+            LogFrame::Pull { at, id, .. } => {
+                if self.pulls.keeps(*id) {
+                    return None;
+                }
+                Some(LogFrame::Pull {
+                    at: *at,
+                    id: *id,
+                    outcome: PullOutcome::Failed,
+                })
+            }
+        }
+    }
+
+    /// Takes the state that a frame tells, if it tells one.
+    pub fn tell(&mut self, frame: &LogFrame) -> Result<(), AllocError>
+        ensures states { OnOk result ((log : List LogFrame) → StateBookStandsFor self.old.states log
+            → StateBookStandsFor self.new.states (log ++ frame.now ∷ [])) }
+        ensures pulls { self.new.pulls ≡ self.old.pulls }
+    {
+        match frame {
+            LogFrame::Tick { .. } => Ok(()),
+            LogFrame::AtomAt { atom, .. } => self.states.apply(atom),
+            LogFrame::Pull { .. } => Ok(()),
+        }
+    }
+
+    /// Takes what a frame pulled, if it is a pull.
+    pub fn record(&mut self, frame: LogFrame) -> Result<(), AllocError>
+        requires faultless { IsFaultlessLog frame }
+        ensures pulls { OnOk result ((log : List LogFrame) → PullBookStandsFor self.old.pulls log
+            → PullBookStandsFor self.new.pulls (log ++ frame ∷ [])) }
+        ensures states { self.new.states ≡ self.old.states }
+    {
+        match frame {
+            LogFrame::Tick { .. } => Ok(()),
+            LogFrame::AtomAt { .. } => Ok(()),
+            LogFrame::Pull { id, outcome, .. } => self.pulls.set(id, outcome),
+        }
+    }
+}
+
+/// A frame, or what is shown in its place.
+pub fn shown_of<'a>(instead: &'a Option<LogFrame>, frame: &'a LogFrame) -> &'a LogFrame
+    ensures { result.now ≡ unwrap_or instead.now frame.now }
+{
+    match instead {
+        Some(shown) => shown,
+        None => frame,
+    }
+}

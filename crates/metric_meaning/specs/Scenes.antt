@@ -1,0 +1,21 @@
+-- What a metric finds at a step, when the step has acted: what predicates know, and the log.
+use Rattle.std.specs.Prelude.{List}
+use Rattle.atom_record.specs.declared.log.LogFrame.{LogFrame}
+use Rattle.config_links.specs.declared.linked.Linked.{Linked}
+use Rattle.predicate_state.specs.PredicateTable.{PredicateTable}
+use Rattle.metric_meaning.specs.Histories.{Installation, Step, log_after}
+use Rattle.metric_meaning.specs.PredicateSteps.{tables_after}
+
+-- The configuration, what its predicates know, in config order, and the whole log.
+pub record Scene : Type 0 where
+  pub linked : Linked
+  pub tables : List PredicateTable
+  pub log : List LogFrame
+
+-- what is found after these steps
+abbrev pub scene_after : Installation → List Step → Scene
+scene_after installed steps = record {
+  linked = installed.linked;
+  tables = tables_after installed.linked.predicates steps;
+  log = log_after installed steps;
+}
