@@ -1,7 +1,6 @@
 //! A configuration whose references are places in config order, and what an entity of one can't be.
 #![tactic(auto)]
 
-mod askable;
 mod asked;
 mod kinds;
 mod laws;
