@@ -1,4 +1,4 @@
-use Rattle.std.proofs.Common.{◌≡◌, List, ap, ◌∙◌}
+use Rattle.std.proofs.Common.{List, ap, ◌∙◌}
 use Rattle.std.specs.List.{slice_get}
 use Rattle.atom_record.specs.declared.atom.AtomField.{AtomField}
 use Rattle.config_types.specs.declared.matcher.Test.TheViews.{out-Test}
