@@ -1,4 +1,5 @@
 //! The flat form of a clock: four numbers.
+ghost use Rattle.std.proofs.Common.{refl};
 ghost use Rattle.std.specs.Prelude.{◌≡◌};
 
 use crate::Clock;
@@ -6,7 +7,7 @@ use flat_form::{Flat, FlatError, Items};
 use std::alloc::{AllocError, Global};
 
 impl Flat for Clock {
-    ghost use Rattle.flat_form.specs.Bounded.{none_few};
+    ghost use Rattle.flat_form.specs.Bounded.{short_head, none_few};
     ghost use Rattle.bucket_clock.specs.ClockItems.{clock_items, IsClock, clock_bounded, clock_savable};
 
     ghost flat = { clock_items };
@@ -14,6 +15,8 @@ impl Flat for Clock {
     ghost valid = { IsClock };
 
     ghost head = { 4 };
+
+    ghost short = { short_head 4 refl };
 
     ghost bounded = { clock_bounded };
 

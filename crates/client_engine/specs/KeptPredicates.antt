@@ -5,7 +5,7 @@ use Rattle.link_graph.specs.Links.{AreInRange, HasNoCycle}
 use Rattle.config_links.specs.declared.linked.LPredicate.{LPredicate}
 use Rattle.config_links.specs.declared.linked.LPredBody.{LPredBody}
 use Rattle.config_links.specs.LinkScopes.{body_dims}
-use Rattle.config_links.specs.SoundConfig.{IsBound}
+use Rattle.config_links.specs.SoundConfig.{most_predicates, IsBound}
 use Rattle.condition_links.specs.Conditions.{predicate_names}
 use Rattle.predicate_state.specs.PredicateTable.{PredicateTable}
 use Rattle.metric_meaning.specs.PredicateSteps.{table_spec, table_with, atom_events}
@@ -30,7 +30,7 @@ HaveTheirSpecs predicates tables =
 
 -- predicates that can be kept and asked
 pub record CanBeKept (predicates : List LPredicate) : Type 0 where
-  pub few : length predicates ≤ 300
+  pub few : length predicates ≤ most_predicates
   pub in_range : AreInRange (predicate_names predicates)
   pub no_cycle : HasNoCycle (predicate_names predicates)
   pub leaves : All KeepsItsLeaves predicates

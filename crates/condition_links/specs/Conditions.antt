@@ -9,6 +9,7 @@ use Rattle.config_links.specs.declared.linked.LPredBody.{LPredBody}
 use Rattle.config_links.specs.declared.linked.LPredBody.TheVariants.{Simple, Combo}
 use Rattle.config_links.specs.declared.linked.CondTree.{CondTree}
 use Rattle.config_links.specs.LinkScopes.{named_predicates}
+use Rattle.config_links.specs.SoundConfig.{most_predicates}
 use Rattle.predicate_state.specs.declared.truth.Truth.{Truth}
 use Rattle.predicate_state.specs.declared.truth.Truth.TheVariants.{Unknown, True}
 use Rattle.predicate_state.specs.declared.bind.Bind.{Bind}
@@ -59,7 +60,7 @@ condition_of tree tables binds = root_truth (predicate_truth tables binds tree.n
 
 -- What a linked condition keeps.
 pub record IsSoundTree (tree : CondTree) : Type 0 where
-  pub few : length tree.nodes ≤ 300
+  pub few : length tree.nodes ≤ most_predicates
   pub root : IfSome tree.root (λ root. root < length tree.nodes)
   pub in_range : AreInRange (predicate_names tree.nodes)
   pub no_cycle : HasNoCycle (predicate_names tree.nodes)

@@ -9,4 +9,4 @@ mod search;
 pub use joined::combine3;
 pub use laws::each_truth_is_made_of_others;
 pub use links::{bind_atom, bind_key};
-pub use search::{MOST_PREDICATES, query};
+pub use search::query;

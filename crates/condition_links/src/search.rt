@@ -6,11 +6,8 @@ ghost use Rattle.condition_links.specs.Conditions.{predicate_names, condition_of
 ghost use Rattle.condition_links.specs.FoundTruths.{AreFound};
 
 use crate::joined::Seen;
-use config_links::{CondTree, LPredBody, LPredicate};
+use config_links::{CondTree, LPredBody, LPredicate, MOST_PREDICATES};
 use predicate_state::{BindList, PredTable, Truth};
-
-/// The most predicates that a configuration has.
-pub const MOST_PREDICATES: usize = 300;
 
 /// The truth of the condition. Each predicate is asked or joined at most once, and no memory is taken.
 pub fn query(tree: &CondTree, tables: &[PredTable], binds: &[BindList]) -> Truth

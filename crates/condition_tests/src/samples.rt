@@ -3,8 +3,8 @@ ghost use Rattle.condition_links.specs.Conditions.{predicate_names, IsSoundTree}
 ghost use Rattle.link_graph.specs.Links.{AreInRange, HasNoCycle};
 ghost use Rattle.std.specs.Prelude.{◌≡◌, IfOk, IfSome, IsTrue, ◌<◌, ◌^◌, length};
 
-use condition_links::{MOST_PREDICATES, query};
-use config_links::{CondTree, LPredBody, LPredicate};
+use condition_links::query;
+use config_links::{CondTree, LPredBody, LPredicate, MOST_PREDICATES};
 use config_types::{Operation, PredSpec};
 use field_select::FieldSet;
 use link_graph::{are_in_range, first_on_cycle};

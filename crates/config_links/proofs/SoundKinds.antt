@@ -1,5 +1,5 @@
 -- What a metric has by its kind is sound where none of its reasons holds.
-use Rattle.std.proofs.Common.{◌≡◌, ℕ, ◌<◌, ◌≤◌, ◌*◌, ◌⊎◌, inl, inr, Bool, true, false, not, ◌&&◌, ◌||◌, ◌==◌, nat_lt, List, [], ◌∷◌, length, Option, Some, None, is_some, slice_get, if◌then◌else◌, All, refl, sym, ap, ◌∙◌, subst, arith}
+use Rattle.std.proofs.Common.{◌≡◌, ℕ, ◌<◌, ◌≤◌, ◌*◌, ◌⊎◌, inl, inr, Bool, true, false, not, ◌&&◌, ◌||◌, ◌==◌, nat_lt, List, [], ◌∷◌, map, length, Option, Some, None, is_some, slice_get, if◌then◌else◌, All, refl, sym, ap, ◌∙◌, subst, arith}
 use Rattle.std.specs.Prelude.{ℤ, pos, negsuc}
 use Rattle.std.specs.Ordering.{int_eq}
 use Rattle.std.specs.Option.{option_map, unwrap_or}
@@ -25,7 +25,7 @@ use Rattle.config_links.specs.declared.scope.Scope.{Scope}
 use Rattle.config_links.specs.declared.sets.StateLinkSets.{StateLinkSets}
 use Rattle.config_links.specs.LinkScopes.{predicate_named, spec_in, dims_in, is_pulled_matcher, names_pulled, state_atom}
 use Rattle.config_links.specs.MetricLinks.{is_within}
-use Rattle.config_links.specs.MetricSlices.{are_within, slice_fields, linked_slices, is_atom}
+use Rattle.config_links.specs.MetricSlices.{are_within, slice_fields, linked_slice, is_atom}
 use Rattle.config_links.specs.MetricKinds.{is_value_set, first_leaf, may_sample, no_spec, timed_spec, sampling_mode}
 use Rattle.config_links.specs.declared.linked.Linked.{Linked}
 use Rattle.config_links.specs.declared.linked.LMetric.{LMetric}
@@ -163,7 +163,8 @@ module _ (scope : Scope) (what : ℤ) where
 
   slices_within : (predicate : Option LPredicate) (links : List StateLinkSets) (ids : List ℤ)
       → AllByRecursion (λ (sets : StateLinkSets). AreFieldsOf predicate sets.in_what) links
-      → AllByRecursion (λ (slice : LSlice). MayBeFieldsOf predicate slice.in_what) (linked_slices scope links ids)
+      → AllByRecursion (λ (slice : LSlice). MayBeFieldsOf predicate slice.in_what)
+      (map (linked_slice scope links) ids)
   slices_within predicate links [] all = tt
   slices_within predicate links (id ∷ ids) all =
       (fields_of predicate links (state_atom scope id) all, slices_within predicate links ids all)
@@ -176,7 +177,7 @@ module _ (scope : Scope) (what : ℤ) where
   pub duration_sound : (linked : Linked) (metric : LMetric) (bound : ℕ) (links : List StateLinkSets) (ids : List ℤ)
       → Known scope.ids.predicates what → length scope.ids.predicates ≤ length linked.predicates
       → linked.predicates ≡ scope.predicates → metric.what ≡ place_in scope.ids.predicates what
-      → metric.bound ≡ bound → metric.slices ≡ linked_slices scope links ids
+      → metric.bound ≡ bound → metric.slices ≡ map (linked_slice scope links) ids
       → is_some (spec_in (predicate_named scope what)) ≡ true
       → are_within (dims_in (predicate_named scope what)) metric.dims metric.links links ≡ true
       → IsSoundDuration linked metric (timed_spec scope what bound)
@@ -196,9 +197,9 @@ module _ (scope : Scope) (what : ℤ) where
       let of_links = left_holds (list_all (λ (link : LLink). is_within dims link.in_what) metric.links) _ others in
       let of_states = right_holds (list_all (λ (link : LLink). is_within dims link.in_what) metric.links) _ others in
       let slices : All (λ (slice : LSlice). MayBeFieldsOf (predicate_named scope what) slice.in_what)
-      (linked_slices scope links ids) =
+      (map (linked_slice scope links) ids) =
       All-from_recursion (λ (slice : LSlice). MayBeFieldsOf (predicate_named scope what) slice.in_what)
-      (linked_slices scope links ids)
+      (map (linked_slice scope links) ids)
       (slices_within (predicate_named scope what) links ids
       (all_pass (λ (sets : StateLinkSets). is_within dims sets.in_what) links of_states)) in
       record {

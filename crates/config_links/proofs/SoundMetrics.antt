@@ -24,7 +24,7 @@ use Rattle.config_links.specs.LinkReasons.{set_or_none, may_stand}
 use Rattle.config_links.specs.LinkScopes.{names_pulled}
 use Rattle.config_links.specs.MetricTrees.{metric_stands, metric_sets, own_tree, link_stands, sets_of_link}
 use Rattle.config_links.specs.MetricLinks.{is_even, is_asked, are_asked, is_bound, linked_link, linked_links, link_reasons, bad_links}
-use Rattle.config_links.specs.MetricSlices.{fit_states, fits_state, fit_slices, may_be_sliced, sliced_atoms, linked_slices, is_pulled_kind, time_reasons, bad_times, slice_reasons, bad_slices}
+use Rattle.config_links.specs.MetricSlices.{fit_states, fits_state, fit_slices, may_be_sliced, sliced_atoms, linked_slice, is_pulled_kind, time_reasons, bad_times, slice_reasons, bad_slices}
 use Rattle.config_links.specs.MetricKinds.{kind_reasons, bad_kind, value_form, gauge_form, duration_form, linked_kind, timed_spec, first_leaf, trigger_place, sampled_fields, may_sample}
 use Rattle.config_links.specs.LinkMetrics.{what_id, metric_parts, what_place, bucket_size, bucket_bound, bad_rest, bad_metric, linked_metric}
 use Rattle.config_links.specs.SoundConfig.{MayBeWithin, IsBound, IsSize, IsPulledAt, IsValueField, IsFilter, AreSamples, IsSoundDuration, IsSoundKind, IsSoundMetric}
@@ -72,9 +72,9 @@ module _ (linked : Linked) (metric : LMetric) where
       → AreSamples metric.bound (samples_of gauge)
       → MayBeWithin (length linked.matchers) (trigger_place scope gauge)
       → may_sample pulled gauge.sampling gauge.trigger ≡ true
-      → (pulled ≡ true → metric.links ≡ [])
+      → (pulled ≡ true → metric.links ≡ []) → metric.slices ≡ []
       → IsSoundKind linked metric (gauge_form scope pulled gauge set)
-  gauge_by scope true gauge set within size at fields samples trigger may no_links = (
+  gauge_by scope true gauge set within size at fields samples trigger may no_links no_slices = (
     within,
     size,
     at,
@@ -84,9 +84,10 @@ module _ (linked : Linked) (metric : LMetric) where
         (may_sample_parts gauge.sampling gauge.trigger may),
     trigger,
     no_links refl,
+    no_slices,
   )
-  gauge_by scope false gauge set within size at fields samples trigger may no_links =
-      (within, size, at, fields, samples)
+  gauge_by scope false gauge set within size at fields samples trigger may no_links no_slices =
+      (within, size, at, fields, samples, no_slices)
 
   duration_by : (max_sparse : Bool) (spec : _) → IsSize metric.size → IsSoundDuration linked metric spec
       → (max_sparse ≡ true → metric.slices ≡ []) → IsSoundKind linked metric (duration_form max_sparse spec)
@@ -130,9 +131,9 @@ module _ (scope : Scope) (metrics : List LMetric)
 
   no_slices : (links : List StateLinkSets) (slices : List ℤ) (may : Bool) → ((length slices == 0) || may) ≡ true → may
       ≡ false
-      → linked_slices scope links slices ≡ []
+      → map (linked_slice scope links) slices ≡ []
   no_slices links slices may fit is =
-      ap (linked_slices scope links) (is_zero slices (first_or (length slices == 0) may fit is))
+      ap (map (linked_slice scope links)) (is_zero slices (first_or (length slices == 0) may fit is))
 
   kind_sound : (def : Metric) (kind : Kind)
       → first_unknown scope.ids.matchers (matchers_of_metric (of_kind def kind)) ≡ None
@@ -149,7 +150,7 @@ module _ (scope : Scope) (metrics : List LMetric)
       → IsSoundKind whole (made def kind) (linked_kind scope (what_id def) (bound_or_default def.sliced.bound) kind)
   unfolding linked_kind what_place bucket_size bucket_bound
   kind_sound def Event starts names has limit own tests times fit =
-      (place_here (what_id def) (what_of_atoms def starts has), refl, refl)
+      (place_here (what_id def) (what_of_atoms def starts has), refl, refl, refl)
   kind_sound def Count starts names has limit own tests times fit =
       (place_here (what_id def) (what_of_atoms def starts has), size_fits def.sliced.bucket uid)
   kind_sound def (Value value) starts names has limit own tests times fit =
@@ -174,7 +175,7 @@ module _ (scope : Scope) (metrics : List LMetric)
       (record { few = samples_fit gauge.sampling gauge.max_samples limits.0; product = product_fits _ limits.1.0 })
       (may_be_within scope.ids.matchers (length scope.matchers) some gauge.trigger each.1.0)
       (holds _ tests.1.1.1.1.0)
-      (λ is. no_links def (names_pulled scope (what_id def)) tests.1.1.0 is)
+      (λ is. no_links def (names_pulled scope (what_id def)) tests.1.1.0 is) refl
   kind_sound def (Duration max_sparse) starts names has limit own tests times fit =
       let each = names_known scope.ids.predicates (predicates_of_metric (of_kind def (Duration max_sparse))) names in
       let known = may_known scope.ids.predicates def.common.what each.0 has in
@@ -290,8 +291,8 @@ module _ (scope : Scope) (metrics : List LMetric)
             (nothing_found _ once);
         dims = set_is_sound def.sliced.dims dims_stand;
         bound = bound_by def def.kind limits.0;
-        slices = slices_sound scope several state_sets def.sliced.slices known_states has_set;
-        atoms = slices_apart scope several state_sets def.sliced.slices known_states (nothing_found _ no_two);
+        slices = slices_sound scope several state_sets def.kind def.sliced.slices known_states has_set;
+        atoms = slices_apart scope several state_sets def.kind def.sliced.slices known_states (nothing_found _ no_two);
         kind = kind_sound def def.kind starts names tests.1.1.1.1.0 limits.1.0 own rest.2 rest.0 slices;
       }
 

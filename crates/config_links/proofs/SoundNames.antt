@@ -1,10 +1,11 @@
 -- What stands at the place of an id that is known, and what a name of a metric leads to.
-use Rattle.std.proofs.Common.{◌≡◌, ◌≢◌, ℕ, zero, suc, ◌<◌, ◌≤◌, Bool, true, false, not, ◌&&◌, ◌==◌, cond, List, [], ◌∷◌, map, length, get_or, Option, Some, None, is_none, is_some, slice_get, if◌then◌else◌, nat_lt, AllPairs, refl, sym, ap, ◌∙◌, subst, arith}
+use Rattle.std.proofs.Common.{◌≡◌, ◌≢◌, ℕ, zero, suc, ◌<◌, ◌≤◌, Bool, true, false, not, ◌&&◌, ◌||◌, ◌+◌, ◌==◌, cond, List, [], ◌∷◌, map, length, get_or, Option, Some, None, is_none, is_some, slice_get, if◌then◌else◌, nat_lt, AllPairs, refl, sym, ap, ◌∙◌, subst, arith}
 use Rattle.std.specs.Prelude.{ℤ}
 use Rattle.std.specs.Ordering.{int_eq}
 use Rattle.std.specs.Option.{option_and_then, unwrap_or}
 use Rattle.std.specs.List.{AllByRecursion, list_any, list_all, position_or_len, find}
-use Rattle.std.proofs.lemmas.Bool.{ltb-true}
+use Rattle.std.proofs.lemmas.Bool.{ltb-true, ltb-false}
+use Rattle.std.proofs.lemmas.Option.{slice_get_within}
 use Rattle.std.proofs.lemmas.Bool.Decides.{Decides-int_eq, Decides-eqb}
 use Rattle.std.proofs.lemmas.List.{length-map, get_or-map}
 use Rattle.distinct.specs.Places.{first_place}
@@ -86,6 +87,35 @@ module _ {A : Type 0} (test : A → Bool) where
   pub place_below : (xs : List A) → list_any test xs ≡ true → unwrap_or (first_place test xs) 0 < length xs
   unfolding first_place
   place_below xs h = chosen_within (position_or_len test xs) (length xs) _ refl (any_some xs h)
+
+  -- one step down the list
+  first_step : (passes : Bool) (x : A) (xs : List A) → test x ≡ passes → (passes || list_any test xs) ≡ true
+      → (list_any test xs ≡ true → (y : A) × (slice_get xs (position_or_len test xs) ≡ Some y) × (test y ≡ true))
+      → (y : A) × (slice_get (x ∷ xs) (cond (not passes) (1 + position_or_len test xs) 0) ≡ Some y) × (test y ≡ true)
+  first_step true x xs passes any later = (x, refl, passes)
+  first_step false x xs passes any later =
+      let next : 1 + position_or_len test xs ≡ suc (position_or_len test xs) = omega arith in
+      let found = later any in (found.0, ap (slice_get (x ∷ xs)) next ∙ found.1, found.2)
+
+  first_item : (xs : List A) → list_any test xs ≡ true
+      → (y : A) × (slice_get xs (position_or_len test xs) ≡ Some y) × (test y ≡ true)
+  first_item [] any = absurd (cc)
+  first_item (x ∷ xs) any = first_step (test x) x xs refl any (first_item xs)
+
+  chosen_place : (place count : ℕ) (found : Bool) → nat_lt place count ≡ found → place < count
+      → unwrap_or (cond found (Some place) None) 0 ≡ place
+  chosen_place place count true is within = refl
+  chosen_place place count false is within = absurd (omega (arith, within, ltb-false place count is))
+
+  -- where some pass, what stands at the first place passes
+  pub passes_first : (xs : List A) → list_any test xs ≡ true
+      → (y : A) × (slice_get xs (unwrap_or (first_place test xs) 0) ≡ Some y) × (test y ≡ true)
+  unfolding first_place
+  passes_first xs any =
+      let first = first_item xs any in
+      let within = slice_get_within xs (position_or_len test xs) first.0 first.1 in
+      let at = chosen_place (position_or_len test xs) (length xs) _ refl within in
+      (first.0, ap (slice_get xs) at ∙ first.1, first.2)
 
   -- where all pass, each does
   pub all_pass : (xs : List A) → list_all test xs ≡ true → AllByRecursion (λ x. test x ≡ true) xs

@@ -9,6 +9,8 @@ use Rattle.std.proofs.lemmas.List.Elements.{All-from_recursion}
 use Rattle.config_types.specs.declared.metric.StateLinkDef.{StateLinkDef}
 use Rattle.distinct.specs.Repeats.{repeat_in, AreApart}
 use Rattle.distinct.proofs.ApartLemmas.{apart_without_repeat}
+use Rattle.link_rules.specs.declared.entities.Kind.{Kind}
+use Rattle.link_rules.specs.declared.entities.Kind.TheVariants.{Event, Count, Value, Gauge, Duration}
 use Rattle.link_rules.specs.EntityIds.{place_in}
 use Rattle.config_links.specs.declared.linked.LSlice.{LSlice}
 use Rattle.config_links.specs.declared.scope.Scope.{Scope}
@@ -62,6 +64,16 @@ sets_of (def ∷ defs) atoms stand fit =
           (right_holds (fits_state atoms (sets_of_state_link def)) _ fit),
     )
 
+-- what holds of no slices, and of slices by the states of these ids, holds of those of each kind
+pub of_each_kind : (P : List LSlice → Type 0) (scope : Scope) (links : List StateLinkSets) (ids : List ℤ) → P []
+    → P (map (linked_slice scope links) ids)
+    → (kind : Kind) → P (linked_slices scope kind links ids)
+of_each_kind P scope links ids none all Event = none
+of_each_kind P scope links ids none all Count = all
+of_each_kind P scope links ids none all (Value value) = all
+of_each_kind P scope links ids none all (Gauge gauge) = none
+of_each_kind P scope links ids none all (Duration max_sparse) = all
+
 module _ (scope : Scope) (many : length scope.ids.states ≤ length scope.states) (links : List StateLinkSets) where
   slices_by : (ids : List ℤ) → AllByRecursion (Known scope.ids.states) ids → AllByRecursion HasSet links
       → AllByRecursion (IsSoundSlice (length scope.states)) (map (linked_slice scope links) ids)
@@ -74,10 +86,13 @@ module _ (scope : Scope) (many : length scope.ids.states ≤ length scope.states
       )
 
   -- slices by states that are known
-  pub slices_sound : (ids : List ℤ) → AllByRecursion (Known scope.ids.states) ids → AllByRecursion HasSet links
-      → All (IsSoundSlice (length scope.states)) (linked_slices scope links ids)
-  slices_sound ids known all =
-      All-from_recursion (IsSoundSlice (length scope.states)) (linked_slices scope links ids) (slices_by ids known all)
+  pub slices_sound : (kind : Kind) (ids : List ℤ) → AllByRecursion (Known scope.ids.states) ids
+      → AllByRecursion HasSet links
+      → All (IsSoundSlice (length scope.states)) (linked_slices scope kind links ids)
+  slices_sound kind ids known all =
+      of_each_kind (All (IsSoundSlice (length scope.states))) scope links ids (λ i d within. absurd (omega arith))
+      (All-from_recursion (IsSoundSlice (length scope.states)) (map (linked_slice scope links) ids)
+      (slices_by ids known all)) kind
 
   -- the atom of a slice is that of its state
   same_atoms : (ids : List ℤ) → AllByRecursion (Known scope.ids.states) ids
@@ -90,14 +105,17 @@ module _ (scope : Scope) (many : length scope.ids.states ≤ length scope.states
       cc
 
   -- no two slices are of the same atom
-  pub slices_apart : (ids : List ℤ) → AllByRecursion (Known scope.ids.states) ids
+  abbrev AreOfOtherAtoms : List LSlice → Type 0
+  AreOfOtherAtoms = AllPairs (λ (slice later : LSlice). slice_atom scope.states slice ≢ slice_atom scope.states later)
+
+  pub slices_apart : (kind : Kind) (ids : List ℤ) → AllByRecursion (Known scope.ids.states) ids
       → repeat_in (λ one other. one == other) (sliced_atoms scope ids) ≡ None
-      → AllPairs (λ (slice later : LSlice). slice_atom scope.states slice ≢ slice_atom scope.states later)
-      (linked_slices scope links ids)
-  slices_apart ids known none =
-      apart_mapped (slice_atom scope.states) (linked_slices scope links ids)
+      → AreOfOtherAtoms (linked_slices scope kind links ids)
+  slices_apart kind ids known none =
+      of_each_kind AreOfOtherAtoms scope links ids (λ i j d before within. absurd (omega arith))
+      (apart_mapped (slice_atom scope.states) (map (linked_slice scope links) ids)
       (subst AreApart (same_atoms ids known)
-      (apart_without_repeat (λ one other. one == other) Decides-eqb (sliced_atoms scope ids) none))
+      (apart_without_repeat (λ one other. one == other) Decides-eqb (sliced_atoms scope ids) none))) kind
 
 pub has_sets : (defs : List StateLinkDef) (atoms : List ℕ) → list_all state_link_stands defs ≡ true
     → list_all (fits_state atoms) (map sets_of_state_link defs) ≡ true

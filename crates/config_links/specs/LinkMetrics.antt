@@ -75,7 +75,7 @@ metric_with scope uid no_report metric parts = record {
   dims = parts.dims;
   size = bucket_size uid metric.kind metric.sliced.bucket;
   bound = bucket_bound metric.kind metric.sliced.bound;
-  slices = linked_slices scope parts.state_links metric.sliced.slices;
+  slices = linked_slices scope metric.kind parts.state_links metric.sliced.slices;
   kind = linked_kind scope parts.what (bound_or_default metric.sliced.bound) metric.kind;
 }
 

@@ -7,7 +7,7 @@ use Rattle.distinct.specs.Repeats.{repeat_in}
 use Rattle.field_select.specs.declared.leaf.FieldSet.{FieldSet}
 use Rattle.field_select.specs.declared.leaf.LeafPath.{LeafPath}
 use Rattle.link_rules.specs.declared.entities.Kind.{Kind}
-use Rattle.link_rules.specs.declared.entities.Kind.TheVariants.{Value, Gauge, Duration}
+use Rattle.link_rules.specs.declared.entities.Kind.TheVariants.{Event, Value, Gauge, Duration}
 use Rattle.link_rules.specs.declared.fault.LinkFault.{LinkFault}
 use Rattle.link_rules.specs.EntityIds.{set_ids, place_in}
 use Rattle.config_links.specs.declared.linked.LLink.{LLink}
@@ -109,9 +109,11 @@ abbrev pub linked_slice : Scope → List StateLinkSets → ℤ → LSlice
 linked_slice scope links id =
     record { state = place_in scope.ids.states id; in_what = slice_fields links (state_atom scope id) }
 
--- slices by the states of these ids
-abbrev pub linked_slices : Scope → List StateLinkSets → List ℤ → List LSlice
-linked_slices scope links slices = map (linked_slice scope links) slices
+-- slices by the states of these ids; events and gauges have none
+abbrev pub linked_slices : Scope → Kind → List StateLinkSets → List ℤ → List LSlice
+linked_slices scope Event links slices = []
+linked_slices scope (Gauge gauge) links slices = []
+linked_slices scope _ links slices = map (linked_slice scope links) slices
 
 -- what a duration can't time
 abbrev pub time_reasons : Scope → Kind → ℤ → FieldSet → List LLink → List StateLinkSets → List (ℕ × Bool)

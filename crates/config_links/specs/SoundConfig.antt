@@ -9,6 +9,7 @@ use Rattle.field_select.specs.declared.leaf.FieldSet.{FieldSet}
 use Rattle.field_select.specs.declared.leaf.LeafPath.{LeafPath}
 use Rattle.field_select.specs.FieldSets.{IsLeaf, IsFieldSet, is_all}
 use Rattle.link_graph.specs.Links.{HasNoCycle}
+pub use Rattle.link_rules.specs.EntityLimits.{most_matchers, most_predicates, most_states, most_metrics, most_bound, most_samples, most_bucket_samples}
 use Rattle.config_links.specs.declared.linked.LMatcher.{LMatcher}
 use Rattle.config_links.specs.declared.linked.LMatcher.TheVariants as linked_matchers
 use Rattle.config_links.specs.declared.linked.LPredicate.{LPredicate}
@@ -40,7 +41,7 @@ IsFromOne most number = (1 ≤ number) × (number ≤ most)
 
 -- a bound of a predicate or a metric
 abbrev pub IsBound : ℕ → Type 0
-IsBound bound = IsFromOne 3000 bound
+IsBound bound = IsFromOne most_bound bound
 
 -- the places that a matcher names
 abbrev pub named_matchers : LMatcher → List ℕ
@@ -83,7 +84,7 @@ abbrev pub IsSoundState : LState → Type 0
 IsSoundState state = IsFromOne greatest_atom_id state.atom_id
 
 -- a link of a metric with this condition: to a simple predicate that the condition is or reaches, with as many leaves
--- on both sides, which are among that predicate's dimensions
+-- on both sides, which are among that predicate's dimensions, each once
 pub record IsSoundLink (predicates : List LPredicate) (condition : Option ℕ) (link : LLink) : Type 0 where
   pub within : link.predicate < length predicates
   pub simple : spec_in (slice_get predicates link.predicate) ≢ None
@@ -92,6 +93,7 @@ pub record IsSoundLink (predicates : List LPredicate) (condition : Option ℕ) (
   pub some : 1 ≤ length link.in_what.leaves
   pub even : length link.places ≡ length link.in_what.leaves
   pub bound : AreWithin (length (dims_in (slice_get predicates link.predicate)).leaves) link.places
+  pub apart : AllPairs (λ (place later : ℕ). place ≢ later) link.places
 
 -- the fields of a slice, where it has some
 abbrev pub HasFields : Option FieldSet → Type 0
@@ -131,8 +133,8 @@ IsFilter None = Unit {0}
 
 -- so many samples of a key, and as many of all keys as there may be
 pub record AreSamples (bound samples : ℕ) : Type 0 where
-  pub few : IsFromOne 100 samples
-  pub product : bound * samples ≤ 16384
+  pub few : IsFromOne most_samples samples
+  pub product : bound * samples ≤ most_bucket_samples
 
 -- a gauge takes its samples at a trigger's atoms exactly if it has a trigger
 abbrev pub HasMode : Sampling → Option ℕ → Type 0
@@ -156,9 +158,10 @@ pub record IsSoundDuration (linked : Linked) (metric : LMetric) (spec : PredSpec
 abbrev pub IsValueField : ℕ → LeafPath → Type 0
 IsValueField atom_id leaf = IsFromOne greatest_atom_id atom_id × IsLeaf leaf × (is_all leaf.position ≡ false)
 
--- what a metric has by its kind, and where the kind may stand
+-- what a metric has by its kind, and where the kind may stand. Events and gauges are never sliced.
 abbrev pub IsSoundKind : Linked → LMetric → LKind → Type 0
-IsSoundKind linked metric kinds.Event = (metric.what < length linked.matchers) × (metric.size ≡ 0) × (metric.bound ≡ 1)
+IsSoundKind linked metric kinds.Event =
+    (metric.what < length linked.matchers) × (metric.size ≡ 0) × (metric.bound ≡ 1) × (metric.slices ≡ [])
 IsSoundKind linked metric kinds.Count = (metric.what < length linked.matchers) × IsSize metric.size
 IsSoundKind linked metric (kinds.PushedValue atom_id leaf agg) =
     (metric.what < length linked.matchers) × IsSize metric.size × IsPulledAt linked.matchers metric.what false
@@ -168,11 +171,11 @@ IsSoundKind linked metric (kinds.PulledValue atom_id leaf spec) =
     × IsValueField atom_id leaf × (metric.links ≡ []) × (metric.slices ≡ [])
 IsSoundKind linked metric (kinds.PushedGauge fields samples) =
     (metric.what < length linked.matchers) × IsSize metric.size × IsPulledAt linked.matchers metric.what false
-    × IsFilter fields × AreSamples metric.bound samples
+    × IsFilter fields × AreSamples metric.bound samples × (metric.slices ≡ [])
 IsSoundKind linked metric (kinds.PulledGauge fields samples mode trigger) =
     (metric.what < length linked.matchers) × IsSize metric.size × IsPulledAt linked.matchers metric.what true
     × IsFilter fields × AreSamples metric.bound samples × HasMode mode trigger
-    × MayBeWithin (length linked.matchers) trigger × (metric.links ≡ [])
+    × MayBeWithin (length linked.matchers) trigger × (metric.links ≡ []) × (metric.slices ≡ [])
 IsSoundKind linked metric (kinds.SumDuration spec) = IsSize metric.size × IsSoundDuration linked metric spec
 IsSoundKind linked metric (kinds.MaxSparse spec) =
     IsSize metric.size × IsSoundDuration linked metric spec × (metric.slices ≡ [])
@@ -192,10 +195,10 @@ pub record IsSoundMetric (linked : Linked) (metric : LMetric) : Type 0 where
 -- a configuration: each entity is sound, there are as few as may be, no combination is below itself, and no two of a
 -- kind have the same id
 pub record IsSoundConfig (linked : Linked) : Type 0 where
-  pub few_matchers : length linked.matchers ≤ 800
-  pub few_predicates : length linked.predicates ≤ 300
-  pub few_states : length linked.states ≤ 16
-  pub few_metrics : length linked.metrics ≤ 100
+  pub few_matchers : length linked.matchers ≤ most_matchers
+  pub few_predicates : length linked.predicates ≤ most_predicates
+  pub few_states : length linked.states ≤ most_states
+  pub few_metrics : length linked.metrics ≤ most_metrics
   pub matchers : All (IsSoundMatcher (length linked.matchers)) linked.matchers
   pub predicates : All (IsSoundPredicate (length linked.matchers) (length linked.predicates)) linked.predicates
   pub states : All IsSoundState linked.states

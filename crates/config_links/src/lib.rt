@@ -1,7 +1,6 @@
 //! A configuration whose references are places in config order, and what an entity of one can't be.
 #![tactic(auto)]
 
-mod askable;
 mod asked;
 mod kinds;
 mod laws;
@@ -23,7 +22,7 @@ pub use laws::{
     combinations_have_children, each_entity_is_sound, linked_forms_are_sound, references_end,
     tables_have_their_leaves,
 };
-pub use link_rules::{LinkError, LinkFault};
+pub use link_rules::{LinkError, LinkFault, MOST_PREDICATES};
 pub use linked::{
     CondTree, LGroup, LKind, LLink, LMatcher, LMetric, LPredBody, LPredicate, LSlice, LState,
     Linked,

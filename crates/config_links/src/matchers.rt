@@ -5,9 +5,8 @@ ghost use Rattle.config_links.specs.LinkReasons.{bad_matcher};
 ghost use Rattle.config_links.specs.LinkedForm.{linked_matcher};
 
 use crate::LMatcher;
-use crate::askable::are_askable_tests;
 use crate::reasons::{is_atom_id, make_fault, operation_in, places_in};
-use config_types::{MatcherBody, MatcherDef};
+use config_types::{MatcherBody, MatcherDef, are_askable_tests};
 use link_rules::{Known, LinkError};
 use sd_base::Seq;
 use std::alloc::Global;

@@ -113,8 +113,8 @@ fn metric_of(
     slices: Seq<LSlice>,
     kind: LKind,
 ) -> LMetric
-    requires slices { slices ≡
-        linked_slices scope.now parts.state_links metric.now.sliced.slices }
+    requires slices { slices ≡ linked_slices scope.now metric.now.kind
+        parts.state_links metric.now.sliced.slices }
     requires kind { kind ≡ linked_kind scope.now parts.what
         (bound_or_default metric.now.sliced.bound) metric.now.kind }
     ensures { result ≡ words.metric_with scope.now uid no_report.now metric.now parts }
@@ -146,7 +146,7 @@ fn rest_of(
     requires own { own ≡ set_or_none (own_tree metric.now.kind) }
     requires few { TakesFew metric.now.kind }
     ensures { Links result (words.bad_rest scope.now metric.now parts.now) (
-      linked_slices scope.now parts.now.state_links metric.now.sliced.slices,
+      linked_slices scope.now metric.now.kind parts.now.state_links metric.now.sliced.slices,
       linked_kind scope.now parts.now.what (bound_or_default metric.now.sliced.bound)
           metric.now.kind,
     ) }

@@ -299,6 +299,23 @@ fn all_slices(
     Ok(slices)
 }
 
+// The slices by the states of these ids of a metric of this kind.
+fn kind_slices(
+    alloc: Global,
+    scope: &Scope,
+    kind: &Kind,
+    links: &[StateLinkSets],
+    ids: &[i64],
+) -> Result<Seq<LSlice>, AllocError>
+    ensures { IfOk result (λ slices. slices ≡
+        words.linked_slices scope.now kind.now links.now ids.now) }
+{
+    match kind {
+        Kind::Event | Kind::Gauge(_) => Ok(Seq::new(alloc)),
+        _ => all_slices(alloc, scope, links, ids),
+    }
+}
+
 /// Refuses what a duration of this id can't time, by reason 10 or 11.
 #[tactic(auto, unfolding(crate::specs::MetricSlices::bad_times))]
 pub fn refuse_times(
@@ -336,7 +353,7 @@ pub fn slices_in(
 ) -> Result<Seq<LSlice>, LinkError>
     ensures { Links result
         (words.bad_slices scope.now id kind.now what slices.now state_links.now)
-        (words.linked_slices scope.now state_links.now slices.now) }
+        (words.linked_slices scope.now kind.now state_links.now slices.now) }
 {
     let atoms = collect_sliced_atoms(alloc, scope, slices)?;
     if !judge_state_links(alloc, atoms.as_slice(), state_links)? {
@@ -345,6 +362,6 @@ pub fn slices_in(
     if !judge_slices(alloc, scope, kind, what, slices, atoms.as_slice())? {
         return Err(LinkError::Fault(make_fault(id, 13)));
     }
-    let linked = all_slices(alloc, scope, state_links, slices)?;
+    let linked = kind_slices(alloc, scope, kind, state_links, slices)?;
     Ok(linked)
 }

@@ -8,7 +8,8 @@ use Rattle.flat_form.specs.declared.item.Item.TheVariants.{Num, Dims, Slices}
 use Rattle.flat_form.specs.Flat.{Anything, IsValidPair, number_items, key_items}
 use Rattle.flat_form.specs.Savable.{IsSavable, AreSavable, IsShortKey}
 use Rattle.flat_form.specs.SavableLaws.{items_savable, number_savable, key_savable}
-use Rattle.flat_form.specs.Weight.{most_items}
+use Rattle.flat_form.specs.Weight.{most_items, head_within, entries_within}
+use Rattle.flat_form.specs.Bounded.{parts_bounded, parts_few}
 use Rattle.dim_table.specs.TableItems.{table_items, IsTable, table_entries, table_bounded, table_few, table_savable}
 use Rattle.kept_rows.specs.KeptItems.{kept_items, kept_entries, IsKeeping, AreSavableRows, kept_bounded, kept_few, kept_savable}
 use Rattle.count_metric.specs.declared.row.Row.{Row}
@@ -31,13 +32,21 @@ module _ {V : Type 0} where
   -- a row is a head of four items, and its value
   pub row_bounded : (flat : V → List Item) (valid : V → Type 0) (head : ℕ) (entries : V → ℕ)
       → ((value : V) → valid value → length (flat value) ≤ most_items head (entries value))
-      → (row : Row V) → IsRow valid row → length (row_items flat row) ≤ most_items (4 + head) (entries row.value)
-  row_bounded flat valid head entries each row is = let value = each row.value is in omega arith
+      → (row : Row V) → IsRow valid row
+      → length (row_items flat row) ≤ most_items (head_within (4 + head))
+      (entries_within (4 + head) (length (row_items flat row)) (entries row.value))
+  row_bounded flat valid head entries each row is =
+      let value = each row.value is in
+      parts_bounded (4 + head) (length (row_items flat row)) (entries row.value) (omega arith)
 
   -- a row has no more entries than items
-  pub row_few : (flat : V → List Item) (entries : V → ℕ) → ((value : V) → entries value ≤ length (flat value))
-      → (row : Row V) → entries row.value ≤ length (row_items flat row)
-  row_few flat entries each row = let value = each row.value in omega arith
+  pub row_few : (flat : V → List Item) (head : ℕ) (entries : V → ℕ)
+      → ((value : V) → entries value ≤ length (flat value))
+      → (row : Row V)
+      → entries_within (4 + head) (length (row_items flat row)) (entries row.value) ≤ length (row_items flat row)
+  row_few flat head entries each row =
+      let value = each row.value in
+      parts_few (4 + head) (length (row_items flat row)) (entries row.value) (omega arith)
 
   -- the items of a savable row can be spelled
   pub row_savable : (flat : V → List Item) (valid savable : V → Type 0)

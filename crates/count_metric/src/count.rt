@@ -1,5 +1,5 @@
 //! Counts by key.
-ghost use Rattle.std.specs.Prelude.{◌≡◌, ℕ, ◌+◌, ◌-◌, ◌^◌, ◌<◌, ◌≤◌, [], map, min, Some, slice_get, OnOk};
+ghost use Rattle.std.specs.Prelude.{◌≡◌, ℕ, ◌+◌, ◌-◌, ◌^◌, ◌<◌, ◌≤◌, [], map, min, Some, slice_get, OnOk, OnErr};
 ghost use Rattle.std.specs.Map.{values_of};
 ghost use Rattle.atom_record.specs.declared.value.MetricKey.{MetricKey};
 ghost use Rattle.bucket_meaning.specs.Limits.{longest_bucket, time_limit, most_keys};
@@ -76,7 +76,8 @@ fn keep_all(
 
 // One more arrival of a key.
 fn arrive(table: &mut Guarded<MetricKey, u64>, key: MetricKey) -> Result<(), AllocError>
-    ensures { OnOk result (TakesKey table.old table.new key) }
+    ensures taken { OnOk result (TakesKey table.old table.new key) }
+    ensures err { OnErr result (table.new ≡ table.old) }
 {
     match table.admit(key, 0)? {
         Admit::At(place) => raise(table, place),

@@ -1,4 +1,6 @@
 //! The flat forms of rows and of a producer of counts.
+ghost use Rattle.std.proofs.Common.{refl};
+ghost use Rattle.flat_form.specs.Bounded.{short_head};
 ghost use Rattle.std.specs.Prelude.{◌≡◌};
 
 use crate::{CountProducer, Row};
@@ -9,7 +11,9 @@ use kept_rows::KeptRows;
 use std::alloc::{AllocError, Global};
 
 impl<V: Flat + Drop> Flat for Row<V> {
-    ghost use Rattle.std.specs.Prelude.{◌+◌};
+    ghost use Rattle.std.specs.Prelude.{◌+◌, length};
+    ghost use Rattle.flat_form.specs.Weight.{head_within, entries_within};
+    ghost use Rattle.flat_form.specs.Bounded.{parts_short};
     ghost use Rattle.count_metric.specs.CountItems.{row_items, IsRow, IsSavableRow, row_bounded, row_few, row_savable};
 
     ghost flat = { row_items V.flat };
@@ -18,13 +22,16 @@ impl<V: Flat + Drop> Flat for Row<V> {
 
     ghost savable = { IsSavableRow V.savable };
 
-    ghost head = { 4 + V.head };
+    ghost head = { head_within (4 + V.head) };
 
-    ghost entries = { λ row. V.entries row.value };
+    ghost short = { parts_short (4 + V.head) };
+
+    ghost entries = { λ row. entries_within (4 + V.head)
+        (length (row_items V.flat row)) (V.entries row.value) };
 
     ghost bounded = { row_bounded V.flat V.valid V.head V.entries V.bounded };
 
-    ghost few = { row_few V.flat V.entries V.few };
+    ghost few = { row_few V.flat V.head V.entries V.few };
 
     ghost spells = { row_savable V.flat V.valid V.savable V.spells };
 
@@ -64,6 +71,8 @@ impl Flat for CountProducer {
     ghost savable = { IsSavableCount };
 
     ghost head = { 7 };
+
+    ghost short = { short_head 7 refl };
 
     ghost entries = { count_entries };
 

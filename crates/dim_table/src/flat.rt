@@ -1,4 +1,6 @@
 //! The flat form of a table: its bound, its count of drops, and its rows.
+ghost use Rattle.std.proofs.Common.{refl};
+ghost use Rattle.flat_form.specs.Bounded.{short_head};
 ghost use Rattle.std.specs.Prelude.{◌≡◌, ℕ, ◌+◌, ◌<◌, ◌≤◌, [], ◌++◌, List, length, Err, MatchResult, OnOk, OnErr, All, IsTrue, ◌↔◌};
 ghost use Rattle.std.specs.List.{flat_map};
 ghost use Rattle.flat_form.specs.Flat.{IsFront, IsValidPair, pair_items};
@@ -129,6 +131,8 @@ impl<K: Flat + Exact + Hash + Drop, V: Flat + Drop> Flat for Guarded<K, V> {
     ghost savable = { λ table. All (IsValidPair K.savable V.savable) table.rows };
 
     ghost head = { 3 };
+
+    ghost short = { short_head 3 refl };
 
     ghost entries = { table_entries K.flat V.flat };
 

@@ -2,13 +2,16 @@
 ghost use Rattle.std.specs.Prelude.{◌≡◌};
 
 use std::alloc::AllocError;
+use thiserror::Error;
 
 /// Why there is no set of leaves.
-#[derive(Debug, Drop, PartialEq, Eq)]
+#[derive(Debug, Drop, PartialEq, Eq, Error)]
 pub enum SelectError {
     /// The tree of field numbers isn't well-formed.
+    #[error("bad form")]
     BadForm,
     /// Memory was wanting.
+    #[error("out of memory")]
     Memory,
 }
 

@@ -1,7 +1,8 @@
 -- Items have no more bytes than they weigh, and a value has no more items than its head and its entries allow.
-use Rattle.std.specs.Prelude.{◌≡◌, ℕ, ◌+◌, ◌*◌, ◌≤◌, List, [], ◌∷◌, ◌++◌, length, All}
+use Rattle.std.specs.Prelude.{◌≡◌, ℕ, ◌+◌, ◌*◌, ◌≤◌, nat_le, Bool, true, false, if◌then◌else◌, List, [], ◌∷◌, ◌++◌, length, All}
 use Rattle.std.specs.List.{flat_map, sum_by}
-use Rattle.std.proofs.Common.{arith}
+use Rattle.std.proofs.Common.{arith, refl}
+use Rattle.std.proofs.lemmas.Bool.{leb-true}
 use Rattle.std.proofs.lemmas.List.{length-append}
 use Rattle.std.proofs.lemmas.List.Concat.{length-flat_map}
 use Rattle.std.proofs.lemmas.List.Sums.{sum_by-cons, sum_by-le-sum_by}
@@ -20,7 +21,7 @@ use Rattle.atom_record.specs.AtomSpelling.{value_bytes, entry_bytes}
 use Rattle.atom_record.specs.TypedValue.{typed_bytes}
 use Rattle.flat_form.specs.ItemSpelling.{spelled_leaf, spelled_slice, spelled_item, spelled_items}
 use Rattle.flat_form.specs.Flat.{Anything, IsValidPair, number_items, dims_items, key_items, atom_items, pair_items, list_items}
-use Rattle.flat_form.specs.Weight.{text_weight, value_weight, leaf_weight, entry_weight, held_weight, held, most_items, entries_for, pair_entries, list_entries}
+use Rattle.flat_form.specs.Weight.{text_weight, value_weight, leaf_weight, entry_weight, held_weight, held, most_items, entries_for, most_head, head_within, entries_within, pair_entries, list_entries}
 
 -- pieces, each within its weight
 pieces_bounded : {X : Type 0} (bytes : X → List ℕ) (weight : X → ℕ) (xs : List X)
@@ -86,9 +87,39 @@ items_bounded (item ∷ items) =
     omega arith
 
 -- a value with a head of 16 items at most: 256 bytes, 128 for each entry, and what its items hold
-pub bytes_bounded : (items : List Item) (head entries : ℕ) → length items ≤ most_items head entries → head ≤ 16
+pub bytes_bounded : (items : List Item) (head entries : ℕ) → length items ≤ most_items head entries → head ≤ most_head
     → length (spelled_items items) ≤ 256 + 128 * entries + held items
 bytes_bounded items head entries few short = let all = items_bounded items in omega arith
+
+-- a number that is told to be no more than a head has
+pub short_head : (head : ℕ) → nat_le head most_head ≡ true → head ≤ most_head
+short_head head is = leb-true head most_head is
+
+short_by : (heads : ℕ) (fits : Bool) → nat_le heads most_head ≡ fits → (if fits then heads else 0) ≤ most_head
+short_by heads true fits = short_head heads fits
+short_by heads false fits = omega arith
+
+-- a value of parts has no more items in its head than a head has
+pub parts_short : (heads : ℕ) → head_within heads ≤ most_head
+parts_short heads = short_by heads (nat_le heads most_head) refl
+
+bounded_by : (heads items entries : ℕ) (fits : Bool) → items ≤ most_items heads entries
+    → items ≤ most_items (if fits then heads else 0) (if fits then entries else entries_for items)
+bounded_by heads items entries true few = few
+bounded_by heads items entries false few = omega arith
+
+-- a value of parts within theirs is within its own head and entries
+pub parts_bounded : (heads items entries : ℕ) → items ≤ most_items heads entries
+    → items ≤ most_items (head_within heads) (entries_within heads items entries)
+parts_bounded heads items entries few = bounded_by heads items entries (nat_le heads most_head) few
+
+few_by : (items entries : ℕ) (fits : Bool) → entries ≤ items → (if fits then entries else entries_for items) ≤ items
+few_by items entries true few = few
+few_by items entries false few = omega arith
+
+-- a value of parts with no more entries than items has no more of its own
+pub parts_few : (heads items entries : ℕ) → entries ≤ items → entries_within heads items entries ≤ items
+parts_few heads items entries few = few_by items entries (nat_le heads most_head) few
 
 -- a number is one item
 pub number_bounded : (number : ℕ) → Anything number → length (number_items number) ≤ most_items 1 0
@@ -113,14 +144,16 @@ pub pair_bounded : {X Y : Type 0} (first : X → List Item) (second : Y → List
     → ((x : X) → first_valid x → length (first x) ≤ most_items first_head (first_entries x))
     → ((y : Y) → second_valid y → length (second y) ≤ most_items second_head (second_entries y))
     → (pair : X × Y) → IsValidPair first_valid second_valid pair
-    → length (pair_items first second pair) ≤ most_items (first_head + second_head)
-    (pair_entries first_entries second_entries pair)
+    → length (pair_items first second pair) ≤ most_items (head_within (first_head + second_head))
+    (entries_within (first_head + second_head) (length (pair_items first second pair))
+    (pair_entries first_entries second_entries pair))
 pair_bounded first second first_valid second_valid first_head second_head first_entries second_entries one other pair
     valid =
     let one_is = one pair.0 valid.0 in
     let other_is = other pair.1 valid.1 in
     let sum = length-append (first pair.0) (second pair.1) in
-    omega arith
+    parts_bounded (first_head + second_head) (length (pair_items first second pair))
+    (pair_entries first_entries second_entries pair) (omega arith)
 
 -- elements have eight items at most for each entry
 pub elements_bounded : {X : Type 0} (flat : X → List Item) (xs : List X)
@@ -138,15 +171,18 @@ pub list_bounded : {X : Type 0} (flat : X → List Item) (valid : X → Type 0) 
 list_bounded flat valid values all = let part = elements_bounded flat values in omega arith
 
 -- no more entries than items
-pub pair_few : {X Y : Type 0} (first : X → List Item) (second : Y → List Item) (first_entries : X → ℕ)
+pub pair_few : {X Y : Type 0} (first : X → List Item) (second : Y → List Item) (heads : ℕ) (first_entries : X → ℕ)
     (second_entries : Y → ℕ)
     → ((x : X) → first_entries x ≤ length (first x)) → ((y : Y) → second_entries y ≤ length (second y))
-    → (pair : X × Y) → pair_entries first_entries second_entries pair ≤ length (pair_items first second pair)
-pair_few first second first_entries second_entries one other pair =
+    → (pair : X × Y)
+    → entries_within heads (length (pair_items first second pair)) (pair_entries first_entries second_entries pair)
+    ≤ length (pair_items first second pair)
+pair_few first second heads first_entries second_entries one other pair =
     let one_is = one pair.0 in
     let other_is = other pair.1 in
     let sum = length-append (first pair.0) (second pair.1) in
-    omega arith
+    parts_few heads (length (pair_items first second pair)) (pair_entries first_entries second_entries pair)
+    (omega arith)
 
 -- elements have no more entries than items
 pub elements_few : {X : Type 0} (flat : X → List Item) (xs : List X) → list_entries flat xs ≤ length (flat_map flat xs)

@@ -1,5 +1,5 @@
 -- What items weigh: no less than the bytes that they take.
-use Rattle.std.specs.Prelude.{ℕ, ◌+◌, ◌*◌, ◌/◌, List, length}
+use Rattle.std.specs.Prelude.{ℕ, ◌+◌, ◌*◌, ◌/◌, nat_le, if◌then◌else◌, List, length}
 use Rattle.std.specs.List.{sum_by}
 use Rattle.atom_record.specs.declared.value.Value.{Value}
 use Rattle.atom_record.specs.declared.value.Value.TheVariants as values
@@ -55,6 +55,18 @@ most_bytes head entries items = 16 * head + 128 * entries + held items
 -- how many entries stand for so many items: one for each eight that are begun
 abbrev pub entries_for : ℕ → ℕ
 entries_for items = (items + 7) / 8
+
+-- the most items of a head
+abbrev pub most_head : ℕ
+most_head = 16
+
+-- the head of a value whose parts have so many items in their heads: theirs, or none where that is more than a head has
+abbrev pub head_within : ℕ → ℕ
+head_within heads = if nat_le heads most_head then heads else 0
+
+-- its entries: those of its parts, or all its items' where their heads are more than a head has
+abbrev pub entries_within : ℕ → ℕ → ℕ → ℕ
+entries_within heads items entries = if nat_le heads most_head then entries else entries_for items
 
 -- those of both
 abbrev pub pair_entries : {X Y : Type 0} → (X → ℕ) → (Y → ℕ) → X × Y → ℕ

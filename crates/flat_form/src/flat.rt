@@ -1,9 +1,10 @@
 //! The flat form of values: items, from which a value is built again.
 ghost use Rattle.std.specs.Prelude.{◌≡◌, ℕ, ◌+◌, List, [], ◌∷◌, ◌++◌, ◌≤◌, length, All, MatchOption, OnOk, OnErr, slice_get};
 ghost use Rattle.std.specs.List.{flat_map};
+ghost use Rattle.std.proofs.Common.{refl};
 ghost use Rattle.flat_form.specs.declared.item.Item.{Item};
 ghost use Rattle.flat_form.specs.Flat.{IsFront, Anything, Holds, Builds, BuildsAll};
-ghost use Rattle.flat_form.specs.Weight.{most_items};
+ghost use Rattle.flat_form.specs.Weight.{most_items, most_head};
 ghost use Rattle.flat_form.specs.Savable.{AreSavable};
 
 use crate::{FlatError, Item, Items};
@@ -45,6 +46,9 @@ pub trait Flat: Sized {
     /// `Bad` comes exactly where no valid value's items stand there.
     fn build(alloc: Global, items: &Items, place: usize) -> Result<(Self, usize), FlatError>
         ensures { Builds valid flat items.now place result };
+
+    /// A head is no more than 16 items.
+    ghost short: { head ≤ most_head };
 
     /// A value has no more items than its head and eight for each entry.
     ghost bounded: { (value : Self) → valid value
@@ -156,12 +160,14 @@ impl Single for Atom {
 
 impl Flat for u64 {
     ghost use Rattle.flat_form.specs.Flat.{number_items};
-    ghost use Rattle.flat_form.specs.Bounded.{number_bounded, none_few};
+    ghost use Rattle.flat_form.specs.Bounded.{short_head, number_bounded, none_few};
     ghost use Rattle.flat_form.specs.SavableLaws.{number_savable};
 
     ghost flat = { number_items };
 
     ghost head = { 1 };
+
+    ghost short = { short_head 1 refl };
 
     ghost bounded = { number_bounded };
 
@@ -182,7 +188,7 @@ impl Flat for u64 {
 
 impl Flat for DimKey {
     ghost use Rattle.flat_form.specs.Flat.{dims_items};
-    ghost use Rattle.flat_form.specs.Bounded.{dims_bounded, none_few};
+    ghost use Rattle.flat_form.specs.Bounded.{short_head, dims_bounded, none_few};
     ghost use Rattle.flat_form.specs.SavableLaws.{dims_savable};
     ghost use Rattle.flat_form.specs.Savable.{AreShortLeaves};
 
@@ -191,6 +197,8 @@ impl Flat for DimKey {
     ghost savable = { AreShortLeaves };
 
     ghost head = { 1 };
+
+    ghost short = { short_head 1 refl };
 
     ghost bounded = { dims_bounded };
 
@@ -212,7 +220,7 @@ impl Flat for DimKey {
 
 impl Flat for Atom {
     ghost use Rattle.flat_form.specs.Flat.{atom_items};
-    ghost use Rattle.flat_form.specs.Bounded.{atom_bounded, none_few};
+    ghost use Rattle.flat_form.specs.Bounded.{short_head, atom_bounded, none_few};
     ghost use Rattle.flat_form.specs.SavableLaws.{atom_savable};
     ghost use Rattle.atom_record.specs.AtomSound.{HasNoFault};
 
@@ -221,6 +229,8 @@ impl Flat for Atom {
     ghost savable = { HasNoFault };
 
     ghost head = { 1 };
+
+    ghost short = { short_head 1 refl };
 
     ghost bounded = { atom_bounded };
 
@@ -242,7 +252,7 @@ impl Flat for Atom {
 
 impl Flat for MetricKey {
     ghost use Rattle.flat_form.specs.Flat.{key_items};
-    ghost use Rattle.flat_form.specs.Bounded.{key_bounded, none_few};
+    ghost use Rattle.flat_form.specs.Bounded.{short_head, key_bounded, none_few};
     ghost use Rattle.flat_form.specs.SavableLaws.{key_savable};
     ghost use Rattle.flat_form.specs.Savable.{IsShortKey};
 
@@ -251,6 +261,8 @@ impl Flat for MetricKey {
     ghost savable = { IsShortKey };
 
     ghost head = { 2 };
+
+    ghost short = { short_head 2 refl };
 
     ghost bounded = { key_bounded };
 
@@ -275,8 +287,8 @@ impl Flat for MetricKey {
 
 impl<A: Flat + Drop, B: Flat + Drop> Flat for (A, B) {
     ghost use Rattle.flat_form.specs.Flat.{pair_items, IsValidPair};
-    ghost use Rattle.flat_form.specs.Weight.{pair_entries};
-    ghost use Rattle.flat_form.specs.Bounded.{pair_bounded, pair_few};
+    ghost use Rattle.flat_form.specs.Weight.{pair_entries, head_within, entries_within};
+    ghost use Rattle.flat_form.specs.Bounded.{parts_short, pair_bounded, pair_few};
     ghost use Rattle.flat_form.specs.SavableLaws.{pair_savable};
 
     ghost flat = { pair_items A.flat B.flat };
@@ -285,14 +297,17 @@ impl<A: Flat + Drop, B: Flat + Drop> Flat for (A, B) {
 
     ghost savable = { IsValidPair A.savable B.savable };
 
-    ghost head = { A.head + B.head };
+    ghost head = { head_within (A.head + B.head) };
 
-    ghost entries = { pair_entries A.entries B.entries };
+    ghost short = { parts_short (A.head + B.head) };
+
+    ghost entries = { λ pair. entries_within (A.head + B.head)
+        (length (pair_items A.flat B.flat pair)) (pair_entries A.entries B.entries pair) };
 
     ghost bounded = { pair_bounded A.flat B.flat A.valid B.valid A.head B.head A.entries B.entries
         A.bounded B.bounded };
 
-    ghost few = { pair_few A.flat B.flat A.entries B.entries A.few B.few };
+    ghost few = { pair_few A.flat B.flat (A.head + B.head) A.entries B.entries A.few B.few };
 
     ghost spells = { pair_savable A.flat B.flat A.valid B.valid A.savable B.savable A.spells B.spells };
 
@@ -356,7 +371,7 @@ fn build_all<T: Flat + Drop>(
 impl<T: Flat + Drop> Flat for Seq<T> {
     ghost use Rattle.flat_form.specs.Flat.{list_items};
     ghost use Rattle.flat_form.specs.Weight.{list_entries};
-    ghost use Rattle.flat_form.specs.Bounded.{list_bounded, list_few};
+    ghost use Rattle.flat_form.specs.Bounded.{short_head, list_bounded, list_few};
     ghost use Rattle.flat_form.specs.SavableLaws.{list_savable};
 
     ghost flat = { list_items T.flat };
@@ -366,6 +381,8 @@ impl<T: Flat + Drop> Flat for Seq<T> {
     ghost savable = { All T.savable };
 
     ghost head = { 1 };
+
+    ghost short = { short_head 1 refl };
 
     ghost entries = { list_entries T.flat };
 

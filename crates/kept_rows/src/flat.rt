@@ -1,4 +1,6 @@
 //! The flat form of kept rows: their weight, the number of the others, and the rows.
+ghost use Rattle.std.proofs.Common.{refl};
+ghost use Rattle.flat_form.specs.Bounded.{short_head};
 ghost use Rattle.std.specs.Prelude.{◌≡◌};
 
 use crate::KeptRows;
@@ -16,6 +18,8 @@ impl<R: Flat + Drop> Flat for KeptRows<R> {
     ghost savable = { AreSavableRows R.savable };
 
     ghost head = { 3 };
+
+    ghost short = { short_head 3 refl };
 
     ghost entries = { kept_entries R.flat };
 

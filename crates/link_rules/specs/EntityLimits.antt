@@ -24,6 +24,22 @@ number_limit reason most None = None
 number_limit reason most (Some number) =
     if is_number_to most (Some number) then None else Some (fault past_limit reason number)
 
+-- how many matchers a configuration has
+abbrev pub most_matchers : ℕ
+most_matchers = 800
+
+-- how many predicates a configuration has
+abbrev pub most_predicates : ℕ
+most_predicates = 300
+
+-- how many states a configuration has
+abbrev pub most_states : ℕ
+most_states = 16
+
+-- how many metrics a configuration has
+abbrev pub most_metrics : ℕ
+most_metrics = 100
+
 -- how many keys a predicate keeps, or a bucket admits
 abbrev pub most_bound : ℕ
 most_bound = 3000
@@ -85,10 +101,10 @@ metric_limit metric = first_of
 -- number 1, in this order
 abbrev pub limits : Entities → List (Option LinkFault)
 limits entities =
-    count_limit 1 800 (length entities.matchers)
-    ∷ count_limit 2 300 (length entities.predicates)
-    ∷ count_limit 3 16 (length entities.states)
-    ∷ count_limit 4 100 (length entities.metrics)
+    count_limit 1 most_matchers (length entities.matchers)
+    ∷ count_limit 2 most_predicates (length entities.predicates)
+    ∷ count_limit 3 most_states (length entities.states)
+    ∷ count_limit 4 most_metrics (length entities.metrics)
     ∷ first_in predicate_limit entities.predicates
     ∷ first_in metric_limit entities.metrics
     ∷ []
@@ -99,7 +115,7 @@ limit_fault entities = first_of (limits entities)
 
 -- there are as few entities as may be
 pub record AreFew (entities : Entities) : Type 0 where
-  pub matchers : length entities.matchers ≤ 800
-  pub predicates : length entities.predicates ≤ 300
-  pub states : length entities.states ≤ 16
-  pub metrics : length entities.metrics ≤ 100
+  pub matchers : length entities.matchers ≤ most_matchers
+  pub predicates : length entities.predicates ≤ most_predicates
+  pub states : length entities.states ≤ most_states
+  pub metrics : length entities.metrics ≤ most_metrics

@@ -2,9 +2,11 @@
 ghost use Rattle.std.specs.Prelude.{◌≡◌};
 
 use std::alloc::AllocError;
+use thiserror::Error;
 
 /// The first fault of a configuration.
-#[derive(Clone, Copy, Debug, PartialEq, Eq)]
+#[derive(Clone, Copy, Debug, PartialEq, Eq, Error)]
+#[error("fault {number}, reason {reason}, value {value}")]
 pub struct LinkFault {
     /// What is wrong, from 1 to 9.
     pub number: u8,
@@ -15,10 +17,13 @@ pub struct LinkFault {
 }
 
 /// Why there is no linked configuration.
-#[derive(Debug, Drop, PartialEq, Eq)]
+#[derive(Debug, Drop, PartialEq, Eq, Error)]
 pub enum LinkError {
+    /// The configuration has this fault.
+    #[error("bad configuration: {0}")]
     Fault(LinkFault),
     /// Memory was wanting.
+    #[error("out of memory")]
     Memory,
 }
 

@@ -10,7 +10,8 @@ use config_types::{PredicateBody, PredicateDef, SamplingType};
 
 const MOST_MATCHERS: usize = 800;
 
-const MOST_PREDICATES: usize = 300;
+/// The most predicates that a configuration has.
+pub const MOST_PREDICATES: usize = 300;
 
 const MOST_STATES: usize = 16;
 

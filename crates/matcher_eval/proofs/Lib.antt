@@ -1,3 +1,4 @@
 mod EntriesLemmas
 mod IndexesLemmas
+mod PickedLemmas
 mod Worked

@@ -96,6 +96,21 @@ first_of_two :
 unfolding out-Test out shown-the_row-FieldTest-0 shown hidden
 first_of_two = refl
 
+-- whatever the order of the entries, FIRST picks the least index and LAST the greatest
+first_is_least :
+    matcher_holds (on_field_1 (Some First) (tests.EqInt (pos 7)))
+    (atom_of (entry 1 2 0 (pos 8) ∷ entry 1 1 0 (pos 7) ∷ []))
+    ≡ true
+unfolding out-Test out shown-the_row-FieldTest-0 shown hidden
+first_is_least = refl
+
+last_is_greatest :
+    matcher_holds (on_field_1 (Some Last) (tests.EqInt (pos 7)))
+    (atom_of (entry 1 2 0 (pos 8) ∷ entry 1 1 0 (pos 7) ∷ []))
+    ≡ false
+unfolding out-Test out shown-the_row-FieldTest-0 shown hidden
+last_is_greatest = refl
+
 -- a test of a tuple that a field inside a message is 7
 abbrev inner_7 : ℕ → FieldTest
 inner_7 sub = record { field = Some (pos sub); position = None; test = Some (tests.EqInt (pos 7)) }

@@ -1,6 +1,6 @@
 -- Whether a simple matcher holds on an atom: its id is the matcher's, and each test of a field holds.
-use Rattle.std.specs.Prelude.{ℕ, ℤ, pos, nat_le, Bool, false, not, ◌&&◌, ◌==◌, List, [], ◌∷◌, map, length, take, drop, ◌-◌, filter, Option, Some, None}
-use Rattle.std.specs.List.{list_any, list_all}
+use Rattle.std.specs.Prelude.{ℕ, ℤ, pos, nat_le, Bool, false, not, ◌&&◌, ◌==◌, List, [], ◌∷◌, map, length, min, max, filter, Option, Some, None}
+use Rattle.std.specs.List.{fold, list_any, list_all}
 use Rattle.atom_record.specs.declared.atom.AtomField.{AtomField}
 use Rattle.atom_record.specs.declared.atom.Atom.{Atom}
 use Rattle.config_types.specs.declared.fields.Position.{Position}
@@ -53,17 +53,27 @@ condition_holds entries condition = passes_at_sub entries 0 condition
 abbrev pub holds_at_index : List AtomField → Test-F Test FieldTest → ℕ → Bool
 holds_at_index entries condition index = condition_holds (filter (is_at_index index) entries) condition
 
--- the indexes of a field: those of at least 1 at which it has an entry, whatever the sub. They stand in rising order as
--- the entries do, and one with several entries stands there several times.
+-- the indexes of a field: those of at least 1 at which it has an entry, whatever the sub. One with several entries
+-- stands there several times.
 abbrev pub tested_indexes : List AtomField → List ℕ
 tested_indexes entries = map (λ entry. entry.index) (filter is_repeated entries)
+
+-- the least of some indexes alone, where there is one
+abbrev pub least_of : List ℕ → List ℕ
+least_of [] = []
+least_of (index ∷ more) = fold min index more ∷ []
+
+-- the greatest of some indexes alone, where there is one
+abbrev pub greatest_of : List ℕ → List ℕ
+greatest_of [] = []
+greatest_of (index ∷ more) = fold max index more ∷ []
 
 -- the indexes that a position picks: none of them index 0, FIRST the least of the field's, LAST the greatest, and ANY
 -- and ALL each
 abbrev pub picked_indexes : Option Position → List ℕ → List ℕ
 picked_indexes None indexes = 0 ∷ []
-picked_indexes (Some First) indexes = take 1 indexes
-picked_indexes (Some Last) indexes = drop (length indexes - 1) indexes
+picked_indexes (Some First) indexes = least_of indexes
+picked_indexes (Some Last) indexes = greatest_of indexes
 picked_indexes (Some Any) indexes = indexes
 picked_indexes (Some All) indexes = indexes
 

@@ -7,7 +7,7 @@ ghost use Rattle.atom_record.specs.declared.atom.AtomField.{AtomField};
 ghost use Rattle.atom_record.specs.AtomSound.{HasNoFault, IsBelow};
 ghost use Rattle.config_types.specs.declared.matcher.Test.TheViews.{out-Test};
 ghost use Rattle.matcher_eval.specs.ValueTests.{is_same_truth};
-ghost use Rattle.matcher_eval.specs.AtomTests.{number_set, passes_at_sub, inner_test_holds, condition_holds, holds_at_index, tested_indexes, holds_on_field, field_test_holds, matcher_holds};
+ghost use Rattle.matcher_eval.specs.AtomTests.{number_set, passes_at_sub, inner_test_holds, condition_holds, holds_at_index, tested_indexes, least_of, greatest_of, holds_on_field, field_test_holds, matcher_holds};
 
 use crate::conditions::passes;
 use crate::entries::{at_index, of_field, repeated, split_after};
@@ -68,13 +68,33 @@ fn holds_where_picked(condition: &Test, position: Option<Position>, entries: &[A
 {
     match position {
         None => holds(condition, at_index(entries, 0)),
-        Some(Position::First) => holds_at(condition, entries, repeated(entries).first()),
-        Some(Position::Last) => holds_at(condition, entries, repeated(entries).last()),
+        Some(Position::First) => holds_at_first(condition, entries),
+        Some(Position::Last) => holds_at_last(condition, entries),
         Some(Position::Any) => holds_at_some_index(condition, entries),
         Some(Position::All) => {
             !repeated(entries).is_empty() && is_so_at_each_index(condition, entries, true)
         }
     }
+}
+
+// Whether the condition holds at the index that comes first, which is the least, if there is one.
+fn holds_at_first(condition: &Test, entries: &[AtomField]) -> bool
+    requires { IsNonDecreasingBy (λ (entry : AtomField). entry.index) entries.now }
+    ensures { result ≡ list_any
+        (holds_at_index entries.now (out-Test condition.now))
+        (least_of (tested_indexes entries.now)) }
+{
+    holds_at(condition, entries, repeated(entries).first())
+}
+
+// Whether the condition holds at the index that comes last, which is the greatest, if there is one.
+fn holds_at_last(condition: &Test, entries: &[AtomField]) -> bool
+    requires { IsNonDecreasingBy (λ (entry : AtomField). entry.index) entries.now }
+    ensures { result ≡ list_any
+        (holds_at_index entries.now (out-Test condition.now))
+        (greatest_of (tested_indexes entries.now)) }
+{
+    holds_at(condition, entries, repeated(entries).last())
 }
 
 // Whether the condition holds at the index of an entry, if there is one.

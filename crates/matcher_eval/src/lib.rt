@@ -1,7 +1,6 @@
 //! Whether a matcher holds on an atom: a judge says it of simple matchers, and operations join what it said.
 #![tactic(auto)]
 
-mod askable;
 mod conditions;
 mod entries;
 mod field_judge;
@@ -9,7 +8,6 @@ mod fields;
 mod judge;
 mod operation;
 
-pub use askable::is_askable;
 pub use field_judge::FieldJudge;
 pub use judge::Judge;
 pub use operation::combine;

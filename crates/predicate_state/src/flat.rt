@@ -1,4 +1,6 @@
 //! The flat form of a predicate's table: four numbers, and its bounded table of keys.
+ghost use Rattle.std.proofs.Common.{refl};
+ghost use Rattle.flat_form.specs.Bounded.{short_head};
 ghost use Rattle.std.specs.Prelude.{◌≡◌, ◌<◌, ◌^◌, Bool, MatchOption, IsTrue, ◌↔◌};
 ghost use Rattle.predicate_state.specs.PredicateTable.{HaveLeaves};
 ghost use Rattle.predicate_state.specs.PredicateItems.{flag_number};
@@ -86,6 +88,8 @@ impl Flat for PredTable {
     ghost savable = { AreShortKeys };
 
     ghost head = { 7 };
+
+    ghost short = { short_head 7 refl };
 
     ghost entries = { predicate_entries };
 

@@ -1,4 +1,6 @@
 //! The flat forms of what a pull gave, and of a book.
+ghost use Rattle.std.proofs.Common.{refl};
+ghost use Rattle.flat_form.specs.Bounded.{short_head};
 ghost use Rattle.std.specs.Prelude.{◌≡◌, ◌+◌, ◌++◌, ◌↔◌, ℕ, List, All, IsTrue, IfSome, IfNone, MatchOption, OnOk, OnErr, Some, slice_get};
 ghost use Rattle.std.specs.List.{flat_map};
 ghost use Rattle.atom_record.specs.AtomSound.{HasNoFault};
@@ -99,6 +101,8 @@ impl Flat for Recorded {
 
     ghost head = { 2 };
 
+    ghost short = { short_head 2 refl };
+
     ghost entries = { outcome_entries };
 
     ghost bounded = { outcome_bounded };
@@ -177,6 +181,8 @@ impl Flat for PullBook {
     ghost valid = { IsPullBook };
 
     ghost head = { 3 };
+
+    ghost short = { short_head 3 refl };
 
     ghost entries = { book_entries };
 

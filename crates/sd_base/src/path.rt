@@ -6,11 +6,8 @@ use crate::Seq;
 use std::alloc::{AllocError, Global};
 use std::marker::Model;
 
-/// The most numbers of a path: one for each of a hundred messages that are open, and one for the record itself.
-pub const MAX_NUMBERS: usize = 101;
-
-/// Field numbers, from the top of a message to a record in it. There are at most [`MAX_NUMBERS`].
-/// Contracts see their list.
+/// Field numbers, from the top of a message to a record in it. There are at most 101: one for each of a hundred
+/// messages that are open, and one for the record itself. Contracts see their list.
 #[derive(Debug, Drop, PartialEq, Eq)]
 pub struct Path {
     numbers: Seq<u32>,

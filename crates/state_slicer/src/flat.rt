@@ -1,4 +1,6 @@
 //! The flat forms of the states of an id, and of a book.
+ghost use Rattle.std.proofs.Common.{refl};
+ghost use Rattle.flat_form.specs.Bounded.{short_head};
 ghost use Rattle.std.specs.Prelude.{◌≡◌, ◌≤◌, ◌++◌, ◌↔◌, [], All, IsTrue, IfSome, IfNone, OnOk, OnErr};
 ghost use Rattle.std.specs.List.{flat_map};
 ghost use Rattle.flat_form.specs.Flat.{Anything, IsFront, Builds, dims_items};
@@ -108,6 +110,8 @@ impl Flat for IdStates {
 
     ghost head = { 3 };
 
+    ghost short = { short_head 3 refl };
+
     ghost entries = { states_entries };
 
     ghost bounded = { states_bounded };
@@ -175,6 +179,8 @@ impl Flat for StateBook {
     ghost savable = { HasShortKeys };
 
     ghost head = { 3 };
+
+    ghost short = { short_head 3 refl };
 
     ghost entries = { state_book_entries };
 

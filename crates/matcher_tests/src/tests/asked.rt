@@ -1,8 +1,8 @@
 //! Several tests, matchers of several ids, and the count of questions.
 
 use super::builds::{Asked, Asks, Entry, Holds, atom_of, is_answer, matcher_of};
-use config_types::Position;
-use matcher_eval::{FieldJudge, Judge, is_askable};
+use config_types::{Position, is_askable};
+use matcher_eval::{FieldJudge, Judge};
 use std::test::Fail;
 
 /// A field above 3 and below 6.

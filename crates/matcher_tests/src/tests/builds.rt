@@ -3,8 +3,8 @@ ghost use Rattle.std.specs.Prelude.{IfOk};
 ghost use Rattle.atom_record.specs.AtomSound.{HasNoFault};
 
 use atom_record::{Atom, AtomFault, parse_atom};
-use config_types::{Bytes, FieldTest, Position, SimpleMatcher, Test};
-use matcher_eval::{FieldJudge, Judge, is_askable};
+use config_types::{Bytes, FieldTest, Position, SimpleMatcher, Test, is_askable};
+use matcher_eval::{FieldJudge, Judge};
 use sd_base::Seq;
 use std::alloc::{AllocError, Global};
 

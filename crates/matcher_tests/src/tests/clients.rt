@@ -6,8 +6,8 @@ ghost use Rattle.matcher_eval.specs.Questions.{IsOneTick};
 
 use super::builds::{Asks, Holds, atom_of, matcher_of};
 use atom_record::Atom;
-use config_types::SimpleMatcher;
-use matcher_eval::{FieldJudge, Judge, is_askable};
+use config_types::{SimpleMatcher, is_askable};
+use matcher_eval::{FieldJudge, Judge};
 use std::test::Fail;
 
 /// A judge of which each matcher holds on each atom.

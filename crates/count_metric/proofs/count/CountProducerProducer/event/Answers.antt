@@ -5,4 +5,4 @@ use Rattle.count_metric.proofs.CountLemmas.{came}
 use Rattle.count_metric.proofs.count.CountProducerProducer.event.Goals as goal
 
 pub returns : goal.returns
-returns c = on_ok_weaker c.arrive.result (came c.args.self.now _ c.args.at c.args.ev refl refl) c.arrive.ensures
+returns c = on_ok_weaker c.arrive.result (came c.args.self.now _ c.args.at c.args.ev refl refl) c.arrive.ensures.taken

@@ -3,7 +3,7 @@ ghost use Rattle.std.specs.Prelude.{◌≡◌};
 ghost use Rattle.std.specs.List.{list_all};
 ghost use Rattle.config_types.specs.Askable.{is_askable, is_askable_test, is_askable_inside, has_askable_condition, asks_a_value, is_set_up_to};
 
-use config_types::{FieldTest, SimpleMatcher, Test};
+use crate::{FieldTest, SimpleMatcher, Test};
 
 /// The greatest id of an atom.
 const MAX_ATOM_ID: u32 = 2_147_483_647;
@@ -18,12 +18,14 @@ pub fn is_askable(matcher: &SimpleMatcher) -> bool
     is_from_1_to(matcher.atom_id, MAX_ATOM_ID) && are_askable_tests(matcher.tests.as_slice())
 }
 
-fn are_askable_tests(tests: &[FieldTest]) -> bool
+/// Whether each test of a matcher may be asked.
+pub fn are_askable_tests(tests: &[FieldTest]) -> bool
     ensures { result ≡ list_all is_askable_test tests.now }
 {
     tests.iter().all(|test| may_ask_test(test))
 }
 
+// Whether a test of a field of an atom may be asked.
 fn may_ask_test(test: &FieldTest) -> bool
     ensures { result ≡ is_askable_test test.now }
 {
