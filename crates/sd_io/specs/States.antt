@@ -22,3 +22,12 @@ input_with left faults = record { left = left; faults = faults }
 -- an output with this written, and with so many faults
 abbrev pub output_with : Option (List ℕ) → ℕ → Output
 output_with written faults = record { written = written; faults = faults }
+
+-- What is seen of an input and an output together.
+pub record Ports : Type 0 where
+  pub input : Input
+  pub output : Output
+
+-- an input and an output together
+abbrev pub ports : Input → Output → Ports
+ports input output = record { input = input; output = output }
