@@ -23,8 +23,8 @@ pub record IsLineCutShort (taken : List ℕ) (old new : Ports) : Type 0 where
   pub written : GainsFront old.output new.output (finding_line (finding_of taken))
   pub rose : Rose old.output.faults new.output.faults
 
--- what was taken and written, by the answer of a check: the line of what was found, a front of it, or nothing; a fault of
--- the input or the output was counted there
+-- what was taken and written, by the answer of a check: the line of what was found, a front of it, or nothing; a fault
+-- of the input or the output was counted there
 abbrev pub CheckOutcome : List ℕ → Ports → Ports → Result Finding CheckError → Type 0
 CheckOutcome taken old new (Ok finding) =
     IsConfigTaken taken new.input × (finding ≡ finding_of taken)

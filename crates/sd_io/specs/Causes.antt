@@ -29,8 +29,8 @@ AppendsFront old new piece = (front : List ℕ) × IsFrontOf front piece × Appe
 abbrev pub PutAppends : {E : Type 0} → Option (List ℕ) → Option (List ℕ) → Result Unit E → List ℕ → Type 0
 PutAppends old new result piece = MatchResult result (λ _. Appends old new piece) (λ _. AppendsFront old new piece)
 
--- A read filled at most the buffer; what is left lost the bytes that were given, and nothing comes only at the end or for
--- no room; a failed read took nothing and was counted.
+-- A read filled at most the buffer; what is left lost the bytes that were given, and nothing comes only at the end or
+-- for no room; a failed read took nothing and was counted.
 pub record IsRead {E : Type 0} (old new : Input) (result : Result ℕ E) (buffer : List ℕ) : Type 0 where
   pub bound : ReadsAtMost result buffer
   pub bytes : ReadConsumes old.left new.left result buffer

@@ -1,5 +1,5 @@
--- On specs/Does.antt: what the status alone tells. 2 comes with words of no command and with no others; 4 and 5 come where
--- the count of faults of the input, of the output, rose.
+-- On specs/Does.antt: what the status alone tells. 2 comes with words of no command and with no others; 4 and 5 come
+-- where the count of faults of the input, of the output, rose.
 use Rattle.std.proofs.Common.{◌≡◌, ℕ, ◌<◌, Result, Ok, Err, refl, sym, ap, ◌∙◌, arith}
 use Rattle.sd_io.specs.States.{Ports}
 use Rattle.sd_io.specs.Causes.{Rose}

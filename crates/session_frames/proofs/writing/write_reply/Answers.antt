@@ -5,7 +5,8 @@ use Rattle.session_frames.proofs.writing.write_reply.Goals as goal
 pub returns-in_err-put : goal.returns-in_err-put
 returns-in_err-put g c =
     let head = rw c.head.ensures at c.in_err-put.ensures in
-    rw (reply_bytes-parts c.args.reply.now) (IsPut-before _ _ c.from_residual.result _ _ _ c.from_residual.ensures.0 head)
+    rw (reply_bytes-parts c.args.reply.now) (IsPut-before _ _ c.from_residual.result _ _ _ c.from_residual.ensures.0
+    head)
 
 pub returns : goal.returns
 returns g c =
