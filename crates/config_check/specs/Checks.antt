@@ -1,6 +1,7 @@
 -- What a check takes of its input, and what it writes.
-use Rattle.std.specs.Prelude.{◌≡◌, ℕ, ◌≤◌, ◌⊎◌, List, [], length, Option, Result, Ok, Err}
-use Rattle.sd_io.specs.Causes.{Appends, AppendsFront, Consumes, IsAtEnd}
+use Rattle.std.specs.Prelude.{◌≡◌, ℕ, ◌≤◌, ◌⊎◌, List, [], length, Result, Ok, Err}
+use Rattle.sd_io.specs.States.{Input, Ports}
+use Rattle.sd_io.specs.Causes.{Gains, GainsFront, IsAtEnd, Rose, Takes}
 use Rattle.config_check.specs.declared.error.CheckError.{CheckError}
 use Rattle.config_check.specs.declared.error.CheckError.TheVariants.{Read, Write, Memory}
 use Rattle.config_check.specs.declared.finding.Finding.{Finding}
@@ -12,22 +13,28 @@ abbrev pub most_taken : ℕ
 most_taken = 262145
 
 -- A configuration was taken whole: the input to its end, or as many bytes as are taken at most.
-pub record IsConfigTaken (taken : List ℕ) (left : Option (List ℕ)) : Type 0 where
+pub record IsConfigTaken (taken : List ℕ) (input : Input) : Type 0 where
   pub within : length taken ≤ most_taken
-  pub whole : (length taken ≡ most_taken) ⊎ IsAtEnd left
+  pub whole : (length taken ≡ most_taken) ⊎ IsAtEnd input.left
 
--- what was taken and written, by the answer of a check: the line of what was found, a front of it, or nothing
-abbrev pub CheckOutcome : List ℕ → Option (List ℕ) → Option (List ℕ) → Option (List ℕ) → Result Finding CheckError
-    → Type 0
-CheckOutcome taken left old new (Ok finding) =
-    IsConfigTaken taken left × (finding ≡ finding_of taken) × Appends old new (finding_line finding)
-CheckOutcome taken left old new (Err Write) =
-    IsConfigTaken taken left × AppendsFront old new (finding_line (finding_of taken))
-CheckOutcome taken left old new (Err Read) = Appends old new []
-CheckOutcome taken left old new (Err Memory) = Appends old new []
+-- The output failed: a front of the line of what is found of the bytes taken was written, and the fault was counted.
+pub record IsLineCutShort (taken : List ℕ) (old new : Ports) : Type 0 where
+  pub is_taken : IsConfigTaken taken new.input
+  pub written : GainsFront old.output new.output (finding_line (finding_of taken))
+  pub rose : Rose old.output.faults new.output.faults
+
+-- what was taken and written, by the answer of a check: the line of what was found, a front of it, or nothing; a fault
+-- of the input or the output was counted there
+abbrev pub CheckOutcome : List ℕ → Ports → Ports → Result Finding CheckError → Type 0
+CheckOutcome taken old new (Ok finding) =
+    IsConfigTaken taken new.input × (finding ≡ finding_of taken)
+    × Gains old.output new.output (finding_line finding)
+CheckOutcome taken old new (Err Write) = IsLineCutShort taken old new
+CheckOutcome taken old new (Err Read) = Gains old.output new.output [] × Rose old.input.faults new.input.faults
+CheckOutcome taken old new (Err Memory) = Gains old.output new.output []
 
 -- A check took bytes from the front of its input, and was answered so.
-pub record Checks (left_old left_new old new : Option (List ℕ)) (answer : Result Finding CheckError) : Type 0 where
+pub record Checks (old new : Ports) (answer : Result Finding CheckError) : Type 0 where
   pub taken : List ℕ
-  pub consumes : Consumes left_old left_new taken
-  pub outcome : CheckOutcome taken left_new old new answer
+  pub consumes : Takes old.input new.input taken
+  pub outcome : CheckOutcome taken old new answer

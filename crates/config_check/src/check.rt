@@ -1,6 +1,5 @@
 //! The check of a configuration, from its input to the line on its output.
-ghost use Rattle.std.specs.Prelude.{◌≡◌, Err};
-ghost use Rattle.sd_io.specs.Causes.{Rose};
+ghost use Rattle.sd_io.specs.States.{ports};
 ghost use Rattle.config_check.specs.Checks.{Checks};
 
 use crate::judging::judge;
@@ -18,14 +17,8 @@ pub fn check_config<S: Source, K: Sink>(
     input: &mut S,
     out: &mut K,
 ) -> Result<Finding, CheckError>
-    ensures checks { Checks (S.left input.old) (S.left input.new)
-        (K.written out.old) (K.written out.new) result }
-
-    // The faults of the outside have their cause there.
-    ensures read_fault { result ≡ Err CheckError.Read
-        → Rose (S.faults input.old) (S.faults input.new) }
-    ensures write_fault { result ≡ Err CheckError.Write
-        → Rose (K.faults out.old) (K.faults out.new) }
+    ensures { Checks (ports (S.state input.old) (K.state out.old))
+        (ports (S.state input.new) (K.state out.new)) result }
 {
     let bytes = read_config(alloc, input)?;
     let finding = judge(alloc, &bytes)?;

@@ -1,6 +1,6 @@
 //! The bytes of a configuration, read from an input.
-ghost use Rattle.std.specs.Prelude.{◌≡◌, ◌<◌, vec_len, Err, IfOk, IfErr};
-ghost use Rattle.sd_io.specs.Causes.{Rose, Consumes};
+ghost use Rattle.std.specs.Prelude.{◌<◌, vec_len, IfOk, IfErr};
+ghost use Rattle.sd_io.specs.Causes.{Takes};
 ghost use Rattle.config_check.specs.Checks.{IsConfigTaken};
 ghost use Rattle.config_check.specs.Broken.{BreaksOff};
 
@@ -18,13 +18,11 @@ const PIECE: usize = 65_536;
 pub fn read_config<S: Source>(alloc: Global, input: &mut S) -> Result<Vec<u8>, CheckError>
     // The configuration is taken whole.
     ensures consumes { IfOk result (λ bytes.
-        Consumes (S.left input.old) (S.left input.new) bytes.items) }
-    ensures whole { IfOk result (λ bytes. IsConfigTaken bytes.items (S.left input.new)) }
+        Takes (S.state input.old) (S.state input.new) bytes.items) }
+    ensures whole { IfOk result (λ bytes. IsConfigTaken bytes.items (S.state input.new)) }
 
     // An error comes after a front of it.
-    ensures front { IfErr result (BreaksOff (S.left input.old) (S.left input.new)) }
-    ensures read_fault { result ≡ Err CheckError.Read
-        → Rose (S.faults input.old) (S.faults input.new) }
+    ensures front { IfErr result (BreaksOff (S.state input.old) (S.state input.new)) }
 {
     let mut piece = piece(alloc)?;
     let mut bytes = Vec::new(alloc);

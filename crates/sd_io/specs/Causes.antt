@@ -1,5 +1,6 @@
 -- What reads and writes do to bytes that are told, and when they may fail.
 use Rattle.std.specs.Prelude.{◌≡◌, ℕ, ◌+◌, ◌-◌, ◌^◌, ◌≤◌, min, List, ◌++◌, Option, Result, OnErr, MatchResult}
+use Rattle.sd_io.specs.States.{Input, Output}
 pub use Rattle.std.specs.Io.{ReadsAtMost}
 pub use Rattle.std.specs.Io.KnownBytes.{Appends, Consumes, IsAtEnd, Keeps, ReadConsumes}
 
@@ -27,3 +28,27 @@ AppendsFront old new piece = (front : List ℕ) × IsFrontOf front piece × Appe
 -- a put appended the whole piece, or failed and appended a front of it
 abbrev pub PutAppends : {E : Type 0} → Option (List ℕ) → Option (List ℕ) → Result Unit E → List ℕ → Type 0
 PutAppends old new result piece = MatchResult result (λ _. Appends old new piece) (λ _. AppendsFront old new piece)
+
+-- A read filled at most the buffer; what is left lost the bytes that were given, and nothing comes only at the end or
+-- for no room; a failed read took nothing and was counted.
+pub record IsRead {E : Type 0} (old new : Input) (result : Result ℕ E) (buffer : List ℕ) : Type 0 where
+  pub bound : ReadsAtMost result buffer
+  pub bytes : ReadConsumes old.left new.left result buffer
+  pub cause : HasCause old.faults new.faults result
+
+-- A put wrote the whole piece; a failed put wrote a front of it and was counted.
+pub record IsPut {E : Type 0} (old new : Output) (result : Result Unit E) (piece : List ℕ) : Type 0 where
+  pub bytes : PutAppends old.written new.written result piece
+  pub cause : HasCause old.faults new.faults result
+
+-- these bytes were taken from the front of what was left
+abbrev pub Takes : Input → Input → List ℕ → Type 0
+Takes old new taken = Consumes old.left new.left taken
+
+-- these bytes were written after what was written
+abbrev pub Gains : Output → Output → List ℕ → Type 0
+Gains old new bytes = Appends old.written new.written bytes
+
+-- a front of these bytes was written after what was written
+abbrev pub GainsFront : Output → Output → List ℕ → Type 0
+GainsFront old new bytes = AppendsFront old.written new.written bytes

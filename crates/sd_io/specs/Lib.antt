@@ -1,3 +1,4 @@
+pub mod States
 pub mod Causes
 pub mod MemSource
 pub mod MemSink

@@ -1,5 +1,6 @@
 -- What a contract sees of a `MemSink`, and of a call that isn't to fail.
-use Rattle.std.specs.Prelude.{ℕ, ◌-◌, ◌+◌, ◌<◌, List, length, take, Contains}
+use Rattle.std.specs.Prelude.{ℕ, ◌-◌, ◌+◌, ◌<◌, List, length, take, Contains, Some}
+use Rattle.sd_io.specs.States.{Output}
 
 -- What a contract sees of a sink in memory.
 pub record SinkContents : Type 0 where
@@ -25,3 +26,7 @@ IsTooLong sink piece = sink.room < length sink.written + length piece
 -- as much of the piece as the room that is left holds
 abbrev pub front_that_fits : SinkContents → List ℕ → List ℕ
 front_that_fits sink piece = take (sink.room - length sink.written) piece
+
+-- what is seen of it as an output: it tells all that was written
+abbrev pub output_of : SinkContents → Output
+output_of sink = record { written = Some sink.written; faults = sink.faults }

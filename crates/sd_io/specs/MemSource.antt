@@ -1,5 +1,6 @@
 -- What a contract sees of a `MemSource`, and of a call that isn't to fail.
-use Rattle.std.specs.Prelude.{◌≡◌, ℕ, min, List, ◌++◌, length, take, drop, Contains}
+use Rattle.std.specs.Prelude.{◌≡◌, ℕ, min, List, ◌++◌, length, take, drop, Contains, Some}
+use Rattle.sd_io.specs.States.{Input}
 
 -- What a contract sees of a source in memory.
 pub record SourceContents : Type 0 where
@@ -24,3 +25,7 @@ pub record GivesPiece (source : SourceContents) (buffer : List ℕ) (count : ℕ
   pub most : count ≡ min source.piece (min (length buffer) (length source.left))
   pub given : buffer_after ≡ take count source.left ++ drop count buffer
   pub left : left_after ≡ drop count source.left
+
+-- what is seen of it as an input: it tells all that is left
+abbrev pub input_of : SourceContents → Input
+input_of source = record { left = Some source.left; faults = source.faults }

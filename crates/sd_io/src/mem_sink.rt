@@ -1,7 +1,7 @@
 //! A sink in memory, with room for so many bytes and calls that fail by a list.
-ghost use Rattle.std.specs.Prelude.{◌≡◌, ◌≤◌, ◌-◌, ◌+◌, ◌⊎◌, ◌↔◌, ◌++◌, [], length, take, vec_len, vec_capacity, Some, IsErr, is_err, IsTrue, IfOk, if◌then◌else◌};
-ghost use Rattle.sd_io.specs.Causes.{PutAppends, HasCause, count_up};
-ghost use Rattle.sd_io.specs.MemSink.{IsPutToFail, IsTooLong, front_that_fits};
+ghost use Rattle.std.specs.Prelude.{◌≡◌, ◌≤◌, ◌-◌, ◌+◌, ◌⊎◌, ◌↔◌, ◌++◌, [], length, take, vec_len, vec_capacity, IsErr, is_err, IsTrue, IfOk, if◌then◌else◌};
+ghost use Rattle.sd_io.specs.Causes.{IsPut, count_up};
+ghost use Rattle.sd_io.specs.MemSink.{IsPutToFail, IsTooLong, front_that_fits, output_of};
 
 use crate::{Sink, WriteFailed};
 use std::alloc::{AllocError, Global};
@@ -64,9 +64,7 @@ impl MemSink {
 }
 
 impl Sink for MemSink {
-    ghost written = { λ s. Some s.written };
-
-    ghost faults = { λ s. s.faults };
+    ghost state = { λ s. output_of s };
 
     fn put(&mut self, piece: &[u8]) -> Result<(), WriteFailed>
         ensures fails { IsErr result ↔ (IsPutToFail self.old ⊎ IsTooLong self.old piece.now) }
@@ -80,9 +78,7 @@ impl Sink for MemSink {
         } }
 
         // What every sink ensures.
-        ensures bytes { PutAppends
-            (Some self.old.written) (Some self.new.written) result piece.now }
-        ensures cause { HasCause self.old.faults self.new.faults result }
+        ensures put { IsPut (output_of self.old) (output_of self.new) result piece.now }
     {
         let fails = self.fails.contains(&self.calls);
         self.calls = self.calls.saturating_add(1);

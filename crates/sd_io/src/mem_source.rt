@@ -1,7 +1,7 @@
 //! A source over bytes in memory, with calls that fail by a list.
-ghost use Rattle.std.specs.Prelude.{◌≡◌, ◌≤◌, ◌↔◌, ◌++◌, [], min, length, take, drop, Some, IsErr, is_err, MatchResult, if◌then◌else◌};
-ghost use Rattle.sd_io.specs.Causes.{ReadsAtMost, ReadConsumes, HasCause, count_up};
-ghost use Rattle.sd_io.specs.MemSource.{IsReadToFail, GivesPiece};
+ghost use Rattle.std.specs.Prelude.{◌≡◌, ◌≤◌, ◌↔◌, ◌++◌, [], min, length, take, drop, IsErr, is_err, MatchResult, if◌then◌else◌};
+ghost use Rattle.sd_io.specs.Causes.{IsRead, count_up};
+ghost use Rattle.sd_io.specs.MemSource.{IsReadToFail, GivesPiece, input_of};
 
 use crate::{ReadFailed, Source};
 use std::marker::Model;
@@ -66,9 +66,7 @@ impl MemSource {
 }
 
 impl Source for MemSource {
-    ghost left = { λ s. Some s.left };
-
-    ghost faults = { λ s. s.faults };
+    ghost state = { λ s. input_of s };
 
     fn read(&mut self, buf: &mut [u8]) -> Result<usize, ReadFailed>
         ensures fails { IsErr result ↔ IsReadToFail self.old }
@@ -82,9 +80,7 @@ impl Source for MemSource {
         } }
 
         // What every source ensures.
-        ensures bound { ReadsAtMost result buf.new }
-        ensures bytes { ReadConsumes (Some self.old.left) (Some self.new.left) result buf.new }
-        ensures cause { HasCause self.old.faults self.new.faults result }
+        ensures read { IsRead (input_of self.old) (input_of self.new) result buf.new }
     {
         let fails = self.fails.contains(&self.calls);
         self.calls = self.calls.saturating_add(1);

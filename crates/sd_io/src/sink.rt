@@ -1,6 +1,6 @@
 //! What bytes are written to.
-ghost use Rattle.std.specs.Prelude.{ℕ, List, Option};
-ghost use Rattle.sd_io.specs.Causes.{PutAppends, HasCause};
+ghost use Rattle.sd_io.specs.States.{Output};
+ghost use Rattle.sd_io.specs.Causes.{IsPut};
 
 use std::error::Error;
 use std::fmt;
@@ -19,14 +19,10 @@ impl Error for WriteFailed {}
 
 /// An output.
 pub trait Sink {
-    /// The bytes that were written, or `None` where the sink doesn't tell.
-    ghost written: { Self → Option (List ℕ) };
-
-    /// How many calls failed, a count that never falls and stands still at its type's end.
-    ghost faults: { Self → ℕ };
+    /// What was written to it, where it tells, and its count of faults.
+    ghost state: { Self → Output };
 
     /// Writes the whole piece, or fails with some front of it written. It takes no memory.
     fn put(&mut self, piece: &[u8]) -> Result<(), WriteFailed>
-        ensures bytes { PutAppends (written self.old) (written self.new) result piece.now }
-        ensures cause { HasCause (faults self.old) (faults self.new) result };
+        ensures { IsPut (state self.old) (state self.new) result piece.now };
 }

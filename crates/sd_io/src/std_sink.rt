@@ -1,6 +1,7 @@
 //! std's writers as sinks.
 ghost use Rattle.std.specs.Prelude.{◌≡◌, is_err, if◌then◌else◌};
-ghost use Rattle.sd_io.specs.Causes.{PutAppends, HasCause, count_up};
+ghost use Rattle.sd_io.specs.States.{output_with};
+ghost use Rattle.sd_io.specs.Causes.{IsPut, count_up};
 
 use crate::{Sink, WriteFailed};
 use std::io::Write;
@@ -32,18 +33,15 @@ impl<W: Write> StdSink<W> {
 }
 
 impl<W: Write> Sink for StdSink<W> {
-    ghost written = { λ s. W.contents s.stream };
-
-    ghost faults = { λ s. s.faults };
+    ghost state = { λ s. output_with (W.contents s.stream) s.faults };
 
     fn put(&mut self, piece: &[u8]) -> Result<(), WriteFailed>
         ensures counts { self.new.faults
             ≡ (if is_err result then count_up self.old.faults else self.old.faults) }
 
         // What every sink ensures.
-        ensures bytes { PutAppends
-            (W.contents self.old.stream) (W.contents self.new.stream) result piece.now }
-        ensures cause { HasCause self.old.faults self.new.faults result }
+        ensures put { IsPut (output_with (W.contents self.old.stream) self.old.faults)
+            (output_with (W.contents self.new.stream) self.new.faults) result piece.now }
     {
         let mut rest = piece;
         while !rest.is_empty() {

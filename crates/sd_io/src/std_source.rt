@@ -1,6 +1,7 @@
 //! std's readers as sources.
 ghost use Rattle.std.specs.Prelude.{◌≡◌, is_err, if◌then◌else◌};
-ghost use Rattle.sd_io.specs.Causes.{ReadsAtMost, ReadConsumes, HasCause, count_up};
+ghost use Rattle.sd_io.specs.States.{input_with};
+ghost use Rattle.sd_io.specs.Causes.{IsRead, count_up};
 
 use crate::{ReadFailed, Source};
 use std::io::Read;
@@ -31,19 +32,15 @@ impl<R: Read> StdSource<R> {
 }
 
 impl<R: Read> Source for StdSource<R> {
-    ghost left = { λ s. R.remaining s.stream };
-
-    ghost faults = { λ s. s.faults };
+    ghost state = { λ s. input_with (R.remaining s.stream) s.faults };
 
     fn read(&mut self, buf: &mut [u8]) -> Result<usize, ReadFailed>
         ensures counts { self.new.faults
             ≡ (if is_err result then count_up self.old.faults else self.old.faults) }
 
         // What every source ensures.
-        ensures bound { ReadsAtMost result buf.new }
-        ensures bytes { ReadConsumes
-            (R.remaining self.old.stream) (R.remaining self.new.stream) result buf.new }
-        ensures cause { HasCause self.old.faults self.new.faults result }
+        ensures read { IsRead (input_with (R.remaining self.old.stream) self.old.faults)
+            (input_with (R.remaining self.new.stream) self.new.faults) result buf.new }
     {
         match self.inner.read(buf) {
             Ok(count) => Ok(count),

@@ -3,8 +3,9 @@
 use Rattle.std.proofs.Common.{◌≡◌, ℕ, ◌+◌, ◌-◌, ◌<◌, ◌≤◌, Bool, true, false, IsTrue, List, [], ◌++◌, length, take, drop, Option, Some, None, Result, Ok, Err, IfOk, IfErr, IfNone, nat_lt, refl, sym, ap, ap₂, ◌∙◌, subst, subst₂, arith, inl, inr}
 use Rattle.std.proofs.lemmas.Bool.Decides.{nat_tests}
 use Rattle.std.proofs.lemmas.List.{length-drop, drop-drop, take_rest, take-take, take-append-le, append-nil}
-use Rattle.std.proofs.KnownBytes.{Consumes-nil, Consumes-trans}
-use Rattle.std.specs.Io.KnownBytes.{Consumes, IsAtEnd}
+use Rattle.sd_io.specs.States.{Input}
+use Rattle.sd_io.specs.Causes.{IsAtEnd, Takes}
+use Rattle.sd_io.proofs.CausesLemmas.{Takes-nil, Takes-trans}
 use Rattle.session_frames.specs.declared.frame.Frame.{Frame}
 use Rattle.session_frames.specs.declared.frame.FrameError.{FrameError}
 use Rattle.session_frames.specs.declared.frame.FrameError.TheVariants.{Session, Read, Memory}
@@ -16,40 +17,40 @@ use Rattle.session_frames.specs.Bodies.{Fills, Judges}
 use Rattle.session_frames.proofs.FrameLaws.{StandsWhole-from_next, whole_takes, next_ended}
 
 -- so much of a source was read
-pub record IsReadSo (old new : Option (List ℕ)) (before now : ℕ) (bytes piece : List ℕ) : Type 0 where
-  pub consumes : Consumes old new bytes
+pub record IsReadSo (old new : Input) (bytes piece : List ℕ) : Type 0 where
+  pub consumes : Takes old new bytes
   pub within : length bytes ≤ most_input
-  pub later : before ≤ now
+  pub later : old.faults ≤ new.faults
   pub room : 0 < length piece
 
 -- after what was read so far, the front of a piece was read
-pub Consumes-piece : (old mid new : Option (List ℕ)) (bytes more buf behind piece : List ℕ) (len count : ℕ)
-    → Consumes old mid bytes
-    → Consumes mid new (take count buf)
+pub Consumes-piece : (old mid new : Input) (bytes more buf behind piece : List ℕ) (len count : ℕ)
+    → Takes old mid bytes
+    → Takes mid new (take count buf)
     → piece ≡ take len (buf ++ behind)
     → count ≤ len
     → count ≤ length buf
     → more ≡ bytes ++ take count piece
-    → Consumes old new more
+    → Takes old new more
 Consumes-piece old mid new bytes more buf behind piece len count before now is fits within grown =
     let front : take count piece ≡ take count buf = ap (take count) is ∙ take-take count len (buf ++ behind) fits
     ∙ take-append-le count buf behind within in
-    subst (Consumes old new) (sym (grown ∙ ap (λ l. bytes ++ l) front))
-    (Consumes-trans old mid new bytes (take count buf) before now)
+    subst (Takes old new) (sym (grown ∙ ap (λ l. bytes ++ l) front))
+    (Takes-trans old mid new bytes (take count buf) before now)
 
 -- the source failed
-pub Refuses-Read : (old new : Option (List ℕ)) (taken : List ℕ) → Consumes old new taken → Refuses old new unread Read
+pub Refuses-Read : (old new : Input) (taken : List ℕ) → Takes old new taken → Refuses old new unread Read
 Refuses-Read old new taken consumes = record { taken = taken; consumes = consumes; cause = refl }
 
 -- memory was wanting
-pub Refuses-Memory : (old new : Option (List ℕ)) (taken : List ℕ)
-    → Consumes old new taken
+pub Refuses-Memory : (old new : Input) (taken : List ℕ)
+    → Takes old new taken
     → Refuses old new unread Memory
 Refuses-Memory old new taken consumes = record { taken = taken; consumes = consumes; cause = inr refl }
 
 -- too much was read
-pub Refuses-too_much : (old new : Option (List ℕ)) (taken : List ℕ)
-    → Consumes old new taken
+pub Refuses-too_much : (old new : Input) (taken : List ℕ)
+    → Takes old new taken
     → most_input < length taken
     → Refuses old new unread (Session most_input TooManyFrames)
 Refuses-too_much old new taken consumes more =
@@ -128,11 +129,11 @@ module _ (bytes : List ℕ) (at clock frames len : ℕ) (frame : Frame) (rest : 
   )
 
 -- a reader that never saw its source's end holds nothing, so all of the source is what it holds then
-pub Fills-first : (old new : Option (List ℕ)) (held bytes : List ℕ) (at clock frames : ℕ) (ended : Bool)
+pub Fills-first : (old new : Input) (held bytes : List ℕ) (at clock frames : ℕ) (ended : Bool)
     → IsHeld held at clock frames ended
     → ended ≡ false
-    → Consumes old new bytes
-    → IsAtEnd new
+    → Takes old new bytes
+    → IsAtEnd new.left
     → length bytes ≤ most_input
     → let place : Place = record { bytes = at; clock = clock; frames = frames } in
     let before : Reading = record { pending = drop at held; place = place; ended = ended } in
@@ -151,20 +152,20 @@ Fills-first old new held bytes at clock frames ended holds unended consumes at_e
     }
 
 -- a reader that saw its source's end has all of it
-pub Fills-ended : (left : Option (List ℕ)) (held : List ℕ) (at clock frames : ℕ) (ended : Bool)
+pub Fills-ended : (input : Input) (held : List ℕ) (at clock frames : ℕ) (ended : Bool)
     → IsHeld held at clock frames ended
     → IsTrue ended
-    → IsAtEnd left
+    → IsAtEnd input.left
     → let reading : Reading = record {
       pending = drop at held;
       place = record { bytes = at; clock = clock; frames = frames };
       ended = ended;
     } in
-    Fills left left reading reading
-Fills-ended left held at clock frames ended holds true_ended at_end =
+    Fills input input reading reading
+Fills-ended input held at clock frames ended holds true_ended at_end =
     record {
       taken = [];
-      consumes = Consumes-nil left;
+      consumes = Takes-nil input;
       at_end = at_end;
       pending = sym (append-nil (drop at held));
       place = refl;
@@ -173,7 +174,7 @@ Fills-ended left held at clock frames ended holds true_ended at_end =
     }
 
 -- A call in its two steps: the source is read, and what stands next is judged.
-module _ (old new : Option (List ℕ)) (before filled : Reading) (fills : Fills old new before filled) where
+module _ (old new : Input) (before filled : Reading) (fills : Fills old new before filled) where
   within_all : FitsSession before.place (before.pending ++ fills.taken)
   within_all = subst₂ FitsSession fills.place fills.pending fills.within
 

@@ -1,6 +1,7 @@
 -- What the inner calls of a reader answer.
 use Rattle.std.specs.Prelude.{◌≡◌, ℕ, IsTrue, List, ◌++◌, Option, Some, None, Result, Ok, Err, MatchOption}
-use Rattle.std.specs.Io.KnownBytes.{Consumes, IsAtEnd}
+use Rattle.sd_io.specs.States.{Input}
+use Rattle.sd_io.specs.Causes.{IsAtEnd, Takes}
 use Rattle.session_frames.specs.declared.body.BodyError.{BodyError}
 use Rattle.session_frames.specs.declared.body.BodyError.TheVariants.{Fault, Memory}
 use Rattle.session_frames.specs.declared.frame.Frame.{Frame}
@@ -24,10 +25,10 @@ FindsNext bytes (Err (Fault fault)) next = next ≡ Broken fault
 FindsNext bytes (Err Memory) next = Unit {0}
 
 -- The whole of a source was read after what a reader had, and it isn't too much.
-pub record Fills (old new : Option (List ℕ)) (before after : Reading) : Type 0 where
+pub record Fills (old new : Input) (before after : Reading) : Type 0 where
   pub taken : List ℕ
-  pub consumes : Consumes old new taken
-  pub at_end : IsAtEnd new
+  pub consumes : Takes old new taken
+  pub at_end : IsAtEnd new.left
   pub pending : after.pending ≡ before.pending ++ taken
   pub place : after.place ≡ before.place
   pub ended : IsTrue after.ended

@@ -1,6 +1,6 @@
 //! The reader of frames.
 ghost use Rattle.std.specs.Prelude.{◌≡◌, ◌<◌, ◌≤◌, length, vec_len, IsTrue, IfOk, IfErr, OnOk, IfSome, IfNone};
-ghost use Rattle.sd_io.specs.Causes.{Consumes, IsAtEnd};
+ghost use Rattle.sd_io.specs.Causes.{Takes, IsAtEnd};
 ghost use Rattle.session_frames.specs.Faultless.{IsFaultless, IsInTime};
 ghost use Rattle.session_frames.specs.FrameLimits.{most_input};
 ghost use Rattle.session_frames.specs.Frames as frames;
@@ -67,16 +67,16 @@ impl FrameReader {
     /// configurations and the texts of atoms are copied.
     pub fn next<S: Source>(self, src: &mut S) -> Result<(FrameReader, Option<Frame>), FrameError>
         // What stands next is given.
-        ensures gives { IsInStep self (S.left src.old)
-            → IfOk result (λ r. GivesFrame (S.left src.old) (S.left src.new) self r.0 r.1) }
+        ensures gives { IsInStep self (S.state src.old)
+            → IfOk result (λ r. GivesFrame (S.state src.old) (S.state src.new) self r.0 r.1) }
         ensures faultless { IfOk result (λ r.
             IfSome r.1 (λ f. IsFaultless f × IsInTime self.place.clock f)) }
         ensures end { IfOk result (λ r. IfNone r.1 (StaysAtEnd self r.0)) }
 
         // Each error has its cause.
-        ensures refuses { IsInStep self (S.left src.old)
-            → IfErr result (λ e. Refuses (S.left src.old) (S.left src.new) self e) }
-        ensures cause { HasReadCause (S.faults src.old) (S.faults src.new) result }
+        ensures refuses { IsInStep self (S.state src.old)
+            → IfErr result (λ e. Refuses (S.state src.old) (S.state src.new) self e) }
+        ensures cause { HasReadCause (S.state src.old) (S.state src.new) result }
     {
         let filled = self.fill(src)?;
         filled.judge()
@@ -85,14 +85,14 @@ impl FrameReader {
     // The whole of the source is read, if it wasn't before.
     fn fill<S: Source>(mut self, src: &mut S) -> Result<FrameReader, FrameError>
         // The reader has the rest of the source, and stands where it stood.
-        ensures fills { IsInStep self (S.left src.old)
-            → IfOk result (λ r. Fills (S.left src.old) (S.left src.new) self r) }
+        ensures fills { IsInStep self (S.state src.old)
+            → IfOk result (λ r. Fills (S.state src.old) (S.state src.new) self r) }
         ensures ended { IfOk result (λ r. IsTrue r.ended) }
         ensures place { IfOk result (λ r. r.place ≡ self.place) }
 
         // Each error has its cause.
-        ensures refuses { IfErr result (λ e. Refuses (S.left src.old) (S.left src.new) self e) }
-        ensures cause { HasReadCause (S.faults src.old) (S.faults src.new) result }
+        ensures refuses { IfErr result (λ e. Refuses (S.state src.old) (S.state src.new) self e) }
+        ensures cause { HasReadCause (S.state src.old) (S.state src.new) result }
     {
         if self.ended {
             return Ok(self);
@@ -166,13 +166,13 @@ fn piece(alloc: Global) -> Result<Vec<u8>, AllocError>
 // The whole of a source, unless it is more than a session may have.
 fn read_all<S: Source>(alloc: Global, src: &mut S) -> Result<Vec<u8>, FrameError>
     // What is read is all that there is.
-    ensures whole { IfOk result (λ bytes. Consumes (S.left src.old) (S.left src.new) bytes.items) }
-    ensures at_end { OnOk result (IsAtEnd (S.left src.new)) }
+    ensures whole { IfOk result (λ bytes. Takes (S.state src.old) (S.state src.new) bytes.items) }
+    ensures at_end { OnOk result (IsAtEnd (S.state src.new).left) }
     ensures within { IfOk result (λ bytes. length bytes.items ≤ most_input) }
 
     // Each error has its cause.
-    ensures refuses { IfErr result (λ e. Refuses (S.left src.old) (S.left src.new) unread e) }
-    ensures cause { HasReadCause (S.faults src.old) (S.faults src.new) result }
+    ensures refuses { IfErr result (λ e. Refuses (S.state src.old) (S.state src.new) unread e) }
+    ensures cause { HasReadCause (S.state src.old) (S.state src.new) result }
 {
     let mut piece = piece(alloc)?;
     let mut bytes = Vec::new(alloc);

@@ -2,7 +2,7 @@
 ghost use Rattle.std.specs.Prelude.{◌≡◌, ◌<◌, ◌^◌, length};
 ghost use Rattle.std.specs.List.{flat_map};
 ghost use Rattle.std.specs.Int.{w32, to_le_bytes};
-ghost use Rattle.sd_io.specs.Causes.{HasCause, PutAppends};
+ghost use Rattle.sd_io.specs.Causes.{IsPut};
 ghost use Rattle.session_frames.specs.ReplyLayout.{head_bytes};
 ghost use Rattle.session_frames.specs.Replies.{answer_bytes, kind_of, refusal_bytes, reply_bytes};
 
@@ -15,9 +15,7 @@ use sd_io::{Sink, WriteFailed};
 
 /// Writes a reply with its length in front. It takes no memory.
 pub fn write_reply<K: Sink>(reply: &Reply, out: &mut K) -> Result<(), WriteFailed>
-    ensures bytes { PutAppends (K.written out.old) (K.written out.new) result
-        (reply_bytes reply.now) }
-    ensures cause { HasCause (K.faults out.old) (K.faults out.new) result }
+    ensures { IsPut (K.state out.old) (K.state out.new) result (reply_bytes reply.now) }
 {
     out.put(&head(reply))?;
     write_body(&reply.body, out)
@@ -86,9 +84,7 @@ fn size(bytes: &[u8]) -> u64
 
 // Writes what comes after the kind, the uid and the id.
 fn write_body<K: Sink>(body: &ReplyBody, out: &mut K) -> Result<(), WriteFailed>
-    ensures bytes { PutAppends (K.written out.old) (K.written out.new) result
-        (answer_bytes body.now) }
-    ensures cause { HasCause (K.faults out.old) (K.faults out.new) result }
+    ensures { IsPut (K.state out.old) (K.state out.new) result (answer_bytes body.now) }
 {
     match body {
         ReplyBody::Refused(refusal) => write_refusal(refusal, out),
@@ -102,9 +98,7 @@ fn write_body<K: Sink>(body: &ReplyBody, out: &mut K) -> Result<(), WriteFailed>
 
 // Writes a class byte, and what the class says.
 fn write_refusal<K: Sink>(refusal: &Refusal, out: &mut K) -> Result<(), WriteFailed>
-    ensures bytes { PutAppends (K.written out.old) (K.written out.new) result
-        (refusal_bytes refusal.now) }
-    ensures cause { HasCause (K.faults out.old) (K.faults out.new) result }
+    ensures { IsPut (K.state out.old) (K.state out.new) result (refusal_bytes refusal.now) }
 {
     match refusal {
         Refusal::TooLarge(size) => {
@@ -133,9 +127,7 @@ fn write_refusal<K: Sink>(refusal: &Refusal, out: &mut K) -> Result<(), WriteFai
 
 // Writes the numbers of a path, four bytes each.
 fn write_path<K: Sink>(path: &[u32], out: &mut K) -> Result<(), WriteFailed>
-    ensures bytes { PutAppends (K.written out.old) (K.written out.new) result
-        (flat_map (to_le_bytes w32) path.now) }
-    ensures cause { HasCause (K.faults out.old) (K.faults out.new) result }
+    ensures { IsPut (K.state out.old) (K.state out.new) result (flat_map (to_le_bytes w32) path.now) }
 {
     for number in path {
         out.put(&number.to_le_bytes())?;

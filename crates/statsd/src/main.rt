@@ -1,13 +1,15 @@
 //! The engine as a program: the words of its command line, and the standard streams.
 #![tactic(auto)]
 
-ghost use Rattle.std.specs.Prelude.{◌≡◌, [], map, drop, IfOk, IfErr, IsOk, string_bytes};
+ghost use Rattle.std.specs.Prelude.{◌≡◌, ◌↔◌, [], map, drop, IfOk, IfErr, IsOk, string_bytes};
 ghost use Rattle.std.specs.Process.{exit_status};
 ghost use Rattle.std.specs.Vec.Iter.{into_iter_items};
 ghost use Rattle.std.specs.IoError.{error_kind};
-ghost use Rattle.sd_io.specs.Causes.{Rose};
-ghost use Rattle.statsd_cli.specs.Endings.{status_read_fault, status_write_fault};
-ghost use Rattle.statsd.specs.Program.{streams, EndsOn, IsRefused};
+ghost use Rattle.statsd_cli.specs.declared.command.Command.TheVariants as commands;
+ghost use Rattle.statsd_cli.specs.Commands.{command_of};
+ghost use Rattle.statsd_cli.specs.Streams.{streams};
+ghost use Rattle.statsd_cli.specs.Does.{Does};
+ghost use Rattle.statsd.specs.Program.{EndsOn, IsWithoutWords};
 
 use atom_record::Bytes;
 use sd_io::{Sink, Source, StdSink, StdSource};
@@ -38,21 +40,21 @@ fn run<S: Source, K: Sink, E: Sink>(
 ) -> ExitCode
     // All words go in but the program's name.
     ensures words { IfOk args (λ args.
-        EndsOn (map string_bytes (drop 1 (into_iter_items args))) (exit_status result)
-        (streams (S.left input.old) (K.written out.old) (E.written notes.old) (E.faults notes.old))
-        (streams (S.left input.new) (K.written out.new) (E.written notes.new) (E.faults notes.new))) }
+        EndsOn (command_of (map string_bytes (drop 1 (into_iter_items args)))) (exit_status result)
+        (streams (S.state input.old) (K.state out.old) (E.state notes.old))
+        (streams (S.state input.new) (K.state out.new) (E.state notes.new))) }
 
     // An argument that isn't text is no word of the engine's.
     ensures no_text { IfErr args (λ error. error_kind error ≡ ErrorKind.InvalidData
-        → IsRefused (exit_status result)
-        (streams (S.left input.old) (K.written out.old) (E.written notes.old) (E.faults notes.old))
-        (streams (S.left input.new) (K.written out.new) (E.written notes.new) (E.faults notes.new))) }
+        → Does commands.Unknown (exit_status result)
+        (streams (S.state input.old) (K.state out.old) (E.state notes.old))
+        (streams (S.state input.new) (K.state out.new) (E.state notes.new))) }
 
-    // The faults of the outside have their cause there.
-    ensures read_fault { exit_status result ≡ status_read_fault
-        → Rose (S.faults input.old) (S.faults input.new) }
-    ensures write_fault { exit_status result ≡ status_write_fault
-        → Rose (K.faults out.old) (K.faults out.new) }
+    // Where the arguments can't be had for another reason, memory was wanting.
+    ensures no_words { IfErr args (λ error. (error_kind error ≡ ErrorKind.InvalidData → ⊥)
+        → IsWithoutWords (exit_status result)
+        (streams (S.state input.old) (K.state out.old) (E.state notes.old))
+        (streams (S.state input.new) (K.state out.new) (E.state notes.new))) }
 {
     let Ok(words) = words(alloc, args) else {
         return ExitCode::from(STATUS_NO_MEMORY);
@@ -65,8 +67,8 @@ fn words(alloc: Global, args: io::Result<Args>) -> Result<Vec<Bytes>, AllocError
     ensures given { IfOk args (λ args. IfOk result (λ list.
         list.items ≡ map string_bytes (drop 1 (into_iter_items args)))) }
     ensures no_text { IfErr args (λ error. IfOk result (λ list. list.items ≡ [])) }
-    ensures without_memory { IfErr args (λ error.
-        error_kind error ≡ ErrorKind.InvalidData → IsOk result) }
+    ensures kinds { IfErr args (λ error.
+        IsOk result ↔ (error_kind error ≡ ErrorKind.InvalidData)) }
 {
     match args {
         Ok(args) => words_of(alloc, args),

@@ -1,52 +1,61 @@
--- On specs/Check.antt: a check that nothing hinders ends by what is found. On specs/Words.antt: no words ask for two
--- commands.
-use Rattle.std.proofs.Common.{◌≡◌, ℕ, List, [], take, get_or, Option, Some, None, Result, Ok, Err, refl, sym, ap, ◌∙◌, arith, inl, inr}
+-- On specs/Check.antt: a check that nothing hinders ends by what is found.
+use Rattle.std.proofs.Common.{◌≡◌, ℕ, List, take, Option, Some, None, Result, Ok, Err, ap, ◌∙◌, inl, inr}
 use Rattle.std.specs.Prelude.{◌⊎◌, IfSome}
-use Rattle.sd_io.specs.Causes.{Rose}
+use Rattle.sd_io.specs.States.{Input, Output, Ports, ports, input_with}
 use Rattle.config_check.specs.declared.error.CheckError.{CheckError}
 use Rattle.config_check.specs.declared.error.CheckError.TheVariants.{Read, Write, Memory}
 use Rattle.config_check.specs.declared.finding.Finding.{Finding}
 use Rattle.config_check.specs.Findings.{finding_of}
 use Rattle.config_check.specs.Checks.{most_taken, Checks}
 use Rattle.config_check.proofs.ChecksLemmas.{first_taken}
-use Rattle.statsd_cli.specs.declared.ending.Ending.TheVariants.{ReadFault, WriteFault}
-use Rattle.statsd_cli.specs.Words.{IsReplay, IsCheck}
+use Rattle.statsd_cli.specs.declared.command.Command.{Command}
+use Rattle.statsd_cli.specs.declared.command.Command.TheVariants.{Replay, Check, Unknown}
+use Rattle.statsd_cli.specs.declared.ending.Ending.{Ending}
 use Rattle.statsd_cli.specs.Endings.{status_of}
 use Rattle.statsd_cli.specs.Check.{ending_found, check_ending}
-
--- no words are both commands
-pub one_command : (words : List (List ℕ)) → IsReplay words → IsCheck words → ⊥
-one_command words replay check =
-    let letters : 114 ≡ 99 = ap (λ ws. get_or (get_or ws 0 []) 0 0) (sym replay ∙ check) in
-    absurd (omega (arith, letters))
+use Rattle.statsd_cli.specs.Does.{Did, IsUndisturbed}
 
 -- what was found is found of the first bytes
-found_first : (bytes : List ℕ) (left o n : Option (List ℕ)) (finding : Finding)
-    → Checks (Some bytes) left o n (Ok finding)
+found_first : (bytes : List ℕ) (read_old : ℕ) (left : Option (List ℕ)) (read_now : ℕ) (o n : Output)
+    (finding : Finding)
+    → Checks (ports (input_with (Some bytes) read_old) o) (ports (input_with left read_now) n) (Ok finding)
     → finding ≡ finding_of (take most_taken bytes)
-found_first bytes None o n finding checks = absurd checks.consumes
-found_first bytes (Some rest) o n finding checks =
-    checks.outcome.1 ∙ ap finding_of (first_taken bytes checks.taken rest checks.consumes checks.outcome.0)
+found_first bytes read_old None read_now o n finding checks = absurd checks.consumes
+found_first bytes read_old (Some rest) read_now o n finding checks =
+    checks.outcome.1
+    ∙ ap finding_of (first_taken bytes checks.taken rest read_now checks.consumes checks.outcome.0)
 
 -- A check ends by what is found of the first bytes, unless the outside fails or memory is wanting.
-module _ (left_new o n : Option (List ℕ)) (status read_before read_now write_before write_now : ℕ) where
-  judged_at : (bytes : List ℕ) (answer : Result Finding CheckError) → status ≡ status_of (check_ending answer)
-      → Checks (Some bytes) left_new o n answer
-      → (check_ending answer ≡ ReadFault → Rose read_before read_now)
-      → (check_ending answer ≡ WriteFault → Rose write_before write_now)
-      → (Rose read_before read_now → ⊥) → (Rose write_before write_now → ⊥)
-      → (status ≡ status_of (ending_found (finding_of (take most_taken bytes)))) ⊎ (status ≡ 6)
-  judged_at bytes (Ok finding) is checks reads writes no_read no_write =
-      inl (is ∙ ap (λ f. status_of (ending_found f)) (found_first bytes left_new o n finding checks))
-  judged_at bytes (Err Read) is checks reads writes no_read no_write = absurd (no_read (reads refl))
-  judged_at bytes (Err Write) is checks reads writes no_read no_write = absurd (no_write (writes refl))
-  judged_at bytes (Err Memory) is checks reads writes no_read no_write = inr is
+judged_at : (bytes : List ℕ) (read_old : ℕ) (o : Output) (new : Ports) (status : ℕ) (answer : Result Finding CheckError)
+    → status ≡ status_of (check_ending answer)
+    → Checks (ports (input_with (Some bytes) read_old) o) new answer
+    → IsUndisturbed (ports (input_with (Some bytes) read_old) o) new
+    → (status ≡ status_of (ending_found (finding_of (take most_taken bytes)))) ⊎ (status ≡ 6)
+judged_at bytes read_old o new status (Ok finding) is checks still =
+    inl (is ∙ ap (λ f. status_of (ending_found f))
+    (found_first bytes read_old new.input.left new.input.faults o new.output finding checks))
+judged_at bytes read_old o new status (Err Read) is checks still = absurd (still.reads checks.outcome.1)
+judged_at bytes read_old o new status (Err Write) is checks still = absurd (still.writes checks.outcome.rose)
+judged_at bytes read_old o new status (Err Memory) is checks still = inr is
 
-  pub judged : (left : Option (List ℕ)) (answer : Result Finding CheckError) → status ≡ status_of (check_ending answer)
-      → Checks left left_new o n answer
-      → (check_ending answer ≡ ReadFault → Rose read_before read_now)
-      → (check_ending answer ≡ WriteFault → Rose write_before write_now)
-      → IfSome left (λ bytes. (Rose read_before read_now → ⊥) → (Rose write_before write_now → ⊥)
-      → (status ≡ status_of (ending_found (finding_of (take most_taken bytes)))) ⊎ (status ≡ 6))
-  judged None answer is checks reads writes = tt
-  judged (Some bytes) answer is checks reads writes = judged_at bytes answer is checks reads writes
+judged_with : (left : Option (List ℕ)) (read_old : ℕ) (o : Output) (new : Ports) (status : ℕ)
+    (answer : Result Finding CheckError)
+    → status ≡ status_of (check_ending answer)
+    → Checks (ports (input_with left read_old) o) new answer
+    → IsUndisturbed (ports (input_with left read_old) o) new
+    → IfSome left (λ bytes. (status ≡ status_of (ending_found (finding_of (take most_taken bytes)))) ⊎ (status ≡ 6))
+judged_with None read_old o new status answer is checks still = tt
+judged_with (Some bytes) read_old o new status answer is checks still =
+    judged_at bytes read_old o new status answer is checks still
+
+pub judged : (input : Input) (o : Output) (new : Ports) (status : ℕ) (ending : Ending) (command : Command)
+    → command ≡ Check
+    → status ≡ status_of ending
+    → Did command (ports input o) new ending
+    → IsUndisturbed (ports input o) new
+    → IfSome input.left (λ bytes.
+    (status ≡ status_of (ending_found (finding_of (take most_taken bytes)))) ⊎ (status ≡ 6))
+judged input o new status ending Replay check is did still = absurd (cc)
+judged input o new status ending Check check is did still =
+    judged_with input.left input.faults o new status did.answer (is ∙ ap status_of did.is) did.checks still
+judged input o new status ending Unknown check is did still = absurd (cc)

@@ -1,12 +1,13 @@
 -- The run of a session: from frame to frame, and how it ends.
-use Rattle.std.proofs.Common.{◌≡◌, ℕ, ◌+◌, ◌-◌, ◌≤◌, ◌<◌, Bool, true, false, List, [], ◌∷◌, ◌++◌, length, get_or, Option, Some, None, Ok, Err, IsTrue, fold, MatchBool, refl, sym, ap, subst, ◌∙◌, append_assoc, arith, inl, inr, ⊎_elim}
+use Rattle.std.proofs.Common.{◌≡◌, ℕ, ◌+◌, ◌-◌, ◌≤◌, ◌<◌, Bool, true, false, List, [], ◌∷◌, ◌++◌, length, Option, Some, None, Ok, Err, IsTrue, fold, MatchBool, refl, sym, ap, subst, ◌∙◌, append_assoc, arith, inl, inr, ⊎_elim}
 use Rattle.std.specs.Prelude.{◌⊎◌, option_to_list, IfSome}
 use Rattle.std.specs.List.{flat_map}
 use Rattle.std.proofs.lemmas.Bool.{false≢true, cases_Bool}
 use Rattle.std.proofs.lemmas.Bool.Decides.{nat_tests}
 use Rattle.std.proofs.lemmas.List.{append-nil, length-append, nil_from_length}
-use Rattle.sd_io.specs.Causes.{Rose, Appends, AppendsFront, Consumes}
-use Rattle.sd_io.proofs.CausesLemmas.{Appends-nil, Appends-trans, Consumes-nil, Consumes-trans, front_after, front_before}
+use Rattle.sd_io.specs.States.{Input, Output, Ports, ports, input_with}
+use Rattle.sd_io.specs.Causes.{Rose, Gains, GainsFront, Takes}
+use Rattle.sd_io.proofs.CausesLemmas.{Gains-nil, Gains-trans, Takes-nil, Takes-trans, front_after, front_before}
 use Rattle.session_frames.specs.declared.frame.Frame.{Frame}
 use Rattle.session_frames.specs.declared.frame.FrameError.{FrameError}
 use Rattle.session_frames.specs.declared.frame.FrameError.TheVariants as errors
@@ -24,40 +25,47 @@ use Rattle.hub_meaning.specs.ClientAnswers.{reply_to, text}
 use Rattle.hub_meaning.proofs.ClientAnswerLaws.{text-push}
 use Rattle.hub_core.specs.declared.hub.Hub.{Hub}
 use Rattle.statsd_cli.specs.declared.ending.Ending.{Ending}
-use Rattle.statsd_cli.specs.declared.ending.Ending.TheVariants.{Done, Refused, BadSession, ReadFault, WriteFault, NoMemory}
+use Rattle.statsd_cli.specs.declared.ending.Ending.TheVariants.{Done, Refused, Usage, BadSession, ReadFault, WriteFault, NoMemory}
 use Rattle.hub_core.specs.HubStands.{HubStandsFor}
 use Rattle.statsd_cli.specs.Endings.{status_of}
+use Rattle.statsd_cli.specs.declared.command.Command.{Command}
+use Rattle.statsd_cli.specs.declared.command.Command.TheVariants.{Replay, Check, Unknown}
 use Rattle.statsd_cli.specs.Run.{IsBadSession, IsRun, reply_text, IsServed, ending_by}
+use Rattle.statsd_cli.specs.Does.{Did, IsUndisturbed}
 
 -- A run under way: these frames were served, of the bytes taken.
-pub record IsAlong (left_old left_new old new : Option (List ℕ)) (reader : Reading) (hub : Hub FieldJudge) : Type 0
+pub record IsAlong (left_old left_new : Input) (old new : Output) (reader : Reading) (hub : Hub FieldJudge) : Type 0
   where
     pub frames : List Frame
     pub taken : List ℕ
-    pub consumes : Consumes left_old left_new taken
+    pub consumes : Takes left_old left_new taken
     pub begins : Begins start taken frames reader.place reader.pending
     pub in_step : IsInStep reader left_new
     pub stands : HubStandsFor matcher_holds hub frames
-    pub written : Appends old new (text matcher_holds frames)
+    pub written : Gains old new (text matcher_holds frames)
+    pub reads : left_old.faults ≤ left_new.faults
+    pub writes : old.faults ≤ new.faults
 
 clock_is : (clock : ℕ) (frames : List Frame) → fold clock_after clock frames ≡ clock_from clock frames
 clock_is clock [] = refl
 clock_is clock (frame ∷ frames) = clock_is (clock_after clock frame) frames
 
 -- at the beginning nothing was served
-pub begins_along : (left old : Option (List ℕ)) (reader : Reading) (hub : Hub FieldJudge) → reader ≡ unread
+pub begins_along : (left : Input) (old : Output) (reader : Reading) (hub : Hub FieldJudge) → reader ≡ unread
     → HubStandsFor matcher_holds hub []
     → IsAlong left left old old reader hub
 unfolding text
 begins_along left old reader hub is stands = record {
   frames = [];
   taken = [];
-  consumes = Consumes-nil left;
+  consumes = Takes-nil left;
   begins = (ap (λ (r : Reading). r.pending) (sym is), ap (λ (r : Reading). r.place) (sym is));
   in_step = λ ended. let unended : reader.ended ≡ false = ap (λ (r : Reading). r.ended) is in
       absurd (false≢true (sym unended ∙ ended));
   stands = stands;
-  written = Appends-nil old;
+  written = Gains-nil old;
+  reads = omega arith;
+  writes = omega arith;
 }
 
 -- the replies to more frames come after
@@ -76,7 +84,7 @@ no_text : text matcher_holds [] ≡ []
 unfolding text
 no_text = refl
 
-module _ (lo ln o n : Option (List ℕ)) (reader : Reading) (hub : Hub FieldJudge) (a : IsAlong lo ln o n reader hub)
+module _ (lo ln : Input) (o n : Output) (reader : Reading) (hub : Hub FieldJudge) (a : IsAlong lo ln o n reader hub)
   where
     -- all the bytes taken, with more
     all_with : List ℕ → List ℕ
@@ -115,10 +123,10 @@ module _ (lo ln o n : Option (List ℕ)) (reader : Reading) (hub : Hub FieldJudg
           no_frames (frame ∷ frames) taken place rest h len = absurd (omega (arith, whole_takes 0 taken frame h.0 h.1))
 
     -- the source ended
-    pub ends_done : (lm : Option (List ℕ)) (after : Reading) → GivesFrame ln lm reader after None → IsRun lo lm o n Done
+    pub ends_done : (lm : Input) (after : Reading) → GivesFrame ln lm reader after None → IsRun (ports lo o) (ports lm n) Done
     ends_done lm after g = record {
       taken = a.taken ++ g.taken;
-      consumes = Consumes-trans lo ln lm a.taken g.taken a.consumes g.consumes;
+      consumes = Takes-trans lo ln lm a.taken g.taken a.consumes g.consumes;
       outcome = record {
         frames = a.frames;
         session = frames_of-Reads (a.taken ++ g.taken) a.frames Clean (within_all g.taken g.within)
@@ -131,12 +139,12 @@ module _ (lo ln o n : Option (List ℕ)) (reader : Reading) (hub : Hub FieldJudg
     }
 
     -- the session has a fault
-    bad : (lm : Option (List ℕ)) (at : ℕ) (fault : SessionFault) (taken : List ℕ) → Consumes ln lm taken
+    bad : (lm : Input) (at : ℕ) (fault : SessionFault) (taken : List ℕ) → Takes ln lm taken
         → IsFaultNext at fault reader (reader.pending ++ taken) lm
-        → IsRun lo lm o n (BadSession at fault)
+        → IsRun (ports lo o) (ports lm n) (BadSession at fault)
     bad lm at fault taken consumes h = record {
       taken = a.taken ++ taken;
-      consumes = Consumes-trans lo ln lm a.taken taken a.consumes consumes;
+      consumes = Takes-trans lo ln lm a.taken taken a.consumes consumes;
       outcome = record {
         frames = a.frames;
         session = frames_of-Reads (a.taken ++ taken) a.frames (Bad at fault) (within_all taken h.within)
@@ -149,9 +157,9 @@ module _ (lo ln o n : Option (List ℕ)) (reader : Reading) (hub : Hub FieldJudg
     }
 
     -- the session is too long
-    too_long : (lm : Option (List ℕ)) (at : ℕ) (fault : SessionFault) (taken : List ℕ) → Consumes ln lm taken
+    too_long : (lm : Input) (at : ℕ) (fault : SessionFault) (taken : List ℕ) → Takes ln lm taken
         → IsTooMuch at fault reader (reader.pending ++ taken)
-        → IsRun lo lm o n (BadSession at fault)
+        → IsRun (ports lo o) (ports lm n) (BadSession at fault)
     too_long lm at fault taken consumes h =
         let none = none_yet h.first in
         let pending : reader.pending ≡ [] = ap (λ (r : Reading). r.pending) h.first in
@@ -162,23 +170,23 @@ module _ (lo ln o n : Option (List ℕ)) (reader : Reading) (hub : Hub FieldJudg
         (frames_of-too_much (a.taken ++ taken) much) in
         record {
           taken = a.taken ++ taken;
-          consumes = Consumes-trans lo ln lm a.taken taken a.consumes consumes;
+          consumes = Takes-trans lo ln lm a.taken taken a.consumes consumes;
           outcome = record {
             frames = [];
             session = subst (λ told. frames_of (a.taken ++ taken) [] (Bad at told)) (sym h.is) at_most;
             whole = inl h.is;
-            written = subst (λ all. Appends o n (text matcher_holds all)) none.0 a.written;
+            written = subst (λ all. Gains o n (text matcher_holds all)) none.0 a.written;
           };
         }
 
     -- memory was wanting, where the bytes are a session's, or before any frame
-    short_within : (lm : Option (List ℕ)) (taken : List ℕ) → Consumes ln lm taken
-        → FitsSession reader.place (reader.pending ++ taken) → IsRun lo lm o n NoMemory
+    short_within : (lm : Input) (taken : List ℕ) → Takes ln lm taken
+        → FitsSession reader.place (reader.pending ++ taken) → IsRun (ports lo o) (ports lm n) NoMemory
     short_within lm taken consumes within =
         let others = some_reading reader.place (reader.pending ++ taken) in
         record {
           taken = a.taken ++ taken;
-          consumes = Consumes-trans lo ln lm a.taken taken a.consumes consumes;
+          consumes = Takes-trans lo ln lm a.taken taken a.consumes consumes;
           outcome = record {
             answered = a.frames;
             others = others.0;
@@ -190,38 +198,42 @@ module _ (lo ln o n : Option (List ℕ)) (reader : Reading) (hub : Hub FieldJudg
           };
         }
 
-    short_before : (lm : Option (List ℕ)) (taken : List ℕ) → Consumes ln lm taken → reader ≡ unread
-        → IsRun lo lm o n NoMemory
+    short_before : (lm : Input) (taken : List ℕ) → Takes ln lm taken → reader ≡ unread
+        → IsRun (ports lo o) (ports lm n) NoMemory
     short_before lm taken consumes is =
         let all = some_frames (a.taken ++ taken) in
         record {
           taken = a.taken ++ taken;
-          consumes = Consumes-trans lo ln lm a.taken taken a.consumes consumes;
+          consumes = Takes-trans lo ln lm a.taken taken a.consumes consumes;
           outcome = record {
             answered = [];
             others = all.0;
             end = all.1;
             session = all.2;
             written =
-                subst (λ frames. Appends o n (text matcher_holds frames)) (none_yet is).0 a.written;
+                subst (λ frames. Gains o n (text matcher_holds frames)) (none_yet is).0 a.written;
           };
         }
 
     -- the reader gave no frame
-    pub ends_refused : (lm : Option (List ℕ)) (e : FrameError) → Refuses ln lm reader e → IsRun lo lm o n (ending_by e)
-    ends_refused lm (errors.Session at fault) r =
+    pub ends_refused : (lm : Input) (e : FrameError) → Refuses ln lm reader e → ln.faults ≤ lm.faults
+        → (e ≡ errors.Read → Rose ln.faults lm.faults) → IsRun (ports lo o) (ports lm n) (ending_by e)
+    ends_refused lm (errors.Session at fault) r later rose =
         ⊎_elim (bad lm at fault r.taken r.consumes) (too_long lm at fault r.taken r.consumes) r.cause
-    ends_refused lm errors.Read r = record {
+    ends_refused lm errors.Read r later rose = record {
       taken = a.taken ++ r.taken;
-      consumes = Consumes-trans lo ln lm a.taken r.taken a.consumes r.consumes;
-      outcome = subst (Appends o n) no_text (subst (λ frames. Appends o n (text matcher_holds frames))
-          (none_yet r.cause).0 a.written);
+      consumes = Takes-trans lo ln lm a.taken r.taken a.consumes r.consumes;
+      outcome = record {
+        rose = let own = rose refl in omega (arith, a.reads, later, own);
+        written = subst (Gains o n) no_text (subst (λ frames. Gains o n (text matcher_holds frames))
+            (none_yet r.cause).0 a.written);
+      };
     }
-    ends_refused lm errors.Memory r = ⊎_elim (short_within lm r.taken r.consumes) (short_before lm r.taken r.consumes)
+    ends_refused lm errors.Memory r later rose = ⊎_elim (short_within lm r.taken r.consumes) (short_before lm r.taken r.consumes)
         r.cause
 
-    module _ (lm : Option (List ℕ)) (after : Reading) (frame : Frame) (g : GivesFrame ln lm reader after (Some frame))
-        (m : Option (List ℕ)) where
+    module _ (lm : Input) (after : Reading) (frame : Frame) (g : GivesFrame ln lm reader after (Some frame))
+        (m : Output) where
       one_more : Begins start (a.taken ++ g.taken) (a.frames ++ frame ∷ []) after.place after.pending
       one_more =
           subst (λ place. Begins start (a.taken ++ g.taken) (a.frames ++ frame ∷ []) place after.pending) (sym g.next.1)
@@ -242,16 +254,19 @@ module _ (lo ln o n : Option (List ℕ)) (reader : Reading) (hub : Hub FieldJudg
           )
 
       -- the frame was served
-      pub goes_on : (new : Hub FieldJudge) → IsServed n m a.frames frame (Ok new) → IsAlong lo lm o m after new
-      goes_on new served = record {
+      pub goes_on : (new : Hub FieldJudge) → IsServed n m a.frames frame (Ok new) → ln.faults ≤ lm.faults
+          → n.faults ≤ m.faults → IsAlong lo lm o m after new
+      goes_on new served reads writes = record {
         frames = a.frames ++ frame ∷ [];
         taken = a.taken ++ g.taken;
-        consumes = Consumes-trans lo ln lm a.taken g.taken a.consumes g.consumes;
+        consumes = Takes-trans lo ln lm a.taken g.taken a.consumes g.consumes;
         begins = one_more;
         in_step = g.in_step;
         stands = served.0;
-        written = subst (Appends o m) (sym (text-push matcher_holds a.frames frame))
-            (Appends-trans o n m (text matcher_holds a.frames) (reply_text a.frames frame) a.written served.1);
+        written = subst (Gains o m) (sym (text-push matcher_holds a.frames frame))
+            (Gains-trans o n m (text matcher_holds a.frames) (reply_text a.frames frame) a.written served.1);
+        reads = omega (arith, a.reads, reads);
+        writes = omega (arith, a.writes, writes);
       }
 
       whole_session : (others : List Frame) (end : End) → Reads after.place after.pending others end
@@ -262,25 +277,27 @@ module _ (lo ln o n : Option (List ℕ)) (reader : Reading) (hub : Hub FieldJudg
           one_more reads)
 
       -- the frame wasn't served
-      pub ends_in_serve : (ending : Ending) → IsServed n m a.frames frame (Err ending) → IsRun lo lm o m ending
+      pub ends_in_serve : (ending : Ending) → IsServed n m a.frames frame (Err ending) → IsRun (ports lo o) (ports lm m) ending
       ends_in_serve Done served = absurd served
       ends_in_serve Refused served = absurd served
+      ends_in_serve Usage served = absurd served
       ends_in_serve (BadSession at fault) served = absurd served
       ends_in_serve ReadFault served = absurd served
       ends_in_serve WriteFault served =
           let others = some_reading after.place after.pending in
-          let front : AppendsFront o m (text matcher_holds (a.frames ++ frame ∷ [])) =
-          subst (AppendsFront o m) (sym (text-push matcher_holds a.frames frame))
-          (front_after o n m (text matcher_holds a.frames) (reply_text a.frames frame) a.written served) in
+          let front : GainsFront o m (text matcher_holds (a.frames ++ frame ∷ [])) =
+          subst (GainsFront o m) (sym (text-push matcher_holds a.frames frame))
+          (front_after o n m (text matcher_holds a.frames) (reply_text a.frames frame) a.written served.0) in
           let back = text_after (a.frames ++ frame ∷ []) others.0 in
           record {
             taken = a.taken ++ g.taken;
-            consumes = Consumes-trans lo ln lm a.taken g.taken a.consumes g.consumes;
+            consumes = Takes-trans lo ln lm a.taken g.taken a.consumes g.consumes;
             outcome = record {
               frames = (a.frames ++ frame ∷ []) ++ others.0;
               end = others.1;
               session = whole_session others.0 others.1 others.2;
-              written = subst (AppendsFront o m) (sym back.1)
+              rose = omega (arith, a.writes, served.1);
+              written = subst (GainsFront o m) (sym back.1)
                   (front_before o m (text matcher_holds (a.frames ++ frame ∷ [])) back.0 front);
             };
           }
@@ -288,15 +305,15 @@ module _ (lo ln o n : Option (List ℕ)) (reader : Reading) (hub : Hub FieldJudg
           let others = some_reading after.place after.pending in
           record {
             taken = a.taken ++ g.taken;
-            consumes = Consumes-trans lo ln lm a.taken g.taken a.consumes g.consumes;
+            consumes = Takes-trans lo ln lm a.taken g.taken a.consumes g.consumes;
             outcome = record {
               answered = a.frames;
               others = frame ∷ others.0;
               end = others.1;
               session = subst (λ all. frames_of (a.taken ++ g.taken) all others.1)
                   (append_assoc a.frames (frame ∷ []) others.0) (whole_session others.0 others.1 others.2);
-              written = subst (Appends o m) (append-nil (text matcher_holds a.frames))
-                  (Appends-trans o n m (text matcher_holds a.frames) [] a.written served);
+              written = subst (Gains o m) (append-nil (text matcher_holds a.frames))
+                  (Gains-trans o n m (text matcher_holds a.frames) [] a.written served);
             };
           }
 
@@ -322,9 +339,10 @@ same_end : (bytes : List ℕ) (frames others : List Frame) (at : ℕ) (fault : S
 same_end bytes frames others at fault good bad = let one =
     one_frames bytes frames others Clean (Bad at fault) good bad in cc
 
-not_bad : (bytes rest taken : List ℕ) (o n : Option (List ℕ)) (at : ℕ) (fault : SessionFault) (frames : List Frame)
-    → bytes ≡ taken ++ rest → IsBadSession at fault taken (Some rest) o n → frames_of bytes frames Clean → ⊥
-not_bad bytes rest taken o n at fault frames is h good =
+not_bad : (bytes rest taken : List ℕ) (old : Ports) (read_now : ℕ) (n : Output) (at : ℕ) (fault : SessionFault)
+    (frames : List Frame) → bytes ≡ taken ++ rest
+    → IsBadSession at fault taken old (ports (input_with (Some rest) read_now) n) → frames_of bytes frames Clean → ⊥
+not_bad bytes rest taken old read_now n at fault frames is h good =
     ⊎_elim
     (λ (own : fault ≡ TooManyFrames). ⊎_elim
     (λ (much : is_too_much taken ≡ true). clean_within (is_too_much bytes) bytes frames
@@ -337,18 +355,14 @@ not_bad bytes rest taken o n at fault frames is h good =
     h.session))
     h.whole
 
-pub good_isnt_bad : (bytes : List ℕ) (left o n : Option (List ℕ)) (at : ℕ) (fault : SessionFault) (frames : List Frame)
-    → IsRun (Some bytes) left o n (BadSession at fault) → frames_of bytes frames Clean → ⊥
-good_isnt_bad bytes None o n at fault frames run good = run.consumes
-good_isnt_bad bytes (Some rest) o n at fault frames run good =
-    not_bad bytes rest run.taken o n at fault frames run.consumes run.outcome good
-
--- the words are one word
-pub one_word : (words : List (List ℕ)) (word : List ℕ) → 1 ≤ length words → length words < 2
-    → word ≡ get_or words 0 word → words ≡ word ∷ []
-one_word [] word some few is = absurd (omega arith)
-one_word (first ∷ []) word some few is = ap (λ w. w ∷ []) (sym is)
-one_word (first ∷ second ∷ others) word some few is = absurd (omega arith)
+good_isnt_bad : (bytes : List ℕ) (read_old : ℕ) (left : Option (List ℕ)) (read_now : ℕ) (o n : Output) (at : ℕ)
+    (fault : SessionFault) (frames : List Frame)
+    → IsRun (ports (input_with (Some bytes) read_old) o) (ports (input_with left read_now) n) (BadSession at fault)
+    → frames_of bytes frames Clean → ⊥
+good_isnt_bad bytes read_old None read_now o n at fault frames run good = run.consumes
+good_isnt_bad bytes read_old (Some rest) read_now o n at fault frames run good =
+    not_bad bytes rest run.taken (ports (input_with (Some bytes) read_old) o) read_now n at fault frames run.consumes
+    run.outcome good
 
 -- the bytes of a reply that there is
 pub reply_text_is : (frames : List Frame) (frame : Frame) (reply : Reply) → reply_to matcher_holds frames frame
@@ -358,22 +372,36 @@ reply_text_is frames frame reply is = ap (λ r. flat_map reply_bytes (option_to_
     ∙ append-nil (reply_bytes reply)
 
 -- A good session is answered to its end, unless the outside fails or memory is wanting.
-module _ (left_new o n : Option (List ℕ)) (status read_before read_now write_before write_now : ℕ) where
-  complete_at : (bytes : List ℕ) (ending : Ending) → status ≡ status_of ending → IsRun (Some bytes) left_new o n ending
-      → (ending ≡ ReadFault → Rose read_before read_now) → (ending ≡ WriteFault → Rose write_before write_now)
-      → (frames : List Frame) → frames_of bytes frames Clean → (Rose read_before read_now → ⊥)
-      → (Rose write_before write_now → ⊥) → (status ≡ 0) ⊎ (status ≡ 6)
-  complete_at bytes Done is run reads writes frames good no_read no_write = inl is
-  complete_at bytes Refused is run reads writes frames good no_read no_write = absurd run.outcome
-  complete_at bytes (BadSession at fault) is run reads writes frames good no_read no_write =
-      absurd (good_isnt_bad bytes left_new o n at fault frames run good)
-  complete_at bytes ReadFault is run reads writes frames good no_read no_write = absurd (no_read (reads refl))
-  complete_at bytes WriteFault is run reads writes frames good no_read no_write = absurd (no_write (writes refl))
-  complete_at bytes NoMemory is run reads writes frames good no_read no_write = inr is
+complete_at : (bytes : List ℕ) (read_old : ℕ) (o : Output) (new : Ports) (status : ℕ) (ending : Ending)
+    → status ≡ status_of ending
+    → IsRun (ports (input_with (Some bytes) read_old) o) new ending
+    → IsUndisturbed (ports (input_with (Some bytes) read_old) o) new
+    → (frames : List Frame) → frames_of bytes frames Clean → (status ≡ 0) ⊎ (status ≡ 6)
+complete_at bytes read_old o new status Done is run still frames good = inl is
+complete_at bytes read_old o new status Refused is run still frames good = absurd run.outcome
+complete_at bytes read_old o new status Usage is run still frames good = absurd run.outcome
+complete_at bytes read_old o new status (BadSession at fault) is run still frames good =
+    absurd (good_isnt_bad bytes read_old new.input.left new.input.faults o new.output at fault frames run good)
+complete_at bytes read_old o new status ReadFault is run still frames good = absurd (still.reads run.outcome.rose)
+complete_at bytes read_old o new status WriteFault is run still frames good = absurd (still.writes run.outcome.rose)
+complete_at bytes read_old o new status NoMemory is run still frames good = inr is
 
-  pub complete : (left : Option (List ℕ)) (ending : Ending) → status ≡ status_of ending → IsRun left left_new o n ending
-      → (ending ≡ ReadFault → Rose read_before read_now) → (ending ≡ WriteFault → Rose write_before write_now)
-      → IfSome left (λ bytes. (frames : List Frame) → frames_of bytes frames Clean → (Rose read_before read_now → ⊥)
-      → (Rose write_before write_now → ⊥) → (status ≡ 0) ⊎ (status ≡ 6))
-  complete None ending is run reads writes = tt
-  complete (Some bytes) ending is run reads writes = complete_at bytes ending is run reads writes
+complete_with : (left : Option (List ℕ)) (read_old : ℕ) (o : Output) (new : Ports) (status : ℕ) (ending : Ending)
+    → status ≡ status_of ending
+    → IsRun (ports (input_with left read_old) o) new ending
+    → IsUndisturbed (ports (input_with left read_old) o) new
+    → IfSome left (λ bytes. (frames : List Frame) → frames_of bytes frames Clean → (status ≡ 0) ⊎ (status ≡ 6))
+complete_with None read_old o new status ending is run still = tt
+complete_with (Some bytes) read_old o new status ending is run still =
+    complete_at bytes read_old o new status ending is run still
+
+pub complete : (input : Input) (o : Output) (new : Ports) (status : ℕ) (ending : Ending) (command : Command)
+    → command ≡ Replay
+    → status ≡ status_of ending
+    → Did command (ports input o) new ending
+    → IsUndisturbed (ports input o) new
+    → IfSome input.left (λ bytes. (frames : List Frame) → frames_of bytes frames Clean → (status ≡ 0) ⊎ (status ≡ 6))
+complete input o new status ending Replay replay is run still =
+    complete_with input.left input.faults o new status ending is run still
+complete input o new status ending Check replay is did still = absurd (cc)
+complete input o new status ending Unknown replay is did still = absurd (cc)

@@ -1,10 +1,9 @@
--- How a command ended: the program's status, and the note.
-use Rattle.std.specs.Prelude.{ℕ, ◌⊎◌, List, [], Option, Some, None}
-use Rattle.sd_io.specs.Causes.{Rose, Appends, AppendsFront}
-use Rattle.statsd_cli.specs.declared.note.Note.{Note}
-use Rattle.statsd_cli.specs.declared.note.Note.TheVariants as notes
+-- How a command ended: the program's status, and what the notes gained.
+use Rattle.std.specs.Prelude.{ℕ, ◌⊎◌}
+use Rattle.sd_io.specs.States.{Output}
+use Rattle.sd_io.specs.Causes.{Gains, GainsFront, Rose}
 use Rattle.statsd_cli.specs.declared.ending.Ending.{Ending}
-use Rattle.statsd_cli.specs.declared.ending.Ending.TheVariants.{Done, Refused, BadSession, ReadFault, WriteFault, NoMemory}
+use Rattle.statsd_cli.specs.declared.ending.Ending.TheVariants.{Done, Refused, Usage, BadSession, ReadFault, WriteFault, NoMemory}
 use Rattle.statsd_cli.specs.Note.{note_line}
 
 -- the program's status by why it ends
@@ -39,22 +38,13 @@ status_no_memory = 6
 abbrev pub status_of : Ending → ℕ
 status_of Done = status_done
 status_of Refused = status_refused
+status_of Usage = status_usage
 status_of (BadSession at fault) = status_bad_session
 status_of ReadFault = status_read_fault
 status_of WriteFault = status_write_fault
 status_of NoMemory = status_no_memory
 
--- what is told of an ending
-abbrev pub note_of : Ending → Option Note
-note_of Done = None
-note_of Refused = Some notes.Refused
-note_of (BadSession at fault) = Some (notes.BadSession at fault)
-note_of ReadFault = Some notes.ReadFault
-note_of WriteFault = Some notes.WriteFault
-note_of NoMemory = Some notes.NoMemory
-
--- the notes gained the line whole, or a front of it where their count of faults rose; nothing where nothing is told
-abbrev pub IsNoted : Option (List ℕ) → Option (List ℕ) → ℕ → ℕ → Option Note → Type 0
-IsNoted old new before now None = Appends old new []
-IsNoted old new before now (Some note) =
-    Appends old new (note_line note) ⊎ (AppendsFront old new (note_line note) × Rose before now)
+-- the notes gained what is told of the ending, whole, or a front of it where their count of faults rose
+abbrev pub IsNoted : Output → Output → Ending → Type 0
+IsNoted old new ending =
+    Gains old new (note_line ending) ⊎ (GainsFront old new (note_line ending) × Rose old.faults new.faults)

@@ -1,5 +1,7 @@
 pub mod Note
 pub mod Endings
-pub mod Words
+pub mod Commands
+pub mod Streams
 pub mod Run
 pub mod Check
+pub mod Does

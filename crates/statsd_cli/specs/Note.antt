@@ -1,9 +1,9 @@
--- The line that a note is.
-use Rattle.std.specs.Prelude.{ℕ, List, ◌++◌, codes, decimal}
+-- What is told of an ending.
+use Rattle.std.specs.Prelude.{ℕ, List, [], ◌++◌, codes, decimal}
 use Rattle.session_frames.specs.declared.frame.SessionFault.{SessionFault}
 use Rattle.session_frames.specs.declared.frame.SessionFault.TheVariants.{Cut, TooLong, BadLength, UnknownKind, BadBody, BadAtom, TimeBackwards, TooManyFrames}
-use Rattle.statsd_cli.specs.declared.note.Note.{Note}
-use Rattle.statsd_cli.specs.declared.note.Note.TheVariants.{Usage, Refused, BadSession, ReadFault, WriteFault, NoMemory}
+use Rattle.statsd_cli.specs.declared.ending.Ending.{Ending}
+use Rattle.statsd_cli.specs.declared.ending.Ending.TheVariants.{Done, Refused, Usage, BadSession, ReadFault, WriteFault, NoMemory}
 
 -- a fault of a session: its number, its name, and the values that it has
 abbrev pub fault_text : SessionFault → List ℕ
@@ -16,10 +16,11 @@ fault_text (BadAtom reason) = codes "6 bad atom " ++ decimal reason
 fault_text (TimeBackwards previous now) = codes "7 time backwards " ++ decimal previous ++ codes " " ++ decimal now
 fault_text TooManyFrames = codes "8 too many frames"
 
--- a note, with its newline
-abbrev pub note_line : Note → List ℕ
-note_line Usage = codes "statsd: usage: replay | check | load SEED FRAMES\n"
+-- what is told of an ending: a line with its newline, and nothing where the command is done
+abbrev pub note_line : Ending → List ℕ
+note_line Done = []
 note_line Refused = codes "statsd: configuration refused\n"
+note_line Usage = codes "statsd: usage: replay | check | load SEED FRAMES\n"
 note_line (BadSession at fault) =
     codes "statsd: bad session at " ++ decimal at ++ codes ": " ++ fault_text fault ++ codes "\n"
 note_line ReadFault = codes "statsd: read fault\n"

@@ -1,7 +1,8 @@
 -- The run of a session: how it ended, what it took of its input, and what it wrote.
-use Rattle.std.specs.Prelude.{◌≡◌, ℕ, ◌⊎◌, List, [], ◌∷◌, ◌++◌, Option, Result, Ok, Err, option_to_list}
+use Rattle.std.specs.Prelude.{◌≡◌, ℕ, ◌⊎◌, List, [], ◌∷◌, ◌++◌, Result, Ok, Err, option_to_list}
 use Rattle.std.specs.List.{flat_map}
-use Rattle.sd_io.specs.Causes.{Appends, AppendsFront, Consumes, IsAtEnd}
+use Rattle.sd_io.specs.States.{Input, Output, Ports}
+use Rattle.sd_io.specs.Causes.{Gains, GainsFront, IsAtEnd, Rose, Takes}
 use Rattle.session_frames.specs.declared.frame.Frame.{Frame}
 use Rattle.session_frames.specs.declared.frame.FrameError.{FrameError}
 use Rattle.session_frames.specs.declared.frame.FrameError.TheVariants.{Session, Read, Memory}
@@ -14,67 +15,75 @@ use Rattle.matcher_eval.specs.AtomTests.{matcher_holds}
 use Rattle.hub_meaning.specs.ClientAnswers.{reply_to, text}
 use Rattle.hub_core.specs.declared.hub.Hub.{Hub}
 use Rattle.statsd_cli.specs.declared.ending.Ending.{Ending}
-use Rattle.statsd_cli.specs.declared.ending.Ending.TheVariants.{Done, Refused, BadSession, ReadFault, WriteFault, NoMemory}
+use Rattle.statsd_cli.specs.declared.ending.Ending.TheVariants.{Done, Refused, Usage, BadSession, ReadFault, WriteFault, NoMemory}
 use Rattle.hub_core.specs.HubStands.{HubStandsFor}
 
 -- a session is known to be bad by its bytes to the end; one that is too long, before that
-abbrev pub IsWhole : SessionFault → Option (List ℕ) → Type 0
-IsWhole fault left = (fault ≡ TooManyFrames) ⊎ IsAtEnd left
+abbrev pub IsWhole : SessionFault → Input → Type 0
+IsWhole fault input = (fault ≡ TooManyFrames) ⊎ IsAtEnd input.left
 
 -- The input ended at a frame's end, and every command was answered.
-pub record IsDone (taken : List ℕ) (left old new : Option (List ℕ)) : Type 0 where
+pub record IsDone (taken : List ℕ) (old new : Ports) : Type 0 where
   pub frames : List Frame
   pub session : frames_of taken frames Clean
-  pub at_end : IsAtEnd left
-  pub written : Appends old new (text matcher_holds frames)
+  pub at_end : IsAtEnd new.input.left
+  pub written : Gains old.output new.output (text matcher_holds frames)
 
 -- The session has the fault after its good frames, and every command in these was answered.
-pub record IsBadSession (at : ℕ) (fault : SessionFault) (taken : List ℕ) (left old new : Option (List ℕ)) : Type 0 where
+pub record IsBadSession (at : ℕ) (fault : SessionFault) (taken : List ℕ) (old new : Ports) : Type 0 where
   pub frames : List Frame
   pub session : frames_of taken frames (Bad at fault)
-  pub whole : IsWhole fault left
-  pub written : Appends old new (text matcher_holds frames)
+  pub whole : IsWhole fault new.input
+  pub written : Gains old.output new.output (text matcher_holds frames)
 
--- A front of the replies to the good frames of the bytes taken was written.
-pub record IsCutShort (taken : List ℕ) (old new : Option (List ℕ)) : Type 0 where
+-- A read failed and was counted, and nothing was written.
+pub record IsUnread (old new : Ports) : Type 0 where
+  pub rose : Rose old.input.faults new.input.faults
+  pub written : Gains old.output new.output []
+
+-- A write failed and was counted: a front of the replies to the good frames of the bytes taken was written.
+pub record IsCutShort (taken : List ℕ) (old new : Ports) : Type 0 where
   pub frames : List Frame
   pub end : End
   pub session : frames_of taken frames end
-  pub written : AppendsFront old new (text matcher_holds frames)
+  pub rose : Rose old.output.faults new.output.faults
+  pub written : GainsFront old.output new.output (text matcher_holds frames)
 
 -- Whole replies were written, to the commands in a front of the good frames of the bytes taken.
-pub record IsShort (taken : List ℕ) (old new : Option (List ℕ)) : Type 0 where
+pub record IsShort (taken : List ℕ) (old new : Ports) : Type 0 where
   pub answered : List Frame
   pub others : List Frame
   pub end : End
   pub session : frames_of taken (answered ++ others) end
-  pub written : Appends old new (text matcher_holds answered)
+  pub written : Gains old.output new.output (text matcher_holds answered)
 
--- what was taken of the input and written to the output, by how the run ended: a session isn't refused
-abbrev pub Outcome : List ℕ → Option (List ℕ) → Option (List ℕ) → Option (List ℕ) → Ending → Type 0
-Outcome taken left old new Done = IsDone taken left old new
-Outcome taken left old new Refused = ⊥
-Outcome taken left old new (BadSession at fault) = IsBadSession at fault taken left old new
-Outcome taken left old new ReadFault = Appends old new []
-Outcome taken left old new WriteFault = IsCutShort taken old new
-Outcome taken left old new NoMemory = IsShort taken old new
+-- what was written, and what was left, by how the run ended: a session isn't refused, and its word is known
+abbrev pub Outcome : List ℕ → Ports → Ports → Ending → Type 0
+Outcome taken old new Done = IsDone taken old new
+Outcome taken old new Refused = ⊥
+Outcome taken old new Usage = ⊥
+Outcome taken old new (BadSession at fault) = IsBadSession at fault taken old new
+Outcome taken old new ReadFault = IsUnread old new
+Outcome taken old new WriteFault = IsCutShort taken old new
+Outcome taken old new NoMemory = IsShort taken old new
 
--- A run took bytes from the front of its input, and ended so.
-pub record IsRun (left_old left_new old new : Option (List ℕ)) (ending : Ending) : Type 0 where
+-- A session was run: bytes were taken from the front of the input, and the run ended so.
+pub record IsRun (old new : Ports) (ending : Ending) : Type 0 where
   pub taken : List ℕ
-  pub consumes : Consumes left_old left_new taken
-  pub outcome : Outcome taken left_new old new ending
+  pub consumes : Takes old.input new.input taken
+  pub outcome : Outcome taken old new ending
 
 -- the bytes of the reply to a frame, if it has one
 abbrev pub reply_text : List Frame → Frame → List ℕ
 reply_text frames frame = flat_map reply_bytes (option_to_list (reply_to matcher_holds frames frame))
 
 -- one frame was served after these: its reply was written, or why not
-abbrev pub IsServed : Option (List ℕ) → Option (List ℕ) → List Frame → Frame → Result (Hub FieldJudge) Ending → Type 0
+abbrev pub IsServed : Output → Output → List Frame → Frame → Result (Hub FieldJudge) Ending → Type 0
 IsServed old new frames frame (Ok hub) =
-    HubStandsFor matcher_holds hub (frames ++ frame ∷ []) × Appends old new (reply_text frames frame)
-IsServed old new frames frame (Err WriteFault) = AppendsFront old new (reply_text frames frame)
-IsServed old new frames frame (Err NoMemory) = Appends old new []
+    HubStandsFor matcher_holds hub (frames ++ frame ∷ []) × Gains old new (reply_text frames frame)
+IsServed old new frames frame (Err WriteFault) =
+    GainsFront old new (reply_text frames frame) × Rose old.faults new.faults
+IsServed old new frames frame (Err NoMemory) = Gains old new []
 IsServed old new frames frame (Err ending) = ⊥
 
 -- why a run ends where the reader gave no frame

@@ -1,9 +1,7 @@
-//! How a command ended, its status, and what is told of it.
+//! How a command ended, and the program's status.
 ghost use Rattle.std.specs.Prelude.{◌≡◌};
-ghost use Rattle.statsd_cli.specs.Endings.{status_of, note_of, IsNoted};
+ghost use Rattle.statsd_cli.specs.Endings.{status_of};
 
-use crate::note::{Note, write_note};
-use sd_io::Sink;
 use session_frames::SessionFault;
 
 /// How a command ended.
@@ -13,6 +11,8 @@ pub enum Ending {
     Done,
     /// The configuration is refused.
     Refused,
+    /// The words are those of no command.
+    Usage,
     /// The session has this fault, at a frame whose first byte has this offset.
     BadSession { at: u64, fault: SessionFault },
     /// The input failed.
@@ -29,7 +29,7 @@ pub const STATUS_DONE: u8 = 0;
 /// The configuration is refused.
 pub const STATUS_REFUSED: u8 = 1;
 
-/// The words are none that the program takes.
+/// The words are those of no command.
 pub const STATUS_USAGE: u8 = 2;
 
 /// The session has a fault.
@@ -44,53 +44,19 @@ pub const STATUS_WRITE_FAULT: u8 = 5;
 /// Memory was wanting.
 pub const STATUS_NO_MEMORY: u8 = 6;
 
-/// Tells how a command ended, and gives the program's status.
-pub fn finish<E: Sink>(ending: &Ending, notes: &mut E) -> u8
-    ensures status { result ≡ status_of ending.now }
-    ensures noted { IsNoted (E.written notes.old) (E.written notes.new)
-        (E.faults notes.old) (E.faults notes.new) (note_of ending.now) }
-{
-    tell(ending, notes);
-    status(ending)
-}
-
-/// The status of an ending.
-fn status(ending: &Ending) -> u8
-    ensures { result ≡ status_of ending.now }
-{
-    match ending {
-        Ending::Done => STATUS_DONE,
-        Ending::Refused => STATUS_REFUSED,
-        Ending::BadSession { .. } => STATUS_BAD_SESSION,
-        Ending::ReadFault => STATUS_READ_FAULT,
-        Ending::WriteFault => STATUS_WRITE_FAULT,
-        Ending::NoMemory => STATUS_NO_MEMORY,
-    }
-}
-
-/// What is told of an ending.
-fn note_on(ending: &Ending) -> Option<Note>
-    ensures { result ≡ note_of ending.now }
-{
-    match ending {
-        Ending::Done => None,
-        Ending::Refused => Some(Note::Refused),
-        Ending::BadSession { at, fault } => Some(Note::BadSession {
-            at: *at,
-            fault: *fault,
-        }),
-        Ending::ReadFault => Some(Note::ReadFault),
-        Ending::WriteFault => Some(Note::WriteFault),
-        Ending::NoMemory => Some(Note::NoMemory),
-    }
-}
-
-/// Tells how a command ended. A note that fails changes nothing.
-fn tell<E: Sink>(ending: &Ending, notes: &mut E)
-    ensures { IsNoted (E.written notes.old) (E.written notes.new)
-        (E.faults notes.old) (E.faults notes.new) (note_of ending.now) }
-{
-    if let Some(note) = note_on(ending) {
-        let _ = write_note(&note, notes);
+impl Ending {
+    /// The program's status.
+    pub fn status(&self) -> u8
+        ensures { result ≡ status_of self.now }
+    {
+        match self {
+            Ending::Done => STATUS_DONE,
+            Ending::Refused => STATUS_REFUSED,
+            Ending::Usage => STATUS_USAGE,
+            Ending::BadSession { .. } => STATUS_BAD_SESSION,
+            Ending::ReadFault => STATUS_READ_FAULT,
+            Ending::WriteFault => STATUS_WRITE_FAULT,
+            Ending::NoMemory => STATUS_NO_MEMORY,
+        }
     }
 }

@@ -1,15 +1,17 @@
 //! The engine's top call: it replays a recorded session and answers each command, or checks a configuration.
 #![tactic(auto)]
 
+mod command;
 mod ending;
 mod isolation;
 mod note;
 mod top;
 
+pub use command::Command;
 pub use ending::{
-    STATUS_BAD_SESSION, STATUS_DONE, STATUS_NO_MEMORY, STATUS_READ_FAULT, STATUS_REFUSED,
+    Ending, STATUS_BAD_SESSION, STATUS_DONE, STATUS_NO_MEMORY, STATUS_READ_FAULT, STATUS_REFUSED,
     STATUS_USAGE, STATUS_WRITE_FAULT,
 };
 pub use isolation::clients_are_isolated;
-pub use note::{Note, write_note};
+pub use note::write_note;
 pub use top::statsd_top;

@@ -1,51 +1,48 @@
-//! What is told beside the output: one line where a run ends with a status other than 0.
+//! What is told beside the output: one line where a command ends with a status other than 0.
 ghost use Rattle.std.specs.Prelude.{◌≡◌, ◌+◌, ◌≤◌, ◌++◌, length, decimal};
 ghost use Rattle.arrayvec.specs.ArrayString.{array_string_len};
-ghost use Rattle.sd_io.specs.Causes.{HasCause, PutAppends};
+ghost use Rattle.sd_io.specs.Causes.{IsPut};
+ghost use Rattle.statsd_cli.specs.Endings.{IsNoted};
 ghost use Rattle.statsd_cli.specs.Note.{fault_text, note_line};
 
+use crate::Ending;
 use arrayvec::ArrayString;
 use sd_io::{Sink, WriteFailed};
 use session_frames::SessionFault;
 
-/// Why a run ended.
-#[derive(Clone, Copy)]
-pub enum Note {
-    /// The words are none that the program takes.
-    Usage,
-    /// The configuration that was checked is refused.
-    Refused,
-    /// The session has this fault, at a frame whose first byte has this offset.
-    BadSession { at: u64, fault: SessionFault },
-    /// The input failed.
-    ReadFault,
-    /// The output failed.
-    WriteFault,
-    /// Memory was wanting.
-    NoMemory,
-}
-
 type Line = ArrayString<128>;
 
-/// Writes the line of a note, by one put. It takes no memory.
-pub fn write_note<E: Sink>(note: &Note, notes: &mut E) -> Result<(), WriteFailed>
-    ensures bytes { PutAppends (E.written notes.old) (E.written notes.new)
-        result (note_line note.now) }
-    ensures cause { HasCause (E.faults notes.old) (E.faults notes.new) result }
+/// Tells how a command ended. A note that fails changes nothing.
+pub(crate) fn tell<E: Sink>(ending: &Ending, notes: &mut E)
+    ensures { IsNoted (E.state notes.old) (E.state notes.new) ending.now }
 {
-    notes.put(line_of(note).as_bytes())
+    let _ = write_note(ending, notes);
 }
 
-fn line_of(note: &Note) -> Line
-    ensures { result.bytes ≡ note_line note.now }
+/// Writes what is told of an ending, by one put, or none where nothing is told. It takes no memory.
+pub fn write_note<E: Sink>(ending: &Ending, notes: &mut E) -> Result<(), WriteFailed>
+    ensures { IsPut (E.state notes.old) (E.state notes.new) result (note_line ending.now) }
 {
-    match note {
-        Note::Usage => line("statsd: usage: replay | check | load SEED FRAMES\n"),
-        Note::Refused => line("statsd: configuration refused\n"),
-        Note::BadSession { at, fault } => bad_session(*at, fault),
-        Note::ReadFault => line("statsd: read fault\n"),
-        Note::WriteFault => line("statsd: write fault\n"),
-        Note::NoMemory => line("statsd: out of memory\n"),
+    match ending {
+        Ending::Done => Ok(()),
+        _ => notes.put(ending.line().as_bytes()),
+    }
+}
+
+impl Ending {
+    /// The line that tells why, which is empty where the command is done.
+    fn line(&self) -> Line
+        ensures { result.bytes ≡ note_line self.now }
+    {
+        match self {
+            Ending::Done => Line::new(),
+            Ending::Refused => line("statsd: configuration refused\n"),
+            Ending::Usage => line("statsd: usage: replay | check | load SEED FRAMES\n"),
+            Ending::BadSession { at, fault } => bad_session(*at, fault),
+            Ending::ReadFault => line("statsd: read fault\n"),
+            Ending::WriteFault => line("statsd: write fault\n"),
+            Ending::NoMemory => line("statsd: out of memory\n"),
+        }
     }
 }
 
@@ -59,7 +56,7 @@ fn line(text: &str) -> Line
 }
 
 fn bad_session(at: u64, fault: &SessionFault) -> Line
-    ensures { result.bytes ≡ note_line (Note.BadSession at fault.now) }
+    ensures { result.bytes ≡ note_line (Ending.BadSession at fault.now) }
 {
     let mut line = Line::new();
     push_counted(&mut line, "statsd: bad session at ", at);

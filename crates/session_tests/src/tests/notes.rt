@@ -2,19 +2,19 @@
 use super::asserts::assert_holds;
 use sd_io::MemSink;
 use session_frames::SessionFault;
-use statsd_cli::{Note, write_note};
+use statsd_cli::{Ending, write_note};
 use std::alloc::Global;
 use std::process::Abort;
 
-const LINES: &[(Note, &str)] = &[
+const LINES: &[(Ending, &str)] = &[
     (
-        Note::Usage,
+        Ending::Usage,
         "statsd: usage: replay | check | load SEED FRAMES\n",
     ),
-    (Note::Refused, "statsd: configuration refused\n"),
-    (Note::ReadFault, "statsd: read fault\n"),
-    (Note::WriteFault, "statsd: write fault\n"),
-    (Note::NoMemory, "statsd: out of memory\n"),
+    (Ending::Refused, "statsd: configuration refused\n"),
+    (Ending::ReadFault, "statsd: read fault\n"),
+    (Ending::WriteFault, "statsd: write fault\n"),
+    (Ending::NoMemory, "statsd: out of memory\n"),
 ];
 
 /// Where a frame with a fault begins, the fault, and the line.
@@ -68,26 +68,26 @@ const FAULTS: &[(u64, SessionFault, &str)] = &[
 
 #[test]
 fn writes_each_line_or_a_front_of_it(rt: HostRuntime) {
-    for (note, line) in LINES {
-        assert_line(&rt, note, line);
+    for (ending, line) in LINES {
+        assert_line(&rt, ending, line);
     }
     for &(at, fault, line) in FAULTS {
-        assert_line(&rt, &Note::BadSession { at, fault }, line);
+        assert_line(&rt, &Ending::BadSession { at, fault }, line);
     }
 }
 
 /// Asserts that a note is this line, and in less room the front that the room takes.
-fn assert_line<R: Abort + AllocGlobal>(rt: &R, note: &Note, line: &str) {
+fn assert_line<R: Abort + AllocGlobal>(rt: &R, ending: &Ending, line: &str) {
     for room in 0..=line.len() {
-        assert_holds(rt, writes(rt.alloc(), note, room, line.as_bytes()), &line);
+        assert_holds(rt, writes(rt.alloc(), ending, room, line.as_bytes()), &line);
     }
 }
 
 /// Whether a note into so much room leaves what there is room for of a line, and is answered so.
-fn writes(alloc: Global, note: &Note, room: usize, line: &[u8]) -> bool {
+fn writes(alloc: Global, ending: &Ending, room: usize, line: &[u8]) -> bool {
     let Ok(mut notes) = MemSink::new(alloc, room, Vec::new(alloc)) else {
         return false;
     };
-    let written = write_note(note, &mut notes).is_ok();
+    let written = write_note(ending, &mut notes).is_ok();
     written == (line.len() <= room) && notes.bytes() == line.get(..room).unwrap_or(line)
 }

@@ -4,8 +4,4 @@ use Rattle.std.proofs.lemmas.Result.{IfOk-weaker}
 use Rattle.statsd.proofs.run.Goals as goal
 
 pub returns-clause-words : goal.returns-clause-words
-returns-clause-words g c = IfOk-weaker c.args.args _ _ (λ args given. record {
-  replay = λ is. search (rules, given, is);
-  check = λ is. search (rules, given, is);
-  usage = λ no. search (rules, given, no);
-}) c.in-Ok.ensures.given
+returns-clause-words g c = IfOk-weaker c.args.args _ _ (λ args given. search (rules, given)) c.in-Ok.ensures.given

@@ -1,6 +1,6 @@
 -- Where memory is wanting, what came so far was taken.
 use Rattle.std.proofs.lemmas.Result.{err_from_is_err_and}
-use Rattle.sd_io.proofs.CausesLemmas.{Consumes-trans}
+use Rattle.sd_io.proofs.CausesLemmas.{Takes-trans}
 use Rattle.config_check.proofs.ChecksLemmas.{breaks-Memory}
 use Rattle.config_check.proofs.reading.read_config.Goals as goal
 
@@ -8,6 +8,6 @@ pub returns-in_err-extend_from_slice-clause-front : goal.returns-in_err-extend_f
 returns-in_err-extend_from_slice-clause-front g c =
     let failed = err_from_is_err_and c.from_residual-in_err-extend_from_slice.result
     c.from_residual-in_err-extend_from_slice.ensures.1 in
-    rw (failed.1, failed.2) (breaks-Memory _ _ _ (Consumes-trans (g.S.Source.left c.args.input.now)
-    (g.S.Source.left c.reads.input) (g.S.Source.left c.read.new.self) c.reads.bytes.items _ c.reads.invariant.consumes
+    rw (failed.1, failed.2) (breaks-Memory _ _ _ (Takes-trans (g.S.Source.state c.args.input.now)
+    (g.S.Source.state c.reads.input) (g.S.Source.state c.read.new.self) c.reads.bytes.items _ c.reads.invariant.consumes
     c.in_ok-count.ensures.bytes.0))

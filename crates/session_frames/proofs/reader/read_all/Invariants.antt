@@ -5,8 +5,7 @@ use Rattle.session_frames.proofs.reader.read_all.Given as goal
 
 abbrev pub invariant-reads : goal.invariant-reads
 invariant-reads g l =
-    IsReadSo (g.S.Source.left l.fn.src) (g.S.Source.left l.src) (g.S.Source.faults l.fn.src) (g.S.Source.faults l.src)
-    l.bytes.items l.piece.items
+    IsReadSo (g.S.Source.state l.fn.src) (g.S.Source.state l.src) l.bytes.items l.piece.items
 
 abbrev pub decreases-reads : goal.decreases-reads
 decreases-reads g l = most_input - length l.bytes.items

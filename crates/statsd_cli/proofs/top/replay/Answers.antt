@@ -1,51 +1,46 @@
 -- One frame after the other; where no frame comes or one isn't served, the run ends so.
-use Rattle.std.proofs.Common.{arith, subst}
+use Rattle.std.proofs.Common.{Err, ap, subst}
 use Rattle.session_frames.specs.Frames.{IsInTime}
 use Rattle.statsd_cli.proofs.RunLemmas.{begins_along, clock_along, ends_done, ends_refused, comes_nearer, goes_on, ends_in_serve}
 use Rattle.statsd_cli.proofs.top.replay.Goals as goal
 
 pub frames-init : goal.frames-init
-frames-init g c = record {
-  along = begins_along _ _ _ _ c.new-reader.ensures c.new-hub.ensures.stands;
-  reads = omega arith;
-  writes = omega arith;
-}
+frames-init g c = begins_along _ _ _ _ c.new-reader.ensures c.new-hub.ensures.stands
 
-pub returns-in-Err-clause-run : goal.returns-in-Err-clause-run
-returns-in-Err-clause-run g c =
-    let along = c.frames.invariant.along in
-    rw c.ending_of.ensures (ends_refused _ _ _ _ c.frames.reader c.frames.hub along _ c.in-Err.e
-    (c.in-Err.ensures.refuses along.in_step))
+pub returns-in-Err : goal.returns-in-Err
+returns-in-Err g c =
+    let along = c.frames.invariant in
+    let cause = c.in-Err.ensures.cause in
+    rw c.ending_of.ensures (ends_refused _ _ _ _ c.frames.reader c.frames.hub along (g.S.Source.state c.next.new.src)
+    c.in-Err.e (c.in-Err.ensures.refuses along.in_step) cause.later
+    (λ is. cause.failed (ap Err is)))
 
-pub returns-in_default-clause-run : goal.returns-in_default-clause-run
-returns-in_default-clause-run g c =
-    let along = c.frames.invariant.along in
-    ends_done _ _ _ _ c.frames.reader c.frames.hub along _ c.in-Ok.given.0
+pub returns-in_default : goal.returns-in_default
+returns-in_default g c =
+    let along = c.frames.invariant in
+    ends_done _ _ _ _ c.frames.reader c.frames.hub along (g.S.Source.state c.next.new.src) c.in-Ok.given.0
     (rw c.in_default.is at (c.in-Ok.ensures.gives along.in_step))
 
 pub frames-smaller : goal.frames-smaller
 frames-smaller g c =
-    let along = c.frames.invariant.along in
+    let along = c.frames.invariant in
     comes_nearer _ _ _ _ c.frames.reader c.frames.hub along _ c.in-Ok.given.0 c.in-Some.frame
-    (rw c.in-Some.is at (c.in-Ok.ensures.gives along.in_step)) (g.K.Sink.written c.serve.new.out)
+    (rw c.in-Some.is at (c.in-Ok.ensures.gives along.in_step)) (g.K.Sink.state c.serve.new.out)
 
 pub frames-preserved : goal.frames-preserved
 frames-preserved g c =
-    let along = c.frames.invariant.along in
+    let along = c.frames.invariant in
     let good = rw c.in-Some.is at c.in-Ok.ensures.faultless in
     let in_time = subst (λ n. IsInTime n c.in-Some.frame) (clock_along _ _ _ _ c.frames.reader c.frames.hub along)
     good.1 in
-    record {
-      along = goes_on _ _ _ _ c.frames.reader c.frames.hub along _ c.in-Ok.given.0 c.in-Some.frame
-          (rw c.in-Some.is at (c.in-Ok.ensures.gives along.in_step)) _ c.in-Ok-serve.served
-          (c.in-Ok-serve.ensures.serves along.frames along.stands in_time);
-      reads = omega (arith, c.frames.invariant.reads, c.in-Ok.ensures.cause.later);
-      writes = omega (arith, c.frames.invariant.writes, c.in-Ok-serve.ensures.later);
-    }
+    goes_on _ _ _ _ c.frames.reader c.frames.hub along _ c.in-Ok.given.0 c.in-Some.frame
+    (rw c.in-Some.is at (c.in-Ok.ensures.gives along.in_step)) _ c.in-Ok-serve.served
+    (c.in-Ok-serve.ensures.serves along.frames along.stands in_time) c.in-Ok.ensures.cause.later
+    c.in-Ok-serve.ensures.later
 
-pub returns-in-Err-serve-clause-run : goal.returns-in-Err-serve-clause-run
-returns-in-Err-serve-clause-run g c =
-    let along = c.frames.invariant.along in
+pub returns-in-Err-serve : goal.returns-in-Err-serve
+returns-in-Err-serve g c =
+    let along = c.frames.invariant in
     let good = rw c.in-Some.is at c.in-Ok.ensures.faultless in
     let in_time = subst (λ n. IsInTime n c.in-Some.frame) (clock_along _ _ _ _ c.frames.reader c.frames.hub along)
     good.1 in

@@ -1,6 +1,6 @@
 -- The reply was written whole.
 use Rattle.std.proofs.Common.{sym, ◌∙◌, subst}
-use Rattle.sd_io.specs.Causes.{Appends}
+use Rattle.sd_io.specs.Causes.{Gains}
 use Rattle.statsd_cli.proofs.RunLemmas.{reply_text_is}
 use Rattle.statsd_cli.proofs.top.serve.Goals as goal
 
@@ -8,7 +8,7 @@ pub returns-in-Ok-write_reply-clause-serves : goal.returns-in-Ok-write_reply-cla
 returns-in-Ok-write_reply-clause-serves g c = λ frames stands in_time.
     let served = c.in-Ok.ensures.serves frames stands in_time in (
       served.0,
-      subst (Appends (g.K.Sink.written c.args.out.now) (g.K.Sink.written c.write_reply.new.out))
+      subst (Gains (g.K.Sink.state c.args.out.now) (g.K.Sink.state c.write_reply.new.out))
           (sym (reply_text_is frames c.args.frame c.in-Some.reply (sym served.1 ∙ c.in-Some.is)))
           c.in-Ok-write_reply.ensures.bytes,
     )
