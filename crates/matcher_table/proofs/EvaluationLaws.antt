@@ -76,7 +76,12 @@ module _ (says : SimpleMatcher → Atom → Bool) (atom : Atom) where
               ∙ sym (ap (λ (k : ℕ). tree_truth says atom (tree_of slots k)) same)
           | inr other ↦
               get_or-set_other truths (get_or group i 0) y b false other
-              ∙ done y (omega (arith, places_more y group i here, one_if_other y (get_or group i 0) (λ e. other (sym e))))
+              ∙ done y (omega (
+                arith,
+                places_more y group i here,
+                one_if_other y (get_or group i 0) (λ e. other
+                    (sym e)),
+              ))
         ]
 
     pub rest_kept : (y : ℕ) → matcher_at slots y ≢ None → places_of y group ≡ 0
@@ -111,13 +116,15 @@ sum_listed f none [] slots once all =
       | inr some ↦ let no : 0 < places_of s [] = all s (omega arith) in absurd (omega arith)
     ]))
   where
-    sum_of_terms : (g : Option SharedMatcher → ℕ) (ys : List (Option SharedMatcher)) → ((k : ℕ) → g (get_or ys k None) ≡ 0)
+    sum_of_terms : (g : Option SharedMatcher → ℕ) (ys : List (Option SharedMatcher)) → ((k : ℕ)
+        → g (get_or ys k None) ≡ 0)
         → sum_by g ys ≡ 0
     sum_of_terms g [] h = refl
     sum_of_terms g (y ∷ ys) h = omega (arith, sum_by-cons g y ys, h 0, sum_of_terms g ys (λ k. h (suc k)))
 sum_listed f none (x ∷ xs) slots once all =
     let one : one_if x x ≡ 1 = one_if_same x x refl in
-    let live : matcher_at slots x ≢ None = counted_live (matcher_at slots x) (omega (arith, once x, places-cons x x xs)) in
+    let live : matcher_at slots x ≢ None = counted_live (matcher_at slots x) (omega
+    (arith, once x, places-cons x x xs)) in
     let there : x < length slots = live_within slots x live in
     let gone : matcher_at (set slots x None) x ≡ None = get_or-set_same slots x None None there in
     let none_twice : places_of x xs ≡ 0 =
@@ -152,7 +159,8 @@ sum_listed f none (x ∷ xs) slots once all =
     omega (arith, sum_by-cons (λ s. f (matcher_at slots s)) x xs, sum_by-set f slots x None None there)
 
 -- the questions along a list that is enough are those of the whole table
-question_listed : (slots : List (Option SharedMatcher)) (atom : Atom) (group : List ℕ) → IsEnough slots atom group → (s : ℕ)
+question_listed : (slots : List (Option SharedMatcher)) (atom : Atom) (group : List ℕ) → IsEnough slots atom group
+    → (s : ℕ)
     (o : Option SharedMatcher) → matcher_at slots s ≡ o → 0 < cond (is_question atom o) 1 0 → 0 < places_of s group
 question_listed slots atom group enough s None e h = absurd (omega arith)
 question_listed slots atom group enough s (Some (Combination op children)) e h = absurd (omega arith)

@@ -169,7 +169,8 @@ module _ (old new : Store) (at : ℕ) (held : StoreIsHeld old) (within : at < le
             elim has [
               | inl outer ↦ inl (inl (subst (λ (xs : List ℕ). 0 < get_or xs s 0) (sym outside) outer))
               | inr child ↦
-                  elim (cases_lt 0 (places_of s (children_of (matcher_at old.bodies.slots (get_or old.order.items at 0))))) [
+                  elim (cases_lt 0 (places_of s (children_of (matcher_at old.bodies.slots
+                  (get_or old.order.items at 0))))) [
                     | inl named ↦ inr (in_front s (held.after at s within named))
                     | inr none ↦ inl (inr (omega (arith, uses s)))
                   ]
@@ -243,7 +244,8 @@ module _ (old new : Store) (slot : ℕ) (held : StoreIsHeld old) (had : 0 < get_
               elim (cases_eq end.bodies.vacant_key slot) [
                 | inl is ↦ is
                 | inr other ↦
-                    absurd (freed.0 (kept_same end.bodies.vacant_key ∙ sym (others end.bodies.vacant_key other) ∙ freed.1))
+                    absurd (freed.0 (kept_same end.bodies.vacant_key ∙ sym (others end.bodies.vacant_key other)
+                    ∙ freed.1))
               ]
         ]
 

@@ -73,14 +73,19 @@ pub named_used : (slots : List (Option SharedMatcher)) (x c : ℕ) → 0 < place
     → 0 < child_uses slots c
 named_used slots x c named =
     elim (cases_lt x (length slots)) [
-      | inl here ↦ omega (arith, get_or-le-sum_by (λ (o : Option SharedMatcher). places_of c (children_of o)) slots x None here)
+      | inl here ↦ omega (
+        arith,
+        get_or-le-sum_by (λ (o : Option SharedMatcher). places_of c
+            (children_of o)) slots x None here,
+      )
       | inr past ↦
           let gone : places_of c (children_of (matcher_at slots x)) ≡ 0 =
           ap (λ (o : Option SharedMatcher). places_of c (children_of o)) (get_or_past slots x None past) in
           absurd (omega arith)
     ]
 
-module _ {slots : List (Option SharedMatcher)} {order outside uses : List ℕ} {results : List Bool} (held : IsHeld slots order outside uses results) where
+module _ {slots : List (Option SharedMatcher)} {order outside uses : List ℕ} {results : List Bool}
+    (held : IsHeld slots order outside uses results) where
   -- a live slot stands in the order
   pub live_listed : (s : ℕ) → matcher_at slots s ≢ None → 0 < places_of s order
   live_listed s live = omega (arith, held.listed s, live_is_one (matcher_at slots s) live)
@@ -136,7 +141,8 @@ module _ {slots : List (Option SharedMatcher)} {order outside uses : List ℕ} {
   }
 
   -- a new slot, with one outside use
-  module _ (slots' : List (Option SharedMatcher)) (slot : ℕ) (shared : SharedMatcher) (outside' uses' : List ℕ) (results' : List Bool)
+  module _ (slots' : List (Option SharedMatcher)) (slot : ℕ) (shared : SharedMatcher) (outside' uses' : List ℕ)
+      (results' : List Bool)
       (was : matcher_at slots slot ≡ None) (here : matcher_at slots' slot ≡ Some shared)
       (others : (k : ℕ) → k ≢ slot → matcher_at slots' k ≡ matcher_at slots k)
       (one_more : count_by is_some slots' ≡ count_by is_some slots + 1)
@@ -194,7 +200,8 @@ module _ {slots : List (Option SharedMatcher)} {order outside uses : List ℕ} {
               omega (arith, places_push s slot order, held.listed s)
           | inr other ↦
               let none : one_if s slot ≡ 0 = one_if_other s slot (λ e. other (sym e)) in
-              let now : live_count (matcher_at slots' s) ≡ live_count (matcher_at slots s) = ap live_count (others s other) in
+              let now : live_count (matcher_at slots' s) ≡ live_count (matcher_at slots s) = ap live_count
+              (others s other) in
               omega (arith, places_push s slot order, held.listed s)
         ]
 
@@ -218,7 +225,8 @@ module _ {slots : List (Option SharedMatcher)} {order outside uses : List ℕ} {
           | inr last ↦
               let at : get_or (order ++ slot ∷ []) i 0 ≡ slot =
               get_or_push order slot 0 i (omega (arith, length_push order slot)) in
-              let same : matcher_at slots' (get_or (order ++ slot ∷ []) i 0) ≡ Some shared = ap (matcher_at slots') at ∙ here in
+              let same : matcher_at slots' (get_or (order ++ slot ∷ []) i 0) ≡ Some shared = ap
+              (matcher_at slots') at ∙ here in
               let child : 0 < places_of c (children_of (Some shared)) =
               subst (λ (o : Option SharedMatcher). 0 < places_of c (children_of o)) same named in
               let all : take i order ≡ order = take_all i order last in
@@ -273,7 +281,8 @@ module _ {slots : List (Option SharedMatcher)} {order outside uses : List ℕ} {
     there = live_within slots x live_x
 
     pub now_gone : matcher_at slots' x ≡ None
-    now_gone = ap (λ (xs : List (Option SharedMatcher)). matcher_at xs x) written ∙ get_or-set_same slots x None None there
+    now_gone = ap (λ (xs : List (Option SharedMatcher)). matcher_at xs x) written
+        ∙ get_or-set_same slots x None None there
 
     pub freed_others : (k : ℕ) → k ≢ x → matcher_at slots' k ≡ matcher_at slots k
     freed_others k other = ap (λ (xs : List (Option SharedMatcher)). matcher_at xs k) written
@@ -352,7 +361,8 @@ module _ {slots : List (Option SharedMatcher)} {order outside uses : List ℕ} {
               subst (λ (k : ℕ). 0 < places_of c (children_of (matcher_at slots k))) same before in
               let stands : 0 < places_of c (take (i + 1) order) = held.after (i + 1) c (omega arith) at_i in
               let long_front : length (take (i + 1) order) ≡ i + 1 = length-take-le (i + 1) order (omega arith) in
-              let is_at : get_or (take (i + 1) order) at 0 ≡ x = get_or-take (i + 1) order at 0 (omega arith) ∙ sym is_x in
+              let is_at : get_or (take (i + 1) order) at 0 ≡ x = get_or-take (i + 1) order at 0 (omega arith)
+              ∙ sym is_x in
               let none : one_if c (get_or (take (i + 1) order) at 0) ≡ 0 =
               one_if_other c (get_or (take (i + 1) order) at 0) (λ e. unnamed_freed y c before (sym e ∙ is_at)) in
               subst (λ (xs : List ℕ). 0 < places_of c xs) (sym (take_remove_above order at i upper (omega arith)))

@@ -1,5 +1,5 @@
 -- What stays true of the index where slots are made and freed.
-use Rattle.std.proofs.Common.{◌≡◌, ◌≢◌, ◌⊎◌, ℕ, Bool, true, false, List, Option, Some, None, refl, sym, ap, subst, ◌∙◌, inl, inr}
+use Rattle.std.proofs.Common.{◌≡◌, ◌≢◌, ◌⊎◌, ℕ, Bool, true, false, List, Option, Some, None, refl, sym, ap, ◌∙◌, inl, inr}
 use Rattle.std.proofs.Props.{props}
 use mathlib.Core.HLevel.{collapsible→set}
 use Rattle.std.proofs.lemmas.Bool.{cases_eq, false_from_ne_true}
@@ -23,7 +23,8 @@ not_equal x y other = false_from_ne_true (shared.ghosts.eq x y) (λ equal. other
 pub matchers_set : IsSet SharedMatcher
 matchers_set =
     collapsible→set (λ x y same. (shared_exact x y).0 ((shared_exact x y).1 same))
-    (λ x y p q. ap (shared_exact x y).0 (one_proof (shared.ghosts.eq x y) ((shared_exact x y).1 p) ((shared_exact x y).1 q)))
+    (λ x y p q. ap (shared_exact x y).0 (one_proof (shared.ghosts.eq x y) ((shared_exact x y).1 p)
+    ((shared_exact x y).1 q)))
   where
     one_proof : (b : Bool) → IsProp (b ≡ true)
     one_proof b = hlevel props
@@ -55,8 +56,10 @@ module _ {slots : List (Option SharedMatcher)} {index : SlotIndex} (indexed : Is
   pub indexed_as : (slots' : List (Option SharedMatcher)) (index' : SlotIndex) → slots' ≡ slots
       → ((wanted : SharedMatcher) → slot_for index' wanted ≡ slot_for index wanted) → IsIndexed slots' index'
   indexed_as slots' index' same finds = record {
-    named = λ s x at_s. finds x ∙ indexed.named s x (ap (λ (xs : List (Option SharedMatcher)). matcher_at xs s) (sym same) ∙ at_s);
-    found = λ s x is. ap (λ (xs : List (Option SharedMatcher)). matcher_at xs s) same ∙ indexed.found s x (sym (finds x) ∙ is);
+    named = λ s x at_s. finds x ∙ indexed.named s x (ap (λ (xs : List (Option SharedMatcher)). matcher_at xs s)
+        (sym same) ∙ at_s);
+    found = λ s x is. ap (λ (xs : List (Option SharedMatcher)). matcher_at xs s) same
+        ∙ indexed.found s x (sym (finds x) ∙ is);
   }
 
   -- a new slot

@@ -22,7 +22,8 @@ use Rattle.matcher_table.proofs.HeldLaws.{cases_live, some_live, live_listed}
 use Rattle.matcher_table.proofs.IndexLaws.{matchers_set, one_slot}
 use Rattle.matcher_table.proofs.TreeLaws.{trees_meet_their_step, named_live, tree_kept}
 
-module _ {slots : List (Option SharedMatcher)} {order outside uses : List ℕ} {results : List Bool} (held : IsHeld slots order outside uses results) where
+module _ {slots : List (Option SharedMatcher)} {order outside uses : List ℕ} {results : List Bool}
+    (held : IsHeld slots order outside uses results) where
   -- the whole order is enough for every atom
   pub order_is_enough : (atom : Atom) → IsEnough slots atom order
   order_is_enough atom = record {
@@ -87,7 +88,8 @@ pub unchanged_trees : (old new : Store) → IsUnchanged (contents old) (contents
 unchanged_trees old new same s was live = ap (λ (xs : List (Option SharedMatcher)). tree_of xs s) same.slots
 
 -- what was live stands for the same after an intern
-interned_same : (old new : Store) (shared : SharedMatcher) (slot : ℕ) → Interns (contents old) shared slot (contents new)
+interned_same : (old new : Store) (shared : SharedMatcher) (slot : ℕ)
+    → Interns (contents old) shared slot (contents new)
     → (s : ℕ) → matcher_at old.bodies.slots s ≢ None → matcher_at old.bodies.slots s ≡ matcher_at new.bodies.slots s
 interned_same old new shared slot interns s live =
     elim (cases_eq s slot) [

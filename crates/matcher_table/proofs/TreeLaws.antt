@@ -31,7 +31,8 @@ tree_looks_down f g (Some (Combination op children)) same =
 abbrev pub tree_to : List (Option SharedMatcher) → ℕ → ℕ → Tree
 tree_to slots depth s = unroll (tree_step slots) NoMatcher depth s
 
-module _ {slots : List (Option SharedMatcher)} {order outside uses : List ℕ} {results : List _} (held : IsHeld slots order outside uses results) where
+module _ {slots : List (Option SharedMatcher)} {order outside uses : List ℕ} {results : List _}
+    (held : IsHeld slots order outside uses results) where
   -- deep enough is as good as deeper
   settled : (most i a b : ℕ) → i < most → i < length order → i < a → i < b
       → tree_to slots a (get_or order i 0) ≡ tree_to slots b (get_or order i 0)
@@ -54,9 +55,11 @@ module _ {slots : List (Option SharedMatcher)} {order outside uses : List ℕ} {
       let place = place_of s order (live_listed held s live) in
       let short : length order ≤ length slots = order_short held in
       subst (λ (x : ℕ). tree_to slots a x ≡ tree_to slots (length slots) x) place.2
-      (settled (suc place.0) place.0 a (length slots) (omega arith) place.1 (omega (arith, place.1)) (omega (arith, place.1)))
+      (settled (suc place.0) place.0 a (length slots) (omega arith) place.1 (omega (arith, place.1)) (omega
+      (arith, place.1)))
 
-  pub trees_meet_their_step : (s : ℕ) → matcher_at slots s ≢ None → tree_of slots s ≡ tree_from (tree_of slots) (matcher_at slots s)
+  pub trees_meet_their_step : (s : ℕ) → matcher_at slots s ≢ None
+      → tree_of slots s ≡ tree_from (tree_of slots) (matcher_at slots s)
   trees_meet_their_step s live = sym (deep_enough s (suc (length slots)) live (omega arith))
 
   -- what is named is live

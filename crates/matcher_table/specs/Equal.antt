@@ -1,9 +1,9 @@
 -- The derived `==` of shared matchers holds exactly where contracts see the same value.
-use Rattle.std.specs.Prelude.{◌≡◌, ℕ, List, refl, nat_eq}
+use Rattle.std.specs.Prelude.{◌≡◌}
 use Rattle.std.specs.Bool.{Decides}
 use Rattle.std.specs.Cmp.{unsigned_Decides}
 use Rattle.std.specs.Cmp.Rules.{comparing, hashing}
-use Rattle.std.specs.Cmp.Lexicographic.{pointwise, pointwise_decides}
+use Rattle.std.specs.Cmp.Lexicographic.{pointwise_decides}
 use Rattle.std.proofs.Common.{rules, ap}
 use Rattle.config_types.specs.Equal.{simple_matcher_exact}
 use Rattle.config_types.specs.contracts.matcher.OperationExact.TheImpl.Laws.{exact-law as operation_exact}

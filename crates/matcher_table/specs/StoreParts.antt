@@ -13,7 +13,8 @@ use Rattle.matcher_table.specs.Tables.{Table}
 use Rattle.slab.specs.Slab.{HasRoomFor}
 
 -- All that a table keeps between two calls, but for one thing: a slot may have no use.
-pub record IsHeld (slots : List (Option SharedMatcher)) (order outside uses : List ℕ) (results : List Bool) : Type 0 where
+pub record IsHeld (slots : List (Option SharedMatcher)) (order outside uses : List ℕ)
+    (results : List Bool) : Type 0 where
   pub uses_are : (s : ℕ) → slice_index_or uses s 0 ≡ child_uses slots s
   pub none_outside : (s : ℕ) → matcher_at slots s ≡ None → slice_index_or outside s 0 ≡ 0
   pub none_below : (s : ℕ) → matcher_at slots s ≡ None → child_uses slots s ≡ 0
@@ -61,7 +62,8 @@ pub record Frees (old new : Store) : Type 0 where
   pub outside : new.outside.items ≡ old.outside.items
   pub results : new.results.items ≡ old.results.items
   pub fewer : (s : ℕ) → slice_index_or new.uses.items s 0 ≤ slice_index_or old.uses.items s 0
-  pub kept : (s : ℕ) → matcher_at new.bodies.slots s ≢ None → matcher_at new.bodies.slots s ≡ matcher_at old.bodies.slots s
+  pub kept : (s : ℕ) → matcher_at new.bodies.slots s ≢ None
+      → matcher_at new.bodies.slots s ≡ matcher_at old.bodies.slots s
   pub stays : (s : ℕ) → 0 < slice_index_or old.outside.items s 0
       → matcher_at new.bodies.slots s ≡ matcher_at old.bodies.slots s
   pub next : ((new.bodies.slots ≡ old.bodies.slots) × (new.bodies.vacant_key ≡ old.bodies.vacant_key))

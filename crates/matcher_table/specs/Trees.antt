@@ -37,7 +37,8 @@ tree_of slots = unroll (tree_step slots) NoMatcher (length slots)
 
 -- the tree of each live slot is that of its matcher, over the trees of its children
 abbrev pub TreesMeetTheirStep : List (Option SharedMatcher) → Type 0
-TreesMeetTheirStep slots = (s : ℕ) → matcher_at slots s ≢ None → tree_of slots s ≡ tree_from (tree_of slots) (matcher_at slots s)
+TreesMeetTheirStep slots =
+    (s : ℕ) → matcher_at slots s ≢ None → tree_of slots s ≡ tree_from (tree_of slots) (matcher_at slots s)
 
 -- what is named is live
 abbrev pub ChildrenAreLive : List (Option SharedMatcher) → Type 0

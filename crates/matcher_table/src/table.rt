@@ -3,7 +3,6 @@ ghost use Rattle.std.specs.Prelude.{◌≡◌, ◌↔◌, map, IfOk, IsTrue};
 ghost use Rattle.matcher_table.specs.StoreParts.{StoreIsSound};
 
 use crate::SharedMatcher;
-use crate::evaluation::evaluate_along;
 use crate::store::Store;
 use atom_record::Atom;
 use config_types::{Operation, SimpleMatcher};
@@ -26,16 +25,15 @@ pub struct MatcherTable {
 }
 
 impl MatcherTable {
-    ghost use Rattle.std.specs.Prelude.{◌≢◌, ◌<◌, [], OnErr, None};
+    ghost use Rattle.std.specs.Prelude.{◌<◌, [], OnErr};
     ghost use Rattle.std.specs.List.{All};
     ghost use Rattle.atom_record.specs.AtomSound.{HasNoFault};
     ghost use Rattle.config_types.specs.Askable.{IsAskable};
-    ghost use Rattle.matcher_table.specs.Slots.{matcher_at};
     ghost use Rattle.matcher_table.specs.Tables.{outside_uses, result_at, IsUnchanged};
     ghost use Rattle.matcher_table.specs.Steps.{Interns, Releases};
     ghost use Rattle.matcher_table.specs.Truths.{Evaluates, AreTicks, questions};
     ghost use Rattle.matcher_table.specs.TableFacts.{IsSoundTable, KeepsTrees};
-    ghost use Rattle.matcher_table.specs.Contents.{contents_of};
+    ghost use Rattle.matcher_table.specs.Contents.{contents_of, IsLive, combination_of};
 
     /// No slot is live.
     pub fn new(alloc: Global) -> MatcherTable
@@ -67,9 +65,9 @@ impl MatcherTable {
         op: Operation,
         children: &[Slot],
     ) -> Result<Slot, AllocError>
-        requires { All (λ slot. matcher_at (contents_of self.old).slots slot.number ≢ None) children.now }
-        ensures interns { IfOk result (λ slot. Interns (contents_of self.old)
-            (SharedMatcher.Combination op (map (λ child. child.number) children.now)) slot.number (contents_of self.new)) }
+        requires { All (IsLive self.old) children.now }
+        ensures interns { IfOk result (λ slot.
+            Interns (contents_of self.old) (combination_of op children.now) slot.number (contents_of self.new)) }
         ensures err { OnErr result (IsUnchanged (contents_of self.old) (contents_of self.new)) }
         ensures trees { KeepsTrees (contents_of self.old) (contents_of self.new) }
     {
@@ -94,14 +92,15 @@ impl MatcherTable {
     pub fn evaluate<J: Judge>(&mut self, atom: &Atom, judge: &mut J)
         requires { HasNoFault atom.now }
         ensures evaluates { Evaluates J.says atom.now (contents_of self.old) (contents_of self.new) }
-        ensures asked { AreTicks (questions atom.now (contents_of self.old).slots) (J.ticks judge.old) (J.ticks judge.new) }
+        ensures asked { AreTicks (questions atom.now (contents_of self.old).slots)
+            (J.ticks judge.old) (J.ticks judge.new) }
     {
         self.store.evaluate(atom, judge);
     }
 
     /// The truth for the last atom; false where none came since the slot was made.
     pub fn result(&self, slot: Slot) -> bool
-        requires { matcher_at (contents_of self.now).slots slot.number ≢ None }
+        requires { IsLive self.now slot }
         ensures { result ≡ result_at (contents_of self.now) slot.number }
     {
         self.store.result(slot.number)
@@ -109,7 +108,7 @@ impl MatcherTable {
 
     /// Whether a matcher has the slot.
     pub fn is_live(&self, slot: Slot) -> bool
-        ensures { IsTrue result ↔ (matcher_at (contents_of self.now).slots slot.number ≢ None) }
+        ensures { IsTrue result ↔ IsLive self.now slot }
     {
         self.store.bodies.contains(slot.number)
     }

@@ -6,7 +6,7 @@ use config_types::Operation;
 use std::alloc::{AllocError, Global};
 
 /// The most live slots before one is released.
-const CROWDED: usize = 40;
+const CROWDED: usize = 20;
 
 /// Numbers that look as if by chance.
 #[derive(Drop)]

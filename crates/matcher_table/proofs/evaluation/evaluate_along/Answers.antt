@@ -27,7 +27,11 @@ loop-slot-preserved g c =
     let live : matcher_at slots (get_or group i 0) ≢ None =
     counted_live (matcher_at slots (get_or group i 0))
     (omega (arith, c.requires.enough.once (get_or group i 0), counted_at group i (omega arith))) in
-    let within : get_or group i 0 < length c.loop-slot.results = omega (arith, c.requires.room (get_or group i 0) live) in
+    let within : get_or group i 0 < length c.loop-slot.results = omega (
+      arith,
+      c.requires.room
+          (get_or group i 0) live,
+    ) in
     record {
       done = done_more says atom slots group c.loop-slot.results i c.truth_of.result c.requires.enough c.requires.meets
           c.requires.children (omega arith) within c.loop-slot.invariant.done c.loop-slot.invariant.rest
@@ -53,5 +57,6 @@ returns-clause-asked g c =
     let all : take c.loop-slot.slot-index group ≡ group = take_all c.loop-slot.slot-index group (omega arith) in
     subst (λ (n : ℕ). AreTicks n (g.J.Judge.ticks c.args.judge.now) (g.J.Judge.ticks c.loop-slot.judge))
     (questions_along slots atom group c.requires.enough)
-    (subst (λ (xs : List ℕ). AreTicks (sum_by f xs) (g.J.Judge.ticks c.args.judge.now) (g.J.Judge.ticks c.loop-slot.judge))
+    (subst (λ (xs : List ℕ). AreTicks (sum_by f xs) (g.J.Judge.ticks c.args.judge.now)
+    (g.J.Judge.ticks c.loop-slot.judge))
     all c.loop-slot.invariant.asked)

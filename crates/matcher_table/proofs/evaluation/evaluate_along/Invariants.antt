@@ -11,6 +11,7 @@ invariant-loop-slot g l = record {
       → get_or l.results y false ≡ tree_truth g.J.Judge.says l.atom (tree_of l.bodies.slots y);
   rest : (y : ℕ) → matcher_at l.bodies.slots y ≢ None → places_of y l.group ≡ 0
       → get_or l.results y false ≡ tree_truth g.J.Judge.says l.atom (tree_of l.bodies.slots y);
-  asked : AreTicks (sum_by (λ s. cond (is_question l.atom (matcher_at l.bodies.slots s)) 1 0) (take l.slot-index l.group))
+  asked : AreTicks (sum_by (λ s. cond (is_question l.atom (matcher_at l.bodies.slots s)) 1 0)
+      (take l.slot-index l.group))
       (g.J.Judge.ticks l.fn.judge) (g.J.Judge.ticks l.judge);
 }

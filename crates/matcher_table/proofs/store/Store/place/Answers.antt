@@ -23,7 +23,8 @@ returns-clause-held c =
     (set now.outside.items slot 1) xs (set now.results.items slot false)) (sym e)
     (subst (λ (xs : List ℕ). IsHeld c.insert_reserved-slot.new.self.slots xs (set now.outside.items slot 1) us
     (set now.results.items slot false)) (sym c.push_reserved.ensures)
-    (held_made c.requires.held c.insert_reserved-slot.new.self.slots slot c.args.shared (set now.outside.items slot 1) us
+    (held_made c.requires.held c.insert_reserved-slot.new.self.slots slot c.args.shared
+    (set now.outside.items slot 1) us
     (set now.results.items slot false) c.insert_reserved-slot.ensures.was_vacant
     c.insert_reserved-slot.ensures.updates.changed c.insert_reserved-slot.ensures.updates.others
     c.insert_reserved-slot.ensures.len c.requires.may.children c.requires.may.askable counted
@@ -45,7 +46,8 @@ returns-clause-used c s live =
     let long : length us ≡ length now.uses.items = c.add_uses.auto.uses ∙ ap length c.deref_mut.ensures.value in
     let e : (with_items now.uses us).items ≡ us = with_items_is now.uses us (omega arith) in
     let one : get_or (set now.outside.items slot 1) slot 0 ≡ 1 =
-    get_or-set_same now.outside.items slot 1 0 (omega (arith, c.insert_reserved-slot.ensures.key, c.requires.room.outside)) in
+    get_or-set_same now.outside.items slot 1 0 (omega
+    (arith, c.insert_reserved-slot.ensures.key, c.requires.room.outside)) in
     inl (made_used now.bodies.slots c.insert_reserved-slot.new.self.slots slot now.outside.items
     (set now.outside.items slot 1) now.uses.items (with_items now.uses us).items now.order.items
     c.insert_reserved-slot.ensures.updates.others (λ k other. get_or-set_other now.outside.items slot k 1 0 other)

@@ -1,4 +1,4 @@
-use Rattle.std.proofs.Common.{◌≡◌, ◌≢◌, ◌+◌, ◌<◌, ℕ, Some, None, length, get_or, refl, arith, inl}
+use Rattle.std.proofs.Common.{◌+◌, ◌<◌, length, refl, arith, inl}
 use Rattle.std.proofs.lemmas.List.{get_or-set_same, get_or-set_other, get_or_default}
 use Rattle.matcher_table.proofs.HeldLaws.{some_live}
 use Rattle.matcher_table.proofs.IndexLaws.{one_slot}

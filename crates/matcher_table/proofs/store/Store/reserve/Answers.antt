@@ -18,7 +18,8 @@ returns-in_err-lengthen-2-clause-held c =
     held_as now.bodies.slots _ now.order.items _ _ _ _ (ap (λ s. s.slots) c.reserve.ensures.rest_kept)
     c.reserve-3.ensures.items
     (held_longer c.requires.held c.lengthen.new.counts.items c.lengthen-2.new.counts.items now.results.items
-    c.lengthen.ensures.longer c.lengthen-2.ensures.longer (omega arith) c.lengthen.ensures.same c.lengthen-2.ensures.same)
+    c.lengthen.ensures.longer c.lengthen-2.ensures.longer
+    (omega arith) c.lengthen.ensures.same c.lengthen-2.ensures.same)
 
 pub returns-clause-held : goal.returns-clause-held
 returns-clause-held c =
