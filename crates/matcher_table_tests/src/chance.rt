@@ -89,7 +89,7 @@ impl Pair {
         let mut children = Vec::new(self.alloc);
         let count = self.dice.below(3);
         let len = self.model.len();
-        for _ in 0..count + 1 {
+        for _ in 0..=count {
             let child = self.dice.below(len);
             children.push(child)?;
         }

@@ -6,14 +6,8 @@ use std::alloc::{AllocError, Global};
 /// What a slot stands for.
 #[derive(Drop, PartialEq)]
 pub enum Body {
-    Simple {
-        id: u32,
-        number: Option<i64>,
-    },
-    Combination {
-        op: Operation,
-        children: Vec<usize>,
-    },
+    Simple { id: u32, number: Option<i64> },
+    Combination { op: Operation, children: Vec<usize> },
 }
 
 /// A live slot.
@@ -216,8 +210,12 @@ impl Model {
     }
 
     fn joined(&self, op: Operation, children: &[usize]) -> bool {
-        let all = children.iter().all(|child| self.result(*child) == Some(true));
-        let any = children.iter().any(|child| self.result(*child) == Some(true));
+        let all = children
+            .iter()
+            .all(|child| self.result(*child) == Some(true));
+        let any = children
+            .iter()
+            .any(|child| self.result(*child) == Some(true));
         match op {
             Operation::And => all,
             Operation::Or => any,

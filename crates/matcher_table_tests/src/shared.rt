@@ -103,11 +103,7 @@ fn are_live(table: &MatcherTable, slots: &[Slot]) -> bool
     true
 }
 
-fn matcher_of(
-    alloc: Global,
-    id: i32,
-    number: Option<i64>,
-) -> Result<SimpleMatcher, AllocError> {
+fn matcher_of(alloc: Global, id: i32, number: Option<i64>) -> Result<SimpleMatcher, AllocError> {
     let mut tests = Seq::new(alloc);
     if let Some(number) = number {
         tests.push(FieldTest {
