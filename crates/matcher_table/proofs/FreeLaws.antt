@@ -1,0 +1,261 @@
+-- What stays true where slots without a use are freed, one after another.
+use Rattle.std.proofs.Common.{◌≡◌, ◌≢◌, ℕ, ◌+◌, ◌<◌, List, length, get_or, set, take, Option, Some, None, false, refl, sym, ap, subst, ◌∙◌, arith, inl, inr}
+use Rattle.std.specs.List.{remove}
+use Rattle.std.proofs.lemmas.Bool.{cases_eq, cases_lt}
+use Rattle.std.proofs.lemmas.List.{take_all}
+use Rattle.matcher_table.specs.declared.shared.SharedMatcher.{SharedMatcher}
+use Rattle.matcher_table.specs.declared.store.Store.{Store}
+use Rattle.matcher_table.specs.Slots.{matcher_at, children_of, places_of}
+use Rattle.matcher_table.specs.Finding.{slot_for}
+use Rattle.matcher_table.specs.Steps.{Releases}
+use Rattle.matcher_table.specs.StoreParts.{IsHeld, StoreIsHeld, StoreIsIndexed, IsUsed, UsedFrom, Frees, ChangesOutside, contents}
+use Rattle.matcher_table.proofs.Counting.{one_if_other, places_more, take_remove_below}
+use Rattle.matcher_table.proofs.IndexLaws.{indexed_freed, some_same}
+use Rattle.matcher_table.proofs.HeldLaws.{cases_live, held_freed, freed_others, now_gone, live_before, order_live, outside_live, live_listed}
+
+-- all that is live stands in the order
+pub used_from_all : (store : Store) → StoreIsHeld store → UsedFrom store (length store.order.items)
+used_from_all store held s live =
+    inr (subst (λ (xs : List ℕ). 0 < places_of s xs)
+    (sym (take_all (length store.order.items) store.order.items (omega arith))) (live_listed held s live))
+
+-- a slot with a use needs no sweep
+pub used_lower : (store : Store) (at : ℕ) → at < length store.order.items → IsUsed store (get_or store.order.items at 0)
+    → UsedFrom store (at + 1) → UsedFrom store at
+used_lower store at within used from s live =
+    elim (from s live) [
+      | inl has ↦ inl has
+      | inr counted ↦
+          elim (cases_eq s (get_or store.order.items at 0)) [
+            | inl same ↦ inl (subst (IsUsed store) (sym same) used)
+            | inr other ↦
+                inr (omega (
+                  arith,
+                  places_more s store.order.items at within,
+                  one_if_other s (get_or store.order.items at 0) (λ e. other (sym e)),
+                ))
+          ]
+    ]
+
+pub frees_none : (store : Store) → Frees store store
+frees_none store = record {
+  outside = refl;
+  results = refl;
+  fewer = λ s. omega arith;
+  kept = λ s live. refl;
+  stays = λ s more. refl;
+  next = inl (refl, refl);
+}
+
+pub frees_more : (a b c : Store) → Frees a b → Frees b c → Frees a c
+frees_more a b c p q = record {
+  outside = q.outside ∙ p.outside;
+  results = q.results ∙ p.results;
+  fewer = λ s. omega (arith, p.fewer s, q.fewer s);
+  kept = λ s live. q.kept s live ∙ p.kept s (λ gone. live (q.kept s live ∙ gone));
+  stays = λ s more. q.stays s (subst (λ (xs : List ℕ). 0 < get_or xs s 0) (sym p.outside) more) ∙ p.stays s more;
+  next = elim q.next [
+    | inl same ↦
+        elim p.next [
+          | inl before ↦ inl (same.0 ∙ before.0, same.1 ∙ before.1)
+          | inr freed ↦
+              inr (
+                λ gone. freed.0 (ap (matcher_at a.bodies.slots) (sym same.1) ∙ gone),
+                ap (λ (xs : List (Option SharedMatcher)). matcher_at xs c.bodies.vacant_key) same.0
+                    ∙ ap (matcher_at b.bodies.slots) same.1 ∙ freed.1,
+              )
+        ]
+    | inr freed ↦
+        inr (λ gone. freed.0 (p.kept c.bodies.vacant_key freed.0 ∙ gone), freed.1)
+  ];
+}
+
+-- one slot without a use is gone
+module _ (old new : Store) (at : ℕ) (held : StoreIsHeld old) (within : at < length old.order.items)
+    (unused : ¬ IsUsed old (get_or old.order.items at 0)) (from : UsedFrom old (at + 1))
+    (slots : new.bodies.slots ≡ set old.bodies.slots (get_or old.order.items at 0) None)
+    (next : new.bodies.vacant_key ≡ get_or old.order.items at 0)
+    (order : new.order.items ≡ remove old.order.items at) (outside : new.outside.items ≡ old.outside.items)
+    (results : new.results.items ≡ old.results.items)
+    (uses : (s : ℕ) → get_or new.uses.items s 0
+    + places_of s (children_of (matcher_at old.bodies.slots (get_or old.order.items at 0))) ≡ get_or old.uses.items s 0)
+    (long : length new.uses.items ≡ length old.uses.items) where
+  no_uses : get_or old.uses.items (get_or old.order.items at 0) 0 ≡ 0
+  no_uses = elim (cases_eq (get_or old.uses.items (get_or old.order.items at 0) 0) 0) [
+    | inl none ↦ none
+    | inr some ↦ absurd (unused (inr (omega arith)))
+  ]
+
+  no_outside : get_or old.outside.items (get_or old.order.items at 0) 0 ≡ 0
+  no_outside = elim (cases_eq (get_or old.outside.items (get_or old.order.items at 0) 0) 0) [
+    | inl none ↦ none
+    | inr some ↦ absurd (unused (inl (omega arith)))
+  ]
+
+  others : (k : ℕ) → k ≢ get_or old.order.items at 0 → matcher_at new.bodies.slots k ≡ matcher_at old.bodies.slots k
+  others = freed_others held new.bodies.slots at (get_or old.order.items at 0) new.uses.items within refl slots no_uses
+      no_outside uses long
+
+  gone : matcher_at new.bodies.slots (get_or old.order.items at 0) ≡ None
+  gone = now_gone held new.bodies.slots at (get_or old.order.items at 0) new.uses.items within refl slots no_uses
+      no_outside uses long
+
+  was_live : matcher_at old.bodies.slots (get_or old.order.items at 0) ≢ None
+  was_live = order_live held at within
+
+  before : (s : ℕ) → matcher_at new.bodies.slots s ≢ None
+      → (s ≢ get_or old.order.items at 0) × (matcher_at old.bodies.slots s ≢ None)
+  before = live_before held new.bodies.slots at (get_or old.order.items at 0) new.uses.items within refl slots no_uses
+      no_outside uses long
+
+  pub freed_held : StoreIsHeld new
+  freed_held =
+      subst (λ (xs : List ℕ). IsHeld new.bodies.slots xs new.outside.items new.uses.items new.results.items) (sym order)
+      (subst (λ (os : List ℕ). IsHeld new.bodies.slots (remove old.order.items at) os new.uses.items new.results.items)
+      (sym outside)
+      (subst (λ rs. IsHeld new.bodies.slots (remove old.order.items at) old.outside.items new.uses.items rs)
+      (sym results)
+      (held_freed held new.bodies.slots at (get_or old.order.items at 0) new.uses.items within refl slots no_uses
+      no_outside uses long)))
+
+  -- the index loses the slot's matcher alone
+  pub freed_indexed : StoreIsIndexed old
+      → ((wanted : SharedMatcher) → matcher_at old.bodies.slots (get_or old.order.items at 0) ≡ Some wanted
+      → slot_for new.index wanted ≡ None)
+      → ((wanted : SharedMatcher) → matcher_at old.bodies.slots (get_or old.order.items at 0) ≢ Some wanted
+      → slot_for new.index wanted ≡ slot_for old.index wanted) → StoreIsIndexed new
+  freed_indexed indexed lost stay = elim (cases_live (matcher_at old.bodies.slots (get_or old.order.items at 0))) [
+    | inl none ↦ absurd (was_live none)
+    | inr live ↦
+        indexed_freed indexed new.bodies.slots new.index (get_or old.order.items at 0) live.0 live.1 gone others
+        (lost live.0 live.1) (λ wanted other. stay wanted (λ e. other (some_same wanted live.0 (sym e ∙ live.1))))
+  ]
+
+  pub freed_frees : Frees old new
+  freed_frees = record {
+    outside = outside;
+    results = results;
+    fewer = λ s. omega (arith, uses s);
+    kept = λ s live. others s (before s live).0;
+    stays = λ s more.
+        let differs : s ≢ get_or old.order.items at 0 = λ e.
+        let none : get_or old.outside.items s 0 ≡ 0 =
+        ap (λ (k : ℕ). get_or old.outside.items k 0) e ∙ no_outside in
+        omega arith in
+        others s differs;
+    next = inr (
+      λ none. was_live (ap (matcher_at old.bodies.slots) (sym next) ∙ none),
+      ap (matcher_at new.bodies.slots) next ∙ gone,
+    );
+  }
+
+  front : take at new.order.items ≡ take at old.order.items
+  front = ap (take at) order ∙ take_remove_below old.order.items at at within (omega arith)
+
+  in_front : (s : ℕ) → 0 < places_of s (take at old.order.items) → 0 < places_of s (take at new.order.items)
+  in_front s counted = subst (λ (xs : List ℕ). 0 < places_of s xs) (sym front) counted
+
+  pub freed_used : UsedFrom new at
+  freed_used s live =
+      let was = before s live in
+      elim (from s was.1) [
+        | inr counted ↦
+            inr (in_front s (omega (
+              arith,
+              places_more s old.order.items at within,
+              one_if_other s (get_or old.order.items at 0) (λ e. was.0 (sym e)),
+            )))
+        | inl has ↦
+            elim has [
+              | inl outer ↦ inl (inl (subst (λ (xs : List ℕ). 0 < get_or xs s 0) (sym outside) outer))
+              | inr child ↦
+                  elim (cases_lt 0 (places_of s (children_of (matcher_at old.bodies.slots
+                  (get_or old.order.items at 0))))) [
+                    | inl named ↦ inr (in_front s (held.after at s within named))
+                    | inr none ↦ inl (inr (omega (arith, uses s)))
+                  ]
+            ]
+      ]
+
+-- one outside use fewer, of a slot that keeps another use
+module _ (old new : Store) (slot : ℕ) (held : StoreIsHeld old) (had : 0 < get_or old.outside.items slot 0)
+    (changes : ChangesOutside old new slot)
+    (lower : get_or new.outside.items slot 0 + 1 ≡ get_or old.outside.items slot 0) where
+  slots_same : new.bodies.slots ≡ old.bodies.slots
+  slots_same = ap (λ b. b.slots) changes.bodies
+
+  next_same : new.bodies.vacant_key ≡ old.bodies.vacant_key
+  next_same = ap (λ b. b.vacant_key) changes.bodies
+
+  kept_same : (s : ℕ) → matcher_at new.bodies.slots s ≡ matcher_at old.bodies.slots s
+  kept_same s = ap (λ (xs : List (Option SharedMatcher)). matcher_at xs s) slots_same
+
+  slot_live : matcher_at old.bodies.slots slot ≢ None
+  slot_live = outside_live held slot had
+
+  pub lowered_releases : Releases (contents old) slot (contents new)
+  lowered_releases = record {
+    outside = lower;
+    others = changes.others;
+    kept = λ s live. kept_same s;
+    stays = λ s more. kept_same s;
+    results = λ s live. ap (λ rs. get_or rs s false) changes.results;
+    none_freed = λ live. (slots_same, next_same);
+    one_freed = λ none others. absurd (slot_live (sym (kept_same slot) ∙ none));
+  }
+
+  pub lowered_used : UsedFrom old 0 → IsUsed new slot → UsedFrom new 0
+  lowered_used from used s live =
+      elim (cases_eq s slot) [
+        | inl same ↦ inl (subst (IsUsed new) (sym same) used)
+        | inr other ↦
+            elim (from s (λ none. live (kept_same s ∙ none))) [
+              | inr counted ↦ absurd (omega arith)
+              | inl has ↦
+                  elim has [
+                    | inl outer ↦ inl (inl (omega (arith, changes.others s other)))
+                    | inr child ↦ inl (inr (subst (λ (xs : List ℕ). 0 < get_or xs s 0) (sym changes.uses) child))
+                  ]
+            ]
+      ]
+
+  -- and of a slot that keeps none
+  module _ (end : Store) (unused : ¬ IsUsed new slot) (frees : Frees new end) (used : UsedFrom end 0) where
+    gone_at_end : ¬ (matcher_at end.bodies.slots slot ≢ None)
+    gone_at_end live =
+        elim (used slot live) [
+          | inr counted ↦ omega arith
+          | inl has ↦
+              elim has [
+                | inl outer ↦ unused (inl (subst (λ (xs : List ℕ). 0 < get_or xs slot 0) frees.outside outer))
+                | inr child ↦ unused (inr (omega (arith, frees.fewer slot)))
+              ]
+        ]
+
+    key_is : matcher_at end.bodies.slots slot ≡ None
+        → ((s : ℕ) → s ≢ slot → matcher_at end.bodies.slots s ≡ matcher_at old.bodies.slots s)
+        → end.bodies.vacant_key ≡ slot
+    key_is none others =
+        elim frees.next [
+          | inl same ↦
+              absurd (slot_live (sym (kept_same slot)
+              ∙ sym (ap (λ (xs : List (Option SharedMatcher)). matcher_at xs slot) same.0) ∙ none))
+          | inr freed ↦
+              elim (cases_eq end.bodies.vacant_key slot) [
+                | inl is ↦ is
+                | inr other ↦
+                    absurd (freed.0 (kept_same end.bodies.vacant_key ∙ sym (others end.bodies.vacant_key other)
+                    ∙ freed.1))
+              ]
+        ]
+
+    pub swept_releases : Releases (contents old) slot (contents end)
+    swept_releases = record {
+      outside = ap (λ (xs : List ℕ). get_or xs slot 0 + 1) frees.outside ∙ lower;
+      others = λ s other. ap (λ (xs : List ℕ). get_or xs s 0) frees.outside ∙ changes.others s other;
+      kept = λ s live. frees.kept s live ∙ kept_same s;
+      stays = λ s more. frees.stays s (subst (λ (xs : List ℕ). 0 < get_or xs s 0) frees.outside more) ∙ kept_same s;
+      results = λ s live. ap (λ rs. get_or rs s false) (frees.results ∙ changes.results);
+      none_freed = λ live. absurd (gone_at_end live);
+      one_freed = key_is;
+    }

@@ -1,0 +1,9 @@
+pub mod Counting
+pub mod Room
+pub mod HeldLaws
+pub mod IndexLaws
+pub mod FreeLaws
+pub mod MadeLaws
+pub mod TreeLaws
+pub mod EvaluationLaws
+pub mod TableLaws

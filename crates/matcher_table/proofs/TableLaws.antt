@@ -1,0 +1,126 @@
+-- What a table's calls rest on.
+use Rattle.std.proofs.Common.{◌≡◌, ◌≢◌, ℕ, ◌+◌, ◌<◌, Bool, List, length, map, get_or, Option, Some, None, refl, sym, ap, subst, ◌∙◌, arith, inl, inr}
+use Rattle.std.proofs.Props.{props}
+use Rattle.std.specs.List.{All}
+use Rattle.std.proofs.lemmas.Bool.{cases_eq}
+use Rattle.std.proofs.lemmas.List.{length-map, get_or-map}
+use mathlib.Core.Logic.{∥∥₁_elim}
+use Rattle.atom_record.specs.declared.atom.Atom.{Atom}
+use Rattle.matcher_table.specs.declared.shared.SharedMatcher.{SharedMatcher}
+use Rattle.matcher_table.specs.declared.shared.SharedMatcher.TheVariants.{Simple, Combination}
+use Rattle.matcher_table.specs.declared.store.Store.{Store}
+use Rattle.matcher_table.specs.declared.table.Slot.{Slot}
+use Rattle.matcher_table.specs.Slots.{matcher_at, children_of, places_of}
+use Rattle.matcher_table.specs.Tables.{IsUnchanged}
+use Rattle.matcher_table.specs.Steps.{Interns, Releases}
+use Rattle.matcher_table.specs.Trees.{tree_of}
+use Rattle.matcher_table.specs.Truths.{IsEnough, MayBeAsked}
+use Rattle.matcher_table.specs.TableFacts.{IsSoundTable, KeepsTrees}
+use Rattle.matcher_table.specs.StoreParts.{IsHeld, StoreIsHeld, StoreIsIndexed, StoreIsSound, UsedFrom, contents}
+use Rattle.matcher_table.proofs.Counting.{place_of}
+use Rattle.matcher_table.proofs.HeldLaws.{cases_live, some_live, live_listed}
+use Rattle.matcher_table.proofs.IndexLaws.{matchers_set, one_slot}
+use Rattle.matcher_table.proofs.TreeLaws.{trees_meet_their_step, named_live, tree_kept}
+
+module _ {slots : List (Option SharedMatcher)} {order outside uses : List ℕ} {results : List Bool}
+    (held : IsHeld slots order outside uses results) where
+  -- the whole order is enough for every atom
+  pub order_is_enough : (atom : Atom) → IsEnough slots atom order
+  order_is_enough atom = record {
+    simple = λ s matcher is of_atom. live_listed held s (some_live (matcher_at slots s) (Simple matcher) is);
+    above = λ s c named among. live_listed held s (λ gone.
+        let none : places_of c (children_of (matcher_at slots s)) ≡ 0 =
+        ap (λ (o : Option SharedMatcher). places_of c (children_of o)) gone in
+        omega arith);
+    once = λ s. omega (arith, held.listed s);
+    after = λ i c here named among. held.after i c here named;
+  }
+
+  may_ask : (s : ℕ) (o : Option SharedMatcher) → matcher_at slots s ≡ o → MayBeAsked o
+  may_ask s None e = tt
+  may_ask s (Some (Simple matcher)) e = held.askable s matcher e
+  may_ask s (Some (Combination op children)) e = tt
+
+  pub all_askable : (s : ℕ) → MayBeAsked (matcher_at slots s)
+  all_askable s = may_ask s (matcher_at slots s) refl
+
+-- what is merely sound is sound
+pub had_held : (store : Store) → ∥ StoreIsSound store ∥₁ → StoreIsHeld store
+had_held store sound = ∥∥₁_elim sound (hlevel props) (λ s. s.held)
+
+pub had_indexed : (store : Store) → ∥ StoreIsSound store ∥₁ → StoreIsIndexed store
+had_indexed store sound = ∥∥₁_elim sound (hlevel (props, matchers_set)) (λ s. s.indexed)
+
+pub had_used : (store : Store) → ∥ StoreIsSound store ∥₁ → UsedFrom store 0
+had_used store sound s live =
+    let some : 0 < get_or store.outside.items s 0 + get_or store.uses.items s 0 =
+    ∥∥₁_elim sound (hlevel props) (λ it. it.used s live) in
+    elim (cases_eq (get_or store.outside.items s 0) 0) [
+      | inl none ↦ inl (inr (omega arith))
+      | inr more ↦ inl (inl (omega arith))
+    ]
+
+pub is_sound : (store : Store) → StoreIsHeld store → StoreIsIndexed store → UsedFrom store 0 → StoreIsSound store
+is_sound store held indexed used = record {
+  held = held;
+  indexed = indexed;
+  used = λ s live. elim (used s live) [
+    | inr counted ↦ absurd (omega arith)
+    | inl has ↦ elim has [ inl outer ↦ omega arith | inr child ↦ omega arith ]
+  ];
+}
+
+-- what callers may know of every table
+pub sound_table : (store : Store) → StoreIsSound store → IsSoundTable (contents store)
+sound_table store sound = record {
+  used = λ s live. omega (arith, sound.used s live, sound.held.uses_are s);
+  unused = λ s gone. omega (arith, sound.held.none_outside s gone, sound.held.none_below s gone);
+  apart = λ s t live same. elim (cases_live (matcher_at store.bodies.slots s)) [
+    | inl none ↦ absurd (live none)
+    | inr there ↦ one_slot sound.indexed s t there.0 there.1 (sym same ∙ there.1)
+  ];
+  children = λ s c named. named_live sound.held s c named;
+  trees = λ s live. trees_meet_their_step sound.held s live;
+}
+
+pub unchanged_trees : (old new : Store) → IsUnchanged (contents old) (contents new)
+    → KeepsTrees (contents old) (contents new)
+unchanged_trees old new same s was live = ap (λ (xs : List (Option SharedMatcher)). tree_of xs s) same.slots
+
+-- what was live stands for the same after an intern
+interned_same : (old new : Store) (shared : SharedMatcher) (slot : ℕ)
+    → Interns (contents old) shared slot (contents new)
+    → (s : ℕ) → matcher_at old.bodies.slots s ≢ None → matcher_at old.bodies.slots s ≡ matcher_at new.bodies.slots s
+interned_same old new shared slot interns s live =
+    elim (cases_eq s slot) [
+      | inr other ↦ sym (interns.others.kept s other)
+      | inl same ↦
+          elim interns.either [
+            | inl there ↦ ap (matcher_at old.bodies.slots) same ∙ there ∙ sym interns.here
+                ∙ sym (ap (matcher_at new.bodies.slots) same)
+            | inr gone ↦ absurd (live (ap (matcher_at old.bodies.slots) same ∙ gone))
+          ]
+    ]
+
+pub interned_trees : (old new : Store) (shared : SharedMatcher) (slot : ℕ) → StoreIsHeld old → StoreIsHeld new
+    → Interns (contents old) shared slot (contents new) → KeepsTrees (contents old) (contents new)
+interned_trees old new shared slot held held' interns s was live =
+    sym (tree_kept held' held (interned_same old new shared slot interns) s was)
+
+pub released_trees : (old new : Store) (slot : ℕ) → StoreIsHeld old → StoreIsHeld new
+    → Releases (contents old) slot (contents new) → KeepsTrees (contents old) (contents new)
+released_trees old new slot held held' releases s was live = tree_kept held held' releases.kept s live
+
+-- what slots name is live, where each of the slots is
+pub children_live : (slots : List (Option SharedMatcher)) (children : List Slot) (xs : List ℕ)
+    → xs ≡ map (λ (slot : Slot). slot.number) children
+    → All (λ (slot : Slot). matcher_at slots slot.number ≢ None) children
+    → (y : ℕ) → 0 < places_of y xs → matcher_at slots y ≢ None
+children_live slots children xs is all y counted =
+    let none : Slot = record { number = 0 } in
+    let at = place_of y (map (λ (slot : Slot). slot.number) children)
+    (subst (λ (ys : List ℕ). 0 < places_of y ys) is counted) in
+    let within : at.0 < length children = omega (arith, at.1, length-map children (λ (slot : Slot). slot.number)) in
+    let e : get_or (map (λ (slot : Slot). slot.number) children) at.0 0 ≡ (get_or children at.0 none).number =
+    get_or-map (λ (slot : Slot). slot.number) children at.0 none 0 within in
+    subst (λ (k : ℕ). matcher_at slots k ≢ None) (sym e ∙ at.2) (all at.0 none within)

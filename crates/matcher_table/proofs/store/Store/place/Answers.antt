@@ -1,0 +1,62 @@
+use Rattle.std.proofs.Common.{◌≡◌, ◌+◌, ℕ, List, length, get_or, set, Some, false, sym, ap, subst, ◌∙◌, arith, inl}
+use Rattle.std.specs.Vec.{with_items}
+use Rattle.std.proofs.lemmas.List.{with_items_is, length-set, get_or-set_other, get_or-set_same}
+use Rattle.matcher_table.specs.Slots.{children_of, places_of}
+use Rattle.matcher_table.specs.Finding.{slot_for}
+use Rattle.matcher_table.specs.StoreParts.{IsHeld}
+use Rattle.matcher_table.proofs.HeldLaws.{held_made}
+use Rattle.matcher_table.proofs.IndexLaws.{indexed_made}
+use Rattle.matcher_table.proofs.MadeLaws.{made_used}
+use Rattle.matcher_table.proofs.store.Store.place.Goals as goal
+
+pub returns-clause-held : goal.returns-clause-held
+returns-clause-held c =
+    let now = c.args.self.now in
+    let slot = c.insert_reserved-slot.result in
+    let us = c.add_uses.new.uses in
+    let counted : (s : ℕ) → get_or us s 0 ≡ get_or now.uses.items s 0 + places_of s (children_of (Some c.args.shared)) =
+    λ s. c.add_uses.ensures s ∙ ap (λ (xs : List ℕ). get_or xs s 0 + places_of s c.children.result.now) c.deref_mut.ensures.value
+    ∙ ap (λ (xs : List ℕ). get_or now.uses.items s 0 + places_of s xs) c.children.ensures in
+    let long : length us ≡ length now.uses.items = c.add_uses.auto.uses ∙ ap length c.deref_mut.ensures.value in
+    let e : (with_items now.uses us).items ≡ us = with_items_is now.uses us (omega arith) in
+    subst (λ (xs : List ℕ). IsHeld c.insert_reserved-slot.new.self.slots c.push_reserved.new.list.items
+    (set now.outside.items slot 1) xs (set now.results.items slot false)) (sym e)
+    (subst (λ (xs : List ℕ). IsHeld c.insert_reserved-slot.new.self.slots xs (set now.outside.items slot 1) us
+    (set now.results.items slot false)) (sym c.push_reserved.ensures)
+    (held_made c.requires.held c.insert_reserved-slot.new.self.slots slot c.args.shared
+    (set now.outside.items slot 1) us
+    (set now.results.items slot false) c.insert_reserved-slot.ensures.was_vacant
+    c.insert_reserved-slot.ensures.updates.changed c.insert_reserved-slot.ensures.updates.others
+    c.insert_reserved-slot.ensures.len c.requires.may.children c.requires.may.askable counted
+    (omega arith) (omega (arith, c.insert_reserved-slot.ensures.key, c.requires.room.uses))
+    (omega (arith, length-set now.outside.items slot 1))
+    (omega (arith, length-set now.outside.items slot 1, c.insert_reserved-slot.ensures.key, c.requires.room.outside))
+    (λ s other. get_or-set_other now.outside.items slot s 1 0 other)
+    (omega (arith, length-set now.results.items slot false))
+    (omega (arith, length-set now.results.items slot false, c.insert_reserved-slot.ensures.key, c.requires.room.results))))
+
+pub returns-clause-used : goal.returns-clause-used
+returns-clause-used c s live =
+    let now = c.args.self.now in
+    let slot = c.insert_reserved-slot.result in
+    let us = c.add_uses.new.uses in
+    let counted : (k : ℕ) → get_or us k 0 ≡ get_or now.uses.items k 0 + places_of k (children_of (Some c.args.shared)) =
+    λ k. c.add_uses.ensures k ∙ ap (λ (xs : List ℕ). get_or xs k 0 + places_of k c.children.result.now) c.deref_mut.ensures.value
+    ∙ ap (λ (xs : List ℕ). get_or now.uses.items k 0 + places_of k xs) c.children.ensures in
+    let long : length us ≡ length now.uses.items = c.add_uses.auto.uses ∙ ap length c.deref_mut.ensures.value in
+    let e : (with_items now.uses us).items ≡ us = with_items_is now.uses us (omega arith) in
+    let one : get_or (set now.outside.items slot 1) slot 0 ≡ 1 =
+    get_or-set_same now.outside.items slot 1 0 (omega
+    (arith, c.insert_reserved-slot.ensures.key, c.requires.room.outside)) in
+    inl (made_used now.bodies.slots c.insert_reserved-slot.new.self.slots slot now.outside.items
+    (set now.outside.items slot 1) now.uses.items (with_items now.uses us).items now.order.items
+    c.insert_reserved-slot.ensures.updates.others (λ k other. get_or-set_other now.outside.items slot k 1 0 other)
+    (omega arith) (λ k. omega (arith, counted k, ap (λ (xs : List ℕ). get_or xs k 0) e)) c.requires.used s live)
+
+pub returns-clause-indexed : goal.returns-clause-indexed
+returns-clause-indexed c =
+    indexed_made c.requires.indexed c.insert_reserved-slot.new.self.slots c.add.new.self c.insert_reserved-slot.result
+    c.args.shared c.insert_reserved-slot.ensures.was_vacant c.insert_reserved-slot.ensures.updates.changed
+    c.insert_reserved-slot.ensures.updates.others c.requires.is_new
+    (ap (slot_for c.add.new.self) (sym c.requires.key) ∙ c.add.ensures.added)
+    (λ wanted other. c.add.ensures.others wanted (λ e. other (e ∙ c.requires.key)))

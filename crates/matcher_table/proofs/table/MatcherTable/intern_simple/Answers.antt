@@ -1,0 +1,16 @@
+use Rattle.matcher_table.proofs.TableLaws.{had_held, had_indexed, had_used, interned_trees}
+use Rattle.matcher_table.proofs.table.MatcherTable.intern_simple.Goals as goal
+
+pub intern-requires-clause-held : goal.intern-requires-clause-held
+intern-requires-clause-held c = had_held c.args.self.now.store c.args.self.now.sound
+
+pub intern-requires-clause-used : goal.intern-requires-clause-used
+intern-requires-clause-used c = had_used c.args.self.now.store c.args.self.now.sound
+
+pub returns-clause-trees : goal.returns-clause-trees
+returns-clause-trees c =
+    interned_trees c.args.self.now.store c.intern.new.self _ _
+    (had_held c.args.self.now.store c.args.self.now.sound) c.in_ok-number.ensures.held c.in_ok-number.ensures.interns
+
+pub intern-requires-clause-indexed : goal.intern-requires-clause-indexed
+intern-requires-clause-indexed c = had_indexed c.args.self.now.store c.args.self.now.sound

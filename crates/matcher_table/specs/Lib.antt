@@ -1,0 +1,12 @@
+pub mod Equal
+pub mod Finding
+pub mod Slots
+pub mod Counts
+pub mod Trees
+pub mod Truths
+pub mod Tables
+pub mod Steps
+pub mod TableFacts
+pub mod StoreParts
+pub mod Contents
+pub use Rattle.matcher_eval.specs.Combined

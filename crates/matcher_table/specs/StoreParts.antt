@@ -1,0 +1,101 @@
+-- How a store holds a table. No public clause cites this.
+use Rattle.std.specs.Prelude.{◌≡◌, ◌≢◌, ◌⊎◌, ℕ, ◌+◌, ◌<◌, ◌≤◌, Bool, List, length, take, Option, Some, None, slice_index_or, is_some, vec_len, vec_capacity}
+use Rattle.std.specs.List.{count_by}
+use Rattle.config_types.specs.declared.matcher.SimpleMatcher.{SimpleMatcher}
+use Rattle.config_types.specs.Askable.{IsAskable}
+use Rattle.matcher_table.specs.declared.shared.SharedMatcher.{SharedMatcher}
+use Rattle.matcher_table.specs.declared.shared.SharedMatcher.TheVariants.{Simple}
+use Rattle.matcher_table.specs.declared.index.SlotIndex.{SlotIndex}
+use Rattle.matcher_table.specs.declared.store.Store.{Store}
+use Rattle.matcher_table.specs.Finding.{slot_for, HasSpare}
+use Rattle.matcher_table.specs.Slots.{matcher_at, children_of, places_of, child_uses, live_count}
+use Rattle.matcher_table.specs.Tables.{Table}
+use Rattle.slab.specs.Slab.{HasRoomFor}
+
+-- All that a table keeps between two calls, but for one thing: a slot may have no use.
+pub record IsHeld (slots : List (Option SharedMatcher)) (order outside uses : List ℕ)
+    (results : List Bool) : Type 0 where
+  pub uses_are : (s : ℕ) → slice_index_or uses s 0 ≡ child_uses slots s
+  pub none_outside : (s : ℕ) → matcher_at slots s ≡ None → slice_index_or outside s 0 ≡ 0
+  pub none_below : (s : ℕ) → matcher_at slots s ≡ None → child_uses slots s ≡ 0
+  pub listed : (s : ℕ) → places_of s order ≡ live_count (matcher_at slots s)
+  pub once : length order ≡ count_by is_some slots
+  pub after : (i c : ℕ) → i < length order → 0 < places_of c (children_of (matcher_at slots (slice_index_or order i 0)))
+      → 0 < places_of c (take i order)
+  pub room_outside : (s : ℕ) → matcher_at slots s ≢ None → s < length outside
+  pub room_uses : (s : ℕ) → matcher_at slots s ≢ None → s < length uses
+  pub room_results : (s : ℕ) → matcher_at slots s ≢ None → s < length results
+  pub askable : (s : ℕ) (matcher : SimpleMatcher) → matcher_at slots s ≡ Some (Simple matcher) → IsAskable matcher
+
+abbrev pub StoreIsHeld : Store → Type 0
+StoreIsHeld store =
+    IsHeld store.bodies.slots store.order.items store.outside.items store.uses.items store.results.items
+
+-- The index of a store finds the live slots, each by its matcher.
+pub record IsIndexed (slots : List (Option SharedMatcher)) (index : SlotIndex) : Type 0 where
+  pub named : (s : ℕ) (shared : SharedMatcher) → matcher_at slots s ≡ Some shared → slot_for index shared ≡ Some s
+  pub found : (s : ℕ) (shared : SharedMatcher) → slot_for index shared ≡ Some s → matcher_at slots s ≡ Some shared
+
+abbrev pub StoreIsIndexed : Store → Type 0
+StoreIsIndexed store = IsIndexed store.bodies.slots store.index
+
+-- the slot has a use
+abbrev pub IsUsed : Store → ℕ → Type 0
+IsUsed store s = (0 < slice_index_or store.outside.items s 0) ⊎ (0 < slice_index_or store.uses.items s 0)
+
+-- each live slot has a use, but those in this front of the order may have none
+abbrev pub UsedFrom : Store → ℕ → Type 0
+UsedFrom store at =
+    (s : ℕ) → matcher_at store.bodies.slots s ≢ None → IsUsed store s ⊎ (0 < places_of s (take at store.order.items))
+
+-- what a store contains
+abbrev pub contents : Store → Table
+contents store = record {
+  slots = store.bodies.slots;
+  next = store.bodies.vacant_key;
+  outside = store.outside.items;
+  results = store.results.items;
+}
+
+-- some slots without a use are gone, and the last of them is the next new one
+pub record Frees (old new : Store) : Type 0 where
+  pub outside : new.outside.items ≡ old.outside.items
+  pub results : new.results.items ≡ old.results.items
+  pub fewer : (s : ℕ) → slice_index_or new.uses.items s 0 ≤ slice_index_or old.uses.items s 0
+  pub kept : (s : ℕ) → matcher_at new.bodies.slots s ≢ None
+      → matcher_at new.bodies.slots s ≡ matcher_at old.bodies.slots s
+  pub stays : (s : ℕ) → 0 < slice_index_or old.outside.items s 0
+      → matcher_at new.bodies.slots s ≡ matcher_at old.bodies.slots s
+  pub next : ((new.bodies.slots ≡ old.bodies.slots) × (new.bodies.vacant_key ≡ old.bodies.vacant_key))
+      ⊎ ((matcher_at old.bodies.slots new.bodies.vacant_key ≢ None)
+      × (matcher_at new.bodies.slots new.bodies.vacant_key ≡ None))
+
+-- a matcher may be interned: its children are live, and a judge may be asked about it
+pub record MayIntern (store : Store) (shared : SharedMatcher) : Type 0 where
+  pub children : (c : ℕ) → 0 < places_of c (children_of (Some shared)) → matcher_at store.bodies.slots c ≢ None
+  pub askable : (matcher : SimpleMatcher) → shared ≡ Simple matcher → IsAskable matcher
+
+-- one slot more needs no memory
+pub record HasRoom (store : Store) : Type 0 where
+  pub bodies : HasRoomFor store.bodies 1
+  pub index : HasSpare store.index
+  pub order : vec_len store.order < vec_capacity store.order
+  pub outside : store.bodies.vacant_key < length store.outside.items
+  pub uses : store.bodies.vacant_key < length store.uses.items
+  pub results : store.bodies.vacant_key < length store.results.items
+
+-- nothing but the outside uses of one slot is other
+pub record ChangesOutside (old new : Store) (slot : ℕ) : Type 0 where
+  pub bodies : new.bodies ≡ old.bodies
+  pub index : new.index ≡ old.index
+  pub order : new.order.items ≡ old.order.items
+  pub uses : new.uses.items ≡ old.uses.items
+  pub results : new.results.items ≡ old.results.items
+  pub others : (s : ℕ) → s ≢ slot → slice_index_or new.outside.items s 0 ≡ slice_index_or old.outside.items s 0
+
+-- what a table keeps between two calls
+pub record StoreIsSound (store : Store) : Type 0 where
+  pub held : StoreIsHeld store
+  pub indexed : StoreIsIndexed store
+  pub used : (s : ℕ) → matcher_at store.bodies.slots s ≢ None
+      → 0 < slice_index_or store.outside.items s 0 + slice_index_or store.uses.items s 0

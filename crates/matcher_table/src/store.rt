@@ -1,0 +1,297 @@
+//! How a table is held: what each slot stands for, the live slots in an order in which children come first, and counts.
+ghost use Rattle.std.specs.Prelude.{◌≡◌, ◌≢◌, ◌↔◌, IsTrue, ℕ, ◌+◌, ◌<◌, ◌≤◌, [], ◌∷◌, ◌++◌, length, slice_index, slice_index_or, slice_set, false, IfOk, OnOk, OnErr, Some, None, vec_len, vec_capacity};
+ghost use Rattle.std.specs.List.{remove};
+ghost use Rattle.atom_record.specs.AtomSound.{HasNoFault};
+ghost use Rattle.matcher_table.specs.Truths.{Evaluates, AreTicks, questions};
+ghost use Rattle.matcher_table.specs.Slots.{matcher_at, children_of, places_of};
+ghost use Rattle.matcher_table.specs.Tables.{IsUnchanged};
+ghost use Rattle.matcher_table.specs.Steps.{Interns, Releases};
+ghost use Rattle.matcher_table.specs.StoreParts.{StoreIsHeld, StoreIsIndexed, IsUsed, UsedFrom, contents, Frees, MayIntern, HasRoom, ChangesOutside};
+ghost use Rattle.matcher_table.specs.Counts.{CanAdd};
+ghost use Rattle.matcher_table.specs.Finding.{slot_for};
+ghost use Rattle.matcher_table.specs.declared.shared.SharedMatcher.{SharedMatcher};
+
+use crate::SharedMatcher;
+use crate::counts::{add_uses, can_add, drop_uses, lengthen, lengthen_truths, push_reserved};
+use crate::evaluation::evaluate_along;
+use crate::index::SlotIndex;
+use atom_record::Atom;
+use matcher_eval::Judge;
+use sd_base::Duplicate;
+use slab::Slab;
+use std::alloc::{AllocError, Global};
+
+/// The parts of a table. Between two calls each live slot has a use.
+#[derive(Drop)]
+pub struct Store {
+    pub(crate) bodies: Slab<SharedMatcher>,
+    pub(crate) index: SlotIndex,
+    pub(crate) order: Vec<usize>,
+    pub(crate) outside: Vec<usize>,
+    pub(crate) uses: Vec<usize>,
+    pub(crate) results: Vec<bool>,
+}
+
+impl Store {
+    /// No slot is live.
+    pub fn new(alloc: Global) -> Store
+        ensures held { StoreIsHeld result }
+        ensures indexed { StoreIsIndexed result }
+        ensures used { UsedFrom result 0 }
+        ensures slots { result.bodies.slots ≡ [] }
+        ensures next { result.bodies.vacant_key ≡ 0 }
+    {
+        Store {
+            bodies: Slab::new(alloc),
+            index: SlotIndex::new(alloc),
+            order: Vec::new(alloc),
+            outside: Vec::new(alloc),
+            uses: Vec::new(alloc),
+            results: Vec::new(alloc),
+        }
+    }
+
+    /// The slot of an equal matcher, or a new one.
+    pub fn intern(&mut self, alloc: Global, shared: SharedMatcher) -> Result<usize, AllocError>
+        requires held { StoreIsHeld self.old }
+        requires indexed { StoreIsIndexed self.old }
+        requires used { UsedFrom self.old 0 }
+        requires may { MayIntern self.old shared }
+        ensures interns { IfOk result (λ slot. Interns (contents self.old) shared slot (contents self.new)) }
+        ensures err { OnErr result (IsUnchanged (contents self.old) (contents self.new)) }
+        ensures held { StoreIsHeld self.new }
+        ensures indexed { StoreIsIndexed self.new }
+        ensures used { UsedFrom self.new 0 }
+    {
+        match self.index.find(&shared) {
+            Some(slot) => self.raise(slot, &shared),
+            None => self.make(alloc, shared),
+        }
+    }
+
+    // One more outside use of a live slot.
+    fn raise(&mut self, slot: usize, shared: &SharedMatcher) -> Result<usize, AllocError>
+        requires held { StoreIsHeld self.old }
+        requires indexed { StoreIsIndexed self.old }
+        requires used { UsedFrom self.old 0 }
+        requires live { matcher_at self.old.bodies.slots slot ≡ Some shared.now }
+        ensures interns { IfOk result (λ s. Interns (contents self.old) shared.now s (contents self.new)) }
+        ensures err { OnErr result (IsUnchanged (contents self.old) (contents self.new)) }
+        ensures held { StoreIsHeld self.new }
+        ensures indexed { StoreIsIndexed self.new }
+        ensures used { UsedFrom self.new 0 }
+    {
+        if self.outside[slot] == usize::MAX {
+            return Err(AllocError);
+        }
+        self.outside[slot] += 1;
+        Ok(slot)
+    }
+
+    // A new slot.
+    fn make(&mut self, alloc: Global, shared: SharedMatcher) -> Result<usize, AllocError>
+        requires held { StoreIsHeld self.old }
+        requires indexed { StoreIsIndexed self.old }
+        requires used { UsedFrom self.old 0 }
+        requires may { MayIntern self.old shared }
+        requires is_new { (s : ℕ) → matcher_at self.old.bodies.slots s ≢ Some shared }
+        ensures interns { IfOk result (λ slot. Interns (contents self.old) shared slot (contents self.new)) }
+        ensures err { OnErr result (IsUnchanged (contents self.old) (contents self.new)) }
+        ensures held { StoreIsHeld self.new }
+        ensures indexed { StoreIsIndexed self.new }
+        ensures used { UsedFrom self.new 0 }
+    {
+        if !can_add(self.uses.as_slice(), shared.children()) {
+            return Err(AllocError);
+        }
+        let key = shared.duplicate(alloc)?;
+        self.reserve()?;
+        Ok(self.place(shared, key))
+    }
+
+    // Room for one slot more.
+    fn reserve(&mut self) -> Result<(), AllocError>
+        requires held { StoreIsHeld self.old }
+        requires indexed { StoreIsIndexed self.old }
+        requires used { UsedFrom self.old 0 }
+        ensures room { OnOk result (HasRoom self.new) }
+        ensures unchanged { IsUnchanged (contents self.old) (contents self.new) }
+        ensures uses { (s : ℕ) → slice_index self.new.uses.items s ≡ slice_index self.old.uses.items s }
+        ensures held { StoreIsHeld self.new }
+        ensures indexed { StoreIsIndexed self.new }
+        ensures used { UsedFrom self.new 0 }
+    {
+        self.bodies.reserve(1)?;
+        self.index.reserve()?;
+        self.order.reserve(1)?;
+        let slot = self.bodies.vacant_key();
+        if slot == usize::MAX {
+            return Err(AllocError);
+        }
+        lengthen(&mut self.outside, slot + 1)?;
+        lengthen(&mut self.uses, slot + 1)?;
+        lengthen_truths(&mut self.results, slot + 1)
+    }
+
+    // Puts it into the vacant slot that comes next.
+    fn place(&mut self, shared: SharedMatcher, key: SharedMatcher) -> usize
+        requires held { StoreIsHeld self.old }
+        requires indexed { StoreIsIndexed self.old }
+        requires used { UsedFrom self.old 0 }
+        requires may { MayIntern self.old shared }
+        requires is_new { (s : ℕ) → matcher_at self.old.bodies.slots s ≢ Some shared }
+        requires room { HasRoom self.old }
+        requires can_add { CanAdd self.old.uses.items (children_of (Some shared)) }
+        requires key { key ≡ shared }
+        ensures interns { Interns (contents self.old) shared result (contents self.new) }
+        ensures held { StoreIsHeld self.new }
+        ensures indexed { StoreIsIndexed self.new }
+        ensures used { UsedFrom self.new 0 }
+    {
+        add_uses(&mut self.uses, shared.children());
+        let slot = self.bodies.insert_reserved(shared);
+        self.index.add(key, slot);
+        self.outside[slot] = 1;
+        self.results[slot] = false;
+        push_reserved(&mut self.order, slot);
+        slot
+    }
+
+    /// One outside use fewer. A slot without a use goes, and its places in the child uses of others go too.
+    pub fn release(&mut self, slot: usize)
+        requires held { StoreIsHeld self.old }
+        requires indexed { StoreIsIndexed self.old }
+        requires used { UsedFrom self.old 0 }
+        requires outside { 0 < slice_index self.old.outside.items slot }
+        ensures releases { Releases (contents self.old) slot (contents self.new) }
+        ensures held { StoreIsHeld self.new }
+        ensures indexed { StoreIsIndexed self.new }
+        ensures used { UsedFrom self.new 0 }
+    {
+        self.lower(slot);
+        if self.is_used(slot) {
+            return;
+        }
+        self.sweep();
+    }
+
+    fn is_used(&self, slot: usize) -> bool
+        requires outside { slot < length self.now.outside.items }
+        requires uses { slot < length self.now.uses.items }
+        ensures { IsTrue result ↔ IsUsed self.now slot }
+    {
+        self.outside[slot] > 0 || self.uses[slot] > 0
+    }
+
+    fn slot_at(&self, at: usize) -> usize
+        requires { at < length self.now.order.items }
+        ensures { result ≡ slice_index self.now.order.items at }
+    {
+        self.order[at]
+    }
+
+    fn lower(&mut self, slot: usize)
+        requires held { StoreIsHeld self.old }
+        requires indexed { StoreIsIndexed self.old }
+        requires outside { 0 < slice_index self.old.outside.items slot }
+        ensures outside { ChangesOutside self.old self.new slot }
+        ensures lower { slice_index self.new.outside.items slot + 1 ≡ slice_index self.old.outside.items slot }
+        ensures held { StoreIsHeld self.new }
+        ensures indexed { StoreIsIndexed self.new }
+    {
+        self.outside[slot] -= 1;
+    }
+
+    /// The truths of all live slots. It takes no memory.
+    pub fn evaluate<J: Judge>(&mut self, atom: &Atom, judge: &mut J)
+        requires held { StoreIsHeld self.old }
+        requires indexed { StoreIsIndexed self.old }
+        requires used { UsedFrom self.old 0 }
+        requires sound { HasNoFault atom.now }
+        ensures evaluates { Evaluates J.says atom.now (contents self.old) (contents self.new) }
+        ensures asked { AreTicks (questions atom.now self.old.bodies.slots) (J.ticks judge.old) (J.ticks judge.new) }
+        ensures held { StoreIsHeld self.new }
+        ensures indexed { StoreIsIndexed self.new }
+        ensures used { UsedFrom self.new 0 }
+    {
+        evaluate_along(
+            &self.bodies,
+            self.order.as_slice(),
+            atom,
+            judge,
+            &mut self.results,
+        );
+    }
+
+    /// The truth of a live slot for the last atom.
+    pub fn result(&self, slot: usize) -> bool
+        requires held { StoreIsHeld self.now }
+        requires live { matcher_at self.now.bodies.slots slot ≢ None }
+        ensures { result ≡ slice_index_or self.now.results.items slot false }
+    {
+        self.results[slot]
+    }
+
+    // Frees what has no use. In this direction a slot comes before its children, so that one pass is enough.
+    fn sweep(&mut self)
+        requires held { StoreIsHeld self.old }
+        requires indexed { StoreIsIndexed self.old }
+        ensures frees { Frees self.old self.new }
+        ensures held { StoreIsHeld self.new }
+        ensures indexed { StoreIsIndexed self.new }
+        ensures used { UsedFrom self.new 0 }
+    {
+        let mut at = self.order.len();
+        while at > 0 {
+            at -= 1;
+            self.free_if_unused(at);
+        }
+    }
+
+    fn free_if_unused(&mut self, at: usize)
+        requires held { StoreIsHeld self.old }
+        requires indexed { StoreIsIndexed self.old }
+        requires within { at < length self.old.order.items }
+        requires used { UsedFrom self.old (at + 1) }
+        ensures within { at ≤ length self.new.order.items }
+        ensures frees { Frees self.old self.new }
+        ensures held { StoreIsHeld self.new }
+        ensures indexed { StoreIsIndexed self.new }
+        ensures used { UsedFrom self.new at }
+    {
+        let slot = self.slot_at(at);
+        if self.is_used(slot) {
+            return;
+        }
+        self.free(at);
+    }
+
+    // Takes the slot at this place of the order out of the table.
+    fn free(&mut self, at: usize)
+        requires held { StoreIsHeld self.old }
+        requires indexed { StoreIsIndexed self.old }
+        requires within { at < length self.old.order.items }
+        requires unused { slice_index self.old.uses.items (slice_index self.old.order.items at) ≡ 0 }
+        ensures slots { self.new.bodies.slots
+            ≡ slice_set self.old.bodies.slots (slice_index self.old.order.items at) None }
+        ensures next { self.new.bodies.vacant_key ≡ slice_index self.old.order.items at }
+        ensures order { self.new.order.items ≡ remove self.old.order.items at }
+        ensures outside { self.new.outside.items ≡ self.old.outside.items }
+        ensures results { self.new.results.items ≡ self.old.results.items }
+        ensures uses { (s : ℕ) → slice_index self.new.uses.items s
+            + places_of s (children_of (matcher_at self.old.bodies.slots (slice_index self.old.order.items at)))
+            ≡ slice_index self.old.uses.items s }
+        ensures same { length self.new.uses.items ≡ length self.old.uses.items }
+        ensures gone { (wanted : SharedMatcher)
+            → matcher_at self.old.bodies.slots (slice_index self.old.order.items at) ≡ Some wanted
+            → slot_for self.new.index wanted ≡ None }
+        ensures stay { (wanted : SharedMatcher)
+            → matcher_at self.old.bodies.slots (slice_index self.old.order.items at) ≢ Some wanted
+            → slot_for self.new.index wanted ≡ slot_for self.old.index wanted }
+    {
+        let slot = self.order.remove(at);
+        let shared = self.bodies.remove(slot);
+        self.index.remove(&shared);
+        drop_uses(&mut self.uses, shared.children());
+    }
+}
