@@ -27,7 +27,7 @@ module _ {Event : Type 0} (demands : Demands Event) (fits : demands.base < time_
     opening_admits = admitted demands [] opening opened.0
 
     module _ {News : Type 0} (asks : List (LaneStep News) → Moment → News → List (Call Event After)) where
-      -- what holds behind them is what holds at the beginning
+      -- what holds after them is what holds at the beginning
       opened_along : IsAlong demands {News = News} [] demands.base (standing_of demands opening)
       opened_along =
           let has = opened.1 in
@@ -58,7 +58,8 @@ module _ {Event : Type 0} (demands : Demands Event) (fits : demands.base < time_
       -- what holds of opening calls and the calls of all steps
       pub all_along_opened : (steps : List (LaneStep News)) → AreTimely demands.base steps
           → AskWell demands asks [] steps
-          → IsAlong demands steps (last_of demands.base steps) (standing_of demands (calls_with demands asks opening steps))
+          → IsAlong demands steps (last_of demands.base steps) (standing_of demands
+          (calls_with demands asks opening steps))
       all_along_opened steps timely well =
           subst (IsAlong demands steps (last_of demands.base steps))
           (sym (standing_from-append demands (first_standing demands) opening (calls_of demands asks steps)))

@@ -40,7 +40,7 @@ pub record InsideStandsFor (it : Inside) (history : History) : Type 0 where
   pub knows : KnowsAfter history.steps it.conditions
   pub tracks : AllStandFor history.installed history.steps it.tracks.items
 
--- the history of what was just installed
+-- the history of what was just installed, after this log
 abbrev pub new_history : ℕ → List LogFrame → Linked → History
 new_history base opening linked = record {
   installed = record { base = base; opening = opening; linked = linked };
