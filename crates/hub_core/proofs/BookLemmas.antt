@@ -43,12 +43,15 @@ keys_among id atoms = map primary_key (filter (λ (atom : Atom). same_atom_id at
 -- the rows of a book of states, by the state atoms alone
 abbrev rows_among : List Atom → List (ℕ × Table (List Leaf) ℤ)
 rows_among atoms =
-    map (λ id. (id, record {
-      rows = map (λ key. (key, state_by (last_or None (filter (decides id key) atoms))))
-          (admitted same_dims most_state_keys (keys_among id atoms));
-      bound = most_state_keys;
-      dropped = count_in_u64 (dropped same_dims most_state_keys (keys_among id atoms));
-    }))
+    map (λ id. (
+      id,
+      record {
+        rows = map (λ key. (key, state_by (last_or None (filter (decides id key) atoms))))
+            (admitted same_dims most_state_keys (keys_among id atoms));
+        bound = most_state_keys;
+        dropped = count_in_u64 (dropped same_dims most_state_keys (keys_among id atoms));
+      },
+    ))
     (admitted same_atom_id most_state_ids (map (λ (atom : Atom). atom.id) atoms))
 
 -- a book of states stands for a log with a frame that tells no state
@@ -60,7 +63,8 @@ quiet_states book log frame none stands =
       ids = stands.ids ∙ ap rows_among same;
       bound = stands.bound;
       dropped = stands.dropped
-          ∙ ap (λ atoms. count_in_u64 (dropped same_atom_id most_state_ids (map (λ (atom : Atom). atom.id) atoms))) same;
+          ∙ ap (λ atoms. count_in_u64 (dropped same_atom_id most_state_ids (map (λ
+          (atom : Atom). atom.id) atoms))) same;
     }
 
 -- a book of pulls stands for a log with a frame that pulls nothing
