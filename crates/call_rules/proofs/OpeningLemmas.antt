@@ -1,11 +1,11 @@
 -- The calls of a lane after opening calls: they are admitted as those of a lane without.
-use Rattle.std.proofs.Common.{append_assoc, ◌≡◌, ℕ, ◌+◌, ◌<◌, ◌≤◌, List, [], ◌∷◌, ◌++◌, None, refl, sym, ap, subst, ◌∙◌, arith}
+use Rattle.std.proofs.Common.{◌+◌, ◌<◌, List, [], ◌∷◌, ◌++◌, None, refl, sym, subst, arith}
 use Rattle.sd_base.proofs.OutputsLemmas.{outputs-push}
 use Rattle.bucket_meaning.specs.Limits.{time_limit}
 use Rattle.bucket_meaning.specs.Ends.{Moment}
 use Rattle.bucket_clock.specs.Sound.{times}
 use Rattle.bucket_clock.specs.Clock.{ClockStandsFor}
-use Rattle.call_rules.specs.Calls.{Call, Demands, Standing, standing_from, standing_of, first_standing}
+use Rattle.call_rules.specs.Calls.{Call, Demands, standing_of, first_standing}
 use Rattle.call_rules.specs.Rules.{AreAdmitted}
 use Rattle.call_rules.specs.LaneCalls.{LaneStep, calls_at, calls_of, AreTimely, last_of, AskWell}
 use Rattle.call_rules.specs.OpeningCalls.{AreOpening, calls_with}
