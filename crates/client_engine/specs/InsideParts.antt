@@ -7,7 +7,7 @@ use Rattle.config_links.specs.declared.linked.LState.{LState}
 use Rattle.state_slicer.specs.StateBooks.{StateBookStandsFor}
 use Rattle.report_writer.specs.declared.tree.MetricTree.{MetricTree}
 use Rattle.report_writer.specs.declared.tree.ReportTree.{ReportTree}
-use Rattle.metric_meaning.specs.Histories.{Installation, History}
+use Rattle.metric_meaning.specs.Histories.{History}
 use Rattle.metric_meaning.specs.StateDrops.{drops_of_states, dropped_for}
 use Rattle.metric_meaning.specs.Reports.{last_report}
 use Rattle.client_engine.specs.Known.{KnowsAfter, KnowsStep, drops_in}

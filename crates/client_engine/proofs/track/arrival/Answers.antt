@@ -1,5 +1,5 @@
 -- Nothing arrives where the condition isn't true; else the atom's key does.
-use Rattle.std.proofs.Common.{◌≡◌, ◌∙◌, ap, arith}
+use Rattle.std.proofs.Common.{◌∙◌, ap, arith}
 use Rattle.field_select.specs.LeafValues.{key_of}
 use Rattle.metric_meaning.specs.StateSlices.{atom_slices}
 use Rattle.client_engine.specs.Handed.{handed}
