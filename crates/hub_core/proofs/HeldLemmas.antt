@@ -148,7 +148,8 @@ held-found name (row ∷ rows) there = by_case (same_id name row.0) refl there (
 
 -- a frame of the log leaves the number
 pub held-logged : (says : SimpleMatcher → Atom → Bool) (frame : LogFrame) (book : BookOfStates) (uid : ℤ)
-    (olds news : List (LiveId × Option LiveInstance)) → AllLog says frame book olds news → held_by uid news ≡ held_by uid olds
+    (olds news : List (LiveId × Option LiveInstance)) → AllLog says frame book olds news
+    → held_by uid news ≡ held_by uid olds
 held-logged says frame book uid [] [] all = refl
 held-logged says frame book uid [] (new ∷ news) all = absurd all
 held-logged says frame book uid (old ∷ olds) [] all = absurd all

@@ -76,8 +76,8 @@ impl<J: Judge> Hub<J> {
         self.serve(frame)
     }
 
-    // Takes in a frame of the log: the book of states takes it, then it comes to every configuration as it is shown, and
-    // what it pulled is recorded last.
+    // Takes in a frame of the log: the book of states takes it, then it comes to every configuration as it is shown,
+    // and what it pulled is recorded last.
     fn log(mut self, frame: LogFrame) -> Result<Hub<J>, AllocError>
         requires faultless { IsFaultlessLog frame }
         ensures stands { (frames : List Frame) → HubStandsFor J.says self frames

@@ -31,8 +31,8 @@ pub enum Step {
     Cut(u64, &'static str),
 }
 
-/// The instance of a configuration in hex, installed at a time when the log gave these states; none where it isn't acted
-/// on.
+/// The instance of a configuration in hex, installed at a time when the log gave these states; none where it isn't
+/// acted on.
 pub fn instance_of(
     alloc: Global,
     config: &str,
