@@ -1,11 +1,11 @@
 -- The calls of a lane after opening calls: they are admitted as those of a lane without.
-use Rattle.std.proofs.Common.{append_assoc, ◌≡◌, ℕ, ◌+◌, ◌<◌, ◌≤◌, List, [], ◌∷◌, ◌++◌, None, refl, sym, ap, subst, ◌∙◌, arith}
+use Rattle.std.proofs.Common.{◌+◌, ◌<◌, List, [], ◌∷◌, ◌++◌, None, refl, sym, subst, arith}
 use Rattle.sd_base.proofs.OutputsLemmas.{outputs-push}
 use Rattle.bucket_meaning.specs.Limits.{time_limit}
 use Rattle.bucket_meaning.specs.Ends.{Moment}
 use Rattle.bucket_clock.specs.Sound.{times}
 use Rattle.bucket_clock.specs.Clock.{ClockStandsFor}
-use Rattle.call_rules.specs.Calls.{Call, Demands, Standing, standing_from, standing_of, first_standing}
+use Rattle.call_rules.specs.Calls.{Call, Demands, standing_of, first_standing}
 use Rattle.call_rules.specs.Rules.{AreAdmitted}
 use Rattle.call_rules.specs.LaneCalls.{LaneStep, calls_at, calls_of, AreTimely, last_of, AskWell}
 use Rattle.call_rules.specs.OpeningCalls.{AreOpening, calls_with}
@@ -27,7 +27,7 @@ module _ {Event : Type 0} (demands : Demands Event) (fits : demands.base < time_
     opening_admits = admitted demands [] opening opened.0
 
     module _ {News : Type 0} (asks : List (LaneStep News) → Moment → News → List (Call Event After)) where
-      -- what holds behind them is what holds at the beginning
+      -- what holds after them is what holds at the beginning
       opened_along : IsAlong demands {News = News} [] demands.base (standing_of demands opening)
       opened_along =
           let has = opened.1 in
@@ -58,7 +58,8 @@ module _ {Event : Type 0} (demands : Demands Event) (fits : demands.base < time_
       -- what holds of opening calls and the calls of all steps
       pub all_along_opened : (steps : List (LaneStep News)) → AreTimely demands.base steps
           → AskWell demands asks [] steps
-          → IsAlong demands steps (last_of demands.base steps) (standing_of demands (calls_with demands asks opening steps))
+          → IsAlong demands steps (last_of demands.base steps) (standing_of demands
+          (calls_with demands asks opening steps))
       all_along_opened steps timely well =
           subst (IsAlong demands steps (last_of demands.base steps))
           (sym (standing_from-append demands (first_standing demands) opening (calls_of demands asks steps)))

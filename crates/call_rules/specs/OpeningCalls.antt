@@ -5,8 +5,8 @@ use Rattle.call_rules.specs.Calls.{Call, Demands}
 use Rattle.call_rules.specs.LaneCalls.{LaneStep, calls_of, AreAskedAt}
 
 module _ {Event : Type 0} (demands : Demands Event) where
-  -- opening calls are what a kind may ask at a frame, at the time where the producer's time begins: events that it takes
-  -- and conditions, each event followed by its condition where that has to be
+  -- opening calls are what a kind may ask at a frame, when the producer's time begins: events that it takes, and
+  -- conditions, each event followed by its condition where that has to be
   abbrev pub AreOpening : {After : Type 0} → List (Call Event After) → Type 0
   AreOpening calls = AreAskedAt demands demands.base calls
 

@@ -3,8 +3,6 @@ use Rattle.std.proofs.Common.{◌≡◌, ℕ, ℤ, ◌<◌, ◌≤◌, Bool, Lis
 use Rattle.std.specs.Prelude.{Option, Some, None}
 use Rattle.std.proofs.Props.{props}
 use Rattle.std.specs.List.{list_all}
-use Rattle.std.specs.List.{flat_map}
-use Rattle.std.proofs.lemmas.List.{append-nil}
 use Rattle.std.proofs.lemmas.List.Concat.{flat_map-append}
 use Rattle.std.proofs.lemmas.List.Elements.{All-nil, All-cons, All-weaker}
 use Rattle.state_slicer.specs.StateBooks.{StateBookStandsFor}
@@ -23,22 +21,20 @@ use Rattle.config_links.proofs.SoundUses.{references_end}
 use Rattle.session_frames.specs.FrameReading.{log_time}
 use Rattle.metric_meaning.specs.Histories.{Step, What, Reported, Logged, Installation, History, with_step, frames_at, logged_frames, log_after, log_of_history}
 use Rattle.metric_meaning.specs.ShownFrames.{shown_as}
-use Rattle.metric_meaning.specs.Scenes.{scene_after}
 use Rattle.metric_meaning.specs.StateDrops.{drops_of_states, dropped_for}
 use Rattle.metric_meaning.specs.PredicateSteps.{table_spec, tables_after, predicate_drops, table_after, drop_above_zero}
 use Rattle.metric_meaning.specs.Forms.{is_count, is_built_metric, is_built}
 use Rattle.metric_meaning.specs.Reports.{report_of, last_report, metric_tree}
 use Rattle.metric_meaning.proofs.PredicateStepsLemmas.{tables_after-idle}
 use Rattle.report_writer.specs.declared.tree.ReportTree.{ReportTree}
-use Rattle.client_engine.specs.TrackStands.{logged_step, reported_step, ComesInTime, ComeInTime, MayLog, MayReport, last_from}
+use Rattle.client_engine.specs.TrackStands.{logged_step, reported_step, ComesInTime, ComeInTime, MayReport, last_from}
 use Rattle.client_engine.specs.Known.{Known, KnowsAfter, drops_in}
-use Rattle.client_engine.specs.Handed.{BookOfStates, handed}
+use Rattle.client_engine.specs.Handed.{BookOfStates}
 use Rattle.client_engine.proofs.ShownLemmas.{shown_time, shown_tables}
 use Rattle.client_engine.specs.KeptPredicates.{HasItsLeaves, KeepsItsLeaves, HasBound, CanBeKept}
-use Rattle.client_engine.specs.Tracks.{CanBeTracked, metric_in, AsksWithin, AreNew, AllStandFor, AllReport}
-use Rattle.client_engine.specs.InsideParts.{tree_with, linked_of_inside, AreAsked, InsideStandsFor, new_history, IsFreshInside, InsideLogs, AreStateDrops, InsideReports}
+use Rattle.client_engine.specs.Tracks.{CanBeTracked, metric_in, AsksWithin, AreNew}
+use Rattle.client_engine.specs.InsideParts.{tree_with, linked_of_inside, AreAsked, InsideStandsFor, new_history, IsFreshInside, InsideLogs, InsideReports}
 use Rattle.client_engine.specs.declared.inside.Inside.{Inside}
-use Rattle.client_engine.specs.declared.inside.Drops.{Drops}
 
 -- the clock at the last report, after a step at a time
 abbrev reported_or : ℕ → ℕ → What → ℕ

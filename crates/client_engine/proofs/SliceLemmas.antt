@@ -10,36 +10,37 @@ use Rattle.config_links.specs.declared.linked.LState.{LState}
 use Rattle.config_links.specs.declared.linked.LSlice.{LSlice}
 use Rattle.book_meaning.specs.States.{state_value}
 use Rattle.state_slicer.specs.Slices.{slice_of}
-use Rattle.metric_meaning.specs.StateSlices.{state_key, slice_by, slice_at, slices_at}
+use Rattle.metric_meaning.specs.StateSlices.{state_key, slice_by, atom_slice, atom_slices}
 
 module _ (states : List LState) (log : List LogFrame) (atom : Atom) where
   -- a state at the place has its slice
   pub slice_there : (by : LSlice) (state : LState) (key : List Leaf) → slice_get states by.state ≡ Some state
       → key ≡ state_key by.in_what atom
-      → slice_of state (state_value state.atom_id key log) ∷ [] ≡ slice_at states log atom by
+      → slice_of state (state_value state.atom_id key log) ∷ [] ≡ atom_slice states log atom by
   slice_there by state key there is =
-      ap (λ k. slice_by log (Some state) k) is ∙ ap (λ found. slice_by log found (state_key by.in_what atom)) (sym there)
+      ap (λ k. slice_by log (Some state) k) is ∙ ap (λ found. slice_by log found (state_key by.in_what atom))
+      (sym there)
 
   -- none has none
-  pub slice_past : (by : LSlice) → slice_get states by.state ≡ None → [] ≡ slice_at states log atom by
+  pub slice_past : (by : LSlice) → slice_get states by.state ≡ None → [] ≡ atom_slice states log atom by
   slice_past by past = ap (λ found. slice_by log found (state_key by.in_what atom)) (sym past)
 
   -- one more slice
   pub slices_more : (slices : List LSlice) (index : ℕ) (by : LSlice) → index < length slices
       → by ≡ get_or slices index by
-      → slice_at states log atom by ++ slices_at states log atom (drop (index + 1) slices)
-      ≡ slices_at states log atom (drop index slices)
+      → atom_slice states log atom by ++ atom_slices states log atom (drop (index + 1) slices)
+      ≡ atom_slices states log atom (drop index slices)
   slices_more slices index by within is =
-      ap (λ one. slice_at states log atom one ++ slices_at states log atom (drop (index + 1) slices)) is
-      ∙ ap (slices_at states log atom) (sym (drop_more slices index by within))
+      ap (λ one. atom_slice states log atom one ++ atom_slices states log atom (drop (index + 1) slices)) is
+      ∙ ap (atom_slices states log atom) (sym (drop_more slices index by within))
 
   -- the slices so far, one more
   pub slices_on : (slices : List LSlice) (index : ℕ) (by : LSlice) (shown more : List Slice) → index < length slices
       → by ≡ get_or slices index by
-      → shown ++ slices_at states log atom (drop index slices) ≡ slices_at states log atom slices
-      → more ≡ shown ++ slice_at states log atom by
-      → more ++ slices_at states log atom (drop (index + 1) slices) ≡ slices_at states log atom slices
+      → shown ++ atom_slices states log atom (drop index slices) ≡ atom_slices states log atom slices
+      → more ≡ shown ++ atom_slice states log atom by
+      → more ++ atom_slices states log atom (drop (index + 1) slices) ≡ atom_slices states log atom slices
   slices_on slices index by shown more within is before more_is =
-      let rest = slices_at states log atom (drop (index + 1) slices) in
-      ap (λ l. l ++ rest) more_is ∙ append_assoc shown (slice_at states log atom by) rest
+      let rest = atom_slices states log atom (drop (index + 1) slices) in
+      ap (λ l. l ++ rest) more_is ∙ append_assoc shown (atom_slice states log atom by) rest
       ∙ ap (λ l. shown ++ l) (slices_more slices index by within is) ∙ before

@@ -1,5 +1,5 @@
 -- A metric with its lane, one step more.
-use Rattle.std.proofs.Common.{◌≡◌, ℕ, ◌<◌, Bool, true, false, List, [], ◌∷◌, ◌++◌, ◌&&◌, if◌then◌else◌, Option, Some, None, refl, sym, ap, subst, ◌∙◌, arith}
+use Rattle.std.proofs.Common.{◌≡◌, ℕ, ◌<◌, Bool, true, false, List, [], ◌∷◌, ◌++◌, ◌&&◌, if◌then◌else◌, Option, Some, None, refl, sym, ap, subst, ◌∙◌}
 use Rattle.sd_base.specs.Outputs.{outputs_after}
 use Rattle.sd_base.proofs.OutputsLemmas.{outputs-push}
 use Rattle.atom_record.specs.declared.atom.Atom.{Atom}
@@ -23,7 +23,6 @@ use Rattle.metric_lane.specs.LaneStands.{LaneHas, LaneStandsFor, LogsEvent, Gets
 use Rattle.metric_lane.specs.declared.lane.Lane.{Lane}
 use Rattle.metric_lane.proofs.LaneStepsLemmas.{lane_reports}
 use Rattle.metric_meaning.specs.Histories.{What, Logged, Reported, Step, Installation, truth_at, moment_of, lane_step, lane_steps, log_after}
-use Rattle.metric_meaning.specs.ShownFrames.{shown_as}
 use Rattle.metric_meaning.specs.Scenes.{Scene, scene_after}
 use Rattle.metric_meaning.specs.Forms.{is_count, is_built_metric}
 use Rattle.metric_meaning.specs.CountSteps.{atom_key, arrival_by, arrival_at, count_params, counts_shown}
@@ -32,7 +31,7 @@ use Rattle.metric_meaning.specs.Reports.{metric_tree}
 use Rattle.metric_meaning.proofs.StepLemmas.{lane_step_after}
 use Rattle.metric_meaning.proofs.CountStepsLemmas.{count_calls-mean}
 use Rattle.client_engine.specs.Handed.{Handed, IsOfScene}
-use Rattle.client_engine.specs.TrackStands.{logged_step, reported_step, ComesInTime, ComeInTime, CountsAlong, LaneAlong, TrackStandsFor, MayLog, MayReport, TrackReports, closed_tree}
+use Rattle.client_engine.specs.TrackStands.{logged_step, reported_step, ComesInTime, ComeInTime, CountsAlong, LaneAlong, TrackStandsFor, MayLog, TrackReports, closed_tree}
 use Rattle.client_engine.proofs.ShownLemmas.{shown_moment, shown_arrival}
 use Rattle.client_engine.specs.declared.track.MetricLane.{MetricLane}
 use Rattle.client_engine.specs.declared.track.MetricLane.TheVariants.{Counts}

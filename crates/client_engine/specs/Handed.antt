@@ -17,11 +17,11 @@ pub record Handed : Type 0 where
   pub states : List LState
   pub book : BookOfStates
 
--- what is handed on
+-- predicates that know this, the states of a configuration, and a book of states
 abbrev pub handed : Known → List LState → BookOfStates → Handed
 handed known states book = record { known = known; states = states; book = book }
 
--- it is what is found there
+-- what is handed is what is found in the scene
 pub record IsOfScene (given : Handed) (scene : Scene) : Type 0 where
   pub predicates : given.known.predicates ≡ scene.linked.predicates
   pub tables : given.known.tables ≡ scene.tables

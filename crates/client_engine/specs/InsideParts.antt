@@ -7,7 +7,7 @@ use Rattle.config_links.specs.declared.linked.LState.{LState}
 use Rattle.state_slicer.specs.StateBooks.{StateBookStandsFor}
 use Rattle.report_writer.specs.declared.tree.MetricTree.{MetricTree}
 use Rattle.report_writer.specs.declared.tree.ReportTree.{ReportTree}
-use Rattle.metric_meaning.specs.Histories.{Installation, History}
+use Rattle.metric_meaning.specs.Histories.{History}
 use Rattle.metric_meaning.specs.StateDrops.{drops_of_states, dropped_for}
 use Rattle.metric_meaning.specs.Reports.{last_report}
 use Rattle.client_engine.specs.Known.{KnowsAfter, KnowsStep, drops_in}
@@ -40,7 +40,7 @@ pub record InsideStandsFor (it : Inside) (history : History) : Type 0 where
   pub knows : KnowsAfter history.steps it.conditions
   pub tracks : AllStandFor history.installed history.steps it.tracks.items
 
--- the history of what was just installed
+-- the history of what was just installed, after this log
 abbrev pub new_history : ℕ → List LogFrame → Linked → History
 new_history base opening linked = record {
   installed = record { base = base; opening = opening; linked = linked };

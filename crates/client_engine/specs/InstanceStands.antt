@@ -35,8 +35,8 @@ abbrev pub IsView : Linked → LogFrame → List Bool → Type 0
 IsView linked (AtomAt at atom) truths = length truths ≡ length linked.matchers
 IsView linked _ truths = truths ≡ []
 
--- whatever history the old stood for, if this frame may come next, is shown so, and the book is that of the log with it,
--- the new stands for that history with this frame
+-- whatever history the old stood for, if this frame may come next and is shown so, and the book stands for the log
+-- with it, the new stands for that history with this frame
 abbrev pub Logs : Instance → LogFrame → List Bool → BookOfStates → Instance → Type 0
 Logs old shown truths book new =
     (history : History) (frame : LogFrame) → InstanceStandsFor old history

@@ -5,7 +5,7 @@ ghost use Rattle.metric_meaning.specs.Forms.{is_built, is_built_metric};
 
 use config_links::{LKind, LMetric, Linked};
 
-/// Whether a configuration is acted on: any matchers, predicates and states, and metrics that count, under any condition
+/// Whether a configuration is acted on: any matchers, predicates and states; metrics that count, under any condition
 /// and sliced by any states.
 pub fn built(linked: &Linked) -> bool
     ensures { result ≡ is_built linked.now }

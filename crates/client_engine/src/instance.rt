@@ -85,7 +85,8 @@ impl Instance {
         states: &StateBook,
     ) -> Result<(Instance, ReportTree), AllocError>
         requires fits { at < time_limit }
-        ensures reports { IfOk result (λ r. Reports self uid id include_current at states.now r.0 r.1) }
+        ensures reports { IfOk result (λ r.
+            Reports self uid id include_current at states.now r.0 r.1) }
         ensures linked { IfOk result (λ r. linked_in r.0 ≡ linked_in self) }
         ensures writable { IfOk result (λ r. IsWritableReport r.1) }
     {

@@ -16,11 +16,8 @@ pub fn leaves_of(alloc: Global, dims: DimKey) -> Result<Seq<LeafTree>, AllocErro
     let mut place: u32 = 0;
     for leaf in dims.into_vec() {
         add_leaf(&mut leaves, place, leaf)?;
-        // No key has so many leaves: it would find no memory.
-        let Some(next) = place.checked_add(1) else {
-            return Err(AllocError);
-        };
-        place = next;
+        // It stands still at the end of its type, where no key comes.
+        place = place.saturating_add(1);
     }
     Ok(leaves)
 }

@@ -2,7 +2,7 @@
 ghost use Rattle.std.specs.Prelude.{◌≡◌, ◌++◌, List, OnOk, IfOk};
 ghost use Rattle.atom_record.specs.declared.log.LogFrame.{LogFrame};
 ghost use Rattle.state_slicer.specs.StateBooks.{StateBookStandsFor};
-ghost use Rattle.metric_meaning.specs.StateSlices.{state_key, slice_at, slices_at};
+ghost use Rattle.metric_meaning.specs.StateSlices.{state_key, atom_slice, atom_slices};
 
 use atom_record::{Atom, DimKey, Slice};
 use config_links::{LSlice, LState};
@@ -20,7 +20,7 @@ pub fn slices_of(
     book: &StateBook,
 ) -> Result<Seq<Slice>, AllocError>
     ensures { (log : List LogFrame) → StateBookStandsFor book.now log
-        → IfOk result (λ shown. shown ≡ slices_at states.now log atom.now slices.now) }
+        → IfOk result (λ shown. shown ≡ atom_slices states.now log atom.now slices.now) }
 {
     let mut shown = Seq::new(alloc);
     for by in slices {
@@ -39,7 +39,7 @@ fn add_slice(
     book: &StateBook,
 ) -> Result<(), AllocError>
     ensures { (log : List LogFrame) → StateBookStandsFor book.now log
-        → OnOk result (shown.new ≡ shown.old ++ slice_at states.now log atom.now by.now) }
+        → OnOk result (shown.new ≡ shown.old ++ atom_slice states.now log atom.now by.now) }
 {
     match states.get(by.state as usize) {
         Some(state) => {
@@ -51,11 +51,7 @@ fn add_slice(
 }
 
 // The key by which an atom asks for a state.
-fn state_key(
-    alloc: Global,
-    in_what: &Option<FieldSet>,
-    atom: &Atom,
-) -> Result<DimKey, AllocError>
+fn state_key(alloc: Global, in_what: &Option<FieldSet>, atom: &Atom) -> Result<DimKey, AllocError>
     ensures { IfOk result (λ key. key ≡ state_key in_what.now atom.now) }
 {
     match in_what {

@@ -3,3 +3,4 @@ mod feeds;
 mod large;
 mod rows;
 mod shown;
+mod states;

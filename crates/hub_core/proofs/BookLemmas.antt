@@ -1,17 +1,17 @@
 -- The books of the log with one more frame: one that is neither told nor pulled changes nothing.
-use Rattle.std.proofs.Common.{◌≡◌, ℕ, ℤ, Bool, true, false, not, ◌&&◌, List, [], ◌∷◌, ◌++◌, map, filter, Option, Some, None, refl, sym, ap, subst, ◌∙◌}
+use Rattle.std.proofs.Common.{◌≡◌, ℕ, ℤ, true, false, not, ◌&&◌, List, [], ◌∷◌, ◌++◌, map, filter, Option, Some, None, sym, ap, subst, ◌∙◌}
 use Rattle.std.specs.Prelude.{unwrap_or, IfSome}
-use Rattle.std.specs.List.{flat_map, last_or}
+use Rattle.std.specs.List.{last_or}
 use Rattle.std.proofs.lemmas.List.{append-nil}
 use Rattle.std.proofs.lemmas.List.Concat.{flat_map-append}
 use Rattle.atom_record.specs.declared.atom.Atom.{Atom}
 use Rattle.atom_record.specs.declared.value.Leaf.{Leaf}
 use Rattle.atom_record.specs.declared.log.LogFrame.{LogFrame}
-use Rattle.atom_record.specs.declared.log.LogFrame.TheVariants.{Tick, AtomAt, Pull}
+use Rattle.atom_record.specs.declared.log.LogFrame.TheVariants.{AtomAt, Pull}
 use Rattle.atom_record.specs.declared.log.PullOutcome.{PullOutcome}
 use Rattle.atom_record.specs.declared.log.PullOutcome.TheVariants.{Atoms, Failed}
 use Rattle.session_frames.specs.Faultless.{IsOutcome, IsFaultlessLog}
-use Rattle.bucket_meaning.specs.Guard.{is_among, admitted, dropped, of_key, arrival_key}
+use Rattle.bucket_meaning.specs.Guard.{admitted, dropped, of_key, arrival_key}
 use Rattle.bucket_meaning.specs.Kept.{count_in_u64}
 use Rattle.dim_table.specs.Table.{Table}
 use Rattle.book_meaning.specs.BookLimits.{most_pulled_ids, most_state_ids, most_state_keys}
@@ -43,12 +43,15 @@ keys_among id atoms = map primary_key (filter (λ (atom : Atom). same_atom_id at
 -- the rows of a book of states, by the state atoms alone
 abbrev rows_among : List Atom → List (ℕ × Table (List Leaf) ℤ)
 rows_among atoms =
-    map (λ id. (id, record {
-      rows = map (λ key. (key, state_by (last_or None (filter (decides id key) atoms))))
-          (admitted same_dims most_state_keys (keys_among id atoms));
-      bound = most_state_keys;
-      dropped = count_in_u64 (dropped same_dims most_state_keys (keys_among id atoms));
-    }))
+    map (λ id. (
+      id,
+      record {
+        rows = map (λ key. (key, state_by (last_or None (filter (decides id key) atoms))))
+            (admitted same_dims most_state_keys (keys_among id atoms));
+        bound = most_state_keys;
+        dropped = count_in_u64 (dropped same_dims most_state_keys (keys_among id atoms));
+      },
+    ))
     (admitted same_atom_id most_state_ids (map (λ (atom : Atom). atom.id) atoms))
 
 -- a book of states stands for a log with a frame that tells no state
@@ -60,7 +63,8 @@ quiet_states book log frame none stands =
       ids = stands.ids ∙ ap rows_among same;
       bound = stands.bound;
       dropped = stands.dropped
-          ∙ ap (λ atoms. count_in_u64 (dropped same_atom_id most_state_ids (map (λ (atom : Atom). atom.id) atoms))) same;
+          ∙ ap (λ atoms. count_in_u64 (dropped same_atom_id most_state_ids (map (λ
+          (atom : Atom). atom.id) atoms))) same;
     }
 
 -- a book of pulls stands for a log with a frame that pulls nothing

@@ -1,7 +1,9 @@
--- A configuration that goes in under its name.
-use Rattle.std.proofs.Common.{◌≡◌, ℕ, ◌+◌, ℤ, false, cond, List, Some, is_some, Result, Ok, Err, sym, ap, subst, ◌∙◌}
+-- A configuration that goes in under its name, or is taken out.
+use Rattle.std.proofs.Common.{◌≡◌, ℕ, ◌+◌, ℤ, true, false, cond, List, Option, Some, None, is_some, Result, Ok, Err, refl, sym, ap, subst, ◌∙◌}
 use Rattle.std.specs.Prelude.{nat_le, IfOk}
 use Rattle.std.specs.Bool.{MatchBool}
+use Rattle.std.specs.Option.{MatchOption}
+use Rattle.std.proofs.lemmas.Bool.{false≢true}
 use Rattle.std.specs.Ordering.{int_eq}
 use Rattle.config_types.specs.declared.config.Config.{Config}
 use Rattle.session_frames.specs.declared.reply.ReplyBody.{ReplyBody}
@@ -17,11 +19,12 @@ use Rattle.hub_core.specs.declared.lives.Lives.{Lives}
 use Rattle.hub_meaning.specs.Acceptance.{most_configs}
 use Rattle.hub_core.specs.InstallReading.{linked_read}
 use Rattle.hub_core.specs.Slots.{live_id, same_id, slot_at, count_at}
-use Rattle.hub_core.specs.Commands.{held_at, others, StaysWith, PutsIn, InstallsLinked, Installs}
+use Rattle.hub_core.specs.Commands.{held_at, others, StaysWith, PutsIn, InstallsLinked, Installs, TakesOut, Removes}
 
 -- it stands under its name, and its client's count is one more than that of the others
-pub puts_in : (clock : ℕ) (books : Books) (uid id : ℤ) (linked : Linked) (old new : Lives) (body : ReplyBody) (fresh : LiveInstance)
-    (count : ℕ) → ((opening : List LogFrame) → BooksStandFor books opening → IsFresh linked clock opening fresh.instance)
+pub puts_in : (clock : ℕ) (books : Books) (uid id : ℤ) (linked : Linked) (old new : Lives) (body : ReplyBody)
+    (fresh : LiveInstance) (count : ℕ)
+    → ((opening : List LogFrame) → BooksStandFor books opening → IsFresh linked clock opening fresh.instance)
     → ((name : LiveId) → slot_at name new.slots.entries
     ≡ cond (same_id (live_id uid id) name) (Some (Some fresh)) (slot_at name old.slots.entries))
     → ((client : ℤ) → count_at client new.counts.entries
@@ -49,3 +52,24 @@ installs clock books uid id config linked old (Ok r) room is puts =
     subst (λ full. MatchBool full (StaysWith (answers.ClientFull most_configs) old r.0 r.1)
     (InstallsLinked clock books uid id (linked_read uid config) old r.0 r.1)) (sym room)
     (subst (λ read. InstallsLinked clock books uid id read old r.0 r.1) (sym is) puts)
+
+-- what stood under its name is taken out, and its client's count is that of the others
+pub takes_out : (uid id : ℤ) (old new : Lives) (count : ℕ) → is_some (held_at uid id old) ≡ true
+    → ((name : LiveId) → slot_at name new.slots.entries
+    ≡ cond (same_id (live_id uid id) name) None (slot_at name old.slots.entries))
+    → ((client : ℤ) → count_at client new.counts.entries
+    ≡ cond (int_eq uid client) count (count_at client old.counts.entries))
+    → count ≡ others uid id old → Removes uid id old new answers.Removed
+takes_out uid id old new count there slots counts is = by_slot (held_at uid id old) there where
+  by_slot : (slot : Option (Option LiveInstance)) → is_some slot ≡ true
+      → MatchOption slot (StaysWith answers.NoConfig old new answers.Removed)
+      (λ held. TakesOut uid id old new answers.Removed)
+  by_slot None absent = absurd (false≢true absent)
+  by_slot (Some slot) held = record {
+    changes = record {
+      slots = slots;
+      counts = λ client.
+          counts client ∙ ap (λ n. cond (int_eq uid client) n (count_at client old.counts.entries)) is;
+    };
+    answer = refl;
+  }

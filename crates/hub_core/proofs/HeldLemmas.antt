@@ -1,9 +1,12 @@
 -- How many slots a client has, from change to change.
-use Rattle.std.proofs.Common.{◌≡◌, ℕ, ◌+◌, ◌-◌, ◌<◌, ◌≤◌, ℤ, Bool, true, false, not, cond, List, [], ◌∷◌, length, get_or, position, Option, Some, None, is_some, refl, sym, ap, subst, ◌∙◌, true≢false, arith}
+use Rattle.std.proofs.Common.{◌≡◌, ◌≢◌, ℕ, ◌+◌, ◌-◌, ◌<◌, ◌≤◌, ◌==◌, ℤ, Bool, true, false, not, cond, List, [], ◌∷◌, length, get_or, position, Option, Some, None, is_some, unwrap_or, refl, sym, ap, subst, ◌∙◌, ⊎_elim, true≢false, arith}
 use Rattle.std.specs.Prelude.{◌&&◌}
 use Rattle.std.specs.Map.{keys_of, set_value}
 use Rattle.std.specs.Ordering.{int_eq}
 use Rattle.std.specs.Cmp.{signed_Decides}
+use Rattle.std.proofs.lemmas.Bool.{cases_Bool}
+use Rattle.std.proofs.lemmas.Bool.Decides.{Decides-eqb}
+use Rattle.std.proofs.lemmas.Option.{none-some, same_Some}
 use Rattle.std.proofs.lemmas.List.{get_or-map, length-map}
 use Rattle.std.proofs.lemmas.List.Quantifiers.{position-Some}
 use Rattle.std.proofs.lemmas.List.Sums.{sum_by-cons, sum_by-swap_remove}
@@ -16,7 +19,7 @@ use Rattle.hub_core.specs.declared.live_instance.LiveInstance.{LiveInstance}
 use Rattle.client_engine.specs.Handed.{BookOfStates}
 use Rattle.hub_core.specs.declared.live_id.LiveId.{LiveId}
 use Rattle.hub_core.specs.SlotLogs.{AllLog}
-use Rattle.hub_core.specs.Slots.{live_id, same_id, slot_at, count_at, held_by}
+use Rattle.hub_core.specs.Slots.{live_id, same_id, slot_at, listed_at, listed, count_at, held_by}
 
 -- names that are the same are of one client
 same_uid : (name other : LiveId) (uid : ℤ) → same_id name other ≡ true → int_eq other.uid uid ≡ int_eq name.uid uid
@@ -144,8 +147,9 @@ held-found name (row ∷ rows) there = by_case (same_id name row.0) refl there (
   by_case false e h rest = omega (arith, held-cons name.uid row rows, rest h)
 
 -- a frame of the log leaves the number
-pub held-logged : (says : SimpleMatcher → Atom → Bool) (frame : LogFrame) (book : BookOfStates) (uid : ℤ) (olds news : List
-    (LiveId × Option LiveInstance)) → AllLog says frame book olds news → held_by uid news ≡ held_by uid olds
+pub held-logged : (says : SimpleMatcher → Atom → Bool) (frame : LogFrame) (book : BookOfStates) (uid : ℤ)
+    (olds news : List (LiveId × Option LiveInstance)) → AllLog says frame book olds news
+    → held_by uid news ≡ held_by uid olds
 held-logged says frame book uid [] [] all = refl
 held-logged says frame book uid [] (new ∷ news) all = absurd all
 held-logged says frame book uid (old ∷ olds) [] all = absurd all
@@ -201,3 +205,36 @@ module _ (uid id : ℤ) (olds news : List (LiveId × Option LiveInstance)) (coun
             ap (λ m. count_at m counts) ((signed_Decides uid n).0 e) in
             (omega (arith, h, s, is, own, counted n), omega (arith, h, few n))
         by_case false e h s = (omega (arith, h, s, counted n), omega (arith, h, few n))
+
+-- a number is what is listed of it, and 0 where nothing is
+listed-count : (count : ℕ) → unwrap_or (listed count) 0 ≡ count
+listed-count count = ⊎_elim
+    (λ (none : (count == 0) ≡ true).
+    ap (λ b. unwrap_or (cond b None (Some count)) 0) none ∙ sym ((Decides-eqb count 0).0 none))
+    (λ (some : (count == 0) ≡ false). ap (λ b. unwrap_or (cond b None (Some count)) 0) some)
+    (cases_Bool (count == 0))
+
+-- 0 is not listed
+listed-above : (count : ℕ) → listed count ≢ Some 0
+listed-above count is = ⊎_elim
+    (λ (none : (count == 0) ≡ true). none-some 0 (sym (ap (λ b. cond b None (Some count)) none) ∙ is))
+    (λ (some : (count == 0) ≡ false).
+    true≢false (sym ((Decides-eqb count 0).1 (same_Some count 0 (sym (ap (λ b. cond b None (Some count)) some) ∙ is)))
+    ∙ some))
+    (cases_Bool (count == 0))
+
+module _ (uid : ℤ) (count : ℕ) (olds news : List (ℤ × ℕ))
+    (set : (n : ℤ) → listed_at n news ≡ cond (int_eq uid n) (listed count) (listed_at n olds)) where
+  -- the counts, where one is set
+  pub counts_set : (n : ℤ) → count_at n news ≡ cond (int_eq uid n) count (count_at n olds)
+  counts_set n = ap (λ o. unwrap_or o 0) (set n) ∙ by_case (int_eq uid n) where
+    by_case : (own : Bool) → unwrap_or (cond own (listed count) (listed_at n olds)) 0 ≡ cond own count (count_at n olds)
+    by_case true = listed-count count
+    by_case false = refl
+
+  -- no client is listed with 0, where none was
+  pub above_set : ((n : ℤ) → listed_at n olds ≢ Some 0) → (n : ℤ) → listed_at n news ≢ Some 0
+  above_set above n is = by_case (int_eq uid n) (sym (set n) ∙ is) where
+    by_case : (own : Bool) → cond own (listed count) (listed_at n olds) ≡ Some 0 → ⊥
+    by_case true zero = listed-above count zero
+    by_case false zero = above n zero

@@ -71,7 +71,8 @@ module _ (says : SimpleMatcher → Atom → Bool) where
   FoundLogs frame book (Some old) None = ⊥
 
   -- where each slot took a frame, what is found under a name took it
-  found_logs : (frame : LogFrame) (book : BookOfStates) (test : LiveId → Bool) (olds news : List (LiveId × Option LiveInstance))
+  found_logs : (frame : LogFrame) (book : BookOfStates) (test : LiveId → Bool)
+      (olds news : List (LiveId × Option LiveInstance))
       → AllLog says frame book olds news → FoundLogs frame book (lookup test olds) (lookup test news)
   found_logs frame book test [] [] all = tt
   found_logs frame book test [] (new ∷ news) all = absurd all
@@ -86,7 +87,8 @@ module _ (says : SimpleMatcher → Atom → Bool) where
         by_case false rest = rest
 
   -- a frame of the log comes to what is found under a name
-  slot_logged : (uid : ℤ) (frames : List Frame) (shown : LogFrame) (book : BookOfStates) (frame : LogFrame) (old new : Option (Option LiveInstance))
+  slot_logged : (uid : ℤ) (frames : List Frame) (shown : LogFrame) (book : BookOfStates) (frame : LogFrame)
+      (old new : Option (Option LiveInstance))
       (config : Option LiveConfig)
       → ((c : LiveConfig) → config ≡ Some c → c.place < length frames) → clock_of frames ≤ log_time frame
       → shown ≡ shown_as (log_frames frames) frame → StateBookStandsFor book (log_frames frames ++ frame ∷ [])
@@ -107,12 +109,15 @@ module _ (says : SimpleMatcher → Atom → Bool) where
         time = ap last_step_time history ∙ last_from-push before.installed.base before.steps step
             ∙ sym (clock_of-push frames (Log frame));
       }
-  slot_logged uid frames shown book frame (Some (Some old)) (Some None) (Some config) placed in_time shown_is book_is logs h = absurd logs
-  slot_logged uid frames shown book frame (Some None) new (Some config) placed in_time shown_is book_is logs h = absurd h
+  slot_logged uid frames shown book frame (Some (Some old)) (Some None) (Some config) placed in_time shown_is book_is
+      logs h = absurd logs
+  slot_logged uid frames shown book frame (Some None) new (Some config) placed in_time shown_is book_is logs h =
+      absurd h
   slot_logged uid frames shown book frame (Some slot) new None placed in_time shown_is book_is logs h = absurd h
   slot_logged uid frames shown book frame None new (Some config) placed in_time shown_is book_is logs h = absurd h
   slot_logged uid frames shown book frame None (Some new) None placed in_time shown_is book_is logs h = absurd logs
-  slot_logged uid frames shown book frame (Some (Some old)) None (Some config) placed in_time shown_is book_is logs h = absurd logs
+  slot_logged uid frames shown book frame (Some (Some old)) None (Some config) placed in_time shown_is book_is logs
+      h = absurd logs
 
   -- a frame that is no step to a configuration leaves what is held for it
   slot_idle : (uid : ℤ) (frames : List Frame) (frame : Frame) (slot : Option (Option LiveInstance))
@@ -447,7 +452,8 @@ module _ (says : SimpleMatcher → Atom → Bool) where
         → StateBookStandsFor book (log_frames frames) → ReportsLive clock book uid id include_current old new body
         → LivesStandFor says new (frames ++ Report uid id include_current ∷ []) × (body
         ≡ report_answer says uid id (own uid frames) include_current (config_at id lives_before))
-    serves_report clock book include_current now book_is r = report_case clock book include_current now book_is (held_at uid id old)
+    serves_report clock book include_current now book_is r =
+        report_case clock book include_current now book_is (held_at uid id old)
         (config_at id lives_before) refl (h.slots uid id) r.counts r.slots
 
     module _ (config : List ℕ) (clock : ℕ) (now : clock ≡ clock_of frames) (books : Books)
@@ -537,7 +543,8 @@ module _ (says : SimpleMatcher → Atom → Bool) where
 
       -- it was decoded or not
       read_case : (read : Result Config Refusal) → brought
-          ≡ accepted_read uid (nat_le most_configs (others uid id old)) read → Installs clock books uid id read old new body
+          ≡ accepted_read uid (nat_le most_configs (others uid id old)) read
+          → Installs clock books uid id read old new body
           → LivesStandFor says new (frames ++ Install uid id config ∷ []) × (body
           ≡ install_answer brought (config_at id lives_before))
       read_case (Err refusal) is r = refused (answers.Refused refusal) is r
@@ -580,7 +587,9 @@ module _ (says : SimpleMatcher → Atom → Bool) where
     hub_log frame shown in_time clock shown_is books all counts = record {
       clock = clock ∙ sym (clock_of-push frames (Log frame));
       books = subst (BooksStandFor new.books) (sym (log_frames-push frames (Log frame))) books;
-      lives = stands_log hub.lives new.lives frames shown new.books.states frame in_time shown_is books.states all counts
+      lives =
+          stands_log hub.lives new.lives frames shown new.books.states frame in_time shown_is books.states all
+          counts
           h.lives;
     }
 
@@ -593,7 +602,8 @@ module _ (says : SimpleMatcher → Atom → Bool) where
     module _ (uid id : ℤ) (body : ReplyBody) (same_clock : new.clock.time ≡ hub.clock.time)
         (same_books : new.books ≡ hub.books) where
       -- a command leaves the books
-      books_stay : (frame : Frame) → log_frame_in frame ≡ [] → BooksStandFor new.books (log_frames (frames ++ frame ∷ []))
+      books_stay : (frame : Frame) → log_frame_in frame ≡ []
+          → BooksStandFor new.books (log_frames (frames ++ frame ∷ []))
       books_stay frame none =
           subst (BooksStandFor new.books)
           (sym (log_frames-push frames frame ∙ ap (λ l. log_frames frames ++ l) none ∙ append-nil (log_frames frames)))
@@ -614,7 +624,8 @@ module _ (says : SimpleMatcher → Atom → Bool) where
             answer = ap (reply_of uid id) done.1;
           }
 
-      pub hub_report : (include_current : Bool) → ReportsLive hub.clock.time hub.books.states uid id include_current hub.lives
+      pub hub_report : (include_current : Bool) → ReportsLive hub.clock.time hub.books.states uid id include_current
+          hub.lives
           new.lives body → Serves new frames (Report uid id include_current) (reply_of uid id body)
       unfolding reply_to
       hub_report include_current r =
@@ -636,7 +647,8 @@ module _ (says : SimpleMatcher → Atom → Bool) where
           → Serves new frames (Install uid id config) (reply_of uid id body)
       unfolding reply_to
       hub_install config read is r =
-          let done = serves_install frames uid id hub.lives new.lives body h.lives config hub.clock.time h.clock hub.books
+          let done = serves_install frames uid id hub.lives new.lives body h.lives config hub.clock.time h.clock
+          hub.books
           h.books read is r in
           record {
             stands = record {

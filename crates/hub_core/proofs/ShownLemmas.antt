@@ -11,7 +11,8 @@ use Rattle.hub_core.specs.declared.live_id.LiveId.{LiveId}
 use Rattle.hub_core.specs.declared.live_instance.LiveInstance.{LiveInstance}
 use Rattle.hub_core.specs.Slots.{same_id, slot_at, ShowsAt, ReportsAt}
 
-module _ (clock : ℕ) (book : BookOfStates) (name : LiveId) (include_current : Bool) (old new : List (LiveId × Option LiveInstance))
+module _ (clock : ℕ) (book : BookOfStates) (name : LiveId) (include_current : Bool)
+    (old new : List (LiveId × Option LiveInstance))
     (body : ReplyBody) where
   -- it was found, and its next stands there
   pub shows : (live next : LiveInstance) (tree : ReportTree) → slot_at name old ≡ Some (Some live)

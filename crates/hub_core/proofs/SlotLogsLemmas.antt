@@ -21,7 +21,8 @@ module _ (says : SimpleMatcher → Atom → Bool) (frame : LogFrame) (book : Boo
   PartLog zero olds news = news ≡ olds
   PartLog (suc n) [] news = ⊥
   PartLog (suc n) (old ∷ olds) [] = ⊥
-  PartLog (suc n) (old ∷ olds) (new ∷ news) = (new.0 ≡ old.0) × SlotLogs says frame book old.1 new.1 × PartLog n olds news
+  PartLog (suc n) (old ∷ olds) (new ∷ news) =
+      (new.0 ≡ old.0) × SlotLogs says frame book old.1 new.1 × PartLog n olds news
 
   -- one more slot takes it
   pub one_more : (n : ℕ) (olds news : List (LiveId × Option LiveInstance)) (old new : Option LiveInstance)
@@ -97,8 +98,8 @@ module _ (says : SimpleMatcher → Atom → Bool) (frame : LogFrame) (book : Boo
       (asked_next n olds news slot part at)
 
 -- a frame is worth as many questions as the one that is shown for it, where each list of matchers is
-module _ (shown frame : LogFrame) (same : (matchers : List LMatcher) → asked_by shown matchers ≡ asked_by frame matchers)
-    where
+module _ (shown frame : LogFrame)
+    (same : (matchers : List LMatcher) → asked_by shown matchers ≡ asked_by frame matchers) where
   asked_shown_of : (slot : Option LiveInstance) → asked_of shown slot ≡ asked_of frame slot
   asked_shown_of None = refl
   asked_shown_of (Some live) = same (linked_in live.instance).matchers

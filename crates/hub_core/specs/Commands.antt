@@ -58,7 +58,8 @@ abbrev pub InstallsLinked : ℕ → Books → ℤ → ℤ → Result Linked Refu
 InstallsLinked clock books uid id (Err refusal) old new body = StaysWith (answers.Refused refusal) old new body
 InstallsLinked clock books uid id (Ok linked) old new body = PutsIn clock books uid id linked old new body
 
--- an install, when the clock and the books stood so and this was read: a full client is told so before the references are judged
+-- an install, when the clock and the books stood so and this was read: a full client is told so before the references
+-- are judged
 abbrev pub Installs : ℕ → Books → ℤ → ℤ → Result Config Refusal → Lives → Lives → ReplyBody → Type 0
 Installs clock books uid id (Err refusal) old new body = StaysWith (answers.Refused refusal) old new body
 Installs clock books uid id (Ok config) old new body =

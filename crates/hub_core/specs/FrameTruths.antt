@@ -27,8 +27,8 @@ module _ (says : SimpleMatcher → Atom → Bool) where
   truths_by matchers (AtomAt at atom) = all_truths says atom matchers
   truths_by matchers _ = []
 
-  -- whatever history the old stood for, if its last step isn't later than this frame, which is shown so, and the book is
-  -- that of the log with it, the new stands for that history with this frame, by the truths of the history's matchers
+  -- whatever history the old stood for, if its last step isn't later than this frame, which is shown so, and the book
+  -- stands for the log with it, the new stands for that history with this frame, by the truths of its matchers
   abbrev pub LogsBy : LogFrame → BookOfStates → Instance → Instance → Type 0
   LogsBy shown book old new =
       (history : History) (frame : LogFrame) → InstanceStandsFor old history

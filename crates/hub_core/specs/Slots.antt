@@ -1,5 +1,5 @@
 -- Slots under names, and counts of them. Nothing here names what holds them.
-use Rattle.std.specs.Prelude.{◌≡◌, ℕ, ◌-◌, ℤ, Bool, List, Option, Some, unwrap_or, count_by, if◌then◌else◌}
+use Rattle.std.specs.Prelude.{◌≡◌, ℕ, ◌-◌, ◌==◌, ℤ, Bool, List, Option, Some, None, unwrap_or, count_by, if◌then◌else◌}
 use Rattle.std.specs.Option.{MatchOption}
 use Rattle.std.specs.Map.{lookup}
 use Rattle.std.specs.Ordering.{int_eq}
@@ -25,9 +25,17 @@ same_id = block.ghosts.eq
 abbrev pub slot_at : LiveId → List (LiveId × Option LiveInstance) → Option (Option LiveInstance)
 slot_at name slots = lookup (same_id name) slots
 
+-- the number that is listed for a client, if one is
+abbrev pub listed_at : ℤ → List (ℤ × ℕ) → Option ℕ
+listed_at uid counts = lookup (int_eq uid) counts
+
+-- a number as it is listed: 0 isn't
+abbrev pub listed : ℕ → Option ℕ
+listed count = if count == 0 then None else Some count
+
 -- how many a client has
 abbrev pub count_at : ℤ → List (ℤ × ℕ) → ℕ
-count_at uid counts = unwrap_or (lookup (int_eq uid) counts) 0
+count_at uid counts = unwrap_or (listed_at uid counts) 0
 
 -- how many of other ids a client has, where one of an id is there or not
 abbrev pub others_at : ℤ → Bool → List (ℤ × ℕ) → ℕ
@@ -48,7 +56,8 @@ pub record ShowsAt (clock : ℕ) (book : BookOfStates) (name : LiveId) (include_
   pub answer : body ≡ answers.ReportBytes (report_message tree)
 
 -- a report of what stands under a name; a slot that is found isn't empty
-abbrev pub ReportsAt : ℕ → BookOfStates → LiveId → Bool → List (LiveId × Option LiveInstance) → List (LiveId × Option LiveInstance)
+abbrev pub ReportsAt : ℕ → BookOfStates → LiveId → Bool → List (LiveId × Option LiveInstance)
+    → List (LiveId × Option LiveInstance)
     → ReplyBody → Type 0
 ReportsAt clock book name include_current old new body =
     MatchOption (slot_at name old) ((new ≡ old) × (body ≡ answers.NoConfig))

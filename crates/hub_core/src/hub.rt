@@ -76,8 +76,8 @@ impl<J: Judge> Hub<J> {
         self.serve(frame)
     }
 
-    // Takes in a frame of the log: it is told to the book of states, comes to every configuration as it is shown, and what
-    // it pulled is recorded last.
+    // Takes in a frame of the log: the book of states takes it, then it comes to every configuration as it is shown,
+    // and what it pulled is recorded last.
     fn log(mut self, frame: LogFrame) -> Result<Hub<J>, AllocError>
         requires faultless { IsFaultlessLog frame }
         ensures stands { (frames : List Frame) → HubStandsFor J.says self frames
@@ -134,8 +134,7 @@ impl<J: Judge> Hub<J> {
                 let lives = self.lives;
                 let now = self.clock.time;
                 let states = &self.books.states;
-                let (lives, body) =
-                    lives.report(self.alloc, now, name, include_current, states)?;
+                let (lives, body) = lives.report(self.alloc, now, name, include_current, states)?;
                 self.lives = lives;
                 Ok((self, Some(Reply { uid, id, body })))
             }

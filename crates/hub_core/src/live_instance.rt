@@ -53,7 +53,8 @@ impl LiveInstance {
         Ok(LiveInstance { instance, order })
     }
 
-    /// Takes in a frame of the log as it is shown, with the truths that the judge says and the states after it. The buffer's room is kept.
+    /// Takes in a frame of the log as it is shown, with the truths that the judge says and the states after it. The
+    /// buffer's room is kept.
     pub fn log<J: Judge>(
         self,
         judge: &mut J,

@@ -1,6 +1,6 @@
 //! The live configurations of all clients, found by client and id, and how many each client has.
-ghost use Rattle.std.specs.Prelude.{◌≡◌, ◌≤◌, ◌<◌, ◌^◌, ℤ, [], OnOk, IfOk};
-ghost use Rattle.hub_core.specs.Slots.{held_by, count_at};
+ghost use Rattle.std.specs.Prelude.{◌≡◌, ◌≢◌, ◌≤◌, ◌<◌, ◌^◌, ℤ, [], Some, OnOk, IfOk};
+ghost use Rattle.hub_core.specs.Slots.{held_by, listed_at, count_at};
 
 use crate::books::Books;
 use crate::configs::link_config;
@@ -29,6 +29,7 @@ pub struct Lives {
     counts: IndexMap<i32, usize>,
     ghost counted: { (uid : ℤ) → held_by uid slots.entries ≡ count_at uid counts.entries },
     ghost few: { (uid : ℤ) → held_by uid slots.entries ≤ 10 },
+    ghost above_zero: { (uid : ℤ) → listed_at uid counts.entries ≢ Some 0 },
 }
 
 impl Lives {
@@ -112,7 +113,7 @@ impl Lives {
         let there = self.slots.contains_key(&name);
         let others = others_of(&self.counts, name.uid, there);
         let live = LiveInstance::new(alloc, linked, clock, books)?;
-        // From here on the two facts may be false.
+        // From here on the facts of the type may be false.
         let Lives {
             mut slots,
             mut counts,

@@ -2,7 +2,7 @@
 ghost use Rattle.std.specs.Prelude.{◌≡◌, ◌+◌, ◌<◌, ◌^◌, ℤ, not, ◌&&◌, Some, None, is_some, OnOk, IfOk, if◌then◌else◌};
 ghost use Rattle.std.specs.Ordering.{int_eq};
 ghost use Rattle.hub_core.specs.declared.live_id.LiveId.{LiveId};
-ghost use Rattle.hub_core.specs.Slots.{same_id, slot_at, count_at, others_at, held_by, ReportsAt};
+ghost use Rattle.hub_core.specs.Slots.{same_id, slot_at, listed_at, listed, others_at, held_by, ReportsAt};
 
 use crate::live_id::LiveId;
 use crate::live_instance::LiveInstance;
@@ -77,14 +77,14 @@ pub fn others_of(counts: &IndexMap<i32, usize>, uid: i32, there: bool) -> usize
     count.saturating_sub(usize::from(there))
 }
 
-/// Sets how many slots a client has.
+/// Sets how many slots a client has; one that has none isn't listed.
 pub fn set_count(
     counts: &mut IndexMap<i32, usize>,
     uid: i32,
     count: usize,
 ) -> Result<(), AllocError>
-    ensures { OnOk result ((client : ℤ) → count_at client counts.new.entries
-        ≡ (if int_eq uid client then count else count_at client counts.old.entries)) }
+    ensures { OnOk result ((client : ℤ) → listed_at client counts.new.entries
+        ≡ (if int_eq uid client then listed count else listed_at client counts.old.entries)) }
 {
     if count == 0 {
         counts.swap_remove(&uid);

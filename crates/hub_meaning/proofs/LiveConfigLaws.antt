@@ -173,7 +173,8 @@ module _ (says : SimpleMatcher → Atom → Bool) where
         step = record { at = clock_of before; what = Reported include_current; truths = [] }
 
         by_case : (same : Bool)
-            → logged_frames (outputs_after (step_at says id linked) (before ++ Report uid of include_current ∷ []) frames)
+            → logged_frames (outputs_after (step_at says id linked)
+            (before ++ Report uid of include_current ∷ []) frames)
             ≡ log_frames frames
             → logged_frames (cond same (step ∷ []) []
             ++ outputs_after (step_at says id linked) (before ++ Report uid of include_current ∷ []) frames)

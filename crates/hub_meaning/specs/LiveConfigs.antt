@@ -70,8 +70,8 @@ module _ (says : SimpleMatcher → Atom → Bool) where
   step_at id linked before (Report uid of include_current) =
       if int_eq of id then record { at = clock_of before; what = Reported include_current; truths = [] } ∷ [] else []
 
-  -- what a live configuration of a client has seen, by the client's own frames: its base is the clock at its install, and
-  -- its opening the log up to that
+  -- what a live configuration of a client has seen, by the client's own frames: its base is the clock at its install,
+  -- and its opening the log up to that
   abbrev pub history_of : ℤ → List Frame → LiveConfig → History
   history_of client frames live =
       let linked = linked_form live.config client in

@@ -1,5 +1,5 @@
 -- Worked histories of metrics that are sliced by states, and of states that find no room, by computing.
-use Rattle.std.proofs.Common.{◌≡◌, ℕ, ℤ, pos, negsuc, Bool, true, false, List, [], ◌∷◌, ◌++◌, Option, Some, None, refl}
+use Rattle.std.proofs.Common.{◌≡◌, ℕ, pos, negsuc, true, false, List, [], ◌∷◌, Option, Some, None, refl}
 use Rattle.std.specs.Prelude.{map}
 use Rattle.std.specs.List.{range_with_len}
 use Rattle.atom_record.specs.declared.value.Value.TheVariants.{Int}
@@ -9,6 +9,7 @@ use Rattle.atom_record.specs.declared.log.LogFrame.{LogFrame}
 use Rattle.atom_record.specs.declared.log.LogFrame.TheVariants.{AtomAt}
 use Rattle.field_select.specs.declared.leaf.FieldSet.{FieldSet}
 use Rattle.bucket_meaning.specs.Guard.{dropped}
+use Rattle.bucket_meaning.specs.Kept.{Taken}
 use Rattle.book_meaning.specs.States.{same_dims, named_keys}
 use Rattle.config_links.specs.declared.linked.LState.{LState}
 use Rattle.config_links.specs.declared.linked.LGroup.{LGroup}
@@ -80,24 +81,28 @@ abbrev row : Slice → ℕ → ℕ → Row ℕ
 row slice end count =
     record { key = record { dims = []; slices = slice ∷ [] }; start = 0; end = end; value = count }
 
+-- a report shows these rows, and nothing was dropped
+abbrev shown : List (Row ℕ) → Taken (Row ℕ)
+shown rows = record { rows = rows; not_kept = 0; dropped = 0; missing = 0 }
+
 -- a state that was told before the installation is known, and a later one from its own frame on
 states_of_the_whole_log :
     counts_shown (beside (screen None) (screen_is 0 2 ∷ [])) (sliced None)
     (counted 2 1 ∷ told 5 (screen_is 5 3) ∷ counted 6 1 ∷ counted 7 1 ∷ []) true 9
-    ≡ record { rows = row (Plain 27 (pos 2)) 9 1 ∷ row (Plain 27 (pos 3)) 9 2 ∷ []; not_kept = 0; dropped = 0; missing = 0 }
+    ≡ shown (row (Plain 27 (pos 2)) 9 1 ∷ row (Plain 27 (pos 3)) 9 2 ∷ [])
 states_of_the_whole_log = refl
 
 -- by groups, where one lists the value 2: another value shows as -1
 states_by_groups :
     counts_shown (beside (screen (Some (record { group = pos 1; values = pos 2 ∷ [] } ∷ []))) (screen_is 0 2 ∷ []))
     (sliced None) (counted 2 1 ∷ told 5 (screen_is 5 3) ∷ counted 6 1 ∷ []) true 9
-    ≡ record { rows = row (Group 27 (pos 1)) 9 1 ∷ row (Plain 27 (negsuc 0)) 9 1 ∷ []; not_kept = 0; dropped = 0; missing = 0 }
+    ≡ shown (row (Group 27 (pos 1)) 9 1 ∷ row (Plain 27 (negsuc 0)) 9 1 ∷ [])
 states_by_groups = refl
 
 -- where nothing was told, the state is -1; without a link the empty key is asked for
 nothing_told :
     counts_shown (beside (screen None) []) (sliced None) (told 1 (state_of_key 1 7 6) ∷ counted 2 7 ∷ []) true 9
-    ≡ record { rows = row (Plain 27 (negsuc 0)) 9 1 ∷ []; not_kept = 0; dropped = 0; missing = 0 }
+    ≡ shown (row (Plain 27 (negsuc 0)) 9 1 ∷ [])
 nothing_told = refl
 
 -- a link asks for the atom's own key
@@ -105,7 +110,7 @@ by_link :
     counts_shown (beside (screen None) (state_of_key 0 7 6 ∷ []))
     (sliced (Some (record { atom_id = 5; leaves = record { field = 1; position = None; sub = 0 } ∷ [] })))
     (counted 2 7 ∷ counted 3 8 ∷ []) true 9
-    ≡ record { rows = row (Plain 27 (pos 6)) 9 1 ∷ row (Plain 27 (negsuc 0)) 9 1 ∷ []; not_kept = 0; dropped = 0; missing = 0 }
+    ≡ shown (row (Plain 27 (pos 6)) 9 1 ∷ row (Plain 27 (negsuc 0)) 9 1 ∷ [])
 by_link = refl
 
 -- an atom of this id tells the state 1 of the empty key

@@ -13,7 +13,7 @@ use Rattle.count_metric.specs.declared.row.Row.{Row}
 use Rattle.count_metric.specs.Counting.{count_kind, CountParams, CountCall, count_demands}
 use Rattle.metric_meaning.specs.Histories.{What, Logged, Step, Installation, truth_at, lane_steps}
 use Rattle.metric_meaning.specs.MetricConditions.{is_condition_true}
-use Rattle.metric_meaning.specs.StateSlices.{slices_at}
+use Rattle.metric_meaning.specs.StateSlices.{atom_slices}
 use Rattle.metric_meaning.specs.Scenes.{Scene, scene_after}
 use Rattle.metric_meaning.specs.StepMarks.{StepNews, marks_to}
 
@@ -21,11 +21,11 @@ use Rattle.metric_meaning.specs.StepMarks.{StepNews, marks_to}
 abbrev pub atom_key : Scene → LMetric → Atom → MetricKey
 atom_key scene metric atom = record {
   dims = key_of metric.dims atom;
-  slices = slices_at scene.linked.states scene.log atom metric.slices;
+  slices = atom_slices scene.linked.states scene.log atom metric.slices;
 }
 
--- the key that arrives at a step where this is found: that of an atom for which the matcher of what is counted holds, and
--- the condition is true
+-- the key that arrives at a step which leaves this scene: that of an atom, where the matcher of what is counted holds
+-- and the condition is true
 abbrev pub arrival_by : Scene → LMetric → Step → Option MetricKey
 arrival_by scene metric step = of_what step.what where
   of_what : What → Option MetricKey

@@ -1,5 +1,5 @@
 -- How a report shows rows: grouped by their keys, in the order in which the keys first come.
-use Rattle.std.specs.Prelude.{ℕ, ◌+◌, List, [], ◌∷◌, ◌++◌, map, filter, Some, None}
+use Rattle.std.specs.Prelude.{ℕ, ◌+◌, ◌-◌, ◌^◌, min, List, [], ◌∷◌, ◌++◌, map, filter, Some, None}
 use Rattle.atom_record.specs.declared.value.Leaf.{Leaf}
 use Rattle.atom_record.specs.declared.value.Leaf.TheVariants.{Missing, One, Many}
 use Rattle.atom_record.specs.declared.value.Slice.{Slice}
@@ -15,10 +15,14 @@ leaf_trees place Missing = record { place = place; value = None } ∷ []
 leaf_trees place (One value) = record { place = place; value = Some value } ∷ []
 leaf_trees place (Many values) = map (λ value. record { place = place; value = Some value }) values
 
+-- the place of a leaf as a report shows it: it ends where a number of 32 bits does
+abbrev pub shown_place : ℕ → ℕ
+shown_place place = min place (2 ^ 32 - 1)
+
 -- the values of all leaves, from a place on
 abbrev pub key_trees : ℕ → List Leaf → List LeafTree
 key_trees place [] = []
-key_trees place (leaf ∷ leaves) = leaf_trees place leaf ++ key_trees (place + 1) leaves
+key_trees place (leaf ∷ leaves) = leaf_trees (shown_place place) leaf ++ key_trees (place + 1) leaves
 
 -- `tree` makes a key's leaves, slices and buckets one entry of the report, and `bucket` shows a row
 module _ {V B T : Type 0} (tree : List LeafTree → List Slice → List B → T) (bucket : Row V → B) where

@@ -1,4 +1,4 @@
--- What a metric finds at a step, when the step has acted: what predicates know, and the log.
+-- What a metric finds once a step has acted: what predicates know, and the log.
 use Rattle.std.specs.Prelude.{List}
 use Rattle.atom_record.specs.declared.log.LogFrame.{LogFrame}
 use Rattle.config_links.specs.declared.linked.Linked.{Linked}
@@ -12,7 +12,7 @@ pub record Scene : Type 0 where
   pub tables : List PredicateTable
   pub log : List LogFrame
 
--- what is found after these steps
+-- the scene after these steps
 abbrev pub scene_after : Installation → List Step → Scene
 scene_after installed steps = record {
   linked = installed.linked;

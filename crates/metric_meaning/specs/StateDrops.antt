@@ -14,11 +14,11 @@ use Rattle.metric_meaning.specs.PredicateSteps.{drop_above_zero}
 abbrev pub told_ids : List LState → List ℕ
 told_ids states = firsts same_atom_id [] (map (λ (state : LState). state.atom_id) states)
 
--- how often a key of a state atom found no room, where that is so
+-- how many state atoms of an id named a key that found no room, if any did
 abbrev pub drop_of_id : List LogFrame → ℕ → List Drop64
 drop_of_id log id = drop_above_zero (record { id = pos id; number = count_in_u64 (state_drops id log) })
 
--- the same for each of the atoms of these states
+-- these counts, for each of the different atoms that tell these states
 abbrev pub drops_of_states : List LState → List LogFrame → List Drop64
 drops_of_states states log = flat_map (drop_of_id log) (told_ids states)
 

@@ -17,15 +17,15 @@ abbrev pub state_key : Option FieldSet → Atom → List Leaf
 state_key None atom = []
 state_key (Some set) atom = key_of set atom
 
--- the slice by a state, if there is one: by what this log last gave for a key
+-- the slice by a state: by what this log last gave for a key; without such a state there is none
 abbrev pub slice_by : List LogFrame → Option LState → List Leaf → List Slice
 slice_by log None key = []
 slice_by log (Some state) key = slice_of state (state_value state.atom_id key log) ∷ []
 
--- the slice of an atom by one of these states
-abbrev pub slice_at : List LState → List LogFrame → Atom → LSlice → List Slice
-slice_at states log atom slice = slice_by log (slice_get states slice.state) (state_key slice.in_what atom)
+-- the slice of an atom by the one of these states that is named
+abbrev pub atom_slice : List LState → List LogFrame → Atom → LSlice → List Slice
+atom_slice states log atom slice = slice_by log (slice_get states slice.state) (state_key slice.in_what atom)
 
 -- all slices of an atom, in the order in which the metric names states
-abbrev pub slices_at : List LState → List LogFrame → Atom → List LSlice → List Slice
-slices_at states log atom slices = flat_map (slice_at states log atom) slices
+abbrev pub atom_slices : List LState → List LogFrame → Atom → List LSlice → List Slice
+atom_slices states log atom slices = flat_map (atom_slice states log atom) slices

@@ -1,5 +1,5 @@
 -- What a book answers is what the definitions say of the frames that it stands for.
-use Rattle.std.proofs.Common.{◌≡◌, ℕ, ℤ, true, false, if◌then◌else◌, List, [], Some, map, slice_get, Contains, ⊎_elim, sym, ap, subst, ◌∙◌}
+use Rattle.std.proofs.Common.{◌≡◌, ℕ, ℤ, true, false, if◌then◌else◌, List, [], Some, map, slice_get, Contains, inl, inr, ⊎_elim, sym, ap, subst, ◌∙◌}
 use Rattle.std.proofs.lemmas.Bool.{cases_Bool, true≢false}
 use Rattle.atom_record.specs.declared.value.Leaf.{Leaf}
 use Rattle.atom_record.specs.declared.log.LogFrame.{LogFrame}
@@ -11,11 +11,24 @@ use Rattle.book_meaning.specs.BookLimits.{most_state_ids}
 use Rattle.book_meaning.specs.Snapshots.{same_atom_id}
 use Rattle.book_meaning.specs.States.{same_dims, no_state_known, state_atoms, is_state_id, first_keys, state_value, state_drops, other_keys, last_state}
 use Rattle.state_slicer.specs.StateTables.{IsStateOf}
-use Rattle.state_slicer.specs.StateBooks.{StateBookStandsFor, IsAtId}
+use Rattle.state_slicer.specs.StateBooks.{StateBookStandsFor, IsAtId, IsStateBy}
 use Rattle.state_slicer.proofs.KeyedRowsLemmas.{keys-by, row_value, row_key}
 use Rattle.state_slicer.proofs.IdStatesLemmas.{ids_exact, dims_exact, state_in, states_in}
 use Rattle.state_slicer.proofs.BookAtomsLemmas.{id_of, book_in}
 use Rattle.state_slicer.proofs.StateBookLemmas.{is_book}
+
+-- a key has a row with its state, or none, and then the state is -1
+pub state_by : (states : Table (List Leaf) ℤ) (key : List Leaf) (value : ℤ)
+    → (Contains (keys states) key → IsStateOf states key value)
+    → ((¬ Contains (keys states) key) → value ≡ no_state_known) → IsStateBy states key value
+state_by states key value at_key no_key = ⊎_elim
+    (λ (among : is_among same_dims key (keys states) ≡ true).
+    inl (at_key (Contains-from_is_among same_dims dims_exact (keys states) key among)))
+    (λ (other : is_among same_dims key (keys states) ≡ false).
+    let absent : ¬ Contains (keys states) key = λ has.
+    true≢false (sym (is_among-from_Contains same_dims dims_exact (keys states) key has) ∙ other) in
+    inr (absent, no_key absent))
+    (cases_Bool (is_among same_dims key (keys states)))
 
 module _ (book : Table ℕ (Table (List Leaf) ℤ)) (id : ℕ) (frames : List LogFrame)
     (stands : StateBookStandsFor book frames) where

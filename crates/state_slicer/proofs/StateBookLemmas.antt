@@ -1,5 +1,5 @@
 -- What a book stands for after one more frame: for the proofs of callers, too.
-use Rattle.std.proofs.Common.{◌≡◌, ℕ, ℤ, true, false, if◌then◌else◌, List, [], ◌∷◌, ◌++◌, Result, Ok, Err, OnOk, sym, ap, subst, ◌∙◌}
+use Rattle.std.proofs.Common.{◌≡◌, ℕ, ℤ, true, false, if◌then◌else◌, List, [], ◌∷◌, ◌++◌, Result, Ok, Err, OnOk, inl, inr, refl, sym, ap, subst, ◌∙◌}
 use Rattle.std.proofs.lemmas.List.{append-nil}
 use Rattle.std.proofs.lemmas.List.Concat.{flat_map-append}
 use Rattle.atom_record.specs.declared.value.Leaf.{Leaf}
@@ -9,7 +9,7 @@ use Rattle.atom_record.specs.declared.log.LogFrame.TheVariants.{AtomAt}
 use Rattle.dim_table.specs.Table.{Table}
 use Rattle.book_meaning.specs.BookLimits.{most_state_ids}
 use Rattle.book_meaning.specs.States.{tells_state, state_atom_in, state_atoms}
-use Rattle.state_slicer.specs.StateBooks.{StateBookStandsFor, AppliesAtom, IsTakenAt, IsTakenFirst}
+use Rattle.state_slicer.specs.StateBooks.{StateBookStandsFor, AppliesAtom, BookTakes, IsTakenAt, IsTakenFirst}
 use Rattle.state_slicer.proofs.BookAtomsLemmas.{book_in, book_at, book_first}
 
 -- a book that stands for frames is what their state atoms make of an empty one, and the other way round
@@ -51,7 +51,20 @@ module _ (old : Table ℕ (Table (List Leaf) ℤ)) (atom : Atom) where
   applies_none none frames at stands =
       StateBookStandsFor-other old frames (AtomAt at atom) (ap (λ b. if b then atom ∷ [] else []) none) stands
 
+  pub takes_none : tells_state atom ≡ false → BookTakes old old atom
+  takes_none none = inl (none, refl)
+
   module _ (new : Table ℕ (Table (List Leaf) ℤ)) (tells : tells_state atom ≡ true) where
+    pub ok_takes_at : {X E : Type 0} (place : ℕ) (result : Result X E) → OnOk result (IsTakenAt old new place atom)
+        → OnOk result (BookTakes old new atom)
+    ok_takes_at place (Ok x) takes = inr (tells, inl (place, takes))
+    ok_takes_at place (Err e) takes = tt
+
+    pub ok_takes_first : {X E : Type 0} (result : Result X E) → OnOk result (IsTakenFirst old new atom)
+        → OnOk result (BookTakes old new atom)
+    ok_takes_first (Ok x) takes = inr (tells, inr takes)
+    ok_takes_first (Err e) takes = tt
+
     one_atom : (frames : List LogFrame) (at : ℕ)
         → book_in (state_atoms frames ++ atom ∷ []) ≡ book_in (state_atoms (frames ++ AtomAt at atom ∷ []))
     one_atom frames at =

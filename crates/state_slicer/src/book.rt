@@ -37,7 +37,7 @@ impl Model for StateBook {
 }
 
 impl StateBook {
-    ghost use Rattle.state_slicer.specs.StateBooks.{StateBookStandsFor, AppliesAtom, IsTakenAt, IsTakenFirst, IsAtId};
+    ghost use Rattle.state_slicer.specs.StateBooks.{StateBookStandsFor, AppliesAtom, BookTakes, IsTakenAt, IsTakenFirst, IsAtId, IsStateIn, AreDropsIn};
 
     /// A book with no state. It takes no memory yet.
     pub fn new(alloc: Global) -> StateBook
@@ -52,6 +52,7 @@ impl StateBook {
     /// Takes an atom. One without an exclusive entry changes nothing.
     pub fn apply(&mut self, atom: &Atom) -> Result<(), AllocError>
         ensures stands { OnOk result (AppliesAtom self.old self.new atom.now) }
+        ensures state { OnOk result (BookTakes self.old self.new atom.now) }
 
         // An atom that tells no state asks for no memory, nor does one of a new id that finds no room, or one that puts
         // the states of its id back.
@@ -106,6 +107,7 @@ impl StateBook {
     pub fn value(&self, atom_id: u32, key: &DimKey) -> i32
         ensures answers { (frames : List LogFrame) → StateBookStandsFor self.now frames
             → result ≡ state_value atom_id key.now frames }
+        ensures state { IsStateIn self.now atom_id key.now result }
     {
         let Some(states) = self.states_of(atom_id) else {
             return UNKNOWN;
@@ -118,6 +120,7 @@ impl StateBook {
     pub fn dropped(&self, atom_id: u32) -> u64
         ensures answers { (frames : List LogFrame) → StateBookStandsFor self.now frames
             → result ≡ count_in_u64 (state_drops atom_id frames) }
+        ensures drops { AreDropsIn self.now atom_id result }
     {
         let Some(states) = self.states_of(atom_id) else {
             return 0;
@@ -129,6 +132,7 @@ impl StateBook {
     pub fn dropped_atoms(&self) -> u64
         ensures answers { (frames : List LogFrame) → StateBookStandsFor self.now frames
             → result ≡ count_in_u64 (dropped_state_atoms frames) }
+        ensures drops { result ≡ self.now.dropped }
     {
         self.ids.dropped()
     }

@@ -20,6 +20,8 @@ const LATE: u64 = 1 << 63;
 pub enum Step {
     /// An atom, by its payload in hex, with the truth of each matcher.
     Atom(u64, &'static str, &'static [bool]),
+    /// An atom that the book of states takes, and the instance doesn't see.
+    Told(&'static str),
     Tick(u64),
     /// A pull that failed.
     Pull(u64),
@@ -29,8 +31,14 @@ pub enum Step {
     Cut(u64, &'static str),
 }
 
-/// The instance of a configuration in hex, installed at a time; none where it isn't acted on.
-pub fn instance_of(alloc: Global, config: &str, base: u64) -> Result<Option<Instance>, Fail>
+/// The instance of a configuration in hex, installed at a time when the log gave these states; none where it isn't
+/// acted on.
+pub fn instance_of(
+    alloc: Global,
+    config: &str,
+    base: u64,
+    states: &StateBook,
+) -> Result<Option<Instance>, Fail>
     requires { base < time_limit }
 {
     let bytes = bytes_of(alloc, config)?;
@@ -43,36 +51,57 @@ pub fn instance_of(alloc: Global, config: &str, base: u64) -> Result<Option<Inst
         return Ok(None);
     }
     let pulls = PullBook::new(alloc);
-    let states = StateBook::new(alloc);
-    Ok(Some(Instance::new(alloc, linked, base, &pulls, &states)?))
+    Ok(Some(Instance::new(alloc, linked, base, &pulls, states)?))
 }
 
 /// The instance after a step, and whether a report showed what it should.
-pub fn fed(alloc: Global, instance: Instance, step: Step) -> Result<(Instance, bool), Fail> {
+pub fn fed(
+    alloc: Global,
+    instance: Instance,
+    states: &mut StateBook,
+    step: Step,
+) -> Result<(Instance, bool), Fail> {
     match step {
-        Step::Atom(at, payload, truths) => log_atom(alloc, instance, at, payload, truths),
-        Step::Tick(at) => log_tick(alloc, instance, at),
-        Step::Pull(at) => log_pull(alloc, instance, at),
-        Step::Report(at, shown) => report(alloc, instance, false, at, shown),
-        Step::Cut(at, shown) => report(alloc, instance, true, at, shown),
+        Step::Atom(at, payload, truths) => {
+            tell(alloc, states, payload)?;
+            log_atom(alloc, instance, &*states, at, payload, truths)
+        }
+        Step::Told(payload) => {
+            tell(alloc, states, payload)?;
+            Ok((instance, true))
+        }
+        Step::Tick(at) => log_tick(instance, &*states, at),
+        Step::Pull(at) => log_pull(instance, &*states, at),
+        Step::Report(at, shown) => report(alloc, instance, &*states, false, at, shown),
+        Step::Cut(at, shown) => report(alloc, instance, &*states, true, at, shown),
     }
+}
+
+/// The book takes the atom of a payload in hex.
+pub fn tell(alloc: Global, states: &mut StateBook, payload: &str) -> Result<(), Fail> {
+    let payload = bytes_of(alloc, payload)?;
+    let atom = parse_atom(alloc, payload.as_slice())?;
+    states.apply(&atom)?;
+    Ok(())
 }
 
 fn log_atom(
     alloc: Global,
     instance: Instance,
+    states: &StateBook,
     at: u64,
     payload: &str,
     truths: &[bool],
 ) -> Result<(Instance, bool), Fail> {
     let payload = bytes_of(alloc, payload)?;
-    log_payload(alloc, instance, at, payload.as_slice(), truths)
+    log_payload(alloc, instance, states, at, payload.as_slice(), truths)
 }
 
 /// The instance after the atom of a payload, with these truths.
 pub fn log_payload(
     alloc: Global,
     instance: Instance,
+    states: &StateBook,
     at: u64,
     payload: &[u8],
     truths: &[bool],
@@ -82,18 +111,16 @@ pub fn log_payload(
         return Ok((instance, false));
     }
     let frame = LogFrame::AtomAt { at, atom };
-    // no atom of these tests tells a state
-    let states = StateBook::new(alloc);
     let view = LogView {
         matched: truths,
-        states: &states,
+        states,
     };
     let instance = instance.log(&frame, &view)?;
     Ok((instance, true))
 }
 
 // A pull that failed.
-fn log_pull(alloc: Global, instance: Instance, at: u64) -> Result<(Instance, bool), Fail> {
+fn log_pull(instance: Instance, states: &StateBook, at: u64) -> Result<(Instance, bool), Fail> {
     if at >= LATE {
         return Ok((instance, false));
     }
@@ -102,24 +129,22 @@ fn log_pull(alloc: Global, instance: Instance, at: u64) -> Result<(Instance, boo
         id: 10_001,
         outcome: PullOutcome::Failed,
     };
-    let states = StateBook::new(alloc);
     let view = LogView {
         matched: &[],
-        states: &states,
+        states,
     };
     let instance = instance.log(&frame, &view)?;
     Ok((instance, true))
 }
 
 /// The instance after a tick.
-pub fn log_tick(alloc: Global, instance: Instance, at: u64) -> Result<(Instance, bool), Fail> {
+pub fn log_tick(instance: Instance, states: &StateBook, at: u64) -> Result<(Instance, bool), Fail> {
     if at >= LATE {
         return Ok((instance, false));
     }
-    let states = StateBook::new(alloc);
     let view = LogView {
         matched: &[],
-        states: &states,
+        states,
     };
     let instance = instance.log(&LogFrame::Tick { at }, &view)?;
     Ok((instance, true))
@@ -128,6 +153,7 @@ pub fn log_tick(alloc: Global, instance: Instance, at: u64) -> Result<(Instance,
 fn report(
     alloc: Global,
     instance: Instance,
+    states: &StateBook,
     include_current: bool,
     at: u64,
     shown: &str,
@@ -135,8 +161,7 @@ fn report(
     if at >= LATE {
         return Ok((instance, false));
     }
-    let states = StateBook::new(alloc);
-    let (instance, tree) = instance.report(10, 7, include_current, at, &states)?;
+    let (instance, tree) = instance.report(10, 7, include_current, at, states)?;
     let text = text_of(alloc, &tree)?;
     Ok((instance, text.as_str() == shown))
 }

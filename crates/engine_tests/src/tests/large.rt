@@ -31,11 +31,12 @@ fn shown(tree: &ReportTree) -> Option<(&[NumTree], u64)> {
 // An atom in each of the first so many buckets, and a tick at the end.
 fn feed_buckets(alloc: Global, instance: Instance, buckets: u32) -> Result<Instance, Fail> {
     let mut instance = instance;
+    let states = StateBook::new(alloc);
     for bucket in 0..buckets {
         let at = u64::from(bucket) * SECOND;
-        instance = log_payload(alloc, instance, at, &[5, 0, 0, 0], &[true])?.0;
+        instance = log_payload(alloc, instance, &states, at, &[5, 0, 0, 0], &[true])?.0;
     }
-    Ok(log_tick(alloc, instance, u64::from(buckets) * SECOND)?.0)
+    Ok(log_tick(instance, &states, u64::from(buckets) * SECOND)?.0)
 }
 
 // Whether the buckets that are kept are those of the first seconds, each of one atom.
@@ -55,11 +56,11 @@ fn has_first_buckets(keys: &[NumTree]) -> bool {
 
 #[test]
 fn keeps_16384_buckets_and_counts_the_next(rt: HostRuntime) -> Result<(), Fail> {
-    let Some(instance) = instance_of(rt.alloc(), COUNTS, 0)? else {
+    let states = StateBook::new(rt.alloc());
+    let Some(instance) = instance_of(rt.alloc(), COUNTS, 0, &states)? else {
         return Err(Fail::new("not acted on"));
     };
     let instance = feed_buckets(rt.alloc(), instance, KEPT + 1)?;
-    let states = StateBook::new(rt.alloc());
     let (_instance, tree) = instance.report(10, 7, false, 16_385 * SECOND, &states)?;
     let (keys, not_kept) = shown(&tree).unwrap_or((&[], 0));
     assert!(rt; has_first_buckets(keys));
@@ -70,13 +71,14 @@ fn keeps_16384_buckets_and_counts_the_next(rt: HostRuntime) -> Result<(), Fail> 
 // An atom of each of the first so many numbers, 3,000 in a bucket.
 fn feed_keys(alloc: Global, instance: Instance, keys: u32) -> Result<Instance, Fail> {
     let mut instance = instance;
+    let states = StateBook::new(alloc);
     for key in 0..keys {
         let at = u64::from(key / 3000) * SECOND;
         let mut payload = vec![in alloc; 5, 0, 0, 0, 1, 0, 0, 0, 1]?;
         payload.extend_from_slice(&key.to_le_bytes())?;
-        instance = log_payload(alloc, instance, at, payload.as_slice(), &[true])?.0;
+        instance = log_payload(alloc, instance, &states, at, payload.as_slice(), &[true])?.0;
     }
-    Ok(log_tick(alloc, instance, 6 * SECOND)?.0)
+    Ok(log_tick(instance, &states, 6 * SECOND)?.0)
 }
 
 // Whether the keys are the first numbers in order, each with one bucket of one atom.
@@ -102,11 +104,11 @@ fn is_counted_once(key: &NumTree, number: u32) -> bool {
 
 #[test]
 fn shows_16384_keys(rt: HostRuntime) -> Result<(), Fail> {
-    let Some(instance) = instance_of(rt.alloc(), BY_FIELD, 0)? else {
+    let states = StateBook::new(rt.alloc());
+    let Some(instance) = instance_of(rt.alloc(), BY_FIELD, 0, &states)? else {
         return Err(Fail::new("not acted on"));
     };
     let instance = feed_keys(rt.alloc(), instance, KEPT)?;
-    let states = StateBook::new(rt.alloc());
     let (_instance, tree) = instance.report(10, 7, false, 6 * SECOND, &states)?;
     let (keys, not_kept) = shown(&tree).unwrap_or((&[], 1));
     assert!(rt; has_each_key_once(keys));

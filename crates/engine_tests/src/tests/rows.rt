@@ -1,6 +1,7 @@
 //! Configurations, what comes to them, and what their reports show.
 use crate::tests::feeds::Step::{Atom, Cut, Pull, Report, Tick};
 use crate::tests::feeds::{Step, fed, instance_of};
+use state_slicer::StateBook;
 use std::alloc::Global;
 use std::test::*;
 
@@ -258,12 +259,13 @@ fn shows(alloc: Global, row: Row) -> Result<bool, Fail> {
     if base > 1_000 {
         return Ok(false);
     }
-    let Some(mut instance) = instance_of(alloc, config, base)? else {
+    let mut states = StateBook::new(alloc);
+    let Some(mut instance) = instance_of(alloc, config, base, &states)? else {
         return Ok(false);
     };
     let mut good = true;
     for step in steps {
-        let (next, shown) = fed(alloc, instance, *step)?;
+        let (next, shown) = fed(alloc, instance, &mut states, *step)?;
         instance = next;
         good = good && shown;
     }

@@ -1,15 +1,21 @@
 //! A report's tree as text.
-use atom_record::{Bytes, Value};
+use atom_record::{Bytes, Slice, Value};
 use report_writer::{LeafTree, MetricBody, MetricTree, NumTree, ReportTree};
 use std::alloc::{AllocError, Global};
 
 /// A report as text: `LAST..NOW`, and for each metric ` | ID BASE SIZE`, what it didn't show, and for each key
-/// ` [LEAVES] START-END=COUNT ..`. A leaf that is missing is `-`.
+/// ` [LEAVES] {ATOM=STATE} START-END=COUNT ..`, a group as `ATOM:GROUP`; and then ` | ATOM lost COUNT` for each atom of
+/// states, and what of ids. A leaf that is missing is `-`.
 pub fn text_of(alloc: Global, tree: &ReportTree) -> Result<String, AllocError> {
     let mut text = format!(in alloc; "{}..{}", tree.last, tree.now)?;
     for metric in tree.metrics.as_slice() {
         push_metric(alloc, &mut text, metric)?;
     }
+    for drop in tree.state_drops.as_slice() {
+        let part = format!(in alloc; " | {} lost {}", drop.id, drop.number)?;
+        text.push_str(&part)?;
+    }
+    push_count(alloc, &mut text, "| ids lost", tree.state_atoms_dropped)?;
     Ok(text)
 }
 
@@ -39,10 +45,22 @@ fn push_keys(alloc: Global, text: &mut String, keys: &[NumTree]) -> Result<(), A
         text.push_str(" [")?;
         push_leaves(alloc, text, key.leaves.as_slice())?;
         text.push_str("]")?;
+        push_slices(alloc, text, key.slices.as_slice())?;
         for bucket in key.buckets.as_slice() {
             let part = format!(in alloc; " {}-{}={}", bucket.start, bucket.end, bucket.value)?;
             text.push_str(&part)?;
         }
+    }
+    Ok(())
+}
+
+fn push_slices(alloc: Global, text: &mut String, slices: &[Slice]) -> Result<(), AllocError> {
+    for slice in slices {
+        let part = match slice {
+            Slice::Plain { atom_id, value } => format!(in alloc; " {{{atom_id}={value}}}")?,
+            Slice::Group { atom_id, group } => format!(in alloc; " {{{atom_id}:{group}}}")?,
+        };
+        text.push_str(&part)?;
     }
     Ok(())
 }

@@ -6,5 +6,6 @@ use Rattle.client_engine.proofs.inside.log_all.Given as goal
 
 abbrev pub invariant-loop-track : goal.invariant-loop-track
 invariant-loop-track l =
-    AreStepped (handed l.fn.conditions l.states l.view.states.now) l.frame l.view.matched.now l.initial.track-items l.track-items l.track-index
+    AreStepped (handed l.fn.conditions l.states l.view.states.now) l.frame l.view.matched.now l.initial.track-items
+    l.track-items l.track-index
     × (l.conditions ≡ l.fn.conditions)

@@ -24,7 +24,8 @@ returns-in_ok-key-in-Some c = λ log stands.
     let same = to_z-of_z w32 c.value.result fits in
     on_ok_weaker c.push.result (λ added. added
     ∙ ap (λ l. c.args.shown.now ++ l) (ap (λ s. s ∷ []) (c.slice.ensures ∙ ap (slice_of state) (same ∙ value))
-    ∙ slice_there states log atom by state c.in_ok-key-in-Some.key there c.in_ok-key-in-Some.ensures)) c.push.ensures.added
+    ∙ slice_there states log atom by state c.in_ok-key-in-Some.key there c.in_ok-key-in-Some.ensures))
+    c.push.ensures.added
 
 -- no state, no slice
 pub returns-in-None : goal.returns-in-None

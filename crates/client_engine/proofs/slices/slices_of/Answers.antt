@@ -1,7 +1,7 @@
 -- One slice after the other.
 use Rattle.std.proofs.Common.{◌∙◌, ◌++◌, sym, ap, arith, append-nil}
 use Rattle.std.proofs.lemmas.List.{drop_all}
-use Rattle.metric_meaning.specs.StateSlices.{slices_at}
+use Rattle.metric_meaning.specs.StateSlices.{atom_slices}
 use Rattle.client_engine.proofs.SliceLemmas.{slices_on}
 use Rattle.client_engine.proofs.slices.slices_of.Goals as goal
 
@@ -17,6 +17,6 @@ pub returns : goal.returns
 returns c = λ log stands.
     let ends = c.loop-by-test.false in
     sym (append-nil c.loop-by.shown)
-    ∙ ap (λ l. c.loop-by.shown ++ slices_at c.args.states.now log c.args.atom.now l)
+    ∙ ap (λ l. c.loop-by.shown ++ atom_slices c.args.states.now log c.args.atom.now l)
     (sym (drop_all c.loop-by.by-index c.args.slices.now (omega (arith, ends))))
     ∙ c.loop-by.invariant log stands

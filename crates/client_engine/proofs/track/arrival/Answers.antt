@@ -1,7 +1,7 @@
 -- Nothing arrives where the condition isn't true; else the atom's key does.
-use Rattle.std.proofs.Common.{◌≡◌, ◌∙◌, ap, arith}
+use Rattle.std.proofs.Common.{◌∙◌, ap, arith}
 use Rattle.field_select.specs.LeafValues.{key_of}
-use Rattle.metric_meaning.specs.StateSlices.{slices_at}
+use Rattle.metric_meaning.specs.StateSlices.{atom_slices}
 use Rattle.client_engine.specs.Handed.{handed}
 use Rattle.client_engine.proofs.TrackLemmas.{not_arrived, arrived, condition_there}
 use Rattle.client_engine.proofs.track.arrival.Goals as goal
@@ -31,5 +31,5 @@ returns-clause-key c = λ scene found.
     (ap (λ dims. record { dims = dims; slices = c.in_ok-slices.slices }) c.in_ok-dims.ensures.key
     ∙ ap (λ slices. record { dims = key_of metric.dims atom; slices = slices })
     (c.in_ok-slices.ensures scene.log found.book
-    ∙ ap (λ by. slices_at c.args.states.now scene.log atom by) c.as_slice-by.ensures
-    ∙ ap (λ states. slices_at states scene.log atom metric.slices) found.states))
+    ∙ ap (λ by. atom_slices c.args.states.now scene.log atom by) c.as_slice-by.ensures
+    ∙ ap (λ states. atom_slices states scene.log atom metric.slices) found.states))

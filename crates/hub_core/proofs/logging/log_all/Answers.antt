@@ -14,14 +14,16 @@ loop-place-preserved g c =
       | in-Some+in_ok-log_slot w ↦
           let at = sym w.in-Some.ensures.value in
           let olds = c.args.slots.now.entries in
-          let more = asked_more g.J.Judge.says c.args.frame.now c.args.states.now c.loop-place.place olds c.loop-place.slots.entries
+          let more = asked_more g.J.Judge.says c.args.frame.now c.args.states.now c.loop-place.place olds
+          c.loop-place.slots.entries
           w.in-Some.slot.now c.loop-place.invariant.part at in
           let ticks = rises_by_sum (asked_by_all c.args.frame.now (take c.loop-place.place olds))
           (asked_of c.args.frame.now w.in-Some.slot.now) (g.J.Judge.ticks c.args.judge.now)
           (g.J.Judge.ticks c.loop-place.judge) (g.J.Judge.ticks w.log_slot.new.judge)
           c.loop-place.invariant.ticks w.in_ok-log_slot.ensures.ticks in
           rw (w.slots-is, w.judge-is) (record {
-            part = next_slot g.J.Judge.says c.args.frame.now c.args.states.now c.loop-place.place olds c.loop-place.slots.entries
+            part = next_slot g.J.Judge.says c.args.frame.now c.args.states.now c.loop-place.place olds
+                c.loop-place.slots.entries
                 w.in-Some.slot.now w.log_slot.new.slot c.loop-place.invariant.part at w.in_ok-log_slot.ensures.logs;
             ticks = subst (λ (n : ℕ). AreTicks n (g.J.Judge.ticks c.args.judge.now)
                 (g.J.Judge.ticks w.log_slot.new.judge))
@@ -36,7 +38,8 @@ loop-place-preserved g c =
 
 pub returns-clause-logs : goal.returns-clause-logs
 returns-clause-logs g c =
-    all_log g.J.Judge.says c.args.frame.now c.args.states.now c.loop-place.place c.args.slots.now.entries c.loop-place.slots.entries
+    all_log g.J.Judge.says c.args.frame.now c.args.states.now c.loop-place.place c.args.slots.now.entries
+    c.loop-place.slots.entries
     (omega arith) c.loop-place.invariant.part
 
 pub returns-clause-ticks : goal.returns-clause-ticks

@@ -13,7 +13,8 @@ returns-clause-reports c =
     let uid_fits : SFits w32 c.args.name.uid = search rules in
     let id_fits : SFits w64 c.args.name.id = search rules in
     let reports = simp to_z-of_z at c.in_ok-live.ensures.reports in
-    shows c.args.clock c.args.states.now c.args.name c.args.include_current c.args.slots.now.entries _ _ c.in-Some-take.live
+    shows c.args.clock c.args.states.now c.args.name c.args.include_current c.args.slots.now.entries _ _
+    c.in-Some-take.live
     c.in_ok-live.live
     c.in_ok-live.tree (sym c.in-Some.ensures.value ∙ ap Some (sym c.in-Some-take.ensures.value)) reports
     ((c.get_mut.follows.holds (Some c.in_ok-live.live)).3 (subst IsSome c.in-Some.ensures.value refl)).0

@@ -11,7 +11,8 @@ returns-clause-logs c = λ history frame has later view shown_is book_is.
     let book = c.args.view.now.states.now in
     let timely = c.requires.faultless.timely in
     inside_logs c.args.self.inside.value c.log.new.self c.args.frame.now truths book
-    (subst (λ old. InsideLogs c.args.frame.now truths book old c.log.new.self) c.deref_mut.ensures.value c.in_ok-log.ensures)
+    (subst (λ old. InsideLogs c.args.frame.now truths book old c.log.new.self) c.deref_mut.ensures.value
+    c.in_ok-log.ensures)
     (omega (arith, timely)) history frame has later shown_is book_is
 
 -- each metric asks for one of the predicates

@@ -13,7 +13,8 @@ returns-clause-reports c = λ history has now.
     let reports = simp to_z-of_z at c.in_ok-tree.ensures.reports in
     inside_reports c.args.self.inside.value c.report.new.self c.args.uid c.args.id c.args.include_current c.args.at
     c.args.states.now c.in_ok-tree.tree
-    (subst (λ old. InsideReports c.args.uid c.args.id c.args.include_current c.args.at c.args.states.now old c.report.new.self
+    (subst (λ old. InsideReports c.args.uid c.args.id c.args.include_current c.args.at c.args.states.now old
+    c.report.new.self
     c.in_ok-tree.tree) c.deref_mut.ensures.value reports) history has now
 
 -- each metric still asks for one of the predicates
@@ -25,7 +26,8 @@ invariant_of-result c =
     record {
       asked = merely (asked_after_report c.args.self.inside.value c.report.new.self c.args.uid c.args.id
           c.args.include_current c.args.at c.args.states.now c.in_ok-tree.tree
-          (subst (λ old. InsideReports c.args.uid c.args.id c.args.include_current c.args.at c.args.states.now old c.report.new.self
+          (subst (λ old. InsideReports c.args.uid c.args.id c.args.include_current c.args.at c.args.states.now old
+          c.report.new.self
           c.in_ok-tree.tree) c.deref_mut.ensures.value reports)
           (all_asked c.args.self.inside.value c.args.self.asked));
     }

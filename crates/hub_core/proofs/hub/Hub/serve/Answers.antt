@@ -34,7 +34,8 @@ returns-in_ok-lives-in-Remove-clause-serves g c =
     let removes = simp to_z-of_z at c.in_ok-lives-in-Remove.ensures in
     simp to_z-of_z (λ frames h in_time.
     serves_as g.J.Judge.says _ frames c.args.frame _ _ c.in-Remove.is
-    (hub_remove g.J.Judge.says c.args.self _ frames h c.in-Remove.uid c.in-Remove.id c.in_ok-lives-in-Remove.body refl refl
+    (hub_remove g.J.Judge.says c.args.self _ frames h c.in-Remove.uid c.in-Remove.id c.in_ok-lives-in-Remove.body
+    refl refl
     removes))
 
 pub returns-in_ok-lives-in-Report-clause-serves : goal.returns-in_ok-lives-in-Report-clause-serves
@@ -44,5 +45,6 @@ returns-in_ok-lives-in-Report-clause-serves g c =
     let reports = simp to_z-of_z at c.in_ok-lives-in-Report.ensures in
     simp to_z-of_z (λ frames h in_time.
     serves_as g.J.Judge.says _ frames c.args.frame _ _ c.in-Report.is
-    (hub_report g.J.Judge.says c.args.self _ frames h c.in-Report.uid c.in-Report.id c.in_ok-lives-in-Report.body refl refl
+    (hub_report g.J.Judge.says c.args.self _ frames h c.in-Report.uid c.in-Report.id c.in_ok-lives-in-Report.body
+    refl refl
     c.in-Report.include_current reports))

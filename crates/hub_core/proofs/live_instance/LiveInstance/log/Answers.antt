@@ -25,7 +25,8 @@ judge_all-requires-clause-askable g c =
 -- the instance took the frame with the truths that the judge says
 pub returns-clause-logs : goal.returns-clause-logs
 returns-clause-logs g c =
-    logs_by g.J.Judge.says c.args.frame.now c.args.states.now c.args.self.instance c.in_ok-instance.instance c.as_slice-2.result.now
+    logs_by g.J.Judge.says c.args.frame.now c.args.states.now c.args.self.instance c.in_ok-instance.instance
+    c.as_slice-2.result.now
     (c.as_slice-2.ensures.value ∙ c.in_ok-judge_all.ensures.truths
     ∙ ap (λ matchers. truths_by g.J.Judge.says matchers c.args.frame.now) c.matchers.ensures)
     c.in_ok-instance.ensures.logs

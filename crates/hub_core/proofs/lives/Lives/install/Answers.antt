@@ -15,6 +15,7 @@ returns-in-Ok-2 c =
     let same : c.others_of.result ≡ others c.args.name.uid c.args.name.id c.args.self =
     count ∙ ap (λ b. others_at c.args.name.uid b c.args.self.counts.entries) c.contains_key-there.ensures in
     let room : nat_le 10 c.others_of.result ≡ false = grind (arith, nat_tests, c.if-others_of-ge-MOST_CONFIGS.false) in
-    rw c.in-Ok.is (installs c.args.clock c.args.books.now c.args.name.uid c.args.name.id c.in-Ok.config c.in-Ok-2.linked c.args.self
+    rw c.in-Ok.is (installs c.args.clock c.args.books.now c.args.name.uid c.args.name.id c.in-Ok.config
+    c.in-Ok-2.linked c.args.self
     c.put_in.result (ap (nat_le 10) (sym same) ∙ room) (sym linked ∙ c.in-Ok-2.is)
     c.put_in.ensures)

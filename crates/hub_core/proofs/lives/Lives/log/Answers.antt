@@ -9,6 +9,6 @@ invariant_of-result g c =
     c.log_all.new.slots.entries c.in_ok-log_all.ensures.logs in
     record {
       counted = λ uid. same uid ∙ c.args.self.counted uid;
-      few = λ uid. omega
-          (arith, same uid, c.args.self.few uid);
+      few = λ uid. omega (arith, same uid, c.args.self.few uid);
+      above_zero = c.args.self.above_zero;
     }

@@ -1,10 +1,10 @@
 -- The counts are those of the slots, and the configuration stands under its name.
-use Rattle.std.proofs.Common.{SFits, w32, rules, ◌≡◌, ◌<◌, cond, arith, ap, ◌∙◌}
+use Rattle.std.proofs.Common.{SFits, w32, rules, ◌≡◌, ◌<◌, ◌+◌, cond, arith, ap, ◌∙◌}
 use Rattle.std.proofs.lemmas.Int.{to_z-of_z}
 use Rattle.session_frames.specs.declared.reply.ReplyBody.TheVariants.{Replaced, Installed}
 use Rattle.hub_core.specs.Slots.{others_at}
 use Rattle.hub_core.specs.Commands.{others}
-use Rattle.hub_core.proofs.HeldLemmas.{counted_put}
+use Rattle.hub_core.proofs.HeldLemmas.{counted_put, counts_set, above_set}
 use Rattle.hub_core.proofs.CommandLemmas.{puts_in}
 use Rattle.hub_core.proofs.lives.Lives.put_in.Goals as goal
 
@@ -12,7 +12,10 @@ pub invariant_of-result : goal.invariant_of-result
 invariant_of-result c =
     let uid_fits : SFits w32 c.args.name.uid = search rules in
     let held = c.in_ok-put.ensures.held in
-    let set = simp to_z-of_z at c.in_ok-set_count.ensures in
+    let count = c.others_of-others.result + 1 in
+    let listed = simp to_z-of_z at c.in_ok-set_count.ensures in
+    let counts = c.args.self.counts.entries in
+    let set = counts_set c.args.name.uid count counts c.set_count.new.counts.entries listed in
     let there = c.contains_key-there.ensures in
     let is = simp to_z-of_z at c.others_of-others.ensures in
     let same : c.others_of-others.result ≡ others c.args.name.uid c.args.name.id c.args.self =
@@ -21,16 +24,22 @@ invariant_of-result c =
     let all = counted_put c.args.name.uid c.args.name.id c.args.self.slots.entries c.put.new.slots.entries
     c.args.self.counts.entries c.set_count.new.counts.entries c.others_of-others.result
     c.args.self.counted c.args.self.few held set same room in
-    record { counted = λ uid. (all uid).0; few = λ uid. (all uid).1 }
+    record {
+      counted = λ uid. (all uid).0;
+      few = λ uid. (all uid).1;
+      above_zero = above_set c.args.name.uid count counts c.set_count.new.counts.entries listed c.args.self.above_zero;
+    }
 
 pub returns : goal.returns
 returns c =
     let uid_fits : SFits w32 c.args.name.uid = search rules in
     let slots = c.in_ok-put.ensures.slots in
-    let set = simp to_z-of_z at c.in_ok-set_count.ensures in
+    let set = counts_set c.args.name.uid (c.others_of-others.result + 1) c.args.self.counts.entries
+    c.set_count.new.counts.entries (simp to_z-of_z at c.in_ok-set_count.ensures) in
     let there = c.contains_key-there.ensures in
     let is = simp to_z-of_z at c.others_of-others.ensures in
-    puts_in c.args.clock c.args.books.now c.args.name.uid c.args.name.id c.args.linked c.args.self _ c.install_answer.result
+    puts_in c.args.clock c.args.books.now c.args.name.uid c.args.name.id c.args.linked c.args.self _
+    c.install_answer.result
     c.in_ok-live.live c.others_of-others.result c.in_ok-live.ensures slots set
     (is ∙ ap (λ b. others_at c.args.name.uid b c.args.self.counts.entries) there)
     (c.install_answer.ensures ∙ ap (λ b. cond b Replaced Installed) there)

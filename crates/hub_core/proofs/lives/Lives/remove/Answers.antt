@@ -1,17 +1,37 @@
--- The counts are those of the slots.
-use Rattle.std.proofs.Common.{SFits, w32, rules, sym, ◌∙◌}
+-- The counts are those of the slots, and what stood under the name is taken out.
+use Rattle.std.proofs.Common.{SFits, w32, rules, sym, ap, ◌∙◌}
 use Rattle.std.proofs.lemmas.Int.{to_z-of_z}
-use Rattle.hub_core.proofs.HeldLemmas.{counted_take_out}
+use Rattle.hub_core.specs.Slots.{others_at}
+use Rattle.hub_core.proofs.CommandLemmas.{takes_out}
+use Rattle.hub_core.proofs.HeldLemmas.{counted_take_out, counts_set, above_set}
 use Rattle.hub_core.proofs.lives.Lives.remove.Goals as goal
 
 pub invariant_of-result : goal.invariant_of-result
 invariant_of-result c =
     let uid_fits : SFits w32 c.args.name.uid = search rules in
     let held = c.take_out.ensures.held in
-    let set = simp to_z-of_z at c.in_ok-set_count.ensures in
+    let count = c.others_of-others.result in
+    let listed = simp to_z-of_z at c.in_ok-set_count.ensures in
+    let counts = c.args.self.counts.entries in
+    let set = counts_set c.args.name.uid count counts c.set_count.new.counts.entries listed in
     let found = c.contains_key.ensures in
     let is = simp to_z-of_z at c.others_of-others.ensures in
     let all = counted_take_out c.args.name.uid c.args.name.id c.args.self.slots.entries c.take_out.new.slots.entries
     c.args.self.counts.entries c.set_count.new.counts.entries c.others_of-others.result
     c.args.self.counted c.args.self.few (sym found ∙ c.if-not-contains_key.false) held set is in
-    record { counted = λ uid. (all uid).0; few = λ uid. (all uid).1 }
+    record {
+      counted = λ uid. (all uid).0;
+      few = λ uid. (all uid).1;
+      above_zero = above_set c.args.name.uid count counts c.set_count.new.counts.entries listed c.args.self.above_zero;
+    }
+
+pub returns : goal.returns
+returns c =
+    let uid_fits : SFits w32 c.args.name.uid = search rules in
+    let counts = c.args.self.counts.entries in
+    let set = counts_set c.args.name.uid c.others_of-others.result counts c.set_count.new.counts.entries
+    (simp to_z-of_z at c.in_ok-set_count.ensures) in
+    let there = sym c.contains_key.ensures ∙ c.if-not-contains_key.false in
+    let is = simp to_z-of_z at c.others_of-others.ensures in
+    takes_out c.args.name.uid c.args.name.id c.args.self _ c.others_of-others.result there c.take_out.ensures.slots set
+    (is ∙ ap (λ b. others_at c.args.name.uid b counts) (sym there))
