@@ -52,7 +52,7 @@ def fault_words(number, said):
 
 
 def line_at(offset, sizes):
-    """The number of the line whose bytes begin at an offset or hold it, by how many bytes each line has; None past all."""
+    """The number of the line whose bytes have an offset, by how many bytes each line has; None past all."""
     end = 0
     for number, size in enumerate(sizes, 1):
         end += size

@@ -1,5 +1,5 @@
-"""Configurations from their bytes: just enough to tell people which part a fault is of. The bytes are ones that the program
-read without a fault of the wire."""
+"""Configurations from their bytes: just enough to tell people which part a fault is of. The bytes are ones that the
+program read without a fault of the wire."""
 from .schema import TOP, message_of, messages
 
 MATCHER, PREDICATE, STATE, METRIC = "matcher", "predicate", "state", "metric"
@@ -111,5 +111,5 @@ def tree(content, message=TOP):
 
 
 def entities(config, kind):
-    """The entities of a kind, each with the name of the field where it stands, in the order in which they are judged."""
+    """The entities of a kind, each with the name of its field, in the order in which they are judged."""
     return [(name, entity) for name in ENTITIES[kind] for entity in config.get(name, [])]

@@ -5,7 +5,7 @@ MOST_SHOWN = 80
 
 
 class Fault(Exception):
-    """Text or bytes that can't be taken, and what was expected in their place; the column of a line, where it is known."""
+    """Text or bytes that can't be taken, and what was expected in their place; the column, where it is known."""
 
     def __init__(self, said, column=None):
         super().__init__(said)

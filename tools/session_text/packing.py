@@ -99,12 +99,12 @@ def config_file(name, folder):
         with open(os.path.join(folder, name), "rb") as file:
             content = file.read()
     except OSError as error:
-        place = os.path.abspath(folder or ".")
-        raise Fault(f"configuration: expected a file {shown(name)} in {place} that can be read: {error.strerror}") from None
+        place, why = os.path.abspath(folder or "."), error.strerror
+        raise Fault(f"configuration: expected a file {shown(name)} in {place} that can be read: {why}") from None
     if ending == ".txtpb":
         return encoded(without_mark(content), name)
     if is_text(content) and ending == ".pb":
-        raise Fault(f"configuration: expected bytes in {name}, and it is text; a configuration in text is a file .txtpb")
+        raise Fault(f"configuration: expected bytes in {name}, and it is text; text is taken as a file .txtpb")
     if ending == ".hex":
         return hex_of("".join(content.decode("ascii", "replace").split()), name)
     return content
@@ -206,11 +206,12 @@ def text_of(line):
         return line.decode()
     except UnicodeDecodeError as error:
         byte, column = line[error.start], len(line[: error.start].decode()) + 1
-        raise Fault(rf"expected text in UTF-8, got the byte 0x{byte:02x}; in a string it is \x{byte:02x}", column) from None
+        said = rf"expected text in UTF-8, got the byte 0x{byte:02x}; in a string it is \x{byte:02x}"
+        raise Fault(said, column) from None
 
 
 def pack_lines(content, folder, name):
-    """The bytes of each line of a session in text. A fault names the line where it is, and the column where it is known."""
+    """The bytes of each line of a session in text. A fault names the line, and the column where it is known."""
     if b"\0" in content:
         raise Fault(f"{name}: expected a session in text, and it is bytes; tools/session unpack shows them as text")
     parts = []

@@ -1,9 +1,11 @@
-"""The program: the proved one, if it is built, or else one without a proof, which is built once and kept; and its runs."""
+"""The program: the proved one, if it is built, or else one without a proof, which is built once and kept."""
+import contextlib
 import fcntl
 import hashlib
 import os
 import pathlib
 import shutil
+import signal
 import subprocess
 import tempfile
 import time
@@ -71,39 +73,63 @@ def is_kept(wanted):
     return KEPT.is_file() and MADE_FROM.is_file() and MADE_FROM.read_text(encoding="utf-8") == wanted
 
 
+@contextlib.contextmanager
+def uninterrupted():
+    """An interrupt that comes here is one at the end of this."""
+    came = []
+    before = signal.signal(signal.SIGINT, lambda *_: came.append(True))
+    try:
+        yield
+    finally:
+        signal.signal(signal.SIGINT, before)
+    if came:
+        raise KeyboardInterrupt
+
+
+@contextlib.contextmanager
+def started(words, **how):
+    """A program at work. It is ended with this, also where this is interrupted."""
+    ran = None
+    try:
+        with uninterrupted():
+            ran = subprocess.Popen(words, **how)
+        yield ran
+    finally:
+        if ran and ran.poll() is None:
+            ran.terminate()
+            ran.wait()
+
+
 def answered(program, words, content):
-    """What a program answers to some input. It isn't left behind where this is interrupted."""
+    """What a program answers to some input."""
     try:
         pipes = {"stdin": subprocess.PIPE, "stdout": subprocess.PIPE, "stderr": subprocess.PIPE}
-        with subprocess.Popen([program, *words], **pipes) as ran, Seconds("the program is at work"):
-            try:
-                written, note = ran.communicate(content)
-            except BaseException:
-                ran.kill()
-                raise
+        with started([program, *words], **pipes) as ran, Seconds("the program is at work"):
+            written, note = ran.communicate(content)
     except OSError as error:
         raise Fault(f"expected a program at {program}: {error.strerror}") from None
     return Run(written, note.decode(errors="replace"), ran.returncode)
 
 
 def checked(ran, program):
-    """A run that ended by itself. A program that was stopped has a status below 0; one without a proof also stops where it
-    would do what a proof excludes."""
+    """A run that ended by itself. A program that was stopped has another status; one without a proof also stops where
+    it would do what a proof excludes."""
     if 0 <= ran.status <= 6:
         return ran
     said = [line for line in ran.note.splitlines() if line.isprintable() and line.strip()]
     raise Fault(f"{program} stopped with status {ran.status}: {said[-1][:200] if said else 'it says nothing'}")
 
 
-def take_program(room):
-    """Copies the program that rt try runs in a folder below this one, if it is there."""
+def take_program(room, made):
+    """Copies the program that rt try runs in a folder below this one, if it is there and whole: it answers a check."""
     for file in room.glob("*/*/program"):
-        if file.with_name("stdout").exists() or file.with_name("stdin").exists():
-            try:
-                shutil.copyfile(file, KEPT.with_suffix(".part"))
+        try:
+            shutil.copyfile(file, made)
+            made.chmod(0o755)
+            if answered(made, ["check"], b"") == Run(b"ok 0 0 0 0\n", "", 0):
                 return True
-            except OSError:  # it is gone again
-                pass
+        except (OSError, Fault):  # it is gone again, or not there whole yet
+            pass
     return False
 
 
@@ -113,7 +139,7 @@ def why_not(said):
     return "\n".join(line[:200] for line in lines[-12:])
 
 
-def build(room):
+def build(room, made):
     """Has rt try build the program and run it on ticks, and copies it while it runs."""
     cases = room / "cases"
     cases.mkdir()
@@ -122,18 +148,14 @@ def build(room):
     is_taken = False
     with open(log, "wb") as told:
         streams = {"stdin": subprocess.DEVNULL, "stdout": subprocess.DEVNULL, "stderr": told}
+        words = ["rt", "try", "--cases", str(cases), "--", "replay"]
         try:
-            words = ["rt", "try", "--cases", str(cases), "--", "replay"]
-            ran = subprocess.Popen(words, cwd=CRATE, env={**os.environ, "TMPDIR": str(room)}, **streams)
+            with started(words, cwd=CRATE, env={**os.environ, "TMPDIR": str(room)}, **streams) as ran:
+                while ran.poll() is None and not is_taken:
+                    is_taken = take_program(room, made)
+                    time.sleep(0.02)
         except OSError:
             raise Fault("expected the toolchain's command rt on the path, and there is none") from None
-        try:
-            while ran.poll() is None and not is_taken:
-                is_taken = take_program(room)
-                time.sleep(0.02)
-        finally:
-            ran.terminate()  # rt ends what it started
-            ran.wait()
     if not is_taken:
         raise Fault(f"expected rt try to build the program; it says\n{why_not(log.read_bytes())}")
 
@@ -147,12 +169,9 @@ def keep_program():
         wanted = checksum()
         if is_kept(wanted):
             return
-        with tempfile.TemporaryDirectory(prefix="statsd-unproved-") as room, Seconds("rt builds the program"):
-            build(pathlib.Path(room))
         made = KEPT.with_suffix(".part")
-        made.chmod(0o755)
-        if answered(made, ["check"], b"") != Run(b"ok 0 0 0 0\n", "", 0):
-            raise Fault(f"expected a program at {made} that runs by itself")
+        with tempfile.TemporaryDirectory(prefix="statsd-unproved-") as room, Seconds("rt builds the program"):
+            build(pathlib.Path(room), made)
         MADE_FROM.unlink(missing_ok=True)
         made.replace(KEPT)
         if checksum() == wanted:

@@ -1,4 +1,4 @@
-"""Why a configuration is refused, in words, with the part of it that is at fault. docs/CONFIGURATION.md has the numbers."""
+"""Why a configuration is refused, in words, with the part that is at fault. docs/CONFIGURATION.md has the numbers."""
 from .config import ENTITIES, MATCHER, METRIC, PREDICATE, STATE, entities, tree
 from .schema import path_words
 
@@ -151,7 +151,8 @@ def has_bad_combination(entity):
     combination, named_ones = entity.get("combination"), children(entity)
     if combination is None:
         return False
-    return "operation" not in combination or not named_ones or (combination["operation"] == NOT and len(named_ones) != 1)
+    is_odd_not = combination.get("operation") == NOT and len(named_ones) != 1
+    return "operation" not in combination or not named_ones or is_odd_not
 
 
 def has_bad_atom(entity):

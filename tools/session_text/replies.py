@@ -105,13 +105,13 @@ def is_front(content):
 
 
 def replies_lines(content, configs=()):
-    """All replies, with the configurations of their commands, if they are at hand. A front of a reply, as a failed write
-    leaves it, is one line of bytes."""
+    """All replies, with the configurations of their commands, if they are at hand. A front of a reply, as a failed
+    write leaves it, is one line of bytes."""
     lines, at, number = [], 0, 0
     while at < len(content):
         left = content[at:]
         if not is_front(left):
-            raise Fault(f"expected replies, and at byte {at} there is none: a reply begins with its length and its kind")
+            raise Fault(f"expected replies, and at byte {at} is none: a reply begins with its length and its kind")
         size = struct.unpack_from("<Q", left)[0] if len(left) >= 8 else len(left)
         if size > len(left) - 8:
             return [*lines, "cut " + left.hex()]

@@ -15,7 +15,7 @@ def tell(line):
 
 
 class Seconds:
-    """Shows how many seconds something takes: on a terminal as they pass, from the third on, and else twice a minute."""
+    """Shows how many seconds something takes: on a terminal from the third on, and else twice a minute."""
 
     def __init__(self, what):
         self.what, self.is_done, self.begin = what, threading.Event(), time.monotonic()
