@@ -4,9 +4,10 @@ import re
 import struct
 from collections import namedtuple
 
-from .faults import Fault
+from .faults import Fault, column_of, echo, shown, within
 from .layout import ATOM, BITS, BOOL, FLAGS, INSTALL, INT, LONG, PULL, RAW, REMOVE, REPORT, STR, TICK, TYPES
 from .protobuf import encoded
+from .reading import is_text, without_mark
 from .words import QUOTED, hex_of, number_of, string_of, time_of, words_of
 
 ENTRY = re.compile(r"([0-9]+)(?:\[([0-9]+)\])?(?:\.([0-9]+))?=([a-z]+):(.*)", re.DOTALL)
@@ -23,7 +24,7 @@ def counted(content, what):
 def bool_byte(word):
     """The byte of a Bool."""
     if word not in ("true", "false"):
-        raise Fault(f"bool: expected true or false, got {word!r}")
+        raise Fault(f"bool: expected true or false, got {echo(word)}")
     return bytes([word == "true"])
 
 
@@ -41,18 +42,24 @@ def value_and_flags(text):
     """A value's word, and the sum of the flags that follow it after commas."""
     found = VALUE.fullmatch(text)
     if not found:
-        raise Fault(f"entry: expected a value, and then flags after commas; got {text}")
+        raise Fault(f"entry: expected a value, and then flags after commas; got {shown(text)}")
     flags = found[2].split(",")[1:]
     if set(flags) - set(FLAGS):
-        raise Fault(f"flags: expected some of {', '.join(FLAGS)}; got {','.join(flags)!r}")
+        raise Fault(f"flags: expected some of {', '.join(FLAGS)}; got {echo(','.join(flags))}")
     return found[1], sum(FLAGS[flag] for flag in set(flags))
 
 
 def entry_bytes(word):
     """An entry of an atom, as 1=int:5, 2[1].3=str:"a" or 1=int:2,exclusive."""
+    with within(word):
+        return bytes_of_entry(word)
+
+
+def bytes_of_entry(word):
+    """The bytes of an entry."""
     found = ENTRY.fullmatch(word)
     if not found or found[4] not in TYPES:
-        raise Fault(f"entry: expected FIELD[INDEX].SUB=TYPE:VALUE with a type of {', '.join(TYPES)}; got {word!r}")
+        raise Fault(f"entry: expected FIELD[INDEX].SUB=TYPE:VALUE with a type of {', '.join(TYPES)}; got {echo(word)}")
     place = [number_of(found[at] or "0", 0, 255, what) for at, what in ((1, "field"), (2, "index"), (3, "sub"))]
     kind = TYPES[found[4]]
     value, flags = value_and_flags(found[5])
@@ -79,7 +86,7 @@ def atoms_of(words, atom_id):
         elif atoms:
             atoms[-1][1].append(word)
         else:
-            raise Fault(f"pull: expected failed alone, or atom before the entries; got {word!r}")
+            raise Fault(f"pull: expected failed alone, or atom before the entries; got {echo(word)}", column_of(word))
     return [payload_bytes(*atom) for atom in atoms]
 
 
@@ -87,14 +94,17 @@ def config_file(name, folder):
     """The configuration in a file of protobuf text (.txtpb), of bytes (.pb) or of hexadecimal (.hex)."""
     ending = os.path.splitext(name)[1]
     if ending not in (".txtpb", ".pb", ".hex"):
-        raise Fault(f"configuration: expected a file .txtpb, .pb or .hex; got {name!r}")
+        raise Fault(f"configuration: expected a file .txtpb, .pb or .hex; got {echo(name)}")
     try:
         with open(os.path.join(folder, name), "rb") as file:
             content = file.read()
     except OSError as error:
-        raise Fault(f"configuration: expected a file {name} that can be read: {error.strerror}") from None
+        place, why = os.path.abspath(folder or "."), error.strerror
+        raise Fault(f"configuration: expected a file {shown(name)} in {place} that can be read: {why}") from None
     if ending == ".txtpb":
-        return encoded(content, name)
+        return encoded(without_mark(content), name)
+    if is_text(content) and ending == ".pb":
+        raise Fault(f"configuration: expected bytes in {name}, and it is text; text is taken as a file .txtpb")
     if ending == ".hex":
         return hex_of("".join(content.decode("ascii", "replace").split()), name)
     return content
@@ -102,9 +112,10 @@ def config_file(name, folder):
 
 def config_bytes(word, folder):
     """A configuration: hex:BYTES, or a file, whose name is a string where it has spaces."""
-    if word.startswith("hex:"):
-        return hex_of(word[4:], "configuration")
-    return config_file(os.fsdecode(string_of(word)) if word.startswith('"') else word, folder)
+    with within(word):
+        if word.startswith("hex:"):
+            return hex_of(word[4:], "configuration")
+        return config_file(os.fsdecode(string_of(word)) if word.startswith('"') else word, folder)
 
 
 def client_bytes(words):
@@ -153,7 +164,7 @@ def remove_body(words, _folder):
 def report_body(words, _folder):
     """The body of a Report."""
     if words[2:] not in ([], ["cut"]):
-        raise Fault(f"report: expected cut or nothing after the id; got {words[2]!r}")
+        raise Fault(f"report: expected cut or nothing after the id; got {echo(words[2])}", column_of(words[2]))
     return client_bytes(words) + bytes([len(words) > 2])
 
 
@@ -173,10 +184,10 @@ LINES = {
 def frame_bytes(name, words, folder):
     """The bytes of a frame, from the words of its line."""
     if name not in LINES:
-        raise Fault(f"expected a line of {', '.join(LINES)} or bytes; got {name!r}")
+        raise Fault(f"expected a line of {', '.join(LINES)} or bytes; got {echo(name)}", column_of(name))
     line = LINES[name]
     if not line.least <= len(words) <= line.most:
-        raise Fault(f"expected {line.looks}; got {' '.join([name, *words])}")
+        raise Fault(f"expected {line.looks}; got {shown(' '.join([name, *words]))}", column_of(name))
     body = line.body(words, folder)
     return struct.pack("<IB", len(body) + 1, line.kind) + body
 
@@ -194,16 +205,25 @@ def text_of(line):
     try:
         return line.decode()
     except UnicodeDecodeError as error:
-        byte = line[error.start]
-        raise Fault(rf"expected text in UTF-8, got the byte 0x{byte:02x}; in a string it is \x{byte:02x}") from None
+        byte, column = line[error.start], len(line[: error.start].decode()) + 1
+        said = rf"expected text in UTF-8, got the byte 0x{byte:02x}; in a string it is \x{byte:02x}"
+        raise Fault(said, column) from None
 
 
-def pack(content, folder, name):
-    """The bytes of a session in text. A fault names the line where it is."""
+def pack_lines(content, folder, name):
+    """The bytes of each line of a session in text. A fault names the line, and the column where it is known."""
+    if b"\0" in content:
+        raise Fault(f"{name}: expected a session in text, and it is bytes; tools/session unpack shows them as text")
     parts = []
-    for number, line in enumerate(content.split(b"\n"), 1):
+    for number, line in enumerate(without_mark(content).split(b"\n"), 1):
         try:
             parts.append(line_bytes(text_of(line), folder))
         except Fault as fault:
-            raise Fault(f"{name}:{number}: {fault}") from None
-    return b"".join(parts)
+            place = f"{number}:{fault.column}" if fault.column else number
+            raise Fault(f"{name}:{place}: {fault}") from None
+    return parts
+
+
+def pack(content, folder, name):
+    """The bytes of a session in text."""
+    return b"".join(pack_lines(content, folder, name))

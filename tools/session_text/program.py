@@ -1,17 +1,30 @@
-"""The program: whether it is built, and its runs."""
+"""The program: the proved one, if it is built, or else one without a proof, which is built once and kept."""
+import contextlib
+import fcntl
+import hashlib
+import os
 import pathlib
-import re
+import shutil
+import signal
 import subprocess
-import sys
 import tempfile
+import time
 from collections import namedtuple
 
 from .faults import Fault
+from .told import Seconds, tell
 
 TOP = pathlib.Path(__file__).resolve().parents[2]
 CRATE = TOP / "crates" / "statsd"
 PROGRAM = CRATE / "out" / "statsd"
-ENDED = re.compile(r"^run=ended status=(\d+)", re.MULTILINE)
+
+# The program without a proof, and the checksum of the sources that it was made from.
+KEPT = TOP / "out" / "unproved" / "statsd"
+MADE_FROM = KEPT.with_name("statsd.sources")
+
+# A session of so many ticks keeps a program at work for a second or two while it is copied.
+TICKS = 20_000
+TICK = bytes.fromhex("09000000" "01" "0000000000000000")
 
 # What a run wrote, what it noted on standard error, and its status.
 Run = namedtuple("Run", "written note status")
@@ -30,61 +43,160 @@ def crates_of(name):
     return found
 
 
-def sources():
-    """The files that the program is built of."""
-    folders = [TOP / "crates" / crate / part for crate in crates_of("statsd") for part in ("src", "specs", "proofs")]
-    files = [file for folder in folders for file in folder.rglob("*") if file.is_file()]
+def sources(*parts):
+    """The files of these folders of the program's crates, in a fixed order."""
+    folders = [TOP / "crates" / crate / part for crate in sorted(crates_of("statsd")) for part in parts]
+    files = [file for folder in folders for file in sorted(folder.rglob("*")) if file.is_file()]
     return [TOP / "crates.txt", *files]
 
 
-def want_of_build():
-    """Why the program has to be built first, or None."""
+def checksum():
+    """The checksum of all that a program without a proof is made from: the code, and which crates stand on which."""
+    made = hashlib.sha256()
+    for file in sources("src"):
+        content = file.read_bytes()
+        made.update(f"{file.relative_to(TOP)} {len(content)}\n".encode() + content)
+    return made.hexdigest()
+
+
+def want_of_proof():
+    """Why the proved program isn't taken, or None."""
     if not PROGRAM.is_file():
-        return "no program is built"
+        return "no proved program is built (.ci/run builds it)"
     made = PROGRAM.stat().st_mtime
-    newer = [file for file in sources() if file.stat().st_mtime > made]
-    return f"the built program is older than {newer[0].relative_to(TOP)}" if newer else None
+    newer = [file for file in sources("src", "specs", "proofs") if file.stat().st_mtime > made]
+    return f"the proved program is older than {newer[0].relative_to(TOP)}" if newer else None
 
 
-def tell(line):
-    """Says something beside what is asked for."""
-    print(f"tools/session: {line}", file=sys.stderr, flush=True)
+def is_kept(wanted):
+    """Whether the program that is kept was made from the sources of this checksum."""
+    return KEPT.is_file() and MADE_FROM.is_file() and MADE_FROM.read_text(encoding="utf-8") == wanted
 
 
-def run_built(program, words, content):
-    """Runs a built program."""
+@contextlib.contextmanager
+def uninterrupted():
+    """An interrupt that comes here is one at the end of this."""
+    came = []
+    before = signal.signal(signal.SIGINT, lambda *_: came.append(True))
     try:
-        ran = subprocess.run([program, *words], input=content, capture_output=True, check=False)
+        yield
+    finally:
+        signal.signal(signal.SIGINT, before)
+    if came:
+        raise KeyboardInterrupt
+
+
+@contextlib.contextmanager
+def started(words, **how):
+    """A program at work. It is ended with this, also where this is interrupted."""
+    ran = None
+    try:
+        with uninterrupted():
+            ran = subprocess.Popen(words, **how)
+        yield ran
+    finally:
+        if ran and ran.poll() is None:
+            ran.terminate()
+            ran.wait()
+
+
+def answered(program, words, content):
+    """What a program answers to some input."""
+    try:
+        pipes = {"stdin": subprocess.PIPE, "stdout": subprocess.PIPE, "stderr": subprocess.PIPE}
+        with started([program, *words], **pipes) as ran, Seconds("the program is at work"):
+            written, note = ran.communicate(content)
     except OSError as error:
         raise Fault(f"expected a program at {program}: {error.strerror}") from None
-    return Run(ran.stdout, ran.stderr.decode(errors="replace"), ran.returncode)
+    return Run(written, note.decode(errors="replace"), ran.returncode)
 
 
-def run_unproved(words, content):
-    """Has rt build the program without a proof and run it. Rt says how the run ended, beside the program's notes."""
-    with tempfile.TemporaryFile() as log:
+def checked(ran, program):
+    """A run that ended by itself. A program that was stopped has another status; one without a proof also stops where
+    it would do what a proof excludes."""
+    if 0 <= ran.status <= 6:
+        return ran
+    said = [line for line in ran.note.splitlines() if line.isprintable() and line.strip()]
+    raise Fault(f"{program} stopped with status {ran.status}: {said[-1][:200] if said else 'it says nothing'}")
+
+
+def take_program(room, made):
+    """Copies the program that rt try runs in a folder below this one, if it is there and whole: it answers a check."""
+    for file in room.glob("*/*/program"):
         try:
-            ran = subprocess.run(
-                ["rt", "try", "--", *words], input=content, stdout=subprocess.PIPE, stderr=log, cwd=CRATE, check=False
-            )
+            shutil.copyfile(file, made)
+            made.chmod(0o755)
+            if answered(made, ["check"], b"") == Run(b"ok 0 0 0 0\n", "", 0):
+                return True
+        except (OSError, Fault):  # it is gone again, or not there whole yet
+            pass
+    return False
+
+
+def why_not(said):
+    """What rt says where it didn't build the program, as far as it is text."""
+    lines = [line for line in said.decode(errors="replace").splitlines() if line.isprintable() and line.strip()]
+    return "\n".join(line[:200] for line in lines[-12:])
+
+
+def build(room, made):
+    """Has rt try build the program and run it on ticks, and copies it while it runs."""
+    cases = room / "cases"
+    cases.mkdir()
+    (cases / "ticks").write_bytes(TICK * TICKS)
+    log = room / "log"
+    is_taken = False
+    with open(log, "wb") as told:
+        streams = {"stdin": subprocess.DEVNULL, "stdout": subprocess.DEVNULL, "stderr": told}
+        words = ["rt", "try", "--cases", str(cases), "--", "replay"]
+        try:
+            with started(words, cwd=CRATE, env={**os.environ, "TMPDIR": str(room)}, **streams) as ran:
+                while ran.poll() is None and not is_taken:
+                    is_taken = take_program(room, made)
+                    time.sleep(0.02)
         except OSError:
             raise Fault("expected the toolchain's command rt on the path, and there is none") from None
-        log.seek(0)
-        said = log.read().decode(errors="replace")
-    ended = ENDED.search(said)
-    if not ended:
-        raise Fault(f"expected rt try to build and run the program; it says\n{said}")
-    notes = [line for line in said.splitlines(True) if line.startswith("statsd: ")]
-    return Run(ran.stdout, "".join(notes), int(ended[1]))
+    if not is_taken:
+        raise Fault(f"expected rt try to build the program; it says\n{why_not(log.read_bytes())}")
 
 
-def run(words, content, program=None):
-    """Runs the program on these words: the one that is given, or the built one. Where that has to be built, says so."""
+def keep_program():
+    """Builds the program without a proof, unless somebody else has just done it."""
+    KEPT.parent.mkdir(parents=True, exist_ok=True)
+    with open(KEPT.with_name("lock"), "wb") as lock:
+        with Seconds("another run is building the program"):
+            fcntl.flock(lock, fcntl.LOCK_EX)
+        wanted = checksum()
+        if is_kept(wanted):
+            return
+        made = KEPT.with_suffix(".part")
+        with tempfile.TemporaryDirectory(prefix="statsd-unproved-") as room, Seconds("rt builds the program"):
+            build(pathlib.Path(room), made)
+        MADE_FROM.unlink(missing_ok=True)
+        made.replace(KEPT)
+        if checksum() == wanted:
+            MADE_FROM.write_text(wanted, encoding="utf-8")
+
+
+def unproved(why):
+    """The program without a proof. Says once that it is one, and whether it has to be built first."""
+    name = KEPT.relative_to(TOP)
+    if is_kept(checksum()):
+        tell(f"{why}: {name} answers, which is built from these sources without a proof")
+        return KEPT
+    tell(f"{why}: rt builds one from the sources without a proof, once, in a minute or two, and {name} keeps it")
+    keep_program()
+    return KEPT
+
+
+def chosen(program=None):
+    """The program to run: the one that is given, the proved one, or one without a proof."""
     if program:
-        return run_built(program, words, content)
-    want = want_of_build()
-    if not want:
-        return run_built(PROGRAM, words, content)
-    tell(f"{want}: rt builds it from the sources as they are, without a proof, and runs that; it takes a minute or two")
-    tell("to have it proved and built for all later runs: .ci/run")
-    return run_unproved(words, content)
+        return os.path.abspath(program)
+    why = want_of_proof()
+    return unproved(why) if why else PROGRAM
+
+
+def run(words, content, program):
+    """Runs a program on these words and this input."""
+    return checked(answered(program, words, content), program)

@@ -3,6 +3,23 @@ import struct
 
 from .faults import Fault
 
+BYTE_ORDER_MARK = b"\xef\xbb\xbf"
+
+
+def without_mark(content):
+    """Text without the byte order mark that some editors put in front."""
+    return content[len(BYTE_ORDER_MARK) :] if content.startswith(BYTE_ORDER_MARK) else content
+
+
+def is_text(content):
+    """Whether bytes are text alone: UTF-8, with no control but tabs and ends of lines. No frame, reply or entity is."""
+    try:
+        text = content.decode()
+    except UnicodeDecodeError:
+        return False
+    return bool(text) and not any(char < " " and char not in "\t\r\n" for char in text)
+
+
 
 class Cursor:
     """A place in bytes, which moves on as they are read. What isn't there is a Fault."""

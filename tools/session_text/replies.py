@@ -1,7 +1,7 @@
 """Replies as text."""
 import struct
 
-from . import protobuf
+from . import protobuf, refusals
 from .faults import Fault
 from .layout import (
     CLIENT_FULL,
@@ -16,7 +16,7 @@ from .layout import (
     UNSUPPORTED,
     WIRE,
 )
-from .reading import Cursor, client_words
+from .reading import Cursor, client_words, is_text
 
 NAMES = {
     INSTALLED: "installed",
@@ -29,26 +29,44 @@ NAMES = {
 }
 
 
-def path_word(cursor):
-    """The path to a record that isn't supported. It is empty where the whole isn't of a form that is acted on."""
-    numbers = [str(cursor.number("I")) for _ in range(cursor.number("B"))]
-    return ".".join(numbers) or "(not of a form that is acted on)"
+# How long a reply is, at least, and less than what.
+LEAST, TOO_MUCH = 13, 2**40
 
 
-REFUSALS = {
-    TOO_LARGE: lambda cursor: f"large {cursor.number('I')}",
-    WIRE: lambda cursor: f"wire {cursor.number('B')} {cursor.number('I')}",
-    UNSUPPORTED: lambda cursor: f"unsupported {path_word(cursor)}",
-    LINK: lambda cursor: f"link {cursor.number('B')} {cursor.number('B')} {cursor.number('q')}",
-}
+def large(cursor, _config):
+    """A configuration that is too large."""
+    return f"large {cursor.number('I')}", []
 
 
-def refusal_words(cursor):
-    """Why a configuration was refused."""
+def wire(cursor, _config):
+    """A fault of the wire, and below it in words."""
+    cause, offset = cursor.number("B"), cursor.number("I")
+    return f"wire {cause} {offset}", [refusals.wire_words(cause, offset)]
+
+
+def unsupported(cursor, config):
+    """A record that isn't supported. Its path is empty where the whole isn't of a form that is acted on."""
+    path = [cursor.number("I") for _ in range(cursor.number("B"))]
+    if path:
+        return f"unsupported {'.'.join(map(str, path))}", [refusals.unsupported_words(path)]
+    return "unsupported (not of a form that is acted on)", refusals.waiting_lines(config) if config else []
+
+
+def link(cursor, config):
+    """A fault of references, and below it in words, where the configuration is at hand."""
+    number, reason, value = cursor.number("B"), cursor.number("B"), cursor.number("q")
+    return f"link {number} {reason} {value}", [refusals.link_words(config or b"", number, reason, value)]
+
+
+REFUSALS = {TOO_LARGE: large, WIRE: wire, UNSUPPORTED: unsupported, LINK: link}
+
+
+def refusal(cursor, config):
+    """Why a configuration was refused, and lines below."""
     kind = cursor.number("B")
     if kind not in REFUSALS:
         raise Fault(f"expected a class of refusals from 1 to 4, got {kind}")
-    return [REFUSALS[kind](cursor)]
+    return REFUSALS[kind](cursor, config)
 
 
 def report_lines(content):
@@ -58,15 +76,17 @@ def report_lines(content):
     return ["  " + line for line in protobuf.decoded(content).splitlines()]
 
 
-def reply_lines(content):
-    """One reply."""
+def reply_lines(content, config):
+    """One reply, with the configuration that was to be installed, if it is at hand."""
     cursor = Cursor(content)
     kind = cursor.number("B")
     if kind not in NAMES:
         raise Fault(f"expected a kind of replies from 1 to 7, got {kind}")
     words, more = [NAMES[kind], *client_words(cursor)], []
     if kind == REFUSED:
-        words += refusal_words(cursor)
+        word, told = refusal(cursor, config)
+        words.append(word)
+        more = ["  " + line for line in told]
     elif kind == REPORTED:
         more = report_lines(cursor.rest())
     elif kind == CLIENT_FULL:
@@ -76,16 +96,28 @@ def reply_lines(content):
     return [" ".join(words), *more]
 
 
-def replies_lines(content):
-    """All replies. A front of a reply, as a failed write leaves it, is one line of bytes."""
-    lines, at = [], 0
+def is_front(content):
+    """Bytes may be a reply or the front of one: its length and its kind are such as replies have."""
+    if len(content) < 8:
+        return not is_text(content)
+    size = struct.unpack_from("<Q", content)[0]
+    return LEAST <= size < TOO_MUCH and (len(content) == 8 or content[8] in NAMES)
+
+
+def replies_lines(content, configs=()):
+    """All replies, with the configurations of their commands, if they are at hand. A front of a reply, as a failed
+    write leaves it, is one line of bytes."""
+    lines, at, number = [], 0, 0
     while at < len(content):
-        size = struct.unpack_from("<Q", content, at)[0] if len(content) - at >= 8 else len(content)
-        if size > len(content) - at - 8:
-            return [*lines, "cut " + content[at:].hex()]
+        left = content[at:]
+        if not is_front(left):
+            raise Fault(f"expected replies, and at byte {at} is none: a reply begins with its length and its kind")
+        size = struct.unpack_from("<Q", left)[0] if len(left) >= 8 else len(left)
+        if size > len(left) - 8:
+            return [*lines, "cut " + left.hex()]
         try:
-            lines += reply_lines(content[at + 8 : at + 8 + size])
+            lines += reply_lines(left[8 : 8 + size], configs[number] if number < len(configs) else None)
         except Fault as fault:
             raise Fault(f"the reply at {at}: {fault}") from None
-        at += 8 + size
+        at, number = at + 8 + size, number + 1
     return lines

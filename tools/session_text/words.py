@@ -1,7 +1,7 @@
 """The words of a line, and the numbers, times, bytes and strings among them."""
 import re
 
-from .faults import Fault
+from .faults import Fault, column_of, echo, shown, within
 
 SPACES = re.compile(r"[ \t\r]*")
 QUOTED = r'"[^"\\]*(?:\\.[^"\\]*)*"'
@@ -17,15 +17,24 @@ ESCAPES = {"n": b"\n", "t": b"\t", "r": b"\r", '"': b'"', "\\": b"\\"}
 ESCAPED = {"\n": "\\n", "\t": "\\t", "\r": "\\r", '"': '\\"', "\\": "\\\\"}
 
 
+class Word(str):
+    """A word of a line, with the column where it begins, from 1."""
+
+    def __new__(cls, text, column):
+        word = super().__new__(cls, text)
+        word.column = column
+        return word
+
+
 def words_of(line):
     """The words of a line: parts between spaces. A string in double quotes is kept whole, and a # begins a comment."""
     words, at = [], SPACES.match(line).end()
     while at < len(line) and line[at] != "#":
-        word = WORD.match(line, at)
+        word, begin = WORD.match(line, at), at
         at = word.end() if word else at
         if not word or line[at : at + 1] == '"':
-            raise Fault(f"expected a double quote at the end of the string {line[at:]}")
-        words.append(word[0])
+            raise Fault(f"expected a double quote at the end of the string {shown(line[at:])}", at + 1)
+        words.append(Word(word[0], begin + 1))
         at = SPACES.match(line, at).end()
     return words
 
@@ -34,32 +43,38 @@ def number_of(word, low, high, what):
     """A whole number in decimal or, after 0x, in hexadecimal, from low to high."""
     found = NUMBER.fullmatch(word)
     if not found:
-        raise Fault(f"{what}: expected a number, got {word!r}")
+        raise Fault(f"{what}: expected a number, got {echo(word)}", column_of(word))
     size = int(found[2], 16) if found[2] else int(found[3])
     number = -size if found[1] else size
     if not low <= number <= high:
-        raise Fault(f"{what}: expected a number from {low} to {high}, got {word}")
+        raise Fault(f"{what}: expected a number from {low} to {high}, got {shown(word)}", column_of(word))
     return number
 
 
 def time_of(word):
     """A time in nanoseconds: a number, or one with a unit, as 90s or 1.5h."""
+    with within(word):
+        return nanos_of(word)
+
+
+def nanos_of(word):
+    """The nanoseconds of a time."""
     found = TIME.fullmatch(word)
     if not found:
-        raise Fault(f"time: expected nanoseconds, or a number with ns, us, ms, s, m or h; got {word!r}")
+        raise Fault(f"time: expected nanoseconds, or a number with ns, us, ms, s, m or h; got {echo(word)}")
     fraction = found[2] or ""
     time, rest = divmod(int(found[1] + fraction) * UNITS[found[3]], 10 ** len(fraction))
     if rest:
-        raise Fault(f"time: expected a whole number of nanoseconds, got {word}")
+        raise Fault(f"time: expected a whole number of nanoseconds, got {shown(word)}")
     if time >= 2**64:
-        raise Fault(f"time: expected fewer than 2^64 nanoseconds, got {word}")
+        raise Fault(f"time: expected fewer than 2^64 nanoseconds, got {shown(word)}")
     return time
 
 
 def hex_of(word, what):
     """Bytes in hexadecimal."""
     if not HEX.fullmatch(word):
-        raise Fault(f"{what}: expected bytes in hexadecimal, two digits each; got {word!r}")
+        raise Fault(f"{what}: expected bytes in hexadecimal, two digits each; got {echo(word)}")
     return bytes.fromhex(word)
 
 
@@ -75,7 +90,7 @@ def escape_of(escape):
 def string_of(word):
     """The bytes of a string in double quotes: UTF-8, with escapes."""
     if not STRING.fullmatch(word):
-        raise Fault(f"string: expected text in double quotes, got {word}")
+        raise Fault(f"string: expected text in double quotes, got {shown(word)}")
     parts = ESCAPE.split(word[1:-1])
     return b"".join(escape_of(part) if place % 2 else part.encode() for place, part in enumerate(parts))
 
