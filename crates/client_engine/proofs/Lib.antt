@@ -5,6 +5,7 @@ pub mod KeptPredicatesLemmas
 pub mod ShownLemmas
 pub mod SliceLemmas
 pub mod StateDropsLemmas
+pub mod AlongLemmas
 pub mod TrackLemmas
 pub mod TracksLemmas
 pub mod InsidePartsLemmas

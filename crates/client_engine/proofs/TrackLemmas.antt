@@ -1,14 +1,10 @@
 -- A metric with its lane, one step more.
 use Rattle.std.proofs.Common.{◌≡◌, ℕ, ◌<◌, Bool, true, false, List, [], ◌∷◌, ◌++◌, ◌&&◌, if◌then◌else◌, Option, Some, None, refl, sym, ap, subst, ◌∙◌}
-use Rattle.sd_base.specs.Outputs.{outputs_after}
-use Rattle.sd_base.proofs.OutputsLemmas.{outputs-push}
 use Rattle.atom_record.specs.declared.atom.Atom.{Atom}
 use Rattle.atom_record.specs.declared.log.LogFrame.{LogFrame}
 use Rattle.atom_record.specs.declared.log.LogFrame.TheVariants.{AtomAt}
 use Rattle.atom_record.specs.declared.value.MetricKey.{MetricKey}
 use Rattle.bucket_meaning.specs.Limits.{time_limit}
-use Rattle.call_rules.specs.LaneCalls.{LaneStep, event_asks, AreTimely}
-use Rattle.call_rules.proofs.LaneCallsLemmas.{events_ask_well}
 use Rattle.config_links.specs.declared.linked.LMetric.{LMetric}
 use Rattle.config_links.specs.declared.linked.LKind.{LKind}
 use Rattle.config_links.specs.declared.linked.LKind.TheVariants as kinds
@@ -19,19 +15,18 @@ use Rattle.count_metric.specs.Counting.{count_demands, count_collecting}
 use Rattle.count_metric.specs.CountStands.{CountStandsFor}
 use Rattle.report_writer.specs.declared.tree.MetricTree.{MetricTree}
 use Rattle.session_frames.specs.FrameReading.{log_time}
-use Rattle.metric_lane.specs.LaneStands.{LaneHas, LaneStandsFor, LogsEvent, GetsReport}
+use Rattle.metric_lane.specs.LaneStands.{LaneHas, LogsEvent, GetsReport}
 use Rattle.metric_lane.specs.declared.lane.Lane.{Lane}
-use Rattle.metric_lane.proofs.LaneStepsLemmas.{lane_reports}
-use Rattle.metric_meaning.specs.Histories.{What, Logged, Reported, Step, Installation, truth_at, moment_of, lane_step, lane_steps, log_after}
+use Rattle.metric_meaning.specs.Histories.{Step, Installation, truth_at, moment_of, log_after}
 use Rattle.metric_meaning.specs.Scenes.{Scene, scene_after}
 use Rattle.metric_meaning.specs.Forms.{is_count, is_built_metric}
-use Rattle.metric_meaning.specs.CountSteps.{atom_key, arrival_by, arrival_at, count_params, counts_shown}
+use Rattle.metric_meaning.specs.CountSteps.{atom_key, arrival_by, arrival_at, count_params, count_way, counts_shown}
 use Rattle.metric_meaning.specs.MetricConditions.{is_condition_true}
 use Rattle.metric_meaning.specs.Reports.{metric_tree}
-use Rattle.metric_meaning.proofs.StepLemmas.{lane_step_after}
-use Rattle.metric_meaning.proofs.CountStepsLemmas.{count_calls-mean}
+use Rattle.metric_meaning.proofs.CountStepsLemmas.{counts_agree, counts_ask_well}
 use Rattle.client_engine.specs.Handed.{Handed, IsOfScene}
-use Rattle.client_engine.specs.TrackStands.{logged_step, reported_step, ComesInTime, ComeInTime, CountsAlong, LaneAlong, TrackStandsFor, MayLog, TrackReports, closed_tree}
+use Rattle.client_engine.specs.TrackStands.{logged_step, reported_step, ComeInTime, CountsAlong, LaneAlong, TrackStandsFor, MayLog, TrackReports, closed_tree}
+use Rattle.client_engine.proofs.AlongLemmas.{along_begins, along_logs, along_reports}
 use Rattle.client_engine.proofs.ShownLemmas.{shown_moment, shown_arrival}
 use Rattle.client_engine.specs.declared.track.MetricLane.{MetricLane}
 use Rattle.client_engine.specs.declared.track.MetricLane.TheVariants.{Counts}
@@ -48,33 +43,6 @@ the_lane (Counts lane) = lane
 pub is_counts : (lane : MetricLane) → lane ≡ Counts (the_lane lane)
 is_counts (Counts lane) = refl
 
--- a step that comes in time is timely for a lane, before others that are
-timely_step : {News : Type 0} (news : Step → News) (last at : ℕ) (what : What) (truths : List Bool)
-    (others : List (LaneStep News)) → let step : Step = record { at = at; what = what; truths = truths } in
-    ComesInTime last step → AreTimely at others → AreTimely last (lane_step news step ∷ others)
-timely_step news last at (Logged frame) truths others in_time rest = (in_time, rest)
-timely_step news last at (Reported include_current) truths others in_time rest =
-    (in_time, subst (λ time. AreTimely time others) in_time rest)
-
--- steps that come in time are timely for a lane, where others came before
-timely_after : {News : Type 0} (news : List Step → Step → News) (last : ℕ) (before steps : List Step)
-    → ComeInTime last steps → AreTimely last (outputs_after (lane_step_after news) before steps)
-timely_after news last before [] in_time = tt
-timely_after news last before (step ∷ steps) in_time =
-    timely_step (news before) last step.at step.what step.truths
-    (outputs_after (lane_step_after news) (before ++ step ∷ []) steps) in_time.0
-    (timely_after news step.at (before ++ step ∷ []) steps in_time.1)
-
--- steps that come in time are timely for a lane
-timely_from : {News : Type 0} (news : List Step → Step → News) (last : ℕ) (steps : List Step) → ComeInTime last steps
-    → AreTimely last (lane_steps news steps)
-timely_from news last steps in_time = timely_after news last [] steps in_time
-
--- one more step, as a lane sees it
-steps-push : {News : Type 0} (news : List Step → Step → News) (steps : List Step) (step : Step)
-    → lane_steps news (steps ++ step ∷ []) ≡ lane_steps news steps ++ lane_step (news steps) step ∷ []
-steps-push news steps step = outputs-push (lane_step_after news) steps step
-
 -- a lane of counts takes one more frame of the log, which is shown so
 counts_log : (given : Handed) (metric : LMetric) (shown : LogFrame) (truths : List Bool) (old new : CountLane)
     (key : Option MetricKey)
@@ -85,45 +53,28 @@ counts_log : (given : Handed) (metric : LMetric) (shown : LogFrame) (truths : Li
     → CountsAlong installed (steps ++ logged_step frame truths ∷ []) metric new
 counts_log given metric shown truths old new key is logs installed steps frame along may =
     let step = logged_step frame truths in
-    let news = arrival_at installed metric in
     let scene = scene_after installed (steps ++ step ∷ []) in
     let log = log_after installed steps in
-    let params = count_params installed.base metric in
-    let seen = lane_steps news steps in
-    let arrives : key ≡ news steps step =
+    let arrives : key ≡ arrival_at installed metric steps step =
     is scene may.found ∙ ap (λ f. arrival_by scene metric (logged_step f truths)) may.shown_is
     ∙ shown_arrival scene metric log frame truths in
     let moment : moment_of shown (log_time shown) ≡ moment_of frame (log_time frame) =
     ap (λ f. moment_of f (log_time f)) may.shown_is ∙ shown_moment log frame in
-    let pushed : seen ++ lane_step (news steps) step ∷ [] ≡ lane_steps news (steps ++ step ∷ []) =
-    sym (steps-push news steps step) in
-    let timely : AreTimely installed.base (seen ++ lane_step (news steps) step ∷ []) =
-    subst (AreTimely installed.base) (sym pushed)
-    (timely_from news installed.base (steps ++ step ∷ []) may.in_time) in
-    let logs_it : LogsEvent CountStandsFor count_demands old new (moment_of frame (log_time frame))
-    (news steps step) =
-    subst (LogsEvent CountStandsFor count_demands old new (moment_of frame (log_time frame))) arrives
-    (subst (λ m. LogsEvent CountStandsFor count_demands old new m key) moment logs) in
-    record {
-      fits = along.fits;
-      sized = along.sized;
-      stands = subst (LaneStandsFor CountStandsFor count_demands event_asks new params) pushed
-          (logs_it params seen along.stands along.fits timely
-          (events_ask_well MetricKey (Unit {0}) installed.base metric.size []
-          (seen ++ lane_step (news steps) step ∷ [])));
-    }
+    along_logs (count_way installed metric) count_demands CountStandsFor (counts_ask_well installed metric) steps frame
+    truths old new (moment_of shown (log_time shown)) key moment arrives logs along may.in_time
 
 -- the same by the metric's kind
 pub lane_log : (given : Handed) (metric : LMetric) (kind : LKind) (shown : LogFrame) (truths : List Bool)
-    (old : MetricLane) (new : CountLane) (key : Option MetricKey)
+    (old new : CountLane) (key : Option MetricKey)
     → ((scene : Scene) → IsOfScene given scene → key ≡ arrival_by scene metric (logged_step shown truths))
-    → LogsEvent CountStandsFor count_demands (the_lane old) new (moment_of shown (log_time shown)) key
-    → (installed : Installation) (steps : List Step) (frame : LogFrame) → LaneAlong installed steps metric kind old
+    → LogsEvent CountStandsFor count_demands old new (moment_of shown (log_time shown)) key
+    → (installed : Installation) (steps : List Step) (frame : LogFrame)
+    → LaneAlong installed steps metric kind (Counts old)
     → MayLog installed steps given shown frame truths
     → LaneAlong installed (steps ++ logged_step frame truths ∷ []) metric kind (Counts new)
-lane_log given metric kinds.Count shown truths (Counts old) new key is logs installed steps frame along may =
+lane_log given metric kinds.Count shown truths old new key is logs installed steps frame along may =
     counts_log given metric shown truths old new key is logs installed steps frame along may
-lane_log given metric _ shown truths (Counts old) new key is logs installed steps frame along may = absurd along
+lane_log given metric _ shown truths old new key is logs installed steps frame along may = absurd along
 
 -- what a lane of counts hands out is what a report shows of the metric
 counts_report : (metric : LMetric) (include_current : Bool) (at : ℕ) (old new : CountLane) (closed : Closed ℕ)
@@ -133,50 +84,33 @@ counts_report : (metric : LMetric) (include_current : Bool) (at : ℕ) (old new 
     → CountsAlong installed (steps ++ reported_step include_current at ∷ []) metric new
     × (closed ≡ closed_of (counts_shown installed metric steps include_current at))
 counts_report metric include_current at old new closed reports installed steps along in_time =
-    let step = reported_step include_current at in
-    let news = arrival_at installed metric in
-    let params = count_params installed.base metric in
-    let seen = lane_steps news steps in
-    let pushed : seen ++ lane_step (news steps) step ∷ [] ≡ lane_steps news (steps ++ step ∷ []) =
-    sym (steps-push news steps step) in
-    let timely : AreTimely installed.base (seen ++ lane_step (news steps) step ∷ []) =
-    subst (AreTimely installed.base) (sym pushed) (timely_from news installed.base (steps ++ step ∷ []) in_time) in
-    let both = lane_reports CountStandsFor count_demands event_asks params seen along.fits count_collecting old new at
-    include_current closed reports along.stands timely
-    (events_ask_well MetricKey (Unit {0}) installed.base metric.size []
-    (seen ++ lane_step (news steps) step ∷ [])) in (
-      record {
-        fits = along.fits;
-        sized = along.sized;
-        stands = subst (LaneStandsFor CountStandsFor count_demands event_asks new params) pushed both.0;
-      },
-      both.1 ∙ ap closed_of (count_calls-mean installed metric along.sized steps include_current at),
-    )
+    along_reports (count_way installed metric) count_demands CountStandsFor (counts_ask_well installed metric) steps
+    count_collecting (counts_agree installed metric) include_current at old new closed reports along in_time
 
 -- the same by the metric's kind, with what the report shows
 pub lane_report : (metric : LMetric) (kind : LKind) (kind_is : kind ≡ metric.kind)
-    (include_current : Bool) (at : ℕ) (old : MetricLane) (new : CountLane) (closed : Closed ℕ)
-    → GetsReport CountStandsFor count_demands count_collecting (the_lane old) new at include_current closed
-    → (installed : Installation) (steps : List Step) → LaneAlong installed steps metric kind old
+    (include_current : Bool) (at : ℕ) (old new : CountLane) (closed : Closed ℕ)
+    → GetsReport CountStandsFor count_demands count_collecting old new at include_current closed
+    → (installed : Installation) (steps : List Step) → LaneAlong installed steps metric kind (Counts old)
     → ComeInTime installed.base (steps ++ reported_step include_current at ∷ [])
     → LaneAlong installed (steps ++ reported_step include_current at ∷ []) metric kind (Counts new)
     × (closed_tree installed.base metric closed ≡ metric_tree installed steps include_current at metric)
-lane_report metric kinds.Count kind_is include_current at (Counts old) new closed reports installed steps along
+lane_report metric kinds.Count kind_is include_current at old new closed reports installed steps along
     in_time =
     let both = counts_report metric include_current at old new closed reports installed steps along in_time in (
       both.0,
       ap (closed_tree installed.base metric) both.1
           ∙ ap (λ kind. metric_tree installed steps include_current at (record metric { kind = kind })) kind_is,
     )
-lane_report metric _ kind_is include_current at (Counts old) new closed reports installed steps along in_time =
+lane_report metric _ kind_is include_current at old new closed reports installed steps along in_time =
     absurd along
 
 -- a new lane of counts has seen no step
 counts_begin : (installed : Installation) (metric : LMetric) (lane : CountLane) → installed.base < time_limit
-    → 0 < metric.size
     → LaneHas CountStandsFor count_demands lane (count_params installed.base metric) [] []
     → CountsAlong installed [] metric lane
-counts_begin installed metric lane fits sized has = record { fits = fits; sized = sized; stands = has }
+counts_begin installed metric lane fits has =
+    along_begins (count_way installed metric) count_demands CountStandsFor lane fits has
 
 -- the same by the metric's kind
 lane_begins : (installed : Installation) (metric : LMetric) (kind : LKind) (lane : CountLane)
@@ -194,11 +128,11 @@ lane_begins installed metric (kinds.MaxSparse spec) lane is along = absurd cc
 -- a new track, of what was installed at this clock
 pub track_begins : (installed : Installation) (base : ℕ) (metric : LMetric) (lane : CountLane)
     → installed.base ≡ base → base < time_limit → is_built_metric metric ≡ true
-    → 0 < metric.size → LaneHas CountStandsFor count_demands lane (count_params base metric) [] []
+    → LaneHas CountStandsFor count_demands lane (count_params base metric) [] []
     → TrackStandsFor installed [] (record { metric = metric; lane = Counts lane })
-track_begins installed base metric lane base_is fits built sized has =
+track_begins installed base metric lane base_is fits built has =
     lane_begins installed metric metric.kind lane built
-    (counts_begin installed metric lane (subst (λ b. b < time_limit) (sym base_is) fits) sized
+    (counts_begin installed metric lane (subst (λ b. b < time_limit) (sym base_is) fits)
     (subst (λ b. LaneHas CountStandsFor count_demands lane (count_params b metric) [] []) (sym base_is) has))
 
 -- a track takes one more report
@@ -209,7 +143,7 @@ pub track_reports : (metric : LMetric) (base : ℕ) (include_current : Bool) (at
     → TrackReports base include_current at (record { metric = metric; lane = Counts old })
     (record { metric = metric; lane = Counts new }) tree
 track_reports metric base include_current at old new closed reports tree is installed steps along may =
-    let both = lane_report metric metric.kind refl include_current at (Counts old) new closed reports installed
+    let both = lane_report metric metric.kind refl include_current at old new closed reports installed
     steps along may.in_time in
     (both.0, is ∙ ap (λ b. closed_tree b metric closed) (sym may.base_is) ∙ both.1)
 

@@ -3,6 +3,7 @@ pub mod Groups
 pub mod Known
 pub mod Handed
 pub mod KeptPredicates
+pub mod Along
 pub mod TrackStands
 pub mod Tracks
 pub mod InsideParts

@@ -3,7 +3,6 @@ use Rattle.std.specs.Prelude.{◌≡◌, ℕ, ◌<◌, ◌≤◌, Bool, List, []
 use Rattle.atom_record.specs.declared.log.LogFrame.{LogFrame}
 use Rattle.atom_record.specs.declared.value.MetricKey.{MetricKey}
 use Rattle.bucket_meaning.specs.Limits.{time_limit}
-use Rattle.call_rules.specs.LaneCalls.{event_asks}
 use Rattle.config_links.specs.declared.linked.LMetric.{LMetric}
 use Rattle.config_links.specs.declared.linked.LKind.{LKind}
 use Rattle.config_links.specs.declared.linked.LKind.TheVariants as kinds
@@ -11,16 +10,16 @@ use Rattle.count_metric.specs.declared.count.CountProducer.{CountProducer}
 use Rattle.count_metric.specs.Counting.{count_demands}
 use Rattle.count_metric.specs.CountStands.{CountStandsFor}
 use Rattle.session_frames.specs.FrameReading.{log_time}
-use Rattle.metric_lane.specs.LaneStands.{LaneStandsFor}
 use Rattle.metric_lane.specs.declared.lane.Lane.{Lane}
-use Rattle.metric_meaning.specs.Histories.{What, Logged, Reported, Step, Installation, lane_steps, log_after}
+use Rattle.metric_meaning.specs.Histories.{What, Logged, Reported, Step, Installation, log_after}
 use Rattle.metric_meaning.specs.ShownFrames.{shown_as}
 use Rattle.metric_meaning.specs.Scenes.{scene_after}
-use Rattle.metric_meaning.specs.CountSteps.{arrival_at, count_params}
+use Rattle.metric_meaning.specs.CountSteps.{count_way}
 use Rattle.metric_meaning.specs.Reports.{metric_tree, count_groups}
 use Rattle.report_writer.specs.declared.tree.MetricTree.{MetricTree}
 use Rattle.report_writer.specs.declared.tree.MetricBody.TheVariants as bodies
 use Rattle.count_metric.specs.declared.row.Closed.{Closed}
+use Rattle.client_engine.specs.Along.{Along}
 use Rattle.client_engine.specs.Handed.{Handed, IsOfScene}
 use Rattle.client_engine.specs.declared.track.MetricLane.{MetricLane}
 use Rattle.client_engine.specs.declared.track.MetricLane.TheVariants.{Counts}
@@ -52,12 +51,9 @@ ComeInTime last [] = Unit {0}
 ComeInTime last (step ∷ steps) = ComesInTime last step × ComeInTime step.at steps
 
 -- the lane of a metric of counts, after these steps of what was installed
-pub record CountsAlong (installed : Installation) (steps : List Step) (metric : LMetric)
-    (lane : Lane CountProducer MetricKey (Unit {0}) ℕ) : Type 0 where
-  pub fits : installed.base < time_limit
-  pub sized : 0 < metric.size
-  pub stands : LaneStandsFor CountStandsFor count_demands event_asks lane (count_params installed.base metric)
-      (lane_steps (arrival_at installed metric) steps)
+abbrev pub CountsAlong : Installation → List Step → LMetric → Lane CountProducer MetricKey (Unit {0}) ℕ → Type 0
+CountsAlong installed steps metric lane =
+    Along (count_way installed metric) count_demands CountStandsFor steps lane
 
 -- a lane collects for its metric, by the metric's kind
 abbrev pub LaneAlong : Installation → List Step → LMetric → LKind → MetricLane → Type 0

@@ -19,7 +19,7 @@ use Rattle.count_metric.specs.declared.row.Row.{Row}
 use Rattle.count_metric.specs.declared.row.Closed.{Closed}
 use Rattle.count_metric.specs.Collecting.{Collecting, calls_mean, closed_of}
 use Rattle.metric_lane.specs.LaneClock.{IsClockFor, HasClock, MayCross, MayCut}
-use Rattle.metric_lane.specs.LaneStands.{LaneHas, LaneStandsFor, OpenedStandsFor, GetsFrame, GetsCalls, GetsReport, LogsEvent, told_at}
+use Rattle.metric_lane.specs.LaneStands.{LaneHas, LaneStandsFor, OpenedStandsFor, GetsFrame, GetsCalls, GetsReport, LogsNews, LogsEvent, told_at}
 use Rattle.metric_lane.specs.declared.lane.Lane.{Lane}
 
 -- what one more frame tells the clock
@@ -201,9 +201,18 @@ module _ {P Params Event After Value : Type 0} (stands : P → Params → List (
         (calls_of (demands params) asks steps ++ cutting (demands params).size include_current at)))
     lane_reports = opened_reports [] tt
 
+  -- one more frame of a lane, for a kind that asks the same whatever the steps before
+  pub news_logs : {News : Type 0} (asks : List (LaneStep News) → Moment → News → List (Call Event After))
+      (old middle new : Lane P Event After Value) (moment : Moment) (news : News)
+      → GetsFrame stands demands old middle moment
+      → ((steps : List (LaneStep News)) → GetsCalls stands demands middle new (asks steps moment news))
+      → LogsNews stands demands asks old new moment news
+  news_logs asks old middle new moment news crosses tells params opening steps opens has fits timely well =
+      opened_logs asks params steps fits opening opens old middle new moment news crosses (tells steps) has timely well
+
   -- one more frame of a lane of events
   pub event_logs : (old middle new : Lane P Event After Value) (moment : Moment) (event : Option Event)
       → GetsFrame stands demands old middle moment → GetsCalls stands demands middle new (coming moment.at event)
       → LogsEvent stands demands old new moment event
-  event_logs old middle new moment event crosses tells params steps has fits timely well =
-      lane_logs event_asks params steps fits old middle new moment event crosses tells has timely well
+  event_logs old middle new moment event crosses tells =
+      news_logs event_asks old middle new moment event crosses (λ steps. tells)

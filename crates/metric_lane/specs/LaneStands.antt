@@ -7,7 +7,7 @@ use Rattle.bucket_clock.specs.Clock.{Told, Saw, Cut}
 use Rattle.call_rules.specs.Calls.{Call, Took, Demands}
 use Rattle.call_rules.specs.Rules.{AreAdmitted}
 use Rattle.call_rules.specs.LaneCalls.{LaneStep, Logged, told_by, crossing, cutting, calls_of, event_asks, AreTimely, AskWell}
-use Rattle.call_rules.specs.OpeningCalls.{calls_with}
+use Rattle.call_rules.specs.OpeningCalls.{AreOpening, calls_with}
 use Rattle.count_metric.specs.declared.row.Row.{Row}
 use Rattle.count_metric.specs.declared.row.Closed.{Closed}
 use Rattle.count_metric.specs.Collecting.{Collecting, calls_mean, closed_of}
@@ -68,14 +68,20 @@ module _ {P Params Event After Value : Type 0} (stands : P → Params → List (
       → let cut : List (Call Event After) = cutting (demands params).size include_current at in
       AreAdmitted (demands params) calls cut → LaneHas new params (told ++ told_at include_current at) (calls ++ cut)
 
-  -- one more frame of the log, where times don't fall and the producer takes the events
-  abbrev pub LogsEvent : Lane P Event After Value → Lane P Event After Value → Moment → Option Event → Type 0
-  LogsEvent old new moment event =
-      (params : Params) (steps : List (LaneStep (Option Event))) → LaneStandsFor event_asks old params steps
-      → let all = steps ++ Logged moment event ∷ [] in
-      let asks : List (LaneStep (Option Event)) → Moment → Option Event → List (Call Event After) = event_asks in
+  -- One more frame of the log with such news, for a kind that asks so, after any opening calls that may come: where
+  -- times don't fall, and what is asked may come.
+  abbrev pub LogsNews : {News : Type 0} → (List (LaneStep News) → Moment → News → List (Call Event After))
+      → Lane P Event After Value → Lane P Event After Value → Moment → News → Type 0
+  LogsNews {News} asks old new moment news =
+      (params : Params) (opening : List (Call Event After)) (steps : List (LaneStep News))
+      → AreOpening (demands params) opening → OpenedStandsFor asks opening old params steps
+      → let all : List (LaneStep News) = steps ++ Logged moment news ∷ [] in
       (demands params).base < time_limit → AreTimely (demands params).base all → AskWell (demands params) asks [] all
-      → LaneStandsFor event_asks new params all
+      → OpenedStandsFor asks opening new params all
+
+  -- the same of a lane of events alone
+  abbrev pub LogsEvent : Lane P Event After Value → Lane P Event After Value → Moment → Option Event → Type 0
+  LogsEvent old new moment event = LogsNews event_asks old new moment event
 
   -- whatever a lane had, a report that may come adds its cut and the taking, and hands out what the calls up to the
   -- cut

@@ -5,17 +5,17 @@ use Rattle.atom_record.specs.declared.log.LogFrame.TheVariants.{AtomAt}
 use Rattle.atom_record.specs.declared.value.MetricKey.{MetricKey}
 use Rattle.bucket_meaning.specs.Marks.{Mark, Came, no_edges}
 use Rattle.bucket_meaning.specs.Kept.{Taken}
-use Rattle.bucket_meaning.specs.Rows.{report}
-use Rattle.call_rules.specs.LaneCalls.{calls_of, event_asks}
+use Rattle.call_rules.specs.LaneCalls.{event_asks}
 use Rattle.field_select.specs.LeafValues.{key_of}
 use Rattle.config_links.specs.declared.linked.LMetric.{LMetric}
 use Rattle.count_metric.specs.declared.row.Row.{Row}
-use Rattle.count_metric.specs.Counting.{count_kind, CountParams, CountCall, count_demands}
-use Rattle.metric_meaning.specs.Histories.{What, Logged, Step, Installation, truth_at, lane_steps}
+use Rattle.count_metric.specs.Counting.{count_kind, CountParams}
+use Rattle.metric_meaning.specs.Histories.{What, Logged, Step, Installation, truth_at}
 use Rattle.metric_meaning.specs.MetricConditions.{is_condition_true}
 use Rattle.metric_meaning.specs.StateSlices.{atom_slices}
 use Rattle.metric_meaning.specs.Scenes.{Scene, scene_after}
-use Rattle.metric_meaning.specs.StepMarks.{StepNews, marks_to}
+use Rattle.metric_meaning.specs.StepMarks.{StepNews}
+use Rattle.metric_meaning.specs.Ways.{Way, shown_by_steps}
 
 -- the key by which a metric counts an atom: its values at the metric's dimensions, and its slices by states
 abbrev pub atom_key : Scene → LMetric → Atom → MetricKey
@@ -44,25 +44,33 @@ abbrev pub arrival_mark : Option MetricKey → List (Mark (MetricKey × ℕ))
 arrival_mark None = []
 arrival_mark (Some key) = Came (key, 1) ∷ []
 
--- nothing stands at the boundaries of counts, and an arrival is all that a step brings
+-- nothing stands at the beginning and the boundaries of counts, and an arrival is all that a step brings
 abbrev pub count_news : Installation → LMetric → StepNews (MetricKey × ℕ)
 count_news installed metric = record {
+  begins = [];
   edges = λ before. no_edges;
   comes = λ before step. arrival_mark (arrival_at installed metric before step);
 }
-
--- what a report shows of a metric of counts, which is made after these steps
-abbrev pub counts_shown : Installation → LMetric → List Step → Bool → ℕ → Taken (Row ℕ)
-counts_shown installed metric steps include_current now =
-    report count_kind metric.bound installed.base
-    (marks_to (count_news installed metric) installed.base metric.size steps include_current now)
 
 -- what a metric's producer of counts is made with
 abbrev pub count_params : ℕ → LMetric → CountParams
 count_params base metric = record { base = base; size = metric.size; bound = metric.bound }
 
--- the calls that these steps make of it
-abbrev pub count_calls : Installation → LMetric → List Step → List CountCall
-count_calls installed metric steps =
-    calls_of (count_demands (count_params installed.base metric)) event_asks
-    (lane_steps (arrival_at installed metric) steps)
+-- what a metric of counts is: its producer gets the key that arrives, if one does
+abbrev pub count_way : Installation → LMetric
+    → Way CountParams (Option MetricKey) MetricKey (Unit {0}) (MetricKey × ℕ) MetricKey ℕ (Row ℕ)
+count_way installed metric = record {
+  base = installed.base;
+  size = metric.size;
+  bound = metric.bound;
+  kind = count_kind;
+  shown = count_news installed metric;
+  params = count_params installed.base metric;
+  opens = [];
+  news = arrival_at installed metric;
+  asks = event_asks;
+}
+
+-- what a report shows of a metric of counts, which is made after these steps
+abbrev pub counts_shown : Installation → LMetric → List Step → Bool → ℕ → Taken (Row ℕ)
+counts_shown installed metric = shown_by_steps (count_way installed metric)

@@ -1,5 +1,5 @@
 -- What happens to a metric at each step: first the ends of buckets that it crosses, then what it brings, or the report.
-use Rattle.std.specs.Prelude.{ℕ, Bool, true, false, List, [], ◌∷◌, ◌++◌}
+use Rattle.std.specs.Prelude.{ℕ, Bool, true, false, List, [], ◌∷◌, ◌++◌, if◌then◌else◌, nat_lt}
 use Rattle.std.specs.List.{flat_map}
 use Rattle.sd_base.specs.Outputs.{outputs}
 use Rattle.bucket_meaning.specs.Ends.{Moment, ends_at}
@@ -14,34 +14,35 @@ moments steps = flat_map (λ (step : Step). moments_at step.what step.at) steps
 abbrev pub crossed_at : ℕ → ℕ → List Step → Step → List ℕ
 crossed_at base size before step = flat_map (ends_at base size (moments before)) (moments_at step.what step.at)
 
--- What a kind of metric says of a step: what stands at a boundary after some steps, and what a step brings.
+-- What a kind of metric says of its steps: what stands at the beginning, before all steps; what stands at a boundary
+-- after some steps; and what a step brings.
 pub record StepNews (X : Type 0) : Type 0 where
+  pub begins : List (Mark X)
   pub edges : List Step → Edges X
   pub comes : List Step → Step → List (Mark X)
 
-module _ {X : Type 0} (news : StepNews X) where
-  -- a report cuts the open part at the clock, if it asks for that
-  abbrev pub cut_at : List Step → Bool → ℕ → List (Mark X)
-  cut_at before true at = boundary (news.edges before) at
-  cut_at before false at = []
+-- the marks of a report's cut at the clock, if it asks for one; without buckets nothing is cut
+abbrev pub cut_marks : {X : Type 0} → Edges X → ℕ → Bool → ℕ → List (Mark X)
+cut_marks edges size true at = if nat_lt 0 size then boundary edges at else []
+cut_marks edges size false at = []
 
+module _ {X : Type 0} (news : StepNews X) (base size : ℕ) where
   -- what a step itself does to a metric: a frame brings something, and a report cuts and asks
   abbrev pub own_marks : List Step → Step → List (Mark X)
   own_marks before step = of_what step.what where
     of_what : What → List (Mark X)
     of_what (Logged frame) = news.comes before step
-    of_what (Reported include_current) = cut_at before include_current step.at ++ (Asked ∷ [])
+    of_what (Reported include_current) = cut_marks (news.edges before) size include_current step.at ++ (Asked ∷ [])
 
-  module _ (base size : ℕ) where
-    -- all that happens to a metric at a step
-    abbrev pub marks_at : List Step → Step → List (Mark X)
-    marks_at before step =
-        boundary_marks (news.edges before) (crossed_at base size before step) ++ own_marks before step
+  -- all that happens to a metric at a step
+  abbrev pub marks_at : List Step → Step → List (Mark X)
+  marks_at before step =
+      boundary_marks (news.edges before) (crossed_at base size before step) ++ own_marks before step
 
-    -- all that happened to a metric by these steps
-    abbrev pub marks_of : List Step → List (Mark X)
-    marks_of steps = outputs marks_at steps
+  -- all that happened to a metric at its beginning and by these steps
+  abbrev pub marks_of : List Step → List (Mark X)
+  marks_of steps = news.begins ++ outputs marks_at steps
 
-    -- all that happened to a metric by these steps, and by a report's cut
-    abbrev pub marks_to : List Step → Bool → ℕ → List (Mark X)
-    marks_to steps include_current now = marks_of steps ++ cut_at steps include_current now
+  -- all that happened to a metric by these steps, and by a report's cut
+  abbrev pub marks_to : List Step → Bool → ℕ → List (Mark X)
+  marks_to steps include_current now = marks_of steps ++ cut_marks (news.edges steps) size include_current now

@@ -1,6 +1,5 @@
 use Rattle.std.proofs.lemmas.Result.{on_ok_weaker}
 use Rattle.client_engine.specs.Handed.{handed}
-use Rattle.client_engine.specs.declared.track.MetricLane.TheVariants.{Counts}
 use Rattle.client_engine.proofs.TrackLemmas.{the_lane, is_counts, lane_log}
 use Rattle.client_engine.proofs.track.Track.log.Goals as goal
 
@@ -12,5 +11,5 @@ returns-clause-logs c =
     let logs = rw (is_counts lane, c.comes_by_pull.ensures, c.time_of.ensures) at c.log.ensures in
     rw (is_counts lane) (on_ok_weaker c.log.result
     (lane_log (handed c.args.conditions.now c.args.states.now c.args.view.now.states.now) metric metric.kind
-    c.args.frame.now c.args.view.now.matched.now (Counts (the_lane lane))
+    c.args.frame.now c.args.view.now.matched.now (the_lane lane)
     c.log.new.self c.in_ok-key.key c.in_ok-key.ensures.key) logs)

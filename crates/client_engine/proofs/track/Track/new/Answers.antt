@@ -1,4 +1,4 @@
-use Rattle.std.proofs.Common.{[], refl, arith}
+use Rattle.std.proofs.Common.{[], refl}
 use Rattle.metric_meaning.specs.CountSteps.{count_params}
 use Rattle.client_engine.proofs.TrackLemmas.{track_begins}
 use Rattle.client_engine.proofs.track.Track.new.Goals as goal
@@ -7,6 +7,5 @@ use Rattle.client_engine.proofs.track.Track.new.Goals as goal
 pub returns-clause-stands : goal.returns-clause-stands
 returns-clause-stands c = λ installed is.
     let metric = c.args.metric in
-    let least = c.requires.sized.0 in
-    track_begins installed c.args.base metric c.new.result is c.requires.fits c.requires.built (omega (arith, least))
+    track_begins installed c.args.base metric c.new.result is c.requires.fits c.requires.built
     (c.new.ensures (count_params c.args.base metric) [] refl refl c.new-producer.ensures)

@@ -1,0 +1,112 @@
+-- A lane that collects for its metric, one step more: lemmas on `specs/Along.antt`, for every kind of metric.
+use Rattle.std.proofs.Common.{◌≡◌, ℕ, ◌<◌, Bool, List, [], ◌∷◌, ◌++◌, sym, ap, subst, ◌∙◌}
+use Rattle.std.proofs.lemmas.List.{append-nil}
+use Rattle.sd_base.specs.Outputs.{outputs_after}
+use Rattle.sd_base.proofs.OutputsLemmas.{outputs-push}
+use Rattle.atom_record.specs.declared.log.LogFrame.{LogFrame}
+use Rattle.bucket_meaning.specs.Ends.{Moment}
+use Rattle.bucket_meaning.specs.Limits.{time_limit}
+use Rattle.call_rules.specs.Calls.{Call, Demands}
+use Rattle.call_rules.specs.LaneCalls.{LaneStep, AreTimely, AskWell}
+use Rattle.count_metric.specs.declared.row.Row.{Row}
+use Rattle.count_metric.specs.declared.row.Closed.{Closed}
+use Rattle.count_metric.specs.Collecting.{Collecting, closed_of}
+use Rattle.session_frames.specs.FrameReading.{log_time}
+use Rattle.metric_lane.specs.LaneStands.{LaneHas, OpenedStandsFor, LogsNews, GetsReport}
+use Rattle.metric_lane.specs.declared.lane.Lane.{Lane}
+use Rattle.metric_lane.proofs.LaneStepsLemmas.{opened_reports}
+use Rattle.metric_meaning.specs.Histories.{What, Logged, Reported, Step, moment_of, lane_step, lane_steps}
+use Rattle.metric_meaning.specs.Ways.{Way, own_demands, steps_seen, shown_by_steps, AsksWell, Agrees}
+use Rattle.metric_meaning.proofs.StepLemmas.{lane_step_after}
+use Rattle.metric_meaning.proofs.WaysLemmas.{asks_well, calls_mean_steps}
+use Rattle.client_engine.specs.Along.{Along}
+use Rattle.client_engine.specs.TrackStands.{logged_step, reported_step, ComesInTime, ComeInTime}
+
+-- a step that comes in time is timely for a lane, before others that are
+timely_step : {News : Type 0} (news : Step → News) (last at : ℕ) (what : What) (truths : List Bool)
+    (others : List (LaneStep News)) → let step : Step = record { at = at; what = what; truths = truths } in
+    ComesInTime last step → AreTimely at others → AreTimely last (lane_step news step ∷ others)
+timely_step news last at (Logged frame) truths others in_time rest = (in_time, rest)
+timely_step news last at (Reported include_current) truths others in_time rest =
+    (in_time, subst (λ time. AreTimely time others) in_time rest)
+
+-- steps that come in time are timely for a lane, where others came before
+timely_after : {News : Type 0} (news : List Step → Step → News) (last : ℕ) (before steps : List Step)
+    → ComeInTime last steps → AreTimely last (outputs_after (lane_step_after news) before steps)
+timely_after news last before [] in_time = tt
+timely_after news last before (step ∷ steps) in_time =
+    timely_step (news before) last step.at step.what step.truths
+    (outputs_after (lane_step_after news) (before ++ step ∷ []) steps) in_time.0
+    (timely_after news step.at (before ++ step ∷ []) steps in_time.1)
+
+-- steps that come in time are timely for a lane
+timely_from : {News : Type 0} (news : List Step → Step → News) (last : ℕ) (steps : List Step) → ComeInTime last steps
+    → AreTimely last (lane_steps news steps)
+timely_from news last steps in_time = timely_after news last [] steps in_time
+
+-- one more step, as a lane sees it
+steps-push : {News : Type 0} (news : List Step → Step → News) (steps : List Step) (step : Step)
+    → lane_steps news (steps ++ step ∷ []) ≡ lane_steps news steps ++ lane_step (news steps) step ∷ []
+steps-push news steps step = outputs-push (lane_step_after news) steps step
+
+module _ {P Params News Event After X K C V : Type 0} (way : Way Params News Event After X K C (Row V))
+    (demands : Params → Demands Event) (stands : P → Params → List (Call Event After) → Type 0) where
+  -- a lane whose producer got the opening calls has seen no step
+  pub along_begins : (lane : Lane P Event After V) → (own_demands way demands).base < time_limit
+      → LaneHas stands demands lane way.params [] way.opens → Along way demands stands [] lane
+  along_begins lane fits has = record {
+    fits = fits;
+    collects = subst (LaneHas stands demands lane way.params []) (sym (append-nil way.opens)) has;
+  }
+
+  module _ (well : AsksWell way demands) (steps : List Step) where
+    -- one more frame of the log, which brings this news
+    pub along_logs : (frame : LogFrame) (truths : List Bool) (old new : Lane P Event After V) (moment : Moment)
+        (news : News)
+        → moment ≡ moment_of frame (log_time frame) → news ≡ way.news steps (logged_step frame truths)
+        → LogsNews stands demands way.asks old new moment news → Along way demands stands steps old
+        → ComeInTime (own_demands way demands).base (steps ++ logged_step frame truths ∷ [])
+        → Along way demands stands (steps ++ logged_step frame truths ∷ []) new
+    along_logs frame truths old new moment news moment_is news_is logs along in_time =
+        let step = logged_step frame truths in
+        let base = (own_demands way demands).base in
+        let seen = steps_seen way steps in
+        let all = seen ++ lane_step (way.news steps) step ∷ [] in
+        let pushed : steps_seen way (steps ++ step ∷ []) ≡ all = steps-push way.news steps step in
+        let logs_it : LogsNews stands demands way.asks old new (moment_of frame (log_time frame))
+        (way.news steps step) =
+        subst (LogsNews stands demands way.asks old new (moment_of frame (log_time frame))) news_is
+        (subst (λ m. LogsNews stands demands way.asks old new m news) moment_is logs) in
+        record {
+          fits = along.fits;
+          collects = subst (OpenedStandsFor stands demands way.asks way.opens new way.params) (sym pushed)
+              (logs_it way.params way.opens seen well.opens along.collects along.fits
+              (subst (AreTimely base) pushed (timely_from way.news base (steps ++ step ∷ []) in_time))
+              (subst (AskWell (own_demands way demands) way.asks []) pushed
+              (asks_well way demands well (steps ++ step ∷ []))));
+        }
+
+    -- one more report: what the lane hands out is what is shown of the metric by its steps
+    pub along_reports : (collecting : Collecting Params Event After X K C (Row V)) → Agrees way demands collecting
+        → (include_current : Bool) (at : ℕ) (old new : Lane P Event After V) (closed : Closed V)
+        → GetsReport stands demands collecting old new at include_current closed → Along way demands stands steps old
+        → ComeInTime (own_demands way demands).base (steps ++ reported_step include_current at ∷ [])
+        → Along way demands stands (steps ++ reported_step include_current at ∷ []) new
+        × (closed ≡ closed_of (shown_by_steps way steps include_current at))
+    along_reports collecting agrees include_current at old new closed reports along in_time =
+        let step = reported_step include_current at in
+        let base = (own_demands way demands).base in
+        let seen = steps_seen way steps in
+        let all = seen ++ lane_step (way.news steps) step ∷ [] in
+        let pushed : steps_seen way (steps ++ step ∷ []) ≡ all = steps-push way.news steps step in
+        let both = opened_reports stands demands way.asks way.params seen along.fits way.opens well.opens collecting old
+        new at include_current closed reports along.collects
+        (subst (AreTimely base) pushed (timely_from way.news base (steps ++ step ∷ []) in_time))
+        (subst (AskWell (own_demands way demands) way.asks []) pushed
+        (asks_well way demands well (steps ++ step ∷ []))) in (
+          record {
+            fits = along.fits;
+            collects = subst (OpenedStandsFor stands demands way.asks way.opens new way.params) (sym pushed) both.0;
+          },
+          both.1 ∙ ap closed_of (calls_mean_steps way demands collecting agrees steps include_current at),
+        )
