@@ -1,4 +1,4 @@
-//! What tests assert by. A test that fails names where.
+//! What test functions assert by. A test that fails names where.
 use std::alloc::AllocError;
 use std::fmt::Debug;
 use std::process::Abort;
