@@ -2,6 +2,7 @@
 use super::encoder::{Spelled, spell};
 use super::hex::push_hex_text;
 use super::lets::Lets;
+use super::loops::unrolled;
 use super::names::Names;
 use std::alloc::{AllocError, Global};
 
@@ -140,6 +141,16 @@ impl Tester {
     /// A text in which names are replaced.
     pub fn expanded(&self, text: &str) -> Result<String, AllocError> {
         self.lets.expanded(text)
+    }
+
+    /// A text in which names are replaced and loops written out, or nothing where a loop isn't well formed, which is told.
+    pub fn written_out(&mut self, text: &str) -> Result<Option<String>, AllocError> {
+        let flat = self.lets.expanded(text)?;
+        let all = unrolled(self.alloc, flat.as_str())?;
+        if all.is_none() {
+            self.differs("a loop that isn't well formed", "")?;
+        }
+        Ok(all)
     }
 
     /// The bytes of a text, or nothing where a word isn't known, which is told.
