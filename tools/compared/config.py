@@ -1,4 +1,4 @@
-"""Configurations of counts with conditions, as far as sessions are drawn of them. References are places from 0."""
+"""Configurations of counts with conditions and states, as far as they are drawn. References are places from 0."""
 from dataclasses import dataclass, field
 
 from compared.wire import message, number
@@ -6,7 +6,7 @@ from compared.wire import message, number
 AND, OR, NOT, NAND, NOR = range(1, 6)
 
 # Ids are places from these on.
-MATCHER_ID, PREDICATE_ID, METRIC_ID = 1, 101, 201
+MATCHER_ID, PREDICATE_ID, METRIC_ID, STATE_ID = 1, 101, 201, 301
 
 SECOND = 10**9
 
@@ -23,14 +23,14 @@ def named(field_number, place, first_id):
 
 @dataclass
 class Fields:
-    """Plain fields of an atom."""
+    """Fields of an atom."""
 
     atom_id: int
-    numbers: list
+    leaves: list
 
     def encoded(self, field_number):
         """As a field matcher."""
-        children = b"".join(message(3, number(1, child)) for child in self.numbers)
+        children = b"".join(message(3, number(1, leaf.field) + number(2, leaf.position)) for leaf in self.leaves)
         return message(field_number, number(1, self.atom_id) + children)
 
 
@@ -99,6 +99,38 @@ class Link:
 
 
 @dataclass
+class State:
+    """A state that the atoms of an id tell, which is shown by groups if there are any: each an id and its numbers."""
+
+    atom_id: int
+    groups: list = None
+
+    def encoded(self, _first_id):
+        """As the contents of a state."""
+        return number(2, self.atom_id) + (b"" if self.groups is None else message(3, self.encoded_groups()))
+
+    def encoded_groups(self):
+        """The groups as the contents of a map."""
+        return b"".join(
+            message(1, number(1, group) + b"".join(number(2, listed) for listed in numbers))
+            for group, numbers in self.groups
+        )
+
+
+@dataclass
+class StateLink:
+    """Which fields of what is counted are the key of a state."""
+
+    in_what: Fields
+    in_state: Fields
+
+    def encoded(self, field_number):
+        """As a state link of a metric."""
+        fields = self.in_what.encoded(2) + self.in_state.encoded(3)
+        return message(field_number, number(1, self.in_state.atom_id) + fields)
+
+
+@dataclass
 class Count:
     """A count metric."""
 
@@ -107,6 +139,8 @@ class Count:
     fields: Fields = None
     unit: int = None
     links: list = field(default_factory=list)
+    slices: list = field(default_factory=list)
+    state_links: list = field(default_factory=list)
     bound: int = None
 
     def encoded(self, place):
@@ -114,6 +148,8 @@ class Count:
         content = named(1, place, METRIC_ID) + named(2, self.what, MATCHER_ID) + named(3, self.condition, PREDICATE_ID)
         content += encoded_fields(4, self.fields) + number(5, self.unit)
         content += b"".join(link.encoded(6) for link in self.links)
+        content += b"".join(named(8, state, STATE_ID) for state in self.slices)
+        content += b"".join(link.encoded(9) for link in self.state_links)
         return message(3, content + number(1001, self.bound))
 
 
@@ -123,6 +159,7 @@ class Config:
 
     matchers: list
     predicates: list
+    states: list
     counts: list
     hidden: list
 
@@ -132,6 +169,7 @@ class Config:
         for first_id, list_field, contents in (
             (MATCHER_ID, 7, self.matchers),
             (PREDICATE_ID, 8, self.predicates),
+            (STATE_ID, 21, self.states),
         ):
             for place, content in enumerate(contents):
                 out += message(list_field, named(1, place, first_id) + content.encoded(first_id))

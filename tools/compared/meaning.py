@@ -11,24 +11,10 @@ from compared.config import (
     Combination,
     SimplePredicate,
 )
+from compared.states import NOT_TOLD
 from compared.wire import message, number
 
 FALSE, UNKNOWN, TRUE = "false", "unknown", "true"
-
-# What a key has where the atom lacks the field.
-MISSING = None
-
-
-def leaf_of(atom_id, fields, wanted_id, wanted):
-    """An atom's number in a field."""
-    return fields.get(wanted, MISSING) if atom_id == wanted_id else MISSING
-
-
-def key_of(wanted, atom_id, fields):
-    """The key of an atom for these fields."""
-    if wanted is None:
-        return ()
-    return tuple(leaf_of(atom_id, fields, wanted.atom_id, wanted_field) for wanted_field in wanted.numbers)
 
 
 def combined(operation, truths):
@@ -73,10 +59,10 @@ class Knowledge:
         else:
             self.counts[key] = self.counts[key] + 1 if self.predicate.nesting else 1
 
-    def act(self, truths, atom_id, fields):
+    def act(self, truths, atom):
         """The first of a stop of all, a stop and a start whose matcher holds."""
         held = [place is not None and truths[place] for place in self.events()]
-        key = key_of(self.predicate.fields, atom_id, fields)
+        key = atom.key(self.predicate.fields)
         if held[0]:
             self.default, self.counts = FALSE, {}
         elif held[1]:
@@ -93,7 +79,7 @@ class Knowledge:
         agreeing = [
             count for key, count in self.counts.items() if all(key[place] == leaf for place, leaf in wanted.items())
         ]
-        places = 0 if self.predicate.fields is None else len(self.predicate.fields.numbers)
+        places = 0 if self.predicate.fields is None else len(self.predicate.fields.leaves)
         if len(wanted) == places and agreeing:
             return TRUE if agreeing[0] > 0 else FALSE
         return TRUE if any(count > 0 for count in agreeing) else self.default
@@ -143,17 +129,40 @@ class Counting:
         return number(1, place + METRIC_ID) + message(5, data) + number(9, base) + number(10, self.size) + drops
 
 
+def encoded_leaf(place, leaf):
+    """A leaf of a key in a report: one of many numbers stands there once for each."""
+    numbers = leaf if isinstance(leaf, tuple) else [leaf]
+    return b"".join(message(4, number(3, one) + number(1001, place or None)) for one in numbers)
+
+
+def encoded_slice(shown):
+    """A slice in a report: the id of an atom, and the id of a group or else the state."""
+    atom_id, group, state = shown
+    return message(6, number(1, atom_id) + number(2, group) + number(3, state))
+
+
 def encoded_key(key):
-    """A key in a report."""
-    return b"".join(message(4, number(3, leaf) + number(1001, place or None)) for place, leaf in enumerate(key))
+    """A key in a report: its leaves, and then its slices."""
+    leaves, slices = key
+    values = [encoded_leaf(place, leaf) for place, leaf in enumerate(leaves)]
+    return b"".join(values + [encoded_slice(shown) for shown in slices])
+
+
+def shown_state(state, told):
+    """A state as a metric is sliced by it: the first group that lists it, or the state itself."""
+    for group, numbers in state.groups or []:
+        if told in numbers:
+            return state.atom_id, group or 0, None
+    return state.atom_id, None, told if state.groups is None else NOT_TOLD
 
 
 class Instance:
-    """An installed configuration."""
+    """An installed configuration. The states are those of the whole session."""
 
-    def __init__(self, config, base):
+    def __init__(self, config, base, states):
         self.config = config
         self.base = self.last = base
+        self.states = states
         self.known = [
             Knowledge(predicate) if isinstance(predicate, SimplePredicate) else None for predicate in config.predicates
         ]
@@ -164,45 +173,70 @@ class Instance:
         for counting in self.counting:
             counting.cross(time, is_pull)
 
-    def matched(self, atom_id, fields):
+    def matched(self, atom):
         """The truth of each matcher for an atom."""
         truths = []
         for matcher in self.config.matchers:
             if isinstance(matcher, Combination):
                 truths.append(combined(matcher.operation, [truths[child] for child in matcher.children]))
             else:
-                passes = matcher.test is None or fields.get(matcher.test[0]) == matcher.test[1]
-                truths.append(atom_id == matcher.atom_id and passes)
+                passes = matcher.test is None or atom.numbers.get((matcher.test[0], 0)) == matcher.test[1]
+                truths.append(atom.atom_id == matcher.atom_id and passes)
         return truths
 
-    def truth(self, place, links, atom_id, fields):
+    def truth(self, place, links, atom):
         """The truth of a predicate as a metric with these links asks it for an atom."""
         predicate = self.config.predicates[place]
         if isinstance(predicate, Combination):
-            truths = [self.truth(child, links, atom_id, fields) for child in predicate.children]
+            truths = [self.truth(child, links, atom) for child in predicate.children]
             if UNKNOWN in truths:
                 return UNKNOWN
             return TRUE if combined(predicate.operation, [truth == TRUE for truth in truths]) else FALSE
         wanted = {}
         for link in links:
             if link.predicate == place:
-                for ours, theirs in zip(link.in_what.numbers, link.in_condition.numbers):
-                    leaf = leaf_of(atom_id, fields, link.in_what.atom_id, ours)
-                    wanted[predicate.fields.numbers.index(theirs)] = leaf
+                for ours, theirs in zip(atom.key(link.in_what), link.in_condition.leaves):
+                    wanted[predicate.fields.leaves.index(theirs)] = ours
         return self.known[place].asked(wanted)
 
-    def atom(self, atom_id, fields):
+    def slices(self, metric, atom):
+        """The states of an atom, in the order in which the metric names them."""
+        links = {link.in_state.atom_id: link.in_what for link in metric.state_links}
+        states = [self.config.states[place] for place in metric.slices]
+        return tuple(
+            shown_state(state, self.states.state(state.atom_id, atom.key(links.get(state.atom_id)))) for state in states
+        )
+
+    def atom(self, atom):
         """An atom acts on the predicates, and then arrives."""
-        truths = self.matched(atom_id, fields)
+        truths = self.matched(atom)
         for known in self.known:
             if known is not None:
-                known.act(truths, atom_id, fields)
+                known.act(truths, atom)
         for counting in self.counting:
             metric = counting.metric
             if truths[metric.what] and (
-                metric.condition is None or self.truth(metric.condition, metric.links, atom_id, fields) == TRUE
+                metric.condition is None or self.truth(metric.condition, metric.links, atom) == TRUE
             ):
-                counting.arrive(key_of(metric.fields, atom_id, fields))
+                counting.arrive((atom.key(metric.fields), self.slices(metric, atom)))
+
+    def predicate_drops(self):
+        """How many keys of each predicate found no room."""
+        return b"".join(
+            message(1001, number(1, place + PREDICATE_ID) + number(2, known.drops))
+            for place, known in enumerate(self.known)
+            if known is not None and known.drops > 0
+        )
+
+    def state_drops(self):
+        """How many keys of the states' atoms found no room since the session began, and how many ids of atoms."""
+        if not self.config.states:
+            return b""
+        ids = dict.fromkeys(state.atom_id for state in self.config.states)
+        drops = [(atom_id, self.states.drops[atom_id]) for atom_id in ids if atom_id in self.states.drops]
+        return b"".join(
+            message(1002, number(1, atom_id) + number(2, dropped)) for atom_id, dropped in drops
+        ) + number(1003, self.states.dropped_atoms or None)
 
     def report(self, uid, config_id, now, is_cut):
         """The bytes of a report."""
@@ -213,11 +247,6 @@ class Instance:
         for place, counting in enumerate(self.counting):
             reported = message(1, counting.reported(place, self.base))
             shown += b"" if place in self.config.hidden else reported
-        drops = b"".join(
-            message(1001, number(1, place + PREDICATE_ID) + number(2, known.drops))
-            for place, known in enumerate(self.known)
-            if known is not None and known.drops > 0
-        )
-        times = number(3, self.last) + number(4, now)
+        shown += number(3, self.last) + number(4, now) + self.predicate_drops() + self.state_drops()
         self.last = now
-        return message(1, number(1, uid) + number(2, config_id)) + message(2, shown + times + drops)
+        return message(1, number(1, uid) + number(2, config_id)) + message(2, shown)

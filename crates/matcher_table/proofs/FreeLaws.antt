@@ -5,10 +5,10 @@ use Rattle.std.proofs.lemmas.Bool.{cases_eq, cases_lt}
 use Rattle.std.proofs.lemmas.List.{take_all}
 use Rattle.matcher_table.specs.declared.shared.SharedMatcher.{SharedMatcher}
 use Rattle.matcher_table.specs.declared.store.Store.{Store}
-use Rattle.matcher_table.specs.Slots.{matcher_at, children_of, places_of}
+use Rattle.matcher_table.specs.Slots.{matcher_at, children_of, times_among}
 use Rattle.matcher_table.specs.Finding.{slot_for}
 use Rattle.matcher_table.specs.Steps.{Releases}
-use Rattle.matcher_table.specs.StoreParts.{IsHeld, StoreIsHeld, StoreIsIndexed, IsUsed, UsedFrom, Frees, ChangesOutside, contents}
+use Rattle.matcher_table.specs.StoreParts.{AreSlotsHeld, StoreIsHeld, StoreIsIndexed, IsUsed, UsedFrom, Frees, ChangesOutside, table_in}
 use Rattle.matcher_table.proofs.Counting.{one_if_other, places_more, take_remove_below}
 use Rattle.matcher_table.proofs.IndexLaws.{indexed_freed, some_same}
 use Rattle.matcher_table.proofs.HeldLaws.{cases_live, held_freed, freed_others, now_gone, live_before, order_live, outside_live, live_listed}
@@ -16,7 +16,7 @@ use Rattle.matcher_table.proofs.HeldLaws.{cases_live, held_freed, freed_others, 
 -- all that is live stands in the order
 pub used_from_all : (store : Store) → StoreIsHeld store → UsedFrom store (length store.order.items)
 used_from_all store held s live =
-    inr (subst (λ (xs : List ℕ). 0 < places_of s xs)
+    inr (subst (λ (xs : List ℕ). 0 < times_among s xs)
     (sym (take_all (length store.order.items) store.order.items (omega arith))) (live_listed held s live))
 
 -- a slot with a use needs no sweep
@@ -78,7 +78,7 @@ module _ (old new : Store) (at : ℕ) (held : StoreIsHeld old) (within : at < le
     (order : new.order.items ≡ remove old.order.items at) (outside : new.outside.items ≡ old.outside.items)
     (results : new.results.items ≡ old.results.items)
     (uses : (s : ℕ) → get_or new.uses.items s 0
-    + places_of s (children_of (matcher_at old.bodies.slots (get_or old.order.items at 0))) ≡ get_or old.uses.items s 0)
+    + times_among s (children_of (matcher_at old.bodies.slots (get_or old.order.items at 0))) ≡ get_or old.uses.items s 0)
     (long : length new.uses.items ≡ length old.uses.items) where
   no_uses : get_or old.uses.items (get_or old.order.items at 0) 0 ≡ 0
   no_uses = elim (cases_eq (get_or old.uses.items (get_or old.order.items at 0) 0) 0) [
@@ -110,10 +110,10 @@ module _ (old new : Store) (at : ℕ) (held : StoreIsHeld old) (within : at < le
 
   pub freed_held : StoreIsHeld new
   freed_held =
-      subst (λ (xs : List ℕ). IsHeld new.bodies.slots xs new.outside.items new.uses.items new.results.items) (sym order)
-      (subst (λ (os : List ℕ). IsHeld new.bodies.slots (remove old.order.items at) os new.uses.items new.results.items)
+      subst (λ (xs : List ℕ). AreSlotsHeld new.bodies.slots xs new.outside.items new.uses.items new.results.items) (sym order)
+      (subst (λ (os : List ℕ). AreSlotsHeld new.bodies.slots (remove old.order.items at) os new.uses.items new.results.items)
       (sym outside)
-      (subst (λ rs. IsHeld new.bodies.slots (remove old.order.items at) old.outside.items new.uses.items rs)
+      (subst (λ rs. AreSlotsHeld new.bodies.slots (remove old.order.items at) old.outside.items new.uses.items rs)
       (sym results)
       (held_freed held new.bodies.slots at (get_or old.order.items at 0) new.uses.items within refl slots no_uses
       no_outside uses long)))
@@ -152,8 +152,8 @@ module _ (old new : Store) (at : ℕ) (held : StoreIsHeld old) (within : at < le
   front : take at new.order.items ≡ take at old.order.items
   front = ap (take at) order ∙ take_remove_below old.order.items at at within (omega arith)
 
-  in_front : (s : ℕ) → 0 < places_of s (take at old.order.items) → 0 < places_of s (take at new.order.items)
-  in_front s counted = subst (λ (xs : List ℕ). 0 < places_of s xs) (sym front) counted
+  in_front : (s : ℕ) → 0 < times_among s (take at old.order.items) → 0 < times_among s (take at new.order.items)
+  in_front s counted = subst (λ (xs : List ℕ). 0 < times_among s xs) (sym front) counted
 
   pub freed_used : UsedFrom new at
   freed_used s live =
@@ -169,7 +169,7 @@ module _ (old new : Store) (at : ℕ) (held : StoreIsHeld old) (within : at < le
             elim has [
               | inl outer ↦ inl (inl (subst (λ (xs : List ℕ). 0 < get_or xs s 0) (sym outside) outer))
               | inr child ↦
-                  elim (cases_lt 0 (places_of s (children_of (matcher_at old.bodies.slots
+                  elim (cases_lt 0 (times_among s (children_of (matcher_at old.bodies.slots
                   (get_or old.order.items at 0))))) [
                     | inl named ↦ inr (in_front s (held.after at s within named))
                     | inr none ↦ inl (inr (omega (arith, uses s)))
@@ -193,7 +193,7 @@ module _ (old new : Store) (slot : ℕ) (held : StoreIsHeld old) (had : 0 < get_
   slot_live : matcher_at old.bodies.slots slot ≢ None
   slot_live = outside_live held slot had
 
-  pub lowered_releases : Releases (contents old) slot (contents new)
+  pub lowered_releases : Releases (table_in old) slot (table_in new)
   lowered_releases = record {
     outside = lower;
     others = changes.others;
@@ -249,7 +249,7 @@ module _ (old new : Store) (slot : ℕ) (held : StoreIsHeld old) (had : 0 < get_
               ]
         ]
 
-    pub swept_releases : Releases (contents old) slot (contents end)
+    pub swept_releases : Releases (table_in old) slot (table_in end)
     swept_releases = record {
       outside = ap (λ (xs : List ℕ). get_or xs slot 0 + 1) frees.outside ∙ lower;
       others = λ s other. ap (λ (xs : List ℕ). get_or xs s 0) frees.outside ∙ changes.others s other;

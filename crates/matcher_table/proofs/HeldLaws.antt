@@ -10,8 +10,8 @@ use Rattle.config_types.specs.declared.matcher.SimpleMatcher.{SimpleMatcher}
 use Rattle.config_types.specs.Askable.{IsAskable}
 use Rattle.matcher_table.specs.declared.shared.SharedMatcher.{SharedMatcher}
 use Rattle.matcher_table.specs.declared.shared.SharedMatcher.TheVariants.{Simple}
-use Rattle.matcher_table.specs.Slots.{matcher_at, children_of, places_of, child_uses, live_count}
-use Rattle.matcher_table.specs.StoreParts.{IsHeld}
+use Rattle.matcher_table.specs.Slots.{matcher_at, children_of, times_among, child_uses, live_count}
+use Rattle.matcher_table.specs.StoreParts.{AreSlotsHeld}
 use Rattle.matcher_table.proofs.Counting.{one_if, one_if_same, one_if_other, places_push, places-remove, counted_at, take_remove_below, take_remove_above, sum_updates}
 
 -- false isn't true
@@ -63,35 +63,35 @@ live_within slots s live =
 -- where a slot's uses change by what another slot names
 pub uses_change : (slots slots' : List (Option SharedMatcher)) (key s : ℕ)
     → ((k : ℕ) → k ≢ key → matcher_at slots' k ≡ matcher_at slots k)
-    → child_uses slots' s + places_of s (children_of (matcher_at slots key))
-    ≡ child_uses slots s + places_of s (children_of (matcher_at slots' key))
+    → child_uses slots' s + times_among s (children_of (matcher_at slots key))
+    ≡ child_uses slots s + times_among s (children_of (matcher_at slots' key))
 uses_change slots slots' key s same =
-    sum_updates (λ (o : Option SharedMatcher). places_of s (children_of o)) refl slots slots' key same
+    sum_updates (λ (o : Option SharedMatcher). times_among s (children_of o)) refl slots slots' key same
 
 -- what a slot names has a child use
-pub named_used : (slots : List (Option SharedMatcher)) (x c : ℕ) → 0 < places_of c (children_of (matcher_at slots x))
+pub named_used : (slots : List (Option SharedMatcher)) (x c : ℕ) → 0 < times_among c (children_of (matcher_at slots x))
     → 0 < child_uses slots c
 named_used slots x c named =
     elim (cases_lt x (length slots)) [
       | inl here ↦ omega (
         arith,
-        get_or-le-sum_by (λ (o : Option SharedMatcher). places_of c
+        get_or-le-sum_by (λ (o : Option SharedMatcher). times_among c
             (children_of o)) slots x None here,
       )
       | inr past ↦
-          let gone : places_of c (children_of (matcher_at slots x)) ≡ 0 =
-          ap (λ (o : Option SharedMatcher). places_of c (children_of o)) (get_or_past slots x None past) in
+          let gone : times_among c (children_of (matcher_at slots x)) ≡ 0 =
+          ap (λ (o : Option SharedMatcher). times_among c (children_of o)) (get_or_past slots x None past) in
           absurd (omega arith)
     ]
 
 module _ {slots : List (Option SharedMatcher)} {order outside uses : List ℕ} {results : List Bool}
-    (held : IsHeld slots order outside uses results) where
+    (held : AreSlotsHeld slots order outside uses results) where
   -- a live slot stands in the order
-  pub live_listed : (s : ℕ) → matcher_at slots s ≢ None → 0 < places_of s order
+  pub live_listed : (s : ℕ) → matcher_at slots s ≢ None → 0 < times_among s order
   live_listed s live = omega (arith, held.listed s, live_is_one (matcher_at slots s) live)
 
   -- what stands in the order is live
-  pub listed_live : (s : ℕ) → 0 < places_of s order → matcher_at slots s ≢ None
+  pub listed_live : (s : ℕ) → 0 < times_among s order → matcher_at slots s ≢ None
   listed_live s counted = counted_live (matcher_at slots s) (omega (arith, held.listed s))
 
   pub order_live : (i : ℕ) → i < length order → matcher_at slots (get_or order i 0) ≢ None
@@ -108,7 +108,7 @@ module _ {slots : List (Option SharedMatcher)} {order outside uses : List ℕ} {
   -- other outside uses, of live slots alone
   pub held_outside : (outside' : List ℕ) → length outside' ≡ length outside
       → ((s : ℕ) → matcher_at slots s ≡ None → get_or outside' s 0 ≡ get_or outside s 0)
-      → IsHeld slots order outside' uses results
+      → AreSlotsHeld slots order outside' uses results
   held_outside outside' long same = record {
     uses_are = held.uses_are;
     none_outside = λ s gone. same s gone ∙ held.none_outside s gone;
@@ -126,7 +126,7 @@ module _ {slots : List (Option SharedMatcher)} {order outside uses : List ℕ} {
   pub held_longer : (outside' uses' : List ℕ) (results' : List Bool) → length outside ≤ length outside'
       → length uses ≤ length uses' → length results ≤ length results'
       → ((s : ℕ) → get_or outside' s 0 ≡ get_or outside s 0) → ((s : ℕ) → get_or uses' s 0 ≡ get_or uses s 0)
-      → IsHeld slots order outside' uses' results'
+      → AreSlotsHeld slots order outside' uses' results'
   held_longer outside' uses' results' long_o long_u long_r same_o same_u = record {
     uses_are = λ s. same_u s ∙ held.uses_are s;
     none_outside = λ s gone. same_o s ∙ held.none_outside s gone;
@@ -146,19 +146,19 @@ module _ {slots : List (Option SharedMatcher)} {order outside uses : List ℕ} {
       (was : matcher_at slots slot ≡ None) (here : matcher_at slots' slot ≡ Some shared)
       (others : (k : ℕ) → k ≢ slot → matcher_at slots' k ≡ matcher_at slots k)
       (one_more : count_by is_some slots' ≡ count_by is_some slots + 1)
-      (children : (c : ℕ) → 0 < places_of c (children_of (Some shared)) → matcher_at slots c ≢ None)
+      (children : (c : ℕ) → 0 < times_among c (children_of (Some shared)) → matcher_at slots c ≢ None)
       (askable : (matcher : SimpleMatcher) → shared ≡ Simple matcher → IsAskable matcher)
-      (counted : (s : ℕ) → get_or uses' s 0 ≡ get_or uses s 0 + places_of s (children_of (Some shared)))
+      (counted : (s : ℕ) → get_or uses' s 0 ≡ get_or uses s 0 + times_among s (children_of (Some shared)))
       (long_uses : length uses ≤ length uses') (room_uses : slot < length uses')
       (long_outside : length outside ≤ length outside') (room_outside : slot < length outside')
       (same_outside : (s : ℕ) → s ≢ slot → get_or outside' s 0 ≡ get_or outside s 0)
       (long_results : length results ≤ length results') (room_results : slot < length results') where
-    uses_now : (s : ℕ) → child_uses slots' s ≡ child_uses slots s + places_of s (children_of (Some shared))
+    uses_now : (s : ℕ) → child_uses slots' s ≡ child_uses slots s + times_among s (children_of (Some shared))
     uses_now s =
-        let before : places_of s (children_of (matcher_at slots slot)) ≡ 0 =
-        ap (λ (o : Option SharedMatcher). places_of s (children_of o)) was in
-        let after : places_of s (children_of (matcher_at slots' slot)) ≡ places_of s (children_of (Some shared)) =
-        ap (λ (o : Option SharedMatcher). places_of s (children_of o)) here in
+        let before : times_among s (children_of (matcher_at slots slot)) ≡ 0 =
+        ap (λ (o : Option SharedMatcher). times_among s (children_of o)) was in
+        let after : times_among s (children_of (matcher_at slots' slot)) ≡ times_among s (children_of (Some shared)) =
+        ap (λ (o : Option SharedMatcher). times_among s (children_of o)) here in
         omega (arith, uses_change slots slots' slot s others)
 
     -- what isn't live afterwards wasn't before, and is no child
@@ -169,9 +169,9 @@ module _ {slots : List (Option SharedMatcher)} {order outside uses : List ℕ} {
           | inr other ↦ sym (others s other) ∙ gone
         ]
 
-    not_named : (s : ℕ) → matcher_at slots s ≡ None → places_of s (children_of (Some shared)) ≡ 0
+    not_named : (s : ℕ) → matcher_at slots s ≡ None → times_among s (children_of (Some shared)) ≡ 0
     not_named s gone =
-        elim (cases_eq (places_of s (children_of (Some shared))) 0) [
+        elim (cases_eq (times_among s (children_of (Some shared))) 0) [
           | inl none ↦ none
           | inr some ↦ absurd (children s (omega arith) gone)
         ]
@@ -188,7 +188,7 @@ module _ {slots : List (Option SharedMatcher)} {order outside uses : List ℕ} {
           | inr other ↦ inr (other, λ gone. live (others s other ∙ gone))
         ]
 
-    listed_now : (s : ℕ) → places_of s (order ++ slot ∷ []) ≡ live_count (matcher_at slots' s)
+    listed_now : (s : ℕ) → times_among s (order ++ slot ∷ []) ≡ live_count (matcher_at slots' s)
     listed_now s =
         elim (cases_eq s slot) [
           | inl same ↦
@@ -207,8 +207,8 @@ module _ {slots : List (Option SharedMatcher)} {order outside uses : List ℕ} {
 
     -- children stand in the order before
     after_now : (i c : ℕ) → i < length (order ++ slot ∷ [])
-        → 0 < places_of c (children_of (matcher_at slots' (get_or (order ++ slot ∷ []) i 0)))
-        → 0 < places_of c (take i (order ++ slot ∷ []))
+        → 0 < times_among c (children_of (matcher_at slots' (get_or (order ++ slot ∷ []) i 0)))
+        → 0 < times_among c (take i (order ++ slot ∷ []))
     after_now i c h named =
         let front : take i (order ++ slot ∷ []) ≡ take i order =
         take-append-le i order (slot ∷ []) (omega (arith, length_push order slot)) in
@@ -219,23 +219,23 @@ module _ {slots : List (Option SharedMatcher)} {order outside uses : List ℕ} {
               let differs : get_or order i 0 ≢ slot = λ e. order_live i old (ap (matcher_at slots) e ∙ was) in
               let same : matcher_at slots' (get_or (order ++ slot ∷ []) i 0) ≡ matcher_at slots (get_or order i 0) =
               ap (matcher_at slots') at ∙ others (get_or order i 0) differs in
-              let before : 0 < places_of c (children_of (matcher_at slots (get_or order i 0))) =
-              subst (λ (o : Option SharedMatcher). 0 < places_of c (children_of o)) same named in
-              subst (λ (xs : List ℕ). 0 < places_of c xs) (sym front) (held.after i c old before)
+              let before : 0 < times_among c (children_of (matcher_at slots (get_or order i 0))) =
+              subst (λ (o : Option SharedMatcher). 0 < times_among c (children_of o)) same named in
+              subst (λ (xs : List ℕ). 0 < times_among c xs) (sym front) (held.after i c old before)
           | inr last ↦
               let at : get_or (order ++ slot ∷ []) i 0 ≡ slot =
               get_or_push order slot 0 i (omega (arith, length_push order slot)) in
               let same : matcher_at slots' (get_or (order ++ slot ∷ []) i 0) ≡ Some shared = ap
               (matcher_at slots') at ∙ here in
-              let child : 0 < places_of c (children_of (Some shared)) =
-              subst (λ (o : Option SharedMatcher). 0 < places_of c (children_of o)) same named in
+              let child : 0 < times_among c (children_of (Some shared)) =
+              subst (λ (o : Option SharedMatcher). 0 < times_among c (children_of o)) same named in
               let all : take i order ≡ order = take_all i order last in
-              subst (λ (xs : List ℕ). 0 < places_of c xs) (sym (front ∙ all)) (live_listed c (children c child))
+              subst (λ (xs : List ℕ). 0 < times_among c xs) (sym (front ∙ all)) (live_listed c (children c child))
         ]
 
-    pub held_made : IsHeld slots' (order ++ slot ∷ []) outside' uses' results'
+    pub held_made : AreSlotsHeld slots' (order ++ slot ∷ []) outside' uses' results'
     held_made = record {
-      uses_are = λ s. counted s ∙ ap (λ (n : ℕ). n + places_of s (children_of (Some shared))) (held.uses_are s)
+      uses_are = λ s. counted s ∙ ap (λ (n : ℕ). n + times_among s (children_of (Some shared))) (held.uses_are s)
           ∙ sym (uses_now s);
       none_outside = λ s gone. same_outside s (other_than s gone) ∙ held.none_outside s (not_before s gone);
       none_below = λ s gone. omega (
@@ -272,7 +272,7 @@ module _ {slots : List (Option SharedMatcher)} {order outside uses : List ℕ} {
   module _ (slots' : List (Option SharedMatcher)) (at x : ℕ) (uses' : List ℕ) (within : at < length order)
       (is_x : x ≡ get_or order at 0) (written : slots' ≡ set slots x None)
       (unused : get_or uses x 0 ≡ 0) (none_outside : get_or outside x 0 ≡ 0)
-      (counted : (s : ℕ) → get_or uses' s 0 + places_of s (children_of (matcher_at slots x)) ≡ get_or uses s 0)
+      (counted : (s : ℕ) → get_or uses' s 0 + times_among s (children_of (matcher_at slots x)) ≡ get_or uses s 0)
       (long : length uses' ≡ length uses) where
     live_x : matcher_at slots x ≢ None
     live_x gone = order_live at within (ap (matcher_at slots) (sym is_x) ∙ gone)
@@ -288,10 +288,10 @@ module _ {slots : List (Option SharedMatcher)} {order outside uses : List ℕ} {
     freed_others k other = ap (λ (xs : List (Option SharedMatcher)). matcher_at xs k) written
         ∙ get_or-set_other slots x k None None other
 
-    uses_freed : (s : ℕ) → child_uses slots' s + places_of s (children_of (matcher_at slots x)) ≡ child_uses slots s
+    uses_freed : (s : ℕ) → child_uses slots' s + times_among s (children_of (matcher_at slots x)) ≡ child_uses slots s
     uses_freed s =
-        let none : places_of s (children_of (matcher_at slots' x)) ≡ 0 =
-        ap (λ (o : Option SharedMatcher). places_of s (children_of o)) now_gone in
+        let none : times_among s (children_of (matcher_at slots' x)) ≡ 0 =
+        ap (λ (o : Option SharedMatcher). times_among s (children_of o)) now_gone in
         omega (arith, uses_change slots slots' x s freed_others)
 
     -- what is live stays, or is the one that is gone
@@ -300,13 +300,13 @@ module _ {slots : List (Option SharedMatcher)} {order outside uses : List ℕ} {
         let differs : s ≢ x = λ e. live (ap (matcher_at slots') e ∙ now_gone) in
         (differs, λ gone. live (freed_others s differs ∙ gone))
 
-    unnamed_freed : (y c : ℕ) → 0 < places_of c (children_of (matcher_at slots y)) → c ≢ x
+    unnamed_freed : (y c : ℕ) → 0 < times_among c (children_of (matcher_at slots y)) → c ≢ x
     unnamed_freed y c named e =
         let used : 0 < child_uses slots c = named_used slots y c named in
         let none : child_uses slots c ≡ 0 = ap (child_uses slots) e ∙ sym (held.uses_are x) ∙ unused in
         omega arith
 
-    listed_freed : (s : ℕ) → places_of s (remove order at) ≡ live_count (matcher_at slots' s)
+    listed_freed : (s : ℕ) → times_among s (remove order at) ≡ live_count (matcher_at slots' s)
     listed_freed s =
         elim (cases_eq s x) [
           | inl same ↦
@@ -334,42 +334,42 @@ module _ {slots : List (Option SharedMatcher)} {order outside uses : List ℕ} {
         omega (arith, length-remove order at within, held.once, counts_live slots, counts_live slots')
 
     after_freed : (i c : ℕ) → i < length (remove order at)
-        → 0 < places_of c (children_of (matcher_at slots' (get_or (remove order at) i 0)))
-        → 0 < places_of c (take i (remove order at))
+        → 0 < times_among c (children_of (matcher_at slots' (get_or (remove order at) i 0)))
+        → 0 < times_among c (take i (remove order at))
     after_freed i c h named =
         let shorter : length (remove order at) + 1 ≡ length order = length-remove order at within in
         let y = get_or (remove order at) i 0 in
         let differs : y ≢ x = λ e.
-        let none : places_of c (children_of (matcher_at slots' y)) ≡ 0 =
-        ap (λ (k : ℕ). places_of c (children_of (matcher_at slots' k))) e
-        ∙ ap (λ (o : Option SharedMatcher). places_of c (children_of o)) now_gone in
+        let none : times_among c (children_of (matcher_at slots' y)) ≡ 0 =
+        ap (λ (k : ℕ). times_among c (children_of (matcher_at slots' k))) e
+        ∙ ap (λ (o : Option SharedMatcher). times_among c (children_of o)) now_gone in
         omega arith in
-        let before : 0 < places_of c (children_of (matcher_at slots y)) =
-        subst (λ (o : Option SharedMatcher). 0 < places_of c (children_of o)) (freed_others y differs) named in
+        let before : 0 < times_among c (children_of (matcher_at slots y)) =
+        subst (λ (o : Option SharedMatcher). 0 < times_among c (children_of o)) (freed_others y differs) named in
         elim (cases_lt i at) [
           | inl lower ↦
               let same : get_or (remove order at) i 0 ≡ get_or order i 0 =
               get_or-remove_below order at 0 i lower within in
-              let at_i : 0 < places_of c (children_of (matcher_at slots (get_or order i 0))) =
-              subst (λ (k : ℕ). 0 < places_of c (children_of (matcher_at slots k))) same before in
-              subst (λ (xs : List ℕ). 0 < places_of c xs) (sym (take_remove_below order at i within (omega arith)))
+              let at_i : 0 < times_among c (children_of (matcher_at slots (get_or order i 0))) =
+              subst (λ (k : ℕ). 0 < times_among c (children_of (matcher_at slots k))) same before in
+              subst (λ (xs : List ℕ). 0 < times_among c xs) (sym (take_remove_below order at i within (omega arith)))
               (held.after i c (omega arith) at_i)
           | inr upper ↦
               let same : get_or (remove order at) i 0 ≡ get_or order (i + 1) 0 =
               get_or-remove_above order at 0 i upper within in
-              let at_i : 0 < places_of c (children_of (matcher_at slots (get_or order (i + 1) 0))) =
-              subst (λ (k : ℕ). 0 < places_of c (children_of (matcher_at slots k))) same before in
-              let stands : 0 < places_of c (take (i + 1) order) = held.after (i + 1) c (omega arith) at_i in
+              let at_i : 0 < times_among c (children_of (matcher_at slots (get_or order (i + 1) 0))) =
+              subst (λ (k : ℕ). 0 < times_among c (children_of (matcher_at slots k))) same before in
+              let stands : 0 < times_among c (take (i + 1) order) = held.after (i + 1) c (omega arith) at_i in
               let long_front : length (take (i + 1) order) ≡ i + 1 = length-take-le (i + 1) order (omega arith) in
               let is_at : get_or (take (i + 1) order) at 0 ≡ x = get_or-take (i + 1) order at 0 (omega arith)
               ∙ sym is_x in
               let none : one_if c (get_or (take (i + 1) order) at 0) ≡ 0 =
               one_if_other c (get_or (take (i + 1) order) at 0) (λ e. unnamed_freed y c before (sym e ∙ is_at)) in
-              subst (λ (xs : List ℕ). 0 < places_of c xs) (sym (take_remove_above order at i upper (omega arith)))
+              subst (λ (xs : List ℕ). 0 < times_among c xs) (sym (take_remove_above order at i upper (omega arith)))
               (omega (arith, places-remove c (take (i + 1) order) at (omega arith)))
         ]
 
-    pub held_freed : IsHeld slots' (remove order at) outside uses' results
+    pub held_freed : AreSlotsHeld slots' (remove order at) outside uses' results
     held_freed = record {
       uses_are = λ s. omega (arith, counted s, uses_freed s, held.uses_are s);
       none_outside = λ s gone. elim (cases_eq s x) [

@@ -10,38 +10,38 @@ use Rattle.matcher_table.specs.declared.shared.SharedMatcher.{SharedMatcher}
 use Rattle.matcher_table.specs.declared.shared.SharedMatcher.TheVariants.{Simple, Combination}
 use Rattle.matcher_table.specs.declared.store.Store.{Store}
 use Rattle.matcher_table.specs.declared.table.Slot.{Slot}
-use Rattle.matcher_table.specs.Slots.{matcher_at, children_of, places_of}
+use Rattle.matcher_table.specs.Slots.{matcher_at, children_of, times_among}
 use Rattle.matcher_table.specs.Tables.{IsUnchanged}
 use Rattle.matcher_table.specs.Steps.{Interns, Releases}
-use Rattle.matcher_table.specs.Trees.{tree_of}
-use Rattle.matcher_table.specs.Truths.{IsEnough, MayBeAsked}
+use Rattle.matcher_table.specs.Trees.{slot_tree}
+use Rattle.matcher_table.specs.Truths.{IsEnough, MayAskAbout}
 use Rattle.matcher_table.specs.TableFacts.{IsSoundTable, KeepsTrees}
-use Rattle.matcher_table.specs.StoreParts.{IsHeld, StoreIsHeld, StoreIsIndexed, StoreIsSound, UsedFrom, contents}
+use Rattle.matcher_table.specs.StoreParts.{AreSlotsHeld, StoreIsHeld, StoreIsIndexed, StoreIsSound, UsedFrom, table_in}
 use Rattle.matcher_table.proofs.Counting.{place_of}
 use Rattle.matcher_table.proofs.HeldLaws.{cases_live, some_live, live_listed}
 use Rattle.matcher_table.proofs.IndexLaws.{matchers_set, one_slot}
 use Rattle.matcher_table.proofs.TreeLaws.{trees_meet_their_step, named_live, tree_kept}
 
 module _ {slots : List (Option SharedMatcher)} {order outside uses : List ℕ} {results : List Bool}
-    (held : IsHeld slots order outside uses results) where
+    (held : AreSlotsHeld slots order outside uses results) where
   -- the whole order is enough for every atom
   pub order_is_enough : (atom : Atom) → IsEnough slots atom order
   order_is_enough atom = record {
     simple = λ s matcher is of_atom. live_listed held s (some_live (matcher_at slots s) (Simple matcher) is);
     above = λ s c named among. live_listed held s (λ gone.
-        let none : places_of c (children_of (matcher_at slots s)) ≡ 0 =
-        ap (λ (o : Option SharedMatcher). places_of c (children_of o)) gone in
+        let none : times_among c (children_of (matcher_at slots s)) ≡ 0 =
+        ap (λ (o : Option SharedMatcher). times_among c (children_of o)) gone in
         omega arith);
     once = λ s. omega (arith, held.listed s);
     after = λ i c here named among. held.after i c here named;
   }
 
-  may_ask : (s : ℕ) (o : Option SharedMatcher) → matcher_at slots s ≡ o → MayBeAsked o
+  may_ask : (s : ℕ) (o : Option SharedMatcher) → matcher_at slots s ≡ o → MayAskAbout o
   may_ask s None e = tt
   may_ask s (Some (Simple matcher)) e = held.askable s matcher e
   may_ask s (Some (Combination op children)) e = tt
 
-  pub all_askable : (s : ℕ) → MayBeAsked (matcher_at slots s)
+  pub all_askable : (s : ℕ) → MayAskAbout (matcher_at slots s)
   all_askable s = may_ask s (matcher_at slots s) refl
 
 -- what is merely sound is sound
@@ -71,7 +71,7 @@ is_sound store held indexed used = record {
 }
 
 -- what callers may know of every table
-pub sound_table : (store : Store) → StoreIsSound store → IsSoundTable (contents store)
+pub sound_table : (store : Store) → StoreIsSound store → IsSoundTable (table_in store)
 sound_table store sound = record {
   used = λ s live. omega (arith, sound.used s live, sound.held.uses_are s);
   unused = λ s gone. omega (arith, sound.held.none_outside s gone, sound.held.none_below s gone);
@@ -83,13 +83,13 @@ sound_table store sound = record {
   trees = λ s live. trees_meet_their_step sound.held s live;
 }
 
-pub unchanged_trees : (old new : Store) → IsUnchanged (contents old) (contents new)
-    → KeepsTrees (contents old) (contents new)
-unchanged_trees old new same s was live = ap (λ (xs : List (Option SharedMatcher)). tree_of xs s) same.slots
+pub unchanged_trees : (old new : Store) → IsUnchanged (table_in old) (table_in new)
+    → KeepsTrees (table_in old) (table_in new)
+unchanged_trees old new same s was live = ap (λ (xs : List (Option SharedMatcher)). slot_tree xs s) same.slots
 
 -- what was live stands for the same after an intern
 interned_same : (old new : Store) (shared : SharedMatcher) (slot : ℕ)
-    → Interns (contents old) shared slot (contents new)
+    → Interns (table_in old) shared slot (table_in new)
     → (s : ℕ) → matcher_at old.bodies.slots s ≢ None → matcher_at old.bodies.slots s ≡ matcher_at new.bodies.slots s
 interned_same old new shared slot interns s live =
     elim (cases_eq s slot) [
@@ -103,23 +103,23 @@ interned_same old new shared slot interns s live =
     ]
 
 pub interned_trees : (old new : Store) (shared : SharedMatcher) (slot : ℕ) → StoreIsHeld old → StoreIsHeld new
-    → Interns (contents old) shared slot (contents new) → KeepsTrees (contents old) (contents new)
+    → Interns (table_in old) shared slot (table_in new) → KeepsTrees (table_in old) (table_in new)
 interned_trees old new shared slot held held' interns s was live =
     sym (tree_kept held' held (interned_same old new shared slot interns) s was)
 
 pub released_trees : (old new : Store) (slot : ℕ) → StoreIsHeld old → StoreIsHeld new
-    → Releases (contents old) slot (contents new) → KeepsTrees (contents old) (contents new)
+    → Releases (table_in old) slot (table_in new) → KeepsTrees (table_in old) (table_in new)
 released_trees old new slot held held' releases s was live = tree_kept held held' releases.kept s live
 
 -- what slots name is live, where each of the slots is
 pub children_live : (slots : List (Option SharedMatcher)) (children : List Slot) (xs : List ℕ)
     → xs ≡ map (λ (slot : Slot). slot.number) children
     → All (λ (slot : Slot). matcher_at slots slot.number ≢ None) children
-    → (y : ℕ) → 0 < places_of y xs → matcher_at slots y ≢ None
+    → (y : ℕ) → 0 < times_among y xs → matcher_at slots y ≢ None
 children_live slots children xs is all y counted =
     let none : Slot = record { number = 0 } in
     let at = place_of y (map (λ (slot : Slot). slot.number) children)
-    (subst (λ (ys : List ℕ). 0 < places_of y ys) is counted) in
+    (subst (λ (ys : List ℕ). 0 < times_among y ys) is counted) in
     let within : at.0 < length children = omega (arith, at.1, length-map children (λ (slot : Slot). slot.number)) in
     let e : get_or (map (λ (slot : Slot). slot.number) children) at.0 0 ≡ (get_or children at.0 none).number =
     get_or-map (λ (slot : Slot). slot.number) children at.0 none 0 within in

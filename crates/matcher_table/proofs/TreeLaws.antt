@@ -4,14 +4,14 @@ use Rattle.std.proofs.lemmas.List.{get_or-take, length-take-le}
 use Rattle.link_graph.specs.Unrolling.{unroll}
 use Rattle.matcher_table.specs.declared.shared.SharedMatcher.{SharedMatcher}
 use Rattle.matcher_table.specs.declared.shared.SharedMatcher.TheVariants.{Simple, Combination}
-use Rattle.matcher_table.specs.Slots.{matcher_at, children_of, places_of, child_uses}
-use Rattle.matcher_table.specs.StoreParts.{IsHeld}
-use Rattle.matcher_table.specs.Trees.{Tree, NoMatcher, Branch, trees_of, tree_from, tree_step, tree_of}
+use Rattle.matcher_table.specs.Slots.{matcher_at, children_of, times_among, child_uses}
+use Rattle.matcher_table.specs.StoreParts.{AreSlotsHeld}
+use Rattle.matcher_table.specs.Trees.{Tree, NoMatcher, Branch, trees_of, tree_from, tree_step, slot_tree}
 use Rattle.matcher_table.proofs.Counting.{one_if_same, places-cons, place_of}
 use Rattle.matcher_table.proofs.HeldLaws.{named_used, live_listed, order_short}
 
 -- functions that agree on what a list has make the same list of it
-pub map_along : {V : Type 0} (f g : ℕ → V) (xs : List ℕ) → ((y : ℕ) → 0 < places_of y xs → f y ≡ g y)
+pub map_along : {V : Type 0} (f g : ℕ → V) (xs : List ℕ) → ((y : ℕ) → 0 < times_among y xs → f y ≡ g y)
     → map f xs ≡ map g xs
 map_along f g [] same = refl
 map_along f g (x ∷ xs) same =
@@ -21,7 +21,7 @@ map_along f g (x ∷ xs) same =
 
 -- a tree comes from the trees of the children, and from no others
 pub tree_looks_down : (f g : ℕ → Tree) (o : Option SharedMatcher)
-    → ((y : ℕ) → 0 < places_of y (children_of o) → f y ≡ g y) → tree_from f o ≡ tree_from g o
+    → ((y : ℕ) → 0 < times_among y (children_of o) → f y ≡ g y) → tree_from f o ≡ tree_from g o
 tree_looks_down f g None same = refl
 tree_looks_down f g (Some (Simple matcher)) same = refl
 tree_looks_down f g (Some (Combination op children)) same =
@@ -32,7 +32,7 @@ abbrev pub tree_to : List (Option SharedMatcher) → ℕ → ℕ → Tree
 tree_to slots depth s = unroll (tree_step slots) NoMatcher depth s
 
 module _ {slots : List (Option SharedMatcher)} {order outside uses : List ℕ} {results : List _}
-    (held : IsHeld slots order outside uses results) where
+    (held : AreSlotsHeld slots order outside uses results) where
   -- deep enough is as good as deeper
   settled : (most i a b : ℕ) → i < most → i < length order → i < a → i < b
       → tree_to slots a (get_or order i 0) ≡ tree_to slots b (get_or order i 0)
@@ -50,7 +50,7 @@ module _ {slots : List (Option SharedMatcher)} {order outside uses : List ℕ} {
       (settled most k a b (omega arith) (omega arith) (omega arith) (omega arith)))
 
   -- from so many slots on, the depth makes no difference
-  pub deep_enough : (s a : ℕ) → matcher_at slots s ≢ None → length slots ≤ a → tree_to slots a s ≡ tree_of slots s
+  pub deep_enough : (s a : ℕ) → matcher_at slots s ≢ None → length slots ≤ a → tree_to slots a s ≡ slot_tree slots s
   deep_enough s a live deep =
       let place = place_of s order (live_listed held s live) in
       let short : length order ≤ length slots = order_short held in
@@ -59,18 +59,18 @@ module _ {slots : List (Option SharedMatcher)} {order outside uses : List ℕ} {
       (arith, place.1)))
 
   pub trees_meet_their_step : (s : ℕ) → matcher_at slots s ≢ None
-      → tree_of slots s ≡ tree_from (tree_of slots) (matcher_at slots s)
+      → slot_tree slots s ≡ tree_from (slot_tree slots) (matcher_at slots s)
   trees_meet_their_step s live = sym (deep_enough s (suc (length slots)) live (omega arith))
 
   -- what is named is live
-  pub named_live : (s c : ℕ) → 0 < places_of c (children_of (matcher_at slots s)) → matcher_at slots c ≢ None
+  pub named_live : (s c : ℕ) → 0 < times_among c (children_of (matcher_at slots s)) → matcher_at slots c ≢ None
   named_live s c named gone =
       let used : 0 < child_uses slots c = named_used slots s c named in
       omega (arith, held.none_below c gone)
 
 -- two tables in which the live slots of the second stand for the same
 module _ {slots slots' : List (Option SharedMatcher)} {order order' outside outside' uses uses' : List ℕ} {results results' : List _}
-    (held : IsHeld slots order outside uses results) (held' : IsHeld slots' order' outside' uses' results')
+    (held : AreSlotsHeld slots order outside uses results) (held' : AreSlotsHeld slots' order' outside' uses' results')
     (same : (s : ℕ) → matcher_at slots' s ≢ None → matcher_at slots' s ≡ matcher_at slots s) where
   as_deep : (depth s : ℕ) → matcher_at slots' s ≢ None → tree_to slots' depth s ≡ tree_to slots depth s
   as_deep zero s live = refl
@@ -80,7 +80,7 @@ module _ {slots slots' : List (Option SharedMatcher)} {order order' outside outs
       ∙ ap (tree_from (tree_to slots depth)) (same s live)
 
   -- a slot that stays has the tree that it had
-  pub tree_kept : (s : ℕ) → matcher_at slots' s ≢ None → tree_of slots' s ≡ tree_of slots s
+  pub tree_kept : (s : ℕ) → matcher_at slots' s ≢ None → slot_tree slots' s ≡ slot_tree slots s
   tree_kept s live =
       let deep = length slots + length slots' in
       sym (deep_enough held' s deep live (omega arith)) ∙ as_deep deep s live

@@ -15,12 +15,12 @@ children_of (Some (Simple matcher)) = []
 children_of (Some (Combination op children)) = children
 
 -- how often a number stands in a list
-abbrev pub places_of : ℕ → List ℕ → ℕ
-places_of x xs = count_by (λ y. y == x) xs
+abbrev pub times_among : ℕ → List ℕ → ℕ
+times_among x xs = count_by (λ y. y == x) xs
 
 -- how often a slot stands in the child lists of live combinations
 abbrev pub child_uses : List (Option SharedMatcher) → ℕ → ℕ
-child_uses slots s = sum_by (λ shared. places_of s (children_of shared)) slots
+child_uses slots s = sum_by (λ shared. times_among s (children_of shared)) slots
 
 -- one for a live slot, and else none
 abbrev pub live_count : Option SharedMatcher → ℕ

@@ -8,34 +8,36 @@ use Rattle.matcher_table.specs.declared.shared.SharedMatcher.TheVariants.{Simple
 use Rattle.matcher_table.specs.declared.index.SlotIndex.{SlotIndex}
 use Rattle.matcher_table.specs.declared.store.Store.{Store}
 use Rattle.matcher_table.specs.Finding.{slot_for, HasSpare}
-use Rattle.matcher_table.specs.Slots.{matcher_at, children_of, places_of, child_uses, live_count}
-use Rattle.matcher_table.specs.Tables.{Table}
+use Rattle.matcher_table.specs.Slots.{matcher_at, children_of, times_among, child_uses, live_count}
+use Rattle.matcher_table.specs.Tables.{SlotTable}
 use Rattle.slab.specs.Slab.{HasRoomFor}
 
 -- All that a table keeps between two calls, but for one thing: a slot may have no use.
-pub record IsHeld (slots : List (Option SharedMatcher)) (order outside uses : List ℕ)
+pub record AreSlotsHeld (slots : List (Option SharedMatcher)) (order outside uses : List ℕ)
     (results : List Bool) : Type 0 where
   pub uses_are : (s : ℕ) → slice_index_or uses s 0 ≡ child_uses slots s
   pub none_outside : (s : ℕ) → matcher_at slots s ≡ None → slice_index_or outside s 0 ≡ 0
   pub none_below : (s : ℕ) → matcher_at slots s ≡ None → child_uses slots s ≡ 0
-  pub listed : (s : ℕ) → places_of s order ≡ live_count (matcher_at slots s)
+  pub listed : (s : ℕ) → times_among s order ≡ live_count (matcher_at slots s)
   pub once : length order ≡ count_by is_some slots
-  pub after : (i c : ℕ) → i < length order → 0 < places_of c (children_of (matcher_at slots (slice_index_or order i 0)))
-      → 0 < places_of c (take i order)
+  pub after : (i c : ℕ) → i < length order → 0 < times_among c (children_of (matcher_at slots (slice_index_or order i 0)))
+      → 0 < times_among c (take i order)
   pub room_outside : (s : ℕ) → matcher_at slots s ≢ None → s < length outside
   pub room_uses : (s : ℕ) → matcher_at slots s ≢ None → s < length uses
   pub room_results : (s : ℕ) → matcher_at slots s ≢ None → s < length results
   pub askable : (s : ℕ) (matcher : SimpleMatcher) → matcher_at slots s ≡ Some (Simple matcher) → IsAskable matcher
 
+-- the slots of a store are held so
 abbrev pub StoreIsHeld : Store → Type 0
 StoreIsHeld store =
-    IsHeld store.bodies.slots store.order.items store.outside.items store.uses.items store.results.items
+    AreSlotsHeld store.bodies.slots store.order.items store.outside.items store.uses.items store.results.items
 
 -- The index of a store finds the live slots, each by its matcher.
 pub record IsIndexed (slots : List (Option SharedMatcher)) (index : SlotIndex) : Type 0 where
   pub named : (s : ℕ) (shared : SharedMatcher) → matcher_at slots s ≡ Some shared → slot_for index shared ≡ Some s
   pub found : (s : ℕ) (shared : SharedMatcher) → slot_for index shared ≡ Some s → matcher_at slots s ≡ Some shared
 
+-- the index of a store finds what is live
 abbrev pub StoreIsIndexed : Store → Type 0
 StoreIsIndexed store = IsIndexed store.bodies.slots store.index
 
@@ -46,11 +48,11 @@ IsUsed store s = (0 < slice_index_or store.outside.items s 0) ⊎ (0 < slice_ind
 -- each live slot has a use, but those in this front of the order may have none
 abbrev pub UsedFrom : Store → ℕ → Type 0
 UsedFrom store at =
-    (s : ℕ) → matcher_at store.bodies.slots s ≢ None → IsUsed store s ⊎ (0 < places_of s (take at store.order.items))
+    (s : ℕ) → matcher_at store.bodies.slots s ≢ None → IsUsed store s ⊎ (0 < times_among s (take at store.order.items))
 
 -- what a store contains
-abbrev pub contents : Store → Table
-contents store = record {
+abbrev pub table_in : Store → SlotTable
+table_in store = record {
   slots = store.bodies.slots;
   next = store.bodies.vacant_key;
   outside = store.outside.items;
@@ -72,11 +74,11 @@ pub record Frees (old new : Store) : Type 0 where
 
 -- a matcher may be interned: its children are live, and a judge may be asked about it
 pub record MayIntern (store : Store) (shared : SharedMatcher) : Type 0 where
-  pub children : (c : ℕ) → 0 < places_of c (children_of (Some shared)) → matcher_at store.bodies.slots c ≢ None
+  pub children : (c : ℕ) → 0 < times_among c (children_of (Some shared)) → matcher_at store.bodies.slots c ≢ None
   pub askable : (matcher : SimpleMatcher) → shared ≡ Simple matcher → IsAskable matcher
 
 -- one slot more needs no memory
-pub record HasRoom (store : Store) : Type 0 where
+pub record HasRoomReserved (store : Store) : Type 0 where
   pub bodies : HasRoomFor store.bodies 1
   pub index : HasSpare store.index
   pub order : vec_len store.order < vec_capacity store.order

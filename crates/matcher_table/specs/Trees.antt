@@ -5,7 +5,7 @@ use Rattle.config_types.specs.declared.matcher.Operation.{Operation}
 use Rattle.link_graph.specs.Unrolling.{unroll}
 use Rattle.matcher_table.specs.declared.shared.SharedMatcher.{SharedMatcher}
 use Rattle.matcher_table.specs.declared.shared.SharedMatcher.TheVariants.{Simple, Combination}
-use Rattle.matcher_table.specs.Slots.{matcher_at, children_of, places_of}
+use Rattle.matcher_table.specs.Slots.{matcher_at, children_of, times_among}
 
 -- a matcher with its children in it; what isn't there has a tree too, that of no matcher
 mutual
@@ -18,6 +18,7 @@ mutual
     NoTrees : Trees
     MoreTrees : Tree → Trees → Trees
 
+-- these trees, one after another
 abbrev pub trees_of : List Tree → Trees
 trees_of [] = NoTrees
 trees_of (tree ∷ trees) = MoreTrees tree (trees_of trees)
@@ -28,18 +29,19 @@ tree_from trees None = NoMatcher
 tree_from trees (Some (Simple matcher)) = Leaf matcher
 tree_from trees (Some (Combination op children)) = Branch op (trees_of (map trees children))
 
+-- one level of a slot's tree, where the trees of other slots are known
 abbrev pub tree_step : List (Option SharedMatcher) → (ℕ → Tree) → ℕ → Tree
 tree_step slots trees s = tree_from trees (matcher_at slots s)
 
 -- the tree of a slot: child slots are followed as deep as there are slots
-abbrev pub tree_of : List (Option SharedMatcher) → ℕ → Tree
-tree_of slots = unroll (tree_step slots) NoMatcher (length slots)
+abbrev pub slot_tree : List (Option SharedMatcher) → ℕ → Tree
+slot_tree slots = unroll (tree_step slots) NoMatcher (length slots)
 
 -- the tree of each live slot is that of its matcher, over the trees of its children
 abbrev pub TreesMeetTheirStep : List (Option SharedMatcher) → Type 0
 TreesMeetTheirStep slots =
-    (s : ℕ) → matcher_at slots s ≢ None → tree_of slots s ≡ tree_from (tree_of slots) (matcher_at slots s)
+    (s : ℕ) → matcher_at slots s ≢ None → slot_tree slots s ≡ tree_from (slot_tree slots) (matcher_at slots s)
 
 -- what is named is live
 abbrev pub ChildrenAreLive : List (Option SharedMatcher) → Type 0
-ChildrenAreLive slots = (s c : ℕ) → 0 < places_of c (children_of (matcher_at slots s)) → matcher_at slots c ≢ None
+ChildrenAreLive slots = (s c : ℕ) → 0 < times_among c (children_of (matcher_at slots s)) → matcher_at slots c ≢ None

@@ -4,9 +4,9 @@ ghost use Rattle.std.specs.List.{All};
 ghost use Rattle.slab.specs.Slab.{get};
 ghost use Rattle.atom_record.specs.AtomSound.{HasNoFault};
 ghost use Rattle.config_types.specs.Askable.{IsAskable};
-ghost use Rattle.matcher_table.specs.Slots.{matcher_at, children_of, places_of};
-ghost use Rattle.matcher_table.specs.Trees.{tree_of, TreesMeetTheirStep, ChildrenAreLive};
-ghost use Rattle.matcher_table.specs.Truths.{is_of_atom, is_question, truth_from, tree_truth, IsEnough, AreTicks, questions, MayBeAsked};
+ghost use Rattle.matcher_table.specs.Slots.{matcher_at, children_of, times_among};
+ghost use Rattle.matcher_table.specs.Trees.{slot_tree, TreesMeetTheirStep, ChildrenAreLive};
+ghost use Rattle.matcher_table.specs.Truths.{has_id_of, asks_about, truth_with, tree_truth, IsEnough, HaveRisen, questions, MayAskAbout};
 
 use crate::SharedMatcher;
 use crate::operation::joined_at;
@@ -26,16 +26,16 @@ pub(crate) fn evaluate_along<J: Judge>(
     // The table has no cycle, and a judge may be asked about what is in it.
     requires meets { TreesMeetTheirStep bodies.now.slots }
     requires children { ChildrenAreLive bodies.now.slots }
-    requires askable { (s : ℕ) → MayBeAsked (matcher_at bodies.now.slots s) }
+    requires askable { (s : ℕ) → MayAskAbout (matcher_at bodies.now.slots s) }
     requires sound { HasNoFault atom.now }
 
     requires enough { IsEnough bodies.now.slots atom.now group.now }
     requires room { (s : ℕ) → matcher_at bodies.now.slots s ≢ None → s < length results.old }
-    requires others { (s : ℕ) → matcher_at bodies.now.slots s ≢ None → places_of s group.now ≡ 0
-        → slice_index_or results.old s false ≡ tree_truth J.says atom.now (tree_of bodies.now.slots s) }
+    requires others { (s : ℕ) → matcher_at bodies.now.slots s ≢ None → times_among s group.now ≡ 0
+        → slice_index_or results.old s false ≡ tree_truth J.says atom.now (slot_tree bodies.now.slots s) }
     ensures results { (s : ℕ) → matcher_at bodies.now.slots s ≢ None
-        → slice_index_or results.new s false ≡ tree_truth J.says atom.now (tree_of bodies.now.slots s) }
-    ensures asked { AreTicks (questions atom.now bodies.now.slots) (J.ticks judge.old) (J.ticks judge.new) }
+        → slice_index_or results.new s false ≡ tree_truth J.says atom.now (slot_tree bodies.now.slots s) }
+    ensures asked { HaveRisen (questions atom.now bodies.now.slots) (J.ticks judge.old) (J.ticks judge.new) }
 {
     for slot in group {
         results[*slot] = truth_of(bodies, *slot, atom, judge, results);
@@ -51,11 +51,11 @@ fn truth_of<J: Judge>(
     truths: &[bool],
 ) -> bool
     requires children { All (λ c. c < length truths.now) (children_of (get bodies.now slot)) }
-    requires askable { MayBeAsked (get bodies.now slot) }
+    requires askable { MayAskAbout (get bodies.now slot) }
     requires sound { HasNoFault atom.now }
     ensures truth { result
-        ≡ truth_from J.says atom.now (λ y. slice_index_or truths.now y false) (get bodies.now slot) }
-    ensures asked { AreTicks (if is_question atom.now (get bodies.now slot) then 1 else 0)
+        ≡ truth_with J.says atom.now (λ y. slice_index_or truths.now y false) (get bodies.now slot) }
+    ensures asked { HaveRisen (if asks_about atom.now (get bodies.now slot) then 1 else 0)
         (J.ticks judge.old) (J.ticks judge.new) }
 {
     match bodies.get(slot) {
@@ -73,8 +73,8 @@ fn truth_of<J: Judge>(
 fn ask<J: Judge>(matcher: &SimpleMatcher, atom: &Atom, judge: &mut J) -> bool
     requires askable { IsAskable matcher.now }
     requires sound { HasNoFault atom.now }
-    ensures truth { result ≡ (is_of_atom atom.now matcher.now && J.says matcher.now atom.now) }
-    ensures asked { AreTicks (if is_of_atom atom.now matcher.now then 1 else 0)
+    ensures truth { result ≡ (has_id_of atom.now matcher.now && J.says matcher.now atom.now) }
+    ensures asked { HaveRisen (if has_id_of atom.now matcher.now then 1 else 0)
         (J.ticks judge.old) (J.ticks judge.new) }
 {
     is_of(matcher, atom) && judge.eval_simple(matcher, atom)
@@ -82,7 +82,7 @@ fn ask<J: Judge>(matcher: &SimpleMatcher, atom: &Atom, judge: &mut J) -> bool
 
 // Whether the matcher is of the atom's id.
 fn is_of(matcher: &SimpleMatcher, atom: &Atom) -> bool
-    ensures { result ≡ is_of_atom atom.now matcher.now }
+    ensures { result ≡ has_id_of atom.now matcher.now }
 {
     match matcher.atom_id {
         Some(id) if id >= 0 => id as u32 == atom.id,

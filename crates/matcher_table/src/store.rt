@@ -2,11 +2,11 @@
 ghost use Rattle.std.specs.Prelude.{◌≡◌, ◌≢◌, ◌↔◌, IsTrue, ℕ, ◌+◌, ◌<◌, ◌≤◌, [], ◌∷◌, ◌++◌, length, slice_index, slice_index_or, slice_set, false, IfOk, OnOk, OnErr, Some, None, vec_len, vec_capacity};
 ghost use Rattle.std.specs.List.{remove};
 ghost use Rattle.atom_record.specs.AtomSound.{HasNoFault};
-ghost use Rattle.matcher_table.specs.Truths.{Evaluates, AreTicks, questions};
-ghost use Rattle.matcher_table.specs.Slots.{matcher_at, children_of, places_of};
+ghost use Rattle.matcher_table.specs.Truths.{Evaluates, HaveRisen, questions};
+ghost use Rattle.matcher_table.specs.Slots.{matcher_at, children_of, times_among};
 ghost use Rattle.matcher_table.specs.Tables.{IsUnchanged};
 ghost use Rattle.matcher_table.specs.Steps.{Interns, Releases};
-ghost use Rattle.matcher_table.specs.StoreParts.{StoreIsHeld, StoreIsIndexed, IsUsed, UsedFrom, contents, Frees, MayIntern, HasRoom, ChangesOutside};
+ghost use Rattle.matcher_table.specs.StoreParts.{StoreIsHeld, StoreIsIndexed, IsUsed, UsedFrom, table_in, Frees, MayIntern, HasRoomReserved, ChangesOutside};
 ghost use Rattle.matcher_table.specs.Counts.{CanAdd};
 ghost use Rattle.matcher_table.specs.Finding.{slot_for};
 ghost use Rattle.matcher_table.specs.declared.shared.SharedMatcher.{SharedMatcher};
@@ -57,8 +57,8 @@ impl Store {
         requires indexed { StoreIsIndexed self.old }
         requires used { UsedFrom self.old 0 }
         requires may { MayIntern self.old shared }
-        ensures interns { IfOk result (λ slot. Interns (contents self.old) shared slot (contents self.new)) }
-        ensures err { OnErr result (IsUnchanged (contents self.old) (contents self.new)) }
+        ensures interns { IfOk result (λ slot. Interns (table_in self.old) shared slot (table_in self.new)) }
+        ensures err { OnErr result (IsUnchanged (table_in self.old) (table_in self.new)) }
         ensures held { StoreIsHeld self.new }
         ensures indexed { StoreIsIndexed self.new }
         ensures used { UsedFrom self.new 0 }
@@ -75,8 +75,8 @@ impl Store {
         requires indexed { StoreIsIndexed self.old }
         requires used { UsedFrom self.old 0 }
         requires live { matcher_at self.old.bodies.slots slot ≡ Some shared.now }
-        ensures interns { IfOk result (λ s. Interns (contents self.old) shared.now s (contents self.new)) }
-        ensures err { OnErr result (IsUnchanged (contents self.old) (contents self.new)) }
+        ensures interns { IfOk result (λ s. Interns (table_in self.old) shared.now s (table_in self.new)) }
+        ensures err { OnErr result (IsUnchanged (table_in self.old) (table_in self.new)) }
         ensures held { StoreIsHeld self.new }
         ensures indexed { StoreIsIndexed self.new }
         ensures used { UsedFrom self.new 0 }
@@ -95,8 +95,8 @@ impl Store {
         requires used { UsedFrom self.old 0 }
         requires may { MayIntern self.old shared }
         requires is_new { (s : ℕ) → matcher_at self.old.bodies.slots s ≢ Some shared }
-        ensures interns { IfOk result (λ slot. Interns (contents self.old) shared slot (contents self.new)) }
-        ensures err { OnErr result (IsUnchanged (contents self.old) (contents self.new)) }
+        ensures interns { IfOk result (λ slot. Interns (table_in self.old) shared slot (table_in self.new)) }
+        ensures err { OnErr result (IsUnchanged (table_in self.old) (table_in self.new)) }
         ensures held { StoreIsHeld self.new }
         ensures indexed { StoreIsIndexed self.new }
         ensures used { UsedFrom self.new 0 }
@@ -114,8 +114,8 @@ impl Store {
         requires held { StoreIsHeld self.old }
         requires indexed { StoreIsIndexed self.old }
         requires used { UsedFrom self.old 0 }
-        ensures room { OnOk result (HasRoom self.new) }
-        ensures unchanged { IsUnchanged (contents self.old) (contents self.new) }
+        ensures room { OnOk result (HasRoomReserved self.new) }
+        ensures unchanged { IsUnchanged (table_in self.old) (table_in self.new) }
         ensures uses { (s : ℕ) → slice_index self.new.uses.items s ≡ slice_index self.old.uses.items s }
         ensures held { StoreIsHeld self.new }
         ensures indexed { StoreIsIndexed self.new }
@@ -140,10 +140,10 @@ impl Store {
         requires used { UsedFrom self.old 0 }
         requires may { MayIntern self.old shared }
         requires is_new { (s : ℕ) → matcher_at self.old.bodies.slots s ≢ Some shared }
-        requires room { HasRoom self.old }
+        requires room { HasRoomReserved self.old }
         requires can_add { CanAdd self.old.uses.items (children_of (Some shared)) }
         requires key { key ≡ shared }
-        ensures interns { Interns (contents self.old) shared result (contents self.new) }
+        ensures interns { Interns (table_in self.old) shared result (table_in self.new) }
         ensures held { StoreIsHeld self.new }
         ensures indexed { StoreIsIndexed self.new }
         ensures used { UsedFrom self.new 0 }
@@ -163,7 +163,7 @@ impl Store {
         requires indexed { StoreIsIndexed self.old }
         requires used { UsedFrom self.old 0 }
         requires outside { 0 < slice_index self.old.outside.items slot }
-        ensures releases { Releases (contents self.old) slot (contents self.new) }
+        ensures releases { Releases (table_in self.old) slot (table_in self.new) }
         ensures held { StoreIsHeld self.new }
         ensures indexed { StoreIsIndexed self.new }
         ensures used { UsedFrom self.new 0 }
@@ -208,8 +208,8 @@ impl Store {
         requires indexed { StoreIsIndexed self.old }
         requires used { UsedFrom self.old 0 }
         requires sound { HasNoFault atom.now }
-        ensures evaluates { Evaluates J.says atom.now (contents self.old) (contents self.new) }
-        ensures asked { AreTicks (questions atom.now self.old.bodies.slots) (J.ticks judge.old) (J.ticks judge.new) }
+        ensures evaluates { Evaluates J.says atom.now (table_in self.old) (table_in self.new) }
+        ensures asked { HaveRisen (questions atom.now self.old.bodies.slots) (J.ticks judge.old) (J.ticks judge.new) }
         ensures held { StoreIsHeld self.new }
         ensures indexed { StoreIsIndexed self.new }
         ensures used { UsedFrom self.new 0 }
@@ -279,7 +279,7 @@ impl Store {
         ensures outside { self.new.outside.items ≡ self.old.outside.items }
         ensures results { self.new.results.items ≡ self.old.results.items }
         ensures uses { (s : ℕ) → slice_index self.new.uses.items s
-            + places_of s (children_of (matcher_at self.old.bodies.slots (slice_index self.old.order.items at)))
+            + times_among s (children_of (matcher_at self.old.bodies.slots (slice_index self.old.order.items at)))
             ≡ slice_index self.old.uses.items s }
         ensures same { length self.new.uses.items ≡ length self.old.uses.items }
         ensures gone { (wanted : SharedMatcher)

@@ -31,7 +31,7 @@ impl MatcherTable {
     ghost use Rattle.config_types.specs.Askable.{IsAskable};
     ghost use Rattle.matcher_table.specs.Tables.{outside_uses, result_at, IsUnchanged};
     ghost use Rattle.matcher_table.specs.Steps.{Interns, Releases};
-    ghost use Rattle.matcher_table.specs.Truths.{Evaluates, AreTicks, questions};
+    ghost use Rattle.matcher_table.specs.Truths.{Evaluates, HaveRisen, questions};
     ghost use Rattle.matcher_table.specs.TableFacts.{IsSoundTable, KeepsTrees};
     ghost use Rattle.matcher_table.specs.Contents.{contents_of, IsLive, combination_of};
 
@@ -92,7 +92,7 @@ impl MatcherTable {
     pub fn evaluate<J: Judge>(&mut self, atom: &Atom, judge: &mut J)
         requires { HasNoFault atom.now }
         ensures evaluates { Evaluates J.says atom.now (contents_of self.old) (contents_of self.new) }
-        ensures asked { AreTicks (questions atom.now (contents_of self.old).slots)
+        ensures asked { HaveRisen (questions atom.now (contents_of self.old).slots)
             (J.ticks judge.old) (J.ticks judge.new) }
     {
         self.store.evaluate(atom, judge);

@@ -6,8 +6,7 @@ ghost use Rattle.matcher_table.specs.Contents.{contents_of};
 
 use crate::judge::Asked;
 use atom_record::parse_atom;
-use config_types::{FieldTest, Operation, SimpleMatcher, Test};
-use matcher_eval::is_askable;
+use config_types::{FieldTest, Operation, SimpleMatcher, Test, is_askable};
 use matcher_table::{MatcherTable, Slot};
 use sd_base::Seq;
 use std::alloc::{AllocError, Global};

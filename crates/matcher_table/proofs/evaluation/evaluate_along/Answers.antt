@@ -2,7 +2,7 @@ use Rattle.std.proofs.Common.{◌≡◌, ◌≢◌, ◌<◌, ℕ, cond, List, ge
 use Rattle.std.specs.List.{sum_by}
 use Rattle.std.proofs.lemmas.List.{take_all}
 use Rattle.matcher_table.specs.Slots.{matcher_at, children_of}
-use Rattle.matcher_table.specs.Truths.{is_question, AreTicks}
+use Rattle.matcher_table.specs.Truths.{asks_about, HaveRisen}
 use Rattle.matcher_table.proofs.Counting.{counted_at}
 use Rattle.matcher_table.proofs.HeldLaws.{counted_live}
 use Rattle.matcher_table.proofs.MadeLaws.{all_there}
@@ -39,7 +39,7 @@ loop-slot-preserved g c =
       rest = rest_kept says atom slots group c.loop-slot.results i c.truth_of.result c.requires.enough c.requires.meets
           c.requires.children (omega arith) within c.loop-slot.invariant.done c.loop-slot.invariant.rest
           c.truth_of.ensures.truth;
-      asked = rises_by_more (λ s. cond (is_question atom (matcher_at slots s)) 1 0) group i _ _ _ (omega arith)
+      asked = rises_by_more (λ s. cond (asks_about atom (matcher_at slots s)) 1 0) group i _ _ _ (omega arith)
           c.loop-slot.invariant.asked c.truth_of.ensures.asked;
     }
 
@@ -53,10 +53,10 @@ returns-clause-asked g c =
     let slots = c.args.bodies.now.slots in
     let group = c.args.group.now in
     let atom = c.args.atom.now in
-    let f : ℕ → ℕ = λ s. cond (is_question atom (matcher_at slots s)) 1 0 in
+    let f : ℕ → ℕ = λ s. cond (asks_about atom (matcher_at slots s)) 1 0 in
     let all : take c.loop-slot.slot-index group ≡ group = take_all c.loop-slot.slot-index group (omega arith) in
-    subst (λ (n : ℕ). AreTicks n (g.J.Judge.ticks c.args.judge.now) (g.J.Judge.ticks c.loop-slot.judge))
+    subst (λ (n : ℕ). HaveRisen n (g.J.Judge.ticks c.args.judge.now) (g.J.Judge.ticks c.loop-slot.judge))
     (questions_along slots atom group c.requires.enough)
-    (subst (λ (xs : List ℕ). AreTicks (sum_by f xs) (g.J.Judge.ticks c.args.judge.now)
+    (subst (λ (xs : List ℕ). HaveRisen (sum_by f xs) (g.J.Judge.ticks c.args.judge.now)
     (g.J.Judge.ticks c.loop-slot.judge))
     all c.loop-slot.invariant.asked)

@@ -1,9 +1,9 @@
 use Rattle.std.proofs.Common.{◌≡◌, ◌+◌, ℕ, List, length, get_or, set, Some, false, sym, ap, subst, ◌∙◌, arith, inl}
 use Rattle.std.specs.Vec.{with_items}
 use Rattle.std.proofs.lemmas.List.{with_items_is, length-set, get_or-set_other, get_or-set_same}
-use Rattle.matcher_table.specs.Slots.{children_of, places_of}
+use Rattle.matcher_table.specs.Slots.{children_of, times_among}
 use Rattle.matcher_table.specs.Finding.{slot_for}
-use Rattle.matcher_table.specs.StoreParts.{IsHeld}
+use Rattle.matcher_table.specs.StoreParts.{AreSlotsHeld}
 use Rattle.matcher_table.proofs.HeldLaws.{held_made}
 use Rattle.matcher_table.proofs.IndexLaws.{indexed_made}
 use Rattle.matcher_table.proofs.MadeLaws.{made_used}
@@ -14,14 +14,14 @@ returns-clause-held c =
     let now = c.args.self.now in
     let slot = c.insert_reserved-slot.result in
     let us = c.add_uses.new.uses in
-    let counted : (s : ℕ) → get_or us s 0 ≡ get_or now.uses.items s 0 + places_of s (children_of (Some c.args.shared)) =
-    λ s. c.add_uses.ensures s ∙ ap (λ (xs : List ℕ). get_or xs s 0 + places_of s c.children.result.now) c.deref_mut.ensures.value
-    ∙ ap (λ (xs : List ℕ). get_or now.uses.items s 0 + places_of s xs) c.children.ensures in
+    let counted : (s : ℕ) → get_or us s 0 ≡ get_or now.uses.items s 0 + times_among s (children_of (Some c.args.shared)) =
+    λ s. c.add_uses.ensures s ∙ ap (λ (xs : List ℕ). get_or xs s 0 + times_among s c.children.result.now) c.deref_mut.ensures.value
+    ∙ ap (λ (xs : List ℕ). get_or now.uses.items s 0 + times_among s xs) c.children.ensures in
     let long : length us ≡ length now.uses.items = c.add_uses.auto.uses ∙ ap length c.deref_mut.ensures.value in
     let e : (with_items now.uses us).items ≡ us = with_items_is now.uses us (omega arith) in
-    subst (λ (xs : List ℕ). IsHeld c.insert_reserved-slot.new.self.slots c.push_reserved.new.list.items
+    subst (λ (xs : List ℕ). AreSlotsHeld c.insert_reserved-slot.new.self.slots c.push_reserved.new.list.items
     (set now.outside.items slot 1) xs (set now.results.items slot false)) (sym e)
-    (subst (λ (xs : List ℕ). IsHeld c.insert_reserved-slot.new.self.slots xs (set now.outside.items slot 1) us
+    (subst (λ (xs : List ℕ). AreSlotsHeld c.insert_reserved-slot.new.self.slots xs (set now.outside.items slot 1) us
     (set now.results.items slot false)) (sym c.push_reserved.ensures)
     (held_made c.requires.held c.insert_reserved-slot.new.self.slots slot c.args.shared
     (set now.outside.items slot 1) us
@@ -40,9 +40,9 @@ returns-clause-used c s live =
     let now = c.args.self.now in
     let slot = c.insert_reserved-slot.result in
     let us = c.add_uses.new.uses in
-    let counted : (k : ℕ) → get_or us k 0 ≡ get_or now.uses.items k 0 + places_of k (children_of (Some c.args.shared)) =
-    λ k. c.add_uses.ensures k ∙ ap (λ (xs : List ℕ). get_or xs k 0 + places_of k c.children.result.now) c.deref_mut.ensures.value
-    ∙ ap (λ (xs : List ℕ). get_or now.uses.items k 0 + places_of k xs) c.children.ensures in
+    let counted : (k : ℕ) → get_or us k 0 ≡ get_or now.uses.items k 0 + times_among k (children_of (Some c.args.shared)) =
+    λ k. c.add_uses.ensures k ∙ ap (λ (xs : List ℕ). get_or xs k 0 + times_among k c.children.result.now) c.deref_mut.ensures.value
+    ∙ ap (λ (xs : List ℕ). get_or now.uses.items k 0 + times_among k xs) c.children.ensures in
     let long : length us ≡ length now.uses.items = c.add_uses.auto.uses ∙ ap length c.deref_mut.ensures.value in
     let e : (with_items now.uses us).items ≡ us = with_items_is now.uses us (omega arith) in
     let one : get_or (set now.outside.items slot 1) slot 0 ≡ 1 =

@@ -1,0 +1,72 @@
+//! The rows: sessions and configurations, and what they leave.
+use super::notes::run_note;
+use super::outcomes::{compare, outcome_of, words_of};
+use super::std_streams::std_outcome_of;
+use super::streams::{AMPLE, misspelled, rounds, streams_at};
+use super::wanted::{Wanted, input_of, wanted_of};
+use std::alloc::{AllocError, Global};
+use test_tools::{Row, Table, Tester};
+
+/// The table of whole sessions.
+pub struct Sessions;
+
+impl Table for Sessions {
+    fn marks(&self) -> &'static str {
+        "> < words config line status note len piece failed_read room failed_put note_room reader writer write"
+    }
+
+    fn run(&self, alloc: Global, tester: &mut Tester, row: &Row<'_>) -> Result<(), AllocError> {
+        if row.has("write") {
+            return run_note(alloc, tester, row);
+        }
+        if let Some(mark) = misspelled(row) {
+            return tester.differs("no number", mark);
+        }
+        run_session(alloc, tester, row)
+    }
+}
+
+fn run_session(alloc: Global, tester: &mut Tester, row: &Row<'_>) -> Result<(), AllocError> {
+    let Some(wanted) = wanted_of(alloc, tester, row)? else {
+        return Ok(());
+    };
+    let Some(input) = input_of(alloc, tester, row)? else {
+        return Ok(());
+    };
+    if row.has("reader") || row.has("writer") {
+        return run_std(alloc, tester, row, input.as_slice(), &wanted);
+    }
+    for round in 0..rounds(row, input.len()) {
+        run_round(alloc, tester, row, input.as_slice(), &wanted, round)?;
+    }
+    Ok(())
+}
+
+/// Runs a row with the streams of a round.
+fn run_round(
+    alloc: Global,
+    tester: &mut Tester,
+    row: &Row<'_>,
+    input: &[u8],
+    wanted: &Wanted,
+    round: u64,
+) -> Result<(), AllocError> {
+    let streams = streams_at(row, round);
+    let words = words_of(alloc, row.line("words").unwrap_or("replay"))?;
+    let outcome = outcome_of(alloc, words.as_slice(), input, &streams)?;
+    compare(tester, wanted, streams.room, streams.note_room, &outcome)
+}
+
+/// Runs a row over a reader or a writer of std.
+fn run_std(
+    alloc: Global,
+    tester: &mut Tester,
+    row: &Row<'_>,
+    input: &[u8],
+    wanted: &Wanted,
+) -> Result<(), AllocError> {
+    match std_outcome_of(alloc, row, input)? {
+        Some(outcome) => compare(tester, wanted, AMPLE, AMPLE, &outcome),
+        None => tester.differs("a reader or a writer that isn't known", row.word("writer")),
+    }
+}

@@ -1,0 +1,115 @@
+//! How the streams of a run give, take and fail.
+use test_tools::{Row, unsigned};
+
+/// More bytes than any row reads or writes.
+pub const AMPLE: usize = 1 << 22;
+
+/// A session with at most so many bytes is read in pieces, too, where its row speaks of no stream.
+const MOST_IN_PIECES: usize = 4096;
+
+/// How the streams of a run give, take and fail.
+#[derive(Clone, Copy)]
+pub struct Streams {
+    /// The most bytes that the input has.
+    pub len: usize,
+    /// The most bytes that a read gives.
+    pub piece: usize,
+    /// The number of the read that fails, from 0.
+    pub failed_read: Option<u64>,
+    /// The bytes that the output takes.
+    pub room: usize,
+    /// The number of the put that fails, from 0.
+    pub failed_put: Option<u64>,
+    /// The bytes that the notes take.
+    pub note_room: usize,
+}
+
+/// The marks of streams. Each has a number, or the first and the last of some, of which each round of runs takes one.
+const MARKS: &[&str] = &[
+    "len",
+    "piece",
+    "failed_read",
+    "room",
+    "failed_put",
+    "note_room",
+];
+
+/// The first number of a mark and the last one.
+fn range_of(row: &Row<'_>, mark: &str) -> Option<(u64, u64)> {
+    let word = row.line(mark)?;
+    let (first, last) = word.split_once("..").unwrap_or((word, word));
+    Some((unsigned(first)?, unsigned(last)?))
+}
+
+/// The first mark of a stream whose numbers can't be read.
+pub fn misspelled(row: &Row<'_>) -> Option<&'static str> {
+    for &mark in MARKS {
+        if row.has(mark) && range_of(row, mark).is_none() {
+            return Some(mark);
+        }
+    }
+    None
+}
+
+/// How often a row is run.
+pub fn rounds(row: &Row<'_>, len: usize) -> u64 {
+    let mut most = 0;
+    for mark in MARKS {
+        if let Some((first, last)) = range_of(row, mark) {
+            most = most.max(last.saturating_sub(first).saturating_add(1));
+        }
+    }
+    match most {
+        0 if len <= MOST_IN_PIECES => 3,
+        0 => 1,
+        _ => most,
+    }
+}
+
+/// The number of a mark in a round.
+fn number_at(row: &Row<'_>, mark: &str, round: u64) -> Option<u64> {
+    let (first, last) = range_of(row, mark)?;
+    Some(first.saturating_add(round).min(last))
+}
+
+/// The same as a count of bytes. There are enough of them where a row doesn't say so.
+fn bytes_at(row: &Row<'_>, mark: &str, round: u64) -> usize {
+    match number_at(row, mark, round) {
+        Some(number) => number as usize,
+        None => AMPLE,
+    }
+}
+
+/// The streams of a round.
+pub fn streams_at(row: &Row<'_>, round: u64) -> Streams {
+    Streams {
+        len: bytes_at(row, "len", round),
+        piece: piece_at(row, round),
+        failed_read: number_at(row, "failed_read", round),
+        room: bytes_at(row, "room", round),
+        failed_put: number_at(row, "failed_put", round),
+        note_room: bytes_at(row, "note_room", round),
+    }
+}
+
+/// The most bytes that a read gives: where a row speaks of no stream, enough in the first round, then 1, then 2.
+fn piece_at(row: &Row<'_>, round: u64) -> usize {
+    if row.has("piece") {
+        return bytes_at(row, "piece", round).max(1);
+    }
+    if has_streams(row) || round == 0 {
+        AMPLE
+    } else {
+        round as usize
+    }
+}
+
+/// Whether a row speaks of a stream.
+fn has_streams(row: &Row<'_>) -> bool {
+    for mark in MARKS {
+        if row.has(mark) {
+            return true;
+        }
+    }
+    false
+}
