@@ -192,7 +192,10 @@ def unproved(why):
 def chosen(program=None):
     """The program to run: the one that is given, the proved one, or one without a proof."""
     if program:
-        return os.path.abspath(program)
+        given = os.path.abspath(program)
+        if not (os.path.isfile(given) and os.access(given, os.X_OK)):
+            raise Fault(f"expected a program at {given}, and there is none that can be run")
+        return given
     why = want_of_proof()
     return unproved(why) if why else PROGRAM
 

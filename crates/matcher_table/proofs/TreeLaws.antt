@@ -69,7 +69,8 @@ module _ {slots : List (Option SharedMatcher)} {order outside uses : List ℕ} {
       omega (arith, held.none_below c gone)
 
 -- two tables in which the live slots of the second stand for the same
-module _ {slots slots' : List (Option SharedMatcher)} {order order' outside outside' uses uses' : List ℕ} {results results' : List _}
+module _ {slots slots' : List (Option SharedMatcher)} {order order' outside outside' uses uses' : List ℕ}
+    {results results' : List _}
     (held : AreSlotsHeld slots order outside uses results) (held' : AreSlotsHeld slots' order' outside' uses' results')
     (same : (s : ℕ) → matcher_at slots' s ≢ None → matcher_at slots' s ≡ matcher_at slots s) where
   as_deep : (depth s : ℕ) → matcher_at slots' s ≢ None → tree_to slots' depth s ≡ tree_to slots depth s

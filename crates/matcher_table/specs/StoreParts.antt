@@ -20,7 +20,8 @@ pub record AreSlotsHeld (slots : List (Option SharedMatcher)) (order outside use
   pub none_below : (s : ℕ) → matcher_at slots s ≡ None → child_uses slots s ≡ 0
   pub listed : (s : ℕ) → times_among s order ≡ live_count (matcher_at slots s)
   pub once : length order ≡ count_by is_some slots
-  pub after : (i c : ℕ) → i < length order → 0 < times_among c (children_of (matcher_at slots (slice_index_or order i 0)))
+  pub after : (i c : ℕ) → i < length order
+      → 0 < times_among c (children_of (matcher_at slots (slice_index_or order i 0)))
       → 0 < times_among c (take i order)
   pub room_outside : (s : ℕ) → matcher_at slots s ≢ None → s < length outside
   pub room_uses : (s : ℕ) → matcher_at slots s ≢ None → s < length uses

@@ -15,4 +15,5 @@ pub record IsSoundTable (table : SlotTable) : Type 0 where
 -- a slot that is live before and after has the tree that it had
 abbrev pub KeepsTrees : SlotTable → SlotTable → Type 0
 KeepsTrees old new =
-    (s : ℕ) → matcher_at old.slots s ≢ None → matcher_at new.slots s ≢ None → slot_tree new.slots s ≡ slot_tree old.slots s
+    (s : ℕ) → matcher_at old.slots s ≢ None → matcher_at new.slots s ≢ None
+    → slot_tree new.slots s ≡ slot_tree old.slots s

@@ -62,7 +62,8 @@ pub record IsEnough (slots : List (Option SharedMatcher)) (atom : Atom) (group :
   pub above : (s c : ℕ) → 0 < times_among c (children_of (matcher_at slots s)) → 0 < times_among c group
       → 0 < times_among s group
   pub once : (s : ℕ) → times_among s group ≤ live_count (matcher_at slots s)
-  pub after : (i c : ℕ) → i < length group → 0 < times_among c (children_of (matcher_at slots (slice_index_or group i 0)))
+  pub after : (i c : ℕ) → i < length group
+      → 0 < times_among c (children_of (matcher_at slots (slice_index_or group i 0)))
       → 0 < times_among c group → 0 < times_among c (take i group)
 
 -- So many questions were asked: the count rose by them, or stands at its end.

@@ -1,7 +1,6 @@
 //! What programs of tests are made of: tables of rows as text, bytes by words, and the rows that differ.
 #![tactic(auto)]
 
-mod asserts;
 mod encoder;
 mod entries;
 mod hex;
@@ -15,7 +14,6 @@ mod table;
 mod tester;
 mod values;
 
-pub use asserts::{assert_found, assert_holds};
 pub use encoder::{Spelled, spell};
 pub use hex::{push_hex, push_hex_text};
 pub use lets::Lets;

@@ -15,7 +15,8 @@ returns-clause-held c =
     let slot = c.insert_reserved-slot.result in
     let us = c.add_uses.new.uses in
     let counted : (s : ℕ) → get_or us s 0 ≡ get_or now.uses.items s 0 + times_among s (children_of (Some c.args.shared)) =
-    λ s. c.add_uses.ensures s ∙ ap (λ (xs : List ℕ). get_or xs s 0 + times_among s c.children.result.now) c.deref_mut.ensures.value
+    λ s. c.add_uses.ensures s
+    ∙ ap (λ (xs : List ℕ). get_or xs s 0 + times_among s c.children.result.now) c.deref_mut.ensures.value
     ∙ ap (λ (xs : List ℕ). get_or now.uses.items s 0 + times_among s xs) c.children.ensures in
     let long : length us ≡ length now.uses.items = c.add_uses.auto.uses ∙ ap length c.deref_mut.ensures.value in
     let e : (with_items now.uses us).items ≡ us = with_items_is now.uses us (omega arith) in
@@ -41,7 +42,8 @@ returns-clause-used c s live =
     let slot = c.insert_reserved-slot.result in
     let us = c.add_uses.new.uses in
     let counted : (k : ℕ) → get_or us k 0 ≡ get_or now.uses.items k 0 + times_among k (children_of (Some c.args.shared)) =
-    λ k. c.add_uses.ensures k ∙ ap (λ (xs : List ℕ). get_or xs k 0 + times_among k c.children.result.now) c.deref_mut.ensures.value
+    λ k. c.add_uses.ensures k
+    ∙ ap (λ (xs : List ℕ). get_or xs k 0 + times_among k c.children.result.now) c.deref_mut.ensures.value
     ∙ ap (λ (xs : List ℕ). get_or now.uses.items k 0 + times_among k xs) c.children.ensures in
     let long : length us ≡ length now.uses.items = c.add_uses.auto.uses ∙ ap length c.deref_mut.ensures.value in
     let e : (with_items now.uses us).items ≡ us = with_items_is now.uses us (omega arith) in
