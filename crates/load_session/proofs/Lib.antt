@@ -1,0 +1,2 @@
+pub mod SessionLemmas
+mod Worked

@@ -1,0 +1,4 @@
+pub mod Numbers
+pub mod Frames
+pub mod Good
+pub mod Steps
