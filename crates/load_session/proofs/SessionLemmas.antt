@@ -65,7 +65,8 @@ reports_good true clock rest good = (tt, tt, (tt, tt, good))
 reports_good false clock rest good = good
 
 -- what comes after so many steps is good
-later_good : (seed done more : ℕ) → done + more ≤ most_frames → AreGood (time_at seed done) (frames_after seed done more)
+later_good : (seed done more : ℕ) → done + more ≤ most_frames
+    → AreGood (time_at seed done) (frames_after seed done more)
 later_good seed done zero few = (tt, tt, (tt, tt, tt))
 later_good seed done (suc more) few =
     let at = time_at seed (suc done) in
@@ -85,7 +86,8 @@ unfolding load_frames
 whole_left seed frames = let all : frames - 0 ≡ frames = omega arith in rw all refl
 
 -- two requests for reports come at most after a step
-reports_few : (any : Bool) (rest : List LoadFrame) → length ((if any then reports false else []) ++ rest) ≤ 2 + length rest
+reports_few : (any : Bool) (rest : List LoadFrame)
+    → length ((if any then reports false else []) ++ rest) ≤ 2 + length rest
 reports_few true rest = omega arith
 reports_few false rest = omega arith
 

@@ -9,7 +9,7 @@ use Rattle.config_check.specs.Findings.{finding_of}
 use Rattle.config_check.specs.Checks.{most_taken, Checks}
 use Rattle.config_check.proofs.ChecksLemmas.{first_taken}
 use Rattle.statsd_cli.specs.declared.command.Command.{Command}
-use Rattle.statsd_cli.specs.declared.command.Command.TheVariants.{Replay, Check, Unknown}
+use Rattle.statsd_cli.specs.declared.command.Command.TheVariants.{Replay, Check, Load, Unknown}
 use Rattle.statsd_cli.specs.declared.ending.Ending.{Ending}
 use Rattle.statsd_cli.specs.Endings.{status_of}
 use Rattle.statsd_cli.specs.Check.{ending_found, check_ending}
@@ -58,4 +58,5 @@ pub judged : (input : Input) (o : Output) (new : Ports) (status : ℕ) (ending :
 judged input o new status ending Replay check is did still = absurd (cc)
 judged input o new status ending Check check is did still =
     judged_with input.left input.faults o new status did.answer (is ∙ ap status_of did.is) did.checks still
+judged input o new status ending (Load seed many) check is did still = absurd (cc)
 judged input o new status ending Unknown check is did still = absurd (cc)

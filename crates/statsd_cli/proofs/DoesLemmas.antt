@@ -9,7 +9,7 @@ use Rattle.config_check.specs.declared.finding.Finding.{Finding}
 use Rattle.config_check.specs.declared.finding.Finding.TheVariants.{Sound, TooLarge, Malformed, Unsupported, Unlinked}
 use Rattle.config_check.specs.Checks.{Checks}
 use Rattle.statsd_cli.specs.declared.command.Command.{Command}
-use Rattle.statsd_cli.specs.declared.command.Command.TheVariants.{Replay, Check, Unknown}
+use Rattle.statsd_cli.specs.declared.command.Command.TheVariants.{Replay, Check, Load, Unknown}
 use Rattle.statsd_cli.specs.declared.ending.Ending.{Ending}
 use Rattle.statsd_cli.specs.declared.ending.Ending.TheVariants.{Done, Refused, Usage, BadSession, ReadFault, WriteFault, NoMemory}
 use Rattle.statsd_cli.specs.Endings.{status_of, status_usage, status_read_fault, status_write_fault}
@@ -17,6 +17,7 @@ use Rattle.statsd_cli.specs.Check.{check_ending}
 use Rattle.statsd_cli.specs.Run.{IsRun}
 use Rattle.statsd_cli.specs.Streams.{Streams}
 use Rattle.statsd_cli.specs.Does.{Does}
+use Rattle.statsd_cli.proofs.LoadLemmas.{told_usage, told_read, told_write}
 
 -- What a run tells, and what a check tells.
 module _ (old new : Ports) where
@@ -82,6 +83,8 @@ usage_is_unknown Replay status old new does is =
     absurd (run_usage old.ports new.ports does.ending does.did (sym does.is ∙ is))
 usage_is_unknown Check status old new does is =
     absurd (check_usage old.ports new.ports does.did.answer (sym (does.is ∙ ap status_of does.did.is) ∙ is))
+usage_is_unknown (Load seed frames) status old new does is =
+    absurd (told_usage _ old.ports.output new.ports.output does.ending does.did.told (sym does.is ∙ is))
 usage_is_unknown Unknown status old new does is = refl
 
 -- 2 comes with all words of no command
@@ -95,6 +98,8 @@ read_fault_rose Replay status old new does is =
     run_read old.ports new.ports does.ending does.did (sym does.is ∙ is)
 read_fault_rose Check status old new does is =
     check_read old.ports new.ports does.did.answer does.did.checks (sym (does.is ∙ ap status_of does.did.is) ∙ is)
+read_fault_rose (Load seed frames) status old new does is =
+    absurd (told_read _ old.ports.output new.ports.output does.ending does.did.told (sym does.is ∙ is))
 read_fault_rose Unknown status old new does is =
     absurd (omega (arith, sym (does.is ∙ ap status_of does.did.is) ∙ is))
 
@@ -105,5 +110,7 @@ write_fault_rose Replay status old new does is =
     run_write old.ports new.ports does.ending does.did (sym does.is ∙ is)
 write_fault_rose Check status old new does is =
     check_write old.ports new.ports does.did.answer does.did.checks (sym (does.is ∙ ap status_of does.did.is) ∙ is)
+write_fault_rose (Load seed frames) status old new does is =
+    told_write _ old.ports.output new.ports.output does.ending does.did.told (sym does.is ∙ is)
 write_fault_rose Unknown status old new does is =
     absurd (omega (arith, sym (does.is ∙ ap status_of does.did.is) ∙ is))

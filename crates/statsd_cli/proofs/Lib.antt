@@ -1,3 +1,5 @@
 pub mod RunLemmas
 pub mod CheckLemmas
+pub mod LoadLemmas
+pub mod CommandLemmas
 pub mod DoesLemmas

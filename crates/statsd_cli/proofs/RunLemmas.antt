@@ -29,7 +29,7 @@ use Rattle.statsd_cli.specs.declared.ending.Ending.TheVariants.{Done, Refused, U
 use Rattle.hub_core.specs.HubStands.{HubStandsFor}
 use Rattle.statsd_cli.specs.Endings.{status_of}
 use Rattle.statsd_cli.specs.declared.command.Command.{Command}
-use Rattle.statsd_cli.specs.declared.command.Command.TheVariants.{Replay, Check, Unknown}
+use Rattle.statsd_cli.specs.declared.command.Command.TheVariants.{Replay, Check, Load, Unknown}
 use Rattle.statsd_cli.specs.Run.{IsBadSession, IsRun, reply_text, IsServed, ending_by}
 use Rattle.statsd_cli.specs.Does.{Did, IsUndisturbed}
 
@@ -404,4 +404,5 @@ pub complete : (input : Input) (o : Output) (new : Ports) (status : ℕ) (ending
 complete input o new status ending Replay replay is run still =
     complete_with input.left input.faults o new status ending is run still
 complete input o new status ending Check replay is did still = absurd (cc)
+complete input o new status ending (Load seed many) replay is did still = absurd (cc)
 complete input o new status ending Unknown replay is did still = absurd (cc)

@@ -6,11 +6,12 @@ use Rattle.config_check.specs.declared.error.CheckError.{CheckError}
 use Rattle.config_check.specs.declared.finding.Finding.{Finding}
 use Rattle.config_check.specs.Checks.{Checks}
 use Rattle.statsd_cli.specs.declared.command.Command.{Command}
-use Rattle.statsd_cli.specs.declared.command.Command.TheVariants.{Replay, Check, Unknown}
+use Rattle.statsd_cli.specs.declared.command.Command.TheVariants.{Replay, Check, Load, Unknown}
 use Rattle.statsd_cli.specs.declared.ending.Ending.{Ending}
 use Rattle.statsd_cli.specs.declared.ending.Ending.TheVariants.{Usage}
 use Rattle.statsd_cli.specs.Endings.{status_of, IsNoted}
 use Rattle.statsd_cli.specs.Check.{check_ending}
+use Rattle.statsd_cli.specs.Load.{IsLoaded}
 use Rattle.statsd_cli.specs.Run.{IsRun}
 use Rattle.statsd_cli.specs.Streams.{Streams}
 
@@ -29,6 +30,7 @@ pub record IsUsage (old new : Ports) (ending : Ending) : Type 0 where
 abbrev pub Did : Command → Ports → Ports → Ending → Type 0
 Did Replay old new ending = IsRun old new ending
 Did Check old new ending = IsChecked old new ending
+Did (Load seed frames) old new ending = IsLoaded seed frames old new ending
 Did Unknown old new ending = IsUsage old new ending
 
 -- A command was done: the status and the note say how it ended, and the input and the output bear that out.

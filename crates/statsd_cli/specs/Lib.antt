@@ -4,4 +4,5 @@ pub mod Commands
 pub mod Streams
 pub mod Run
 pub mod Check
+pub mod Load
 pub mod Does

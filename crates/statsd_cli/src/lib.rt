@@ -1,10 +1,13 @@
-//! The engine's top call: it replays a recorded session and answers each command, or checks a configuration.
+//! The engine's top call: it replays a recorded session and answers each command, checks a configuration, or answers a
+//! session of its own and counts.
 #![tactic(auto)]
 
 mod command;
 mod ending;
 mod isolation;
+mod load;
 mod note;
+mod reply_len;
 mod top;
 
 pub use command::Command;

@@ -10,7 +10,7 @@ use arrayvec::ArrayString;
 use sd_io::{Sink, WriteFailed};
 use session_frames::SessionFault;
 
-type Line = ArrayString<128>;
+pub(crate) type Line = ArrayString<128>;
 
 /// Tells how a command ended. A note that fails changes nothing.
 pub(crate) fn tell<E: Sink>(ending: &Ending, notes: &mut E)
@@ -89,7 +89,7 @@ fn push_fault(line: &mut Line, fault: &SessionFault)
 }
 
 // Appends a text and a number.
-fn push_counted(line: &mut Line, text: &str, number: u64)
+pub(crate) fn push_counted(line: &mut Line, text: &str, number: u64)
     requires { array_string_len line.old + length text.now + 20 ≤ 128 }
     ensures text { line.new.bytes ≡ line.old.bytes ++ (text.now ++ decimal number) }
     ensures len { array_string_len line.new ≤ array_string_len line.old + length text.now + 20 }

@@ -1,6 +1,7 @@
-//! The top call, and each command: the run of a session, and the check of a configuration.
-ghost use Rattle.std.specs.Prelude.{◌≡◌, ◌≤◌, ◌⊎◌, List, take, IfSome};
+//! The top call, and each command: the run of a session, the check of a configuration, and a session of its own.
+ghost use Rattle.std.specs.Prelude.{◌≡◌, ℕ, ◌≤◌, ◌⊎◌, List, take, IfSome};
 ghost use Rattle.sd_io.specs.States.{ports};
+ghost use Rattle.sd_io.specs.Causes.{Rose};
 ghost use Rattle.session_frames.specs.declared.frame.Frame.{Frame};
 ghost use Rattle.session_frames.specs.Frames.{Clean, frames_of, IsFaultless, IsInTime};
 ghost use Rattle.matcher_eval.specs.AtomTests.{matcher_holds};
@@ -9,13 +10,14 @@ ghost use Rattle.hub_meaning.specs.ClientIsolation.{EqualOwnFramesEqualReplies};
 ghost use Rattle.hub_core.specs.HubStands.{HubStandsFor};
 ghost use Rattle.config_check.specs.Findings.{finding_of};
 ghost use Rattle.config_check.specs.Checks.{most_taken};
-ghost use Rattle.statsd_cli.specs.Commands.{command_of};
+ghost use Rattle.statsd_cli.specs.Commands.{command_of, HasFewFrames};
 ghost use Rattle.statsd_cli.specs.Streams.{streams};
 ghost use Rattle.statsd_cli.specs.Endings.{status_of, status_done, status_no_memory};
 ghost use Rattle.statsd_cli.specs.Run.{IsRun, IsServed, ending_by};
 ghost use Rattle.statsd_cli.specs.Check.{ending_found, check_ending};
 ghost use Rattle.statsd_cli.specs.Does.{Did, Does, IsChecked, IsUndisturbed};
 
+use crate::load::load;
 use crate::note::tell;
 use crate::{Command, Ending};
 use atom_record::Bytes;
@@ -28,7 +30,8 @@ use std::alloc::Global;
 
 /// Does what the words ask for, and gives the program's status. The words are those of the command line without the
 /// program's name. `replay` answers the session on `input` on `out`; `check` tells on `out`, in one line, whether the
-/// configuration on `input` has a fault. Why it ended with another status than 0 is told in one line on `notes`.
+/// configuration on `input` has a fault; `load` answers a session of its own, and tells on `out`, in one line, how much
+/// that came to. Why it ended with another status than 0 is told in one line on `notes`.
 #[tactic(auto, using(hub_meaning::proofs::ClientIsolationLemmas::equal_own_frames))]
 pub fn statsd_top<S: Source, K: Sink, E: Sink>(
     alloc: Global,
@@ -46,6 +49,10 @@ pub fn statsd_top<S: Source, K: Sink, E: Sink>(
     ensures untouched { command_of words.now ≡ Command.Unknown
         → (input.new ≡ input.old) × (out.new ≡ out.old) }
 
+    // A session of the engine's own leaves the input as it was.
+    ensures unread { (seed frames : ℕ) → command_of words.now ≡ Command.Load seed frames
+        → input.new ≡ input.old }
+
     // A good session is answered to its end, unless the outside fails or memory is wanting.
     ensures complete { command_of words.now ≡ Command.Replay
         → IsUndisturbed (ports (S.state input.old) (K.state out.old))
@@ -62,6 +69,11 @@ pub fn statsd_top<S: Source, K: Sink, E: Sink>(
         (result ≡ status_of (ending_found (finding_of (take most_taken bytes))))
         ⊎ (result ≡ status_no_memory)) }
 
+    // A session of the engine's own is answered to its end, unless the output fails or memory is wanting.
+    ensures complete_load { (seed frames : ℕ) → command_of words.now ≡ Command.Load seed frames
+        → (Rose (K.state out.old).faults (K.state out.new).faults → ⊥)
+        → (result ≡ status_done) ⊎ (result ≡ status_no_memory) }
+
     // What other clients do is no matter: equal own frames of a client have equal replies.
     ensures isolated { EqualOwnFramesEqualReplies matcher_holds }
 {
@@ -72,14 +84,18 @@ pub fn statsd_top<S: Source, K: Sink, E: Sink>(
 
 /// Does what a command asks for.
 fn obey<S: Source, K: Sink>(alloc: Global, command: Command, input: &mut S, out: &mut K) -> Ending
+    requires { HasFewFrames command }
     ensures did { Did command (ports (S.state input.old) (K.state out.old))
         (ports (S.state input.new) (K.state out.new)) result }
     ensures untouched { command ≡ Command.Unknown
         → (input.new ≡ input.old) × (out.new ≡ out.old) }
+    ensures unread { (seed frames : ℕ) → command ≡ Command.Load seed frames
+        → input.new ≡ input.old }
 {
     match command {
         Command::Replay => replay(alloc, input, out),
         Command::Check => check(alloc, input, out),
+        Command::Load { seed, frames } => load(alloc, seed, frames, out),
         Command::Unknown => Ending::Usage,
     }
 }
