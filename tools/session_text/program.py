@@ -184,7 +184,7 @@ def unproved(why):
     if is_kept(checksum()):
         tell(f"{why}: {name} answers, which is built from these sources without a proof")
         return KEPT
-    tell(f"{why}: rt builds one from the sources without a proof, once, in a minute or two, and {name} keeps it")
+    tell(f"{why}: rt builds one from the sources without a proof, once, in some minutes, and {name} keeps it")
     keep_program()
     return KEPT
 
