@@ -8,20 +8,20 @@ use Rattle.atom_record.specs.AtomSound.{IsEntry, HasNoFault}
 use Rattle.load_session.specs.declared.frame.LoadFrame.{LoadFrame}
 use Rattle.load_session.specs.declared.frame.LoadFrame.TheVariants.{Tick, Int5}
 use Rattle.load_session.specs.declared.session.Turn.TheVariants.{FirstInstall}
-use Rattle.load_session.specs.Numbers.{draw_at, time_at}
+use Rattle.load_session.specs.Numbers.{draw_at, step_time}
 use Rattle.load_session.specs.Frames.{most_frames, reports, reports_after, frames_after, load_frames, int5}
 use Rattle.load_session.specs.Good.{AreGood}
-use Rattle.load_session.specs.Steps.{start, left_at}
+use Rattle.load_session.specs.Steps.{no_step_yet, left_at}
 
 -- less than a second passes at each step
-pub time_at_most : (seed i : ℕ) → time_at seed i ≤ i * 999000000
+pub time_at_most : (seed i : ℕ) → step_time seed i ≤ i * 999000000
 time_at_most seed zero = omega arith
 time_at_most seed (suc i) =
     let before = time_at_most seed i in
     let draw = draw_at seed (suc i) in omega (arith, before)
 
 -- no time is too late
-early : (seed i : ℕ) → i ≤ most_frames → time_at seed i < 2 ^ 63
+early : (seed i : ℕ) → i ≤ most_frames → step_time seed i < 2 ^ 63
 early seed i few = omega (arith, few, time_at_most seed i)
 
 -- the one entry of an atom
@@ -66,12 +66,12 @@ reports_good false clock rest good = good
 
 -- what comes after so many steps is good
 later_good : (seed done more : ℕ) → done + more ≤ most_frames
-    → AreGood (time_at seed done) (frames_after seed done more)
+    → AreGood (step_time seed done) (frames_after seed done more)
 later_good seed done zero few = (tt, tt, (tt, tt, tt))
 later_good seed done (suc more) few =
-    let at = time_at seed (suc done) in
+    let at = step_time seed (suc done) in
     let rest = reports_after (suc done) ++ frames_after seed (suc done) more in
-    logged_good (draw_at seed (suc done) % 4 == 0) (draw_at seed (suc done)) at (time_at seed done) rest
+    logged_good (draw_at seed (suc done) % 4 == 0) (draw_at seed (suc done)) at (step_time seed done) rest
     (omega arith) (early seed (suc done) (omega (arith, few)))
     (reports_good (suc done % 1000 == 0) at (frames_after seed (suc done) more)
     (later_good seed (suc done) more (omega (arith, few))))
@@ -81,7 +81,7 @@ unfolding load_frames
 session_good seed frames few = (tt, tt, (tt, tt, later_good seed 0 frames (omega (arith, few))))
 
 -- before the first step the whole session is left
-pub whole_left : (seed frames : ℕ) → left_at FirstInstall (start seed frames) ≡ load_frames seed frames
+pub whole_left : (seed frames : ℕ) → left_at FirstInstall (no_step_yet seed frames) ≡ load_frames seed frames
 unfolding load_frames
 whole_left seed frames = let all : frames - 0 ≡ frames = omega arith in rw all refl
 

@@ -7,7 +7,7 @@ use Rattle.session_frames.specs.declared.frame.Frame.{Frame}
 use Rattle.session_frames.specs.declared.frame.Frame.TheVariants as frames
 use Rattle.load_session.specs.declared.frame.LoadFrame.{LoadFrame}
 use Rattle.load_session.specs.declared.frame.LoadFrame.TheVariants.{Tick, Int5, Install, Report}
-use Rattle.load_session.specs.Numbers.{draw_at, time_at}
+use Rattle.load_session.specs.Numbers.{draw_at, step_time}
 
 -- the most steps of a session
 abbrev pub most_frames : ℕ
@@ -37,7 +37,7 @@ reports_after i = if i % 1000 == 0 then reports false else []
 abbrev pub frames_after : ℕ → ℕ → ℕ → List LoadFrame
 frames_after seed done zero = reports true
 frames_after seed done (suc more) =
-    logged (draw_at seed (suc done)) (time_at seed (suc done))
+    logged (draw_at seed (suc done)) (step_time seed (suc done))
     ∷ (reports_after (suc done) ++ frames_after seed (suc done) more)
 
 -- the session of a seed and of so many steps
@@ -57,8 +57,8 @@ config = 58 ∷ 6 ∷ 8 ∷ 1 ∷ 18 ∷ 2 ∷ 8 ∷ 5 ∷ 26 ∷ 17 ∷ 8 ∷ 1
     ∷ 62 ∷ 16 ∷ []
 
 -- a frame of the session as the hub takes it
-abbrev pub frame_of : LoadFrame → Frame
-frame_of (Tick at) = frames.Log (logs.Tick at)
-frame_of (Int5 at value) = frames.Log (logs.AtomAt at (int5 value))
-frame_of (Install uid) = frames.Install uid (pos 1) config
-frame_of (Report uid current) = frames.Report uid (pos 1) current
+abbrev pub loaded_frame : LoadFrame → Frame
+loaded_frame (Tick at) = frames.Log (logs.Tick at)
+loaded_frame (Int5 at value) = frames.Log (logs.AtomAt at (int5 value))
+loaded_frame (Install uid) = frames.Install uid (pos 1) config
+loaded_frame (Report uid current) = frames.Report uid (pos 1) current

@@ -6,9 +6,9 @@ unfoldable pub next_number : ℕ → ℕ
 next_number number = (number * 6364136223846793005 + 1442695040888963407) % 2 ^ 64
 
 -- the numbers of a seed, from the seed itself on
-abbrev pub number_at : ℕ → ℕ → ℕ
-number_at seed zero = seed
-number_at seed (suc i) = next_number (number_at seed i)
+abbrev pub seed_number : ℕ → ℕ → ℕ
+seed_number seed zero = seed
+seed_number seed (suc i) = next_number (seed_number seed i)
 
 -- what is drawn from a number: its upper 31 bits
 abbrev pub drawn : ℕ → ℕ
@@ -20,9 +20,9 @@ pause draw = (draw % 1000) * 1000000
 
 -- what is drawn at a step
 abbrev pub draw_at : ℕ → ℕ → ℕ
-draw_at seed i = drawn (number_at seed i)
+draw_at seed i = drawn (seed_number seed i)
 
 -- the time of a step, from 0 before the first one
-abbrev pub time_at : ℕ → ℕ → ℕ
-time_at seed zero = 0
-time_at seed (suc i) = time_at seed i + pause (draw_at seed (suc i))
+abbrev pub step_time : ℕ → ℕ → ℕ
+step_time seed zero = 0
+step_time seed (suc i) = step_time seed i + pause (draw_at seed (suc i))

@@ -5,19 +5,19 @@ use Rattle.load_session.specs.declared.frame.LoadFrame.TheVariants.{Install, Rep
 use Rattle.load_session.specs.declared.steps.Steps.{Steps}
 use Rattle.load_session.specs.declared.session.Turn.{Turn}
 use Rattle.load_session.specs.declared.session.Turn.TheVariants as turns
-use Rattle.load_session.specs.Numbers.{number_at, draw_at, time_at}
+use Rattle.load_session.specs.Numbers.{seed_number, draw_at, step_time}
 use Rattle.load_session.specs.Frames.{most_frames, first_uid, second_uid, logged, reports, frames_after}
 
 -- The number and the time are those of the last step that is done.
 pub record AreUnderWay (steps : Steps) : Type 0 where
-  pub number : steps.number ≡ number_at steps.seed steps.done
-  pub time : steps.time ≡ time_at steps.seed steps.done
+  pub number : steps.number ≡ seed_number steps.seed steps.done
+  pub time : steps.time ≡ step_time steps.seed steps.done
   pub done : steps.done ≤ steps.frames
   pub bound : steps.frames ≤ most_frames
 
 -- the steps before the first one
-abbrev pub start : ℕ → ℕ → Steps
-start seed frames = record { seed = seed; number = seed; time = 0; done = 0; frames = frames }
+abbrev pub no_step_yet : ℕ → ℕ → Steps
+no_step_yet seed frames = record { seed = seed; number = seed; time = 0; done = 0; frames = frames }
 
 -- The new steps are the old ones, with one more that is done.
 pub record IsNextStep (old new : Steps) : Type 0 where
@@ -28,7 +28,7 @@ pub record IsNextStep (old new : Steps) : Type 0 where
 
 -- what is logged at the next step
 abbrev pub logged_after : Steps → LoadFrame
-logged_after steps = logged (draw_at steps.seed (suc steps.done)) (time_at steps.seed (suc steps.done))
+logged_after steps = logged (draw_at steps.seed (suc steps.done)) (step_time steps.seed (suc steps.done))
 
 -- what comes after the steps that are done
 abbrev pub later : Steps → List LoadFrame

@@ -1,6 +1,6 @@
 //! One frame of the session.
 ghost use Rattle.std.specs.Prelude.{◌≡◌, IfOk};
-ghost use Rattle.load_session.specs.Frames.{frame_of, int5};
+ghost use Rattle.load_session.specs.Frames.{loaded_frame, int5};
 
 use atom_record::{Atom, AtomField, LogFrame, Value};
 use sd_base::Seq;
@@ -32,7 +32,7 @@ const CONFIG: [u8; 27] = [
 impl LoadFrame {
     /// The frame as the hub takes it.
     pub fn frame(self, alloc: Global) -> Result<Frame, AllocError>
-        ensures { IfOk result (λ frame. frame ≡ frame_of self) }
+        ensures { IfOk result (λ frame. frame ≡ loaded_frame self) }
     {
         match self {
             LoadFrame::Tick { at } => Ok(Frame::Log(LogFrame::Tick { at })),

@@ -1,7 +1,7 @@
 //! The steps of the session, one after another.
 ghost use Rattle.std.specs.Prelude.{◌≡◌, ◌<◌};
 ghost use Rattle.load_session.specs.Frames.{logged};
-ghost use Rattle.load_session.specs.Steps.{AreUnderWay, IsNextStep, logged_after, start};
+ghost use Rattle.load_session.specs.Steps.{AreUnderWay, IsNextStep, logged_after, no_step_yet};
 
 use crate::LoadFrame;
 use crate::numbers::{drawn, next_number, pause};
@@ -19,7 +19,7 @@ pub(crate) struct Steps {
 impl Steps {
     /// Before the first step.
     pub(crate) fn new(seed: u64, frames: u64) -> Steps
-        ensures { result ≡ start seed frames }
+        ensures { result ≡ no_step_yet seed frames }
     {
         Steps {
             seed,

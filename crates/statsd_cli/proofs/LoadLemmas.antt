@@ -20,7 +20,7 @@ use Rattle.hub_meaning.proofs.ClientAnswerLaws.{text-push}
 use Rattle.hub_core.specs.declared.hub.Hub.{Hub}
 use Rattle.hub_core.specs.HubStands.{HubStandsFor}
 use Rattle.load_session.specs.declared.frame.LoadFrame.{LoadFrame}
-use Rattle.load_session.specs.Frames.{frame_of, load_frames}
+use Rattle.load_session.specs.Frames.{loaded_frame, load_frames}
 use Rattle.load_session.specs.Good.{AreGood}
 use Rattle.statsd_cli.specs.declared.load.Totals.{Totals}
 use Rattle.statsd_cli.specs.declared.command.Command.{Command}
@@ -28,7 +28,7 @@ use Rattle.statsd_cli.specs.declared.command.Command.TheVariants.{Replay, Check,
 use Rattle.statsd_cli.specs.declared.ending.Ending.{Ending}
 use Rattle.statsd_cli.specs.declared.ending.Ending.TheVariants.{Done, Refused, Usage, BadSession, ReadFault, WriteFault, NoMemory}
 use Rattle.statsd_cli.specs.Endings.{status_of}
-use Rattle.statsd_cli.specs.Load.{session_of, totals_of, totals_with, IsBounded, HasRoom, IsTold}
+use Rattle.statsd_cli.specs.Load.{session_of, totals_of, totals_with, AreInBounds, MayCountOne, IsLineTold}
 use Rattle.statsd_cli.specs.Does.{Did}
 
 -- four bytes a number
@@ -63,12 +63,12 @@ no_totals = refl
 -- A session of the engine's own under way: these frames were answered and counted, and these are left.
 pub record IsUnderWay (seed frames : ℕ) (left : List LoadFrame) (hub : Hub FieldJudge) (totals : Totals) : Type 0 where
   pub answered : List Frame
-  pub whole : session_of seed frames ≡ answered ++ map frame_of left
+  pub whole : session_of seed frames ≡ answered ++ map loaded_frame left
   pub good : AreGood (clock_of answered) left
   pub stands : HubStandsFor matcher_holds hub answered
   pub is : totals ≡ totals_of answered
   pub few : length answered + length left < 2 ^ 34
-  pub bound : IsBounded totals
+  pub bound : AreInBounds totals
 
 -- at the beginning the whole session is left
 pub begins_under_way : (seed frames : ℕ) (left : List LoadFrame) (hub : Hub FieldJudge)
@@ -76,7 +76,7 @@ pub begins_under_way : (seed frames : ℕ) (left : List LoadFrame) (hub : Hub Fi
     → IsUnderWay seed frames left hub (counted 0 0 0)
 begins_under_way seed frames left hub is good few stands = record {
   answered = [];
-  whole = ap (map frame_of) (sym is);
+  whole = ap (map loaded_frame) (sym is);
   good = good;
   stands = stands;
   is = no_totals;
@@ -89,7 +89,7 @@ module _ (seed frames : ℕ) (left : List LoadFrame) (hub : Hub FieldJudge) (tot
   -- nothing is left: the totals are those of the whole session
   pub ends_under_way : left ≡ [] → totals ≡ totals_of (session_of seed frames)
   ends_under_way none =
-      way.is ∙ ap totals_of (sym (way.whole ∙ ap (λ rest. way.answered ++ map frame_of rest) none
+      way.is ∙ ap totals_of (sym (way.whole ∙ ap (λ rest. way.answered ++ map loaded_frame rest) none
       ∙ append-nil way.answered))
 
   module _ (frame : LoadFrame) (rest : List LoadFrame) (next : left ≡ frame ∷ rest) where
@@ -97,10 +97,10 @@ module _ (seed frames : ℕ) (left : List LoadFrame) (hub : Hub FieldJudge) (tot
     good_next = subst (AreGood (clock_of way.answered)) next way.good
 
     -- the next frame has no fault, and doesn't come before the clock
-    pub faultless_next : IsFaultless (frame_of frame)
+    pub faultless_next : IsFaultless (loaded_frame frame)
     faultless_next = good_next.0
 
-    pub in_time_next : IsInTime (clock_of way.answered) (frame_of frame)
+    pub in_time_next : IsInTime (clock_of way.answered) (loaded_frame frame)
     in_time_next = good_next.1
 
     few_next : (length way.answered + (1 + length rest)) < 2 ^ 34
@@ -110,44 +110,44 @@ module _ (seed frames : ℕ) (left : List LoadFrame) (hub : Hub FieldJudge) (tot
         omega (arith, whole)
 
     -- it may be counted
-    pub room_next : HasRoom totals
+    pub room_next : MayCountOne totals
     room_next = (omega (arith, few_next, ap (λ (t : Totals). t.frames) way.is), way.bound)
 
     -- it was answered and counted
     pub goes_on_under_way : (new : Hub FieldJudge) (reply : Option Reply) (now : Totals)
-        → HubStandsFor matcher_holds new (way.answered ++ frame_of frame ∷ [])
-        → reply ≡ reply_to matcher_holds way.answered (frame_of frame)
-        → now ≡ totals_with totals reply → IsBounded now
+        → HubStandsFor matcher_holds new (way.answered ++ loaded_frame frame ∷ [])
+        → reply ≡ reply_to matcher_holds way.answered (loaded_frame frame)
+        → now ≡ totals_with totals reply → AreInBounds now
         → IsUnderWay seed frames rest new now
     goes_on_under_way new reply now stands answer is bound = record {
-      answered = way.answered ++ frame_of frame ∷ [];
-      whole = way.whole ∙ ap (λ l. way.answered ++ map frame_of l) next
-          ∙ sym (append_assoc way.answered (frame_of frame ∷ []) (map frame_of rest));
-      good = subst (λ clock. AreGood clock rest) (sym (clock_of-push way.answered (frame_of frame))) good_next.2;
+      answered = way.answered ++ loaded_frame frame ∷ [];
+      whole = way.whole ∙ ap (λ l. way.answered ++ map loaded_frame l) next
+          ∙ sym (append_assoc way.answered (loaded_frame frame ∷ []) (map loaded_frame rest));
+      good = subst (λ clock. AreGood clock rest) (sym (clock_of-push way.answered (loaded_frame frame))) good_next.2;
       stands = stands;
       is = is ∙ ap (λ t. totals_with t reply) way.is ∙ ap (totals_with (totals_of way.answered)) answer
-          ∙ sym (totals-push way.answered (frame_of frame));
-      few = omega (arith, few_next, length-append way.answered (frame_of frame ∷ []));
+          ∙ sym (totals-push way.answered (loaded_frame frame));
+      few = omega (arith, few_next, length-append way.answered (loaded_frame frame ∷ []));
       bound = bound;
     }
 
     -- the hub took it, as it was made for it, and its reply was counted
-    pub served_under_way : (made : Frame) → made ≡ frame_of frame
+    pub served_under_way : (made : Frame) → made ≡ loaded_frame frame
         → (new : Hub FieldJudge) (reply : Option Reply) (now : Totals)
         → (IsInTime (clock_of way.answered) made → HubStandsFor matcher_holds new (way.answered ++ made ∷ [])
         × (reply ≡ reply_to matcher_holds way.answered made))
-        → now ≡ totals_with totals reply → IsBounded now
+        → now ≡ totals_with totals reply → AreInBounds now
         → IsUnderWay seed frames rest new now
     served_under_way made own new reply now serves count bound =
-        let served : HubStandsFor matcher_holds new (way.answered ++ frame_of frame ∷ [])
-        × (reply ≡ reply_to matcher_holds way.answered (frame_of frame)) =
+        let served : HubStandsFor matcher_holds new (way.answered ++ loaded_frame frame ∷ [])
+        × (reply ≡ reply_to matcher_holds way.answered (loaded_frame frame)) =
         subst (λ f. IsInTime (clock_of way.answered) f → HubStandsFor matcher_holds new (way.answered ++ f ∷ [])
         × (reply ≡ reply_to matcher_holds way.answered f)) own serves in_time_next in
         goes_on_under_way new reply now served.0 served.1 count bound
 
 -- A session of the engine's own is answered to its end, unless the output fails or memory is wanting.
 told_status : (line : List ℕ) (old new : Output) (status : ℕ) (ending : Ending) → status ≡ status_of ending
-    → IsTold line old new ending → (Rose old.faults new.faults → ⊥) → (status ≡ 0) ⊎ (status ≡ 6)
+    → IsLineTold line old new ending → (Rose old.faults new.faults → ⊥) → (status ≡ 0) ⊎ (status ≡ 6)
 told_status line old new status Done is told still = inl is
 told_status line old new status Refused is told still = absurd told
 told_status line old new status Usage is told still = absurd told
@@ -168,7 +168,7 @@ loaded seed frames old new status ending (Load own many) load is did still =
 loaded seed frames old new status ending Unknown load is did still = absurd (cc)
 
 -- What such a session tells by its status.
-pub told_usage : (line : List ℕ) (old new : Output) (ending : Ending) → IsTold line old new ending
+pub told_usage : (line : List ℕ) (old new : Output) (ending : Ending) → IsLineTold line old new ending
     → status_of ending ≡ 2 → ⊥
 told_usage line old new Done told is = absurd (omega (arith, is))
 told_usage line old new Refused told is = told
@@ -178,7 +178,7 @@ told_usage line old new ReadFault told is = told
 told_usage line old new WriteFault told is = absurd (omega (arith, is))
 told_usage line old new NoMemory told is = absurd (omega (arith, is))
 
-pub told_read : (line : List ℕ) (old new : Output) (ending : Ending) → IsTold line old new ending
+pub told_read : (line : List ℕ) (old new : Output) (ending : Ending) → IsLineTold line old new ending
     → status_of ending ≡ 4 → ⊥
 told_read line old new Done told is = absurd (omega (arith, is))
 told_read line old new Refused told is = told
@@ -188,7 +188,7 @@ told_read line old new ReadFault told is = told
 told_read line old new WriteFault told is = absurd (omega (arith, is))
 told_read line old new NoMemory told is = absurd (omega (arith, is))
 
-pub told_write : (line : List ℕ) (old new : Output) (ending : Ending) → IsTold line old new ending
+pub told_write : (line : List ℕ) (old new : Output) (ending : Ending) → IsLineTold line old new ending
     → status_of ending ≡ 5 → Rose old.faults new.faults
 told_write line old new Done told is = absurd (omega (arith, is))
 told_write line old new Refused told is = absurd told

@@ -8,14 +8,14 @@ use Rattle.session_frames.specs.declared.reply.Reply.{Reply}
 use Rattle.session_frames.specs.Replies.{reply_bytes}
 use Rattle.matcher_eval.specs.AtomTests.{matcher_holds}
 use Rattle.hub_meaning.specs.ClientAnswers.{replies, text}
-use Rattle.load_session.specs.Frames.{frame_of, load_frames}
+use Rattle.load_session.specs.Frames.{loaded_frame, load_frames}
 use Rattle.statsd_cli.specs.declared.load.Totals.{Totals}
 use Rattle.statsd_cli.specs.declared.ending.Ending.{Ending}
 use Rattle.statsd_cli.specs.declared.ending.Ending.TheVariants.{Done, Refused, Usage, BadSession, ReadFault, WriteFault, NoMemory}
 
 -- the session of a seed and of so many steps
 abbrev pub session_of : ℕ → ℕ → List Frame
-session_of seed frames = map frame_of (load_frames seed frames)
+session_of seed frames = map loaded_frame (load_frames seed frames)
 
 -- how many frames a session has, how many replies, and how many bytes these have
 abbrev pub totals_of : List Frame → Totals
@@ -32,19 +32,19 @@ totals_line totals =
     ++ decimal totals.bytes ++ codes "\n"
 
 -- what was written of a line, by how the command ended: it is put, or memory was wanting before
-abbrev pub IsTold : List ℕ → Output → Output → Ending → Type 0
-IsTold line old new Done = Gains old new line
-IsTold line old new Refused = ⊥
-IsTold line old new Usage = ⊥
-IsTold line old new (BadSession at fault) = ⊥
-IsTold line old new ReadFault = ⊥
-IsTold line old new WriteFault = GainsFront old new line × Rose old.faults new.faults
-IsTold line old new NoMemory = Gains old new []
+abbrev pub IsLineTold : List ℕ → Output → Output → Ending → Type 0
+IsLineTold line old new Done = Gains old new line
+IsLineTold line old new Refused = ⊥
+IsLineTold line old new Usage = ⊥
+IsLineTold line old new (BadSession at fault) = ⊥
+IsLineTold line old new ReadFault = ⊥
+IsLineTold line old new WriteFault = GainsFront old new line × Rose old.faults new.faults
+IsLineTold line old new NoMemory = Gains old new []
 
 -- A session of the engine's own was answered, and nothing was read: its numbers were told in one line.
 pub record IsLoaded (seed frames : ℕ) (old new : Ports) (ending : Ending) : Type 0 where
   pub unread : new.input ≡ old.input
-  pub told : IsTold (totals_line (totals_of (session_of seed frames))) old.output new.output ending
+  pub told : IsLineTold (totals_line (totals_of (session_of seed frames))) old.output new.output ending
 
 -- one more frame is counted, and its reply where it has one
 abbrev pub totals_with : Totals → Option Reply → Totals
@@ -55,10 +55,10 @@ totals_with totals reply = record {
 }
 
 -- Each frame has one reply at most, and each reply fewer than 2^64 bytes.
-pub record IsBounded (totals : Totals) : Type 0 where
+pub record AreInBounds (totals : Totals) : Type 0 where
   pub replies : totals.replies ≤ totals.frames
   pub bytes : totals.bytes ≤ totals.frames * 2 ^ 64
 
 -- one more frame may be counted
-abbrev pub HasRoom : Totals → Type 0
-HasRoom totals = (totals.frames < 2 ^ 34) × IsBounded totals
+abbrev pub MayCountOne : Totals → Type 0
+MayCountOne totals = (totals.frames < 2 ^ 34) × AreInBounds totals

@@ -2,7 +2,7 @@
 ghost use Rattle.std.specs.Prelude.{◌≡◌, ◌+◌, ◌<◌, ◌≤◌, ◌^◌, ◌++◌, length, decimal, IfOk};
 ghost use Rattle.arrayvec.specs.ArrayString.{array_string_len};
 ghost use Rattle.load_session.specs.Frames.{most_frames};
-ghost use Rattle.statsd_cli.specs.Load.{session_of, totals_of, totals_line, totals_with, IsBounded, HasRoom, IsTold};
+ghost use Rattle.statsd_cli.specs.Load.{session_of, totals_of, totals_line, totals_with, AreInBounds, MayCountOne, IsLineTold};
 
 use crate::Ending;
 use crate::note::{Line, push_counted};
@@ -25,7 +25,7 @@ pub(crate) struct Totals {
 /// Answers the session of a seed and of so many frames of the log, keeps no reply, and tells the totals in one line.
 pub(crate) fn load<K: Sink>(alloc: Global, seed: u64, frames: u64, out: &mut K) -> Ending
     requires { frames ≤ most_frames }
-    ensures { IsTold (totals_line (totals_of (session_of seed frames)))
+    ensures { IsLineTold (totals_line (totals_of (session_of seed frames)))
         (K.state out.old) (K.state out.new) result }
 {
     let Ok(totals) = answer(alloc, seed, frames) else {
@@ -63,9 +63,9 @@ fn answer(alloc: Global, seed: u64, frames: u64) -> Result<Totals, AllocError>
 impl Totals {
     /// With one more frame, and its reply where it has one.
     fn with(self, reply: &Option<Reply>) -> Totals
-        requires { HasRoom self }
+        requires { MayCountOne self }
         ensures with { result ≡ totals_with self reply.now }
-        ensures bound { IsBounded result }
+        ensures bound { AreInBounds result }
     {
         match reply {
             None => Totals {
