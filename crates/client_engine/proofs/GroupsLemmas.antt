@@ -12,8 +12,8 @@ use Rattle.bucket_meaning.specs.Guard.{is_among, firsts, with_key, admitted}
 use Rattle.bucket_meaning.proofs.GuardLemmas.{firsts-push, firsts-distinct, not_yet_come}
 use Rattle.dim_table.proofs.KeyLemmas.{Contains-from_place, is_among-from_Contains, not_among, found, missing}
 use Rattle.report_writer.specs.declared.tree.NumBucket.{NumBucket}
-use Rattle.count_metric.specs.declared.row.Row.{Row}
-use Rattle.count_metric.specs.Counting.{is_same_key}
+use Rattle.metric_producer.specs.declared.row.Row.{Row}
+use Rattle.metric_kinds.specs.Keys.{is_same_key}
 use Rattle.metric_meaning.specs.KeyTrees.{group_of}
 use Rattle.metric_meaning.specs.Reports.{bucket_of, count_groups}
 use Rattle.client_engine.specs.Groups.{key_in, buckets_of, entry_in, keys_in_order, grouped, group_tree, AddsRow}

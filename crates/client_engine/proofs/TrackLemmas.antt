@@ -9,8 +9,8 @@ use Rattle.config_links.specs.declared.linked.LMetric.{LMetric}
 use Rattle.config_links.specs.declared.linked.LKind.{LKind}
 use Rattle.config_links.specs.declared.linked.LKind.TheVariants as kinds
 use Rattle.count_metric.specs.declared.count.CountProducer.{CountProducer}
-use Rattle.count_metric.specs.declared.row.Closed.{Closed}
-use Rattle.count_metric.specs.Collecting.{closed_of}
+use Rattle.metric_producer.specs.declared.row.Closed.{Closed}
+use Rattle.metric_producer.specs.Collecting.{closed_of}
 use Rattle.count_metric.specs.Counting.{count_demands, count_collecting}
 use Rattle.count_metric.specs.CountStands.{CountStandsFor}
 use Rattle.report_writer.specs.declared.tree.MetricTree.{MetricTree}
@@ -20,10 +20,11 @@ use Rattle.metric_lane.specs.declared.lane.Lane.{Lane}
 use Rattle.metric_meaning.specs.Histories.{Step, Installation, truth_at, moment_of, log_after}
 use Rattle.metric_meaning.specs.Scenes.{Scene, scene_after}
 use Rattle.metric_meaning.specs.Forms.{is_count, is_built_metric}
-use Rattle.metric_meaning.specs.CountSteps.{atom_key, arrival_by, arrival_at, count_params, count_way, counts_shown}
+use Rattle.metric_meaning.specs.CountSteps.{atom_key, arrival_by, arrival_at, counts_shown}
+use Rattle.metric_calls.specs.CountCalls.{count_params, count_asking}
 use Rattle.metric_meaning.specs.MetricConditions.{is_condition_true}
 use Rattle.metric_meaning.specs.Reports.{metric_tree}
-use Rattle.metric_meaning.proofs.CountStepsLemmas.{counts_agree, counts_ask_well}
+use Rattle.metric_calls.proofs.CountCallsLemmas.{counts_agree, counts_ask_well}
 use Rattle.client_engine.specs.Handed.{Handed, IsOfScene}
 use Rattle.client_engine.specs.TrackStands.{logged_step, reported_step, ComeInTime, CountsAlong, LaneAlong, TrackStandsFor, MayLog, TrackReports, closed_tree}
 use Rattle.client_engine.proofs.AlongLemmas.{along_begins, along_logs, along_reports}
@@ -60,7 +61,7 @@ counts_log given metric shown truths old new key is logs installed steps frame a
     ∙ shown_arrival scene metric log frame truths in
     let moment : moment_of shown (log_time shown) ≡ moment_of frame (log_time frame) =
     ap (λ f. moment_of f (log_time f)) may.shown_is ∙ shown_moment log frame in
-    along_logs (count_way installed metric) count_demands CountStandsFor (counts_ask_well installed metric) steps frame
+    along_logs (count_asking installed metric) count_demands CountStandsFor (counts_ask_well installed metric) steps frame
     truths old new (moment_of shown (log_time shown)) key moment arrives logs along may.in_time
 
 -- the same by the metric's kind
@@ -84,7 +85,7 @@ counts_report : (metric : LMetric) (include_current : Bool) (at : ℕ) (old new 
     → CountsAlong installed (steps ++ reported_step include_current at ∷ []) metric new
     × (closed ≡ closed_of (counts_shown installed metric steps include_current at))
 counts_report metric include_current at old new closed reports installed steps along in_time =
-    along_reports (count_way installed metric) count_demands CountStandsFor (counts_ask_well installed metric) steps
+    along_reports (count_asking installed metric) count_demands CountStandsFor (counts_ask_well installed metric) steps
     count_collecting (counts_agree installed metric) include_current at old new closed reports along in_time
 
 -- the same by the metric's kind, with what the report shows
@@ -110,7 +111,7 @@ counts_begin : (installed : Installation) (metric : LMetric) (lane : CountLane) 
     → LaneHas CountStandsFor count_demands lane (count_params installed.base metric) [] []
     → CountsAlong installed [] metric lane
 counts_begin installed metric lane fits has =
-    along_begins (count_way installed metric) count_demands CountStandsFor lane fits has
+    along_begins (count_asking installed metric) count_demands CountStandsFor lane fits has
 
 -- the same by the metric's kind
 lane_begins : (installed : Installation) (metric : LMetric) (kind : LKind) (lane : CountLane)

@@ -4,8 +4,8 @@ use Rattle.atom_record.specs.declared.value.MetricKey.{MetricKey}
 use Rattle.bucket_meaning.specs.Guard.{firsts}
 use Rattle.report_writer.specs.declared.tree.NumBucket.{NumBucket}
 use Rattle.report_writer.specs.declared.tree.NumTree.{NumTree}
-use Rattle.count_metric.specs.declared.row.Row.{Row}
-use Rattle.count_metric.specs.Counting.{is_same_key}
+use Rattle.metric_producer.specs.declared.row.Row.{Row}
+use Rattle.metric_kinds.specs.Keys.{is_same_key}
 use Rattle.metric_meaning.specs.KeyTrees.{key_trees}
 use Rattle.metric_meaning.specs.Reports.{bucket_of}
 

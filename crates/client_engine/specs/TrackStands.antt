@@ -14,11 +14,11 @@ use Rattle.metric_lane.specs.declared.lane.Lane.{Lane}
 use Rattle.metric_meaning.specs.Histories.{What, Logged, Reported, Step, Installation, log_after}
 use Rattle.metric_meaning.specs.ShownFrames.{shown_as}
 use Rattle.metric_meaning.specs.Scenes.{scene_after}
-use Rattle.metric_meaning.specs.CountSteps.{count_way}
+use Rattle.metric_calls.specs.CountCalls.{count_asking}
 use Rattle.metric_meaning.specs.Reports.{metric_tree, count_groups}
 use Rattle.report_writer.specs.declared.tree.MetricTree.{MetricTree}
 use Rattle.report_writer.specs.declared.tree.MetricBody.TheVariants as bodies
-use Rattle.count_metric.specs.declared.row.Closed.{Closed}
+use Rattle.metric_producer.specs.declared.row.Closed.{Closed}
 use Rattle.client_engine.specs.Along.{Along}
 use Rattle.client_engine.specs.Handed.{Handed, IsOfScene}
 use Rattle.client_engine.specs.declared.track.MetricLane.{MetricLane}
@@ -53,7 +53,7 @@ ComeInTime last (step ∷ steps) = ComesInTime last step × ComeInTime step.at s
 -- the lane of a metric of counts, after these steps of what was installed
 abbrev pub CountsAlong : Installation → List Step → LMetric → Lane CountProducer MetricKey (Unit {0}) ℕ → Type 0
 CountsAlong installed steps metric lane =
-    Along (count_way installed metric) count_demands CountStandsFor steps lane
+    Along (count_asking installed metric) count_demands CountStandsFor steps lane
 
 -- a lane collects for its metric, by the metric's kind
 abbrev pub LaneAlong : Installation → List Step → LMetric → LKind → MetricLane → Type 0

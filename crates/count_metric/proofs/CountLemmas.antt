@@ -13,13 +13,15 @@ use Rattle.bucket_meaning.specs.Guard.{admitted, arrival_key}
 use Rattle.bucket_meaning.specs.Rows.{drops, row_of, rows_of, closed_rows}
 use Rattle.dim_table.specs.Table.{Table}
 use Rattle.kept_rows.specs.KeptRows.{Keeping, IsKept, AddsRows}
-use Rattle.count_metric.specs.declared.row.Row.{Row}
+use Rattle.metric_producer.specs.declared.row.Row.{Row}
 use Rattle.count_metric.specs.declared.count.CountProducer.{CountProducer}
-use Rattle.call_rules.specs.Calls.{Got, Learned, Crossed, CutAt, Took}
-use Rattle.call_rules.specs.Moves.{Moves}
-use Rattle.call_rules.proofs.RuleLemmas.{answer_fits}
-use Rattle.count_metric.proofs.CollectingLemmas.{moves}
-use Rattle.count_metric.specs.Counting.{is_same_key, row_weight, count_kind, CountParams, count_demands, count_collecting}
+use Rattle.metric_producer.specs.Calls.{Got, Learned, Crossed, CutAt, Took}
+use Rattle.metric_producer.specs.Moves.{Moves}
+use Rattle.metric_producer.proofs.RuleLemmas.{answer_fits}
+use Rattle.metric_producer.proofs.CollectingLemmas.{moves}
+use Rattle.metric_kinds.specs.Keys.{is_same_key}
+use Rattle.metric_kinds.specs.Counts.{row_weight, count_kind}
+use Rattle.count_metric.specs.Counting.{CountParams, count_demands, count_collecting}
 use Rattle.count_metric.specs.CountStands.{tally_of, tally, tally_row, IsTally, TakesKey, HasBooks, CountStandsFor, ClosesPart}
 
 -- the rows of a part are those of its tally

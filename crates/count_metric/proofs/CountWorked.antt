@@ -5,9 +5,9 @@ use Rattle.atom_record.specs.declared.value.Leaf.TheVariants.{One}
 use Rattle.atom_record.specs.declared.value.MetricKey.{MetricKey}
 use Rattle.bucket_meaning.specs.Meaning.{report_by}
 use Rattle.bucket_meaning.specs.Kept.{Taken}
-use Rattle.call_rules.specs.Calls.{Got, Crossed, CutAt, Took}
-use Rattle.count_metric.specs.declared.row.Row.{Row}
-use Rattle.count_metric.specs.Collecting.{calls_mean}
+use Rattle.metric_producer.specs.Calls.{Got, Crossed, CutAt, Took}
+use Rattle.metric_producer.specs.declared.row.Row.{Row}
+use Rattle.metric_producer.specs.Collecting.{calls_mean}
 use Rattle.count_metric.specs.Counting.{CountCall, count_demands, count_collecting}
 
 -- a key with one number

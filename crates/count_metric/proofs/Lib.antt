@@ -1,5 +1,4 @@
 mod CountWorked
-pub mod CollectingLemmas
 pub mod TallyLemmas
 pub mod CountLemmas
 pub mod CountItemsLemmas

@@ -1,6 +1,6 @@
 -- The tally of a part, one more arrival at a time.
 use Rattle.std.proofs.Common.{◌≡◌, ℕ, zero, suc, ◌+◌, ◌-◌, ◌^◌, ◌<◌, ◌≤◌, min, true, false, not, if◌then◌else◌, List, [], ◌∷◌, ◌++◌, map, length, slice_get, Some, refl, sym, ap, subst, ◌∙◌, arith, ⊎_elim}
-use Rattle.std.specs.List.{AllByRecursion, IsDistinct}
+use Rattle.std.specs.List.{IsDistinct}
 use Rattle.std.specs.Map.{keys_of, values_of}
 use Rattle.std.proofs.lemmas.Bool.{cases_Bool}
 use Rattle.std.proofs.lemmas.List.{append-nil, map-append, length-map, length-append}
@@ -10,11 +10,13 @@ use Rattle.atom_record.specs.Equal.{metric_key_exact}
 use Rattle.bucket_meaning.specs.Guard.{is_among, admitted, dropped, of_key, arrival_key}
 use Rattle.bucket_meaning.specs.Kept.{count_in_u64}
 use Rattle.bucket_meaning.specs.Rows.{drops}
-use Rattle.bucket_meaning.proofs.GuardLemmas.{of_key-push, of_key_none, admitted_present, admitted_new, admitted_full, admitted-distinct, dropped_same, dropped_new, not_yet_come}
+use Rattle.bucket_meaning.proofs.GuardLemmas.{of_key_none, admitted_present, admitted_new, admitted_full, admitted-distinct, dropped_same, dropped_new, not_yet_come}
 use Rattle.dim_table.specs.declared.answer.Admit.TheVariants.{At}
 use Rattle.dim_table.specs.Table.{Table, keys, Admits, IsThere, IsNew, IsTurnedAway, with_value_at, set_value_at}
 use Rattle.dim_table.proofs.KeyLemmas.{Contains-from_place, is_among-from_Contains, not_among}
-use Rattle.count_metric.specs.Counting.{is_same_key, count_kind}
+use Rattle.metric_producer.proofs.KeysLemmas.{differs_from_all, differs_from_one, of_other, of_own, keys_push}
+use Rattle.metric_kinds.specs.Keys.{is_same_key}
+use Rattle.metric_kinds.specs.Counts.{count_kind}
 use Rattle.count_metric.specs.CountStands.{tally_of, tally, IsTally, TakesKey}
 
 -- with one more arrival of a key
@@ -29,33 +31,18 @@ count_at came key = count_in_u64 (length (of_key is_same_key key came))
 abbrev raised_from : ℕ → ℕ
 raised_from count = min (count + 1) (2 ^ 64 - 1)
 
--- a key that differs from another, the other way round
-other_way : (one other : MetricKey) → is_same_key one other ≡ false → is_same_key other one ≡ false
-other_way one other differ = ⊎_elim
-    (λ (alike : is_same_key other one ≡ true).
-    let self : is_same_key one other ≡ true =
-    (metric_key_exact one other).1 (sym ((metric_key_exact other one).0 alike)) in cc)
-    (λ (differs : is_same_key other one ≡ false). differs)
-    (cases_Bool (is_same_key other one))
-
 -- another key's number stays
 entry_other : (came : List (MetricKey × ℕ)) (key other : MetricKey) → is_same_key other key ≡ false
     → tally_of (with_key_in came key) other ≡ tally_of came other
 entry_other came key other differ =
-    ap (λ ones. (other, count_in_u64 (length ones)))
-    (of_key-push is_same_key other came (key, 1)
-    ∙ ap (λ b. of_key is_same_key other came ++ (if b then 1 ∷ [] else [])) (other_way other key differ)
-    ∙ append-nil (of_key is_same_key other came))
+    ap (λ ones. (other, count_in_u64 (length ones))) (of_other is_same_key metric_key_exact came key other 1 differ)
 
 -- the key's own arrivals are one more
 size_own : (came : List (MetricKey × ℕ)) (key : MetricKey)
     → length (of_key is_same_key key (with_key_in came key)) ≡ length (of_key is_same_key key came) + 1
 size_own came key =
-    let self : is_same_key key key ≡ true = (metric_key_exact key key).1 refl in
     let one : List ℕ = 1 ∷ [] in
-    ap length (of_key-push is_same_key key came (key, 1)
-    ∙ ap (λ b. of_key is_same_key key came ++ (if b then one else [])) self)
-    ∙ length-append (of_key is_same_key key came) one
+    ap length (of_own is_same_key metric_key_exact came key 1) ∙ length-append (of_key is_same_key key came) one
 
 -- a count of one more is raised
 raised_count : (n : ℕ) → count_in_u64 (n + 1) ≡ raised_from (count_in_u64 n)
@@ -78,24 +65,6 @@ entries_other came key (first ∷ ks) absent =
     ap (λ entry. entry ∷ map (tally_of (with_key_in came key)) ks) (entry_other came key first here)
     ∙ ap (λ entries. tally_of came first ∷ entries) (entries_other came key ks later)
 
--- a key that differs from all of these isn't among them
-differs_from_all : (key : MetricKey) (ks : List MetricKey) → AllByRecursion (λ other. is_same_key key other ≡ false) ks
-    → is_among is_same_key key ks ≡ false
-differs_from_all key [] all = refl
-differs_from_all key (first ∷ ks) all =
-    let here = other_way key first all.0 in
-    let later = differs_from_all key ks all.1 in
-    grind (arith, here, later)
-
--- and not from one of them
-differs_from_one : (key found : MetricKey) (ks : List MetricKey) (place : ℕ)
-    → AllByRecursion (λ other. is_same_key key other ≡ false) ks → slice_get ks place ≡ Some found
-    → is_same_key key found ≡ false
-differs_from_one key found [] place all at = absurd (cc)
-differs_from_one key found (first ∷ ks) zero all at =
-    let is : first ≡ found = cc in subst (λ k. is_same_key key k ≡ false) is all.0
-differs_from_one key found (first ∷ ks) (suc place) all at = differs_from_one key found ks place all.1 at
-
 -- the number at the place of a key
 pub number_there : (came : List (MetricKey × ℕ)) (key : MetricKey) (ks : List MetricKey) (place : ℕ)
     → slice_get ks place ≡ Some key
@@ -115,14 +84,14 @@ raised_there came key (first ∷ ks) zero distinct at =
     let is : first ≡ key = cc in
     let absent : is_among is_same_key key ks ≡ false =
     subst (λ k. is_among is_same_key k ks ≡ false) is
-    (differs_from_all first ks (IsDistinct-head is_same_key first ks distinct)) in
+    (differs_from_all is_same_key metric_key_exact first ks (IsDistinct-head is_same_key first ks distinct)) in
     ap (λ k. (k, raised_from (count_at came key)) ∷ map (tally_of came) ks) is
     ∙ ap (λ entry. entry ∷ map (tally_of came) ks) (sym (entry_own came key))
     ∙ ap (λ k. tally_of (with_key_in came key) k ∷ map (tally_of came) ks) (sym is)
     ∙ ap (λ entries. tally_of (with_key_in came key) first ∷ entries) (sym (entries_other came key ks absent))
 raised_there came key (first ∷ ks) (suc place) distinct at =
     let differ : is_same_key first key ≡ false =
-    differs_from_one first key ks place (IsDistinct-head is_same_key first ks distinct) at in
+    differs_from_one is_same_key first key ks place (IsDistinct-head is_same_key first ks distinct) at in
     ap (λ entry. entry ∷ set_value_at (map (tally_of came) ks) place (raised_from (count_at came key)))
     (sym (entry_other came key first differ))
     ∙ ap (λ entries. tally_of (with_key_in came key) first ∷ entries)
@@ -145,18 +114,13 @@ set_last : (rows : List (MetricKey × ℕ)) (key : MetricKey) (number other : �
 set_last [] key number other = refl
 set_last (row ∷ rows) key number other = ap (λ l. row ∷ l) (set_last rows key number other)
 
--- the keys that came, with one more
-keys_push : (came : List (MetricKey × ℕ)) (key : MetricKey)
-    → map arrival_key (with_key_in came key) ≡ map arrival_key came ++ key ∷ []
-keys_push came key = map-append arrival_key came ((key, 1) ∷ [])
-
 -- a tally of the same keys
 tally_stays : (bound : ℕ) (came : List (MetricKey × ℕ)) (key : MetricKey)
     → admitted is_same_key bound (map arrival_key came ++ key ∷ []) ≡ admitted is_same_key bound (map arrival_key came)
     → tally bound (with_key_in came key)
     ≡ map (tally_of (with_key_in came key)) (admitted is_same_key bound (map arrival_key came))
 tally_stays bound came key stays =
-    ap (λ ks. map (tally_of (with_key_in came key)) (admitted is_same_key bound ks)) (keys_push came key)
+    ap (λ ks. map (tally_of (with_key_in came key)) (admitted is_same_key bound ks)) (keys_push came key 1)
     ∙ ap (map (tally_of (with_key_in came key))) stays
 
 -- how many more are dropped, by the count of all that came
@@ -165,7 +129,7 @@ drops_are : (bound : ℕ) (came : List (MetricKey × ℕ)) (key : MetricKey) (mo
     ≡ dropped is_same_key bound (map arrival_key came) + more
     → drops count_kind bound came (key, 1) ≡ more
 drops_are bound came key more rise =
-    ap (λ ks. dropped is_same_key bound ks - dropped is_same_key bound (map arrival_key came)) (keys_push came key)
+    ap (λ ks. dropped is_same_key bound ks - dropped is_same_key bound (map arrival_key came)) (keys_push came key 1)
     ∙ ap (λ all. all - dropped is_same_key bound (map arrival_key came)) rise
     ∙ omega arith
 
@@ -260,7 +224,7 @@ takes_new old mid key place new added raised =
           ∙ ap (λ entry. map (tally_of (with_key_in came key)) ks ++ entry ∷ []) (sym first)
           ∙ sym (map-append (tally_of (with_key_in came key)) ks one)
           ∙ ap (map (tally_of (with_key_in came key))) (sym grows)
-          ∙ ap (λ l. map (tally_of (with_key_in came key)) (admitted is_same_key bound l)) (sym (keys_push came key)) in
+          ∙ ap (λ l. map (tally_of (with_key_in came key)) (admitted is_same_key bound l)) (sym (keys_push came key 1)) in
           record {
             rows = subst (λ n. new.rows ≡ tally n (with_key_in came key)) (sym same_bound) rows;
             dropped_are = same_dropped ∙ is.dropped_are ∙ lost_more lost _ none;

@@ -8,10 +8,12 @@ use Rattle.bucket_meaning.specs.Guard.{admitted, of_key, arrival_key}
 use Rattle.bucket_meaning.specs.Kept.{count_in_u64}
 use Rattle.bucket_meaning.specs.Rows.{drops, closed_rows}
 use Rattle.bucket_meaning.specs.Meaning.{mark_on, books_by}
-use Rattle.count_metric.specs.declared.row.Row.{Row}
+use Rattle.metric_producer.specs.declared.row.Row.{Row}
 use Rattle.count_metric.specs.declared.count.CountProducer.{CountProducer}
-use Rattle.count_metric.specs.Collecting.{calls_mean}
-use Rattle.count_metric.specs.Counting.{is_same_key, row_weight, count_kind, CountParams, CountCall, count_demands, count_collecting}
+use Rattle.metric_producer.specs.Collecting.{calls_mean}
+use Rattle.metric_kinds.specs.Keys.{is_same_key}
+use Rattle.metric_kinds.specs.Counts.{row_weight, count_kind}
+use Rattle.count_metric.specs.Counting.{CountParams, CountCall, count_demands, count_collecting}
 
 -- a key with the number of its arrivals
 abbrev pub tally_of : List (MetricKey × ℕ) → MetricKey → MetricKey × ℕ

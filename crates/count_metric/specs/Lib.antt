@@ -1,4 +1,3 @@
-pub mod Collecting
 pub mod Counting
 pub mod CountStands
 pub mod CountItems

@@ -5,7 +5,7 @@ ghost use Rattle.atom_record.specs.declared.value.MetricKey.{MetricKey};
 ghost use Rattle.bucket_meaning.specs.Limits.{longest_bucket, time_limit, most_keys};
 ghost use Rattle.dim_table.specs.Table.{with_value_at};
 ghost use Rattle.kept_rows.specs.KeptRows.{AddsRows};
-ghost use Rattle.count_metric.specs.Counting.{row_weight};
+ghost use Rattle.metric_kinds.specs.Counts.{row_weight};
 ghost use Rattle.count_metric.specs.CountStands.{TakesKey, tally_row, CountStandsFor, ClosesPart};
 
 use crate::{Closed, Producer, Row};

@@ -1,4 +1,4 @@
-//! The flat forms of rows and of a producer of counts.
+//! The flat form of a producer of counts.
 ghost use Rattle.std.proofs.Common.{refl};
 ghost use Rattle.flat_form.specs.Bounded.{short_head};
 ghost use Rattle.std.specs.Prelude.{◌≡◌};
@@ -9,54 +9,6 @@ use dim_table::Guarded;
 use flat_form::{Flat, FlatError, Items};
 use kept_rows::KeptRows;
 use std::alloc::{AllocError, Global};
-
-impl<V: Flat + Drop> Flat for Row<V> {
-    ghost use Rattle.std.specs.Prelude.{◌+◌, length};
-    ghost use Rattle.flat_form.specs.Weight.{head_within, entries_within};
-    ghost use Rattle.flat_form.specs.Bounded.{parts_short};
-    ghost use Rattle.count_metric.specs.CountItems.{row_items, IsRow, IsSavableRow, row_bounded, row_few, row_savable};
-
-    ghost flat = { row_items V.flat };
-
-    ghost valid = { IsRow V.valid };
-
-    ghost savable = { IsSavableRow V.savable };
-
-    ghost head = { head_within (4 + V.head) };
-
-    ghost short = { parts_short (4 + V.head) };
-
-    ghost entries = { λ row. entries_within (4 + V.head)
-        (length (row_items V.flat row)) (V.entries row.value) };
-
-    ghost bounded = { row_bounded V.flat V.valid V.head V.entries V.bounded };
-
-    ghost few = { row_few V.flat V.head V.entries V.few };
-
-    ghost spells = { row_savable V.flat V.valid V.savable V.spells };
-
-    fn show_valid(&self) {
-        self.value.show_valid();
-    }
-
-    fn flatten(&self, alloc: Global, out: &mut Items) -> Result<(), AllocError> {
-        self.key.flatten(alloc, out)?;
-        (self.start, self.end).flatten(alloc, out)?;
-        self.value.flatten(alloc, out)
-    }
-
-    fn build(alloc: Global, items: &Items, place: usize) -> Result<(Row<V>, usize), FlatError> {
-        let (form, next) = <((MetricKey, (u64, u64)), V)>::build(alloc, items, place)?;
-        let ((key, (start, end)), value) = form;
-        let row = Row {
-            key,
-            start,
-            end,
-            value,
-        };
-        Ok((row, next))
-    }
-}
 
 /// The parts of a producer of counts.
 type Parts = (u64, (Guarded<MetricKey, u64>, KeptRows<Row<u64>>));

@@ -1,11 +1,8 @@
-//! What a metric keeps of its events between two reports: the law of all kinds of metric, and counts.
+//! What a metric that counts keeps of its events between two reports.
 #![tactic(auto)]
 
 mod count;
 mod flat;
-mod producer;
-mod row;
 
 pub use count::CountProducer;
-pub use producer::Producer;
-pub use row::{Closed, Row};
+pub use metric_producer::{Closed, Producer, Row};

@@ -4,15 +4,15 @@ use Rattle.bucket_meaning.specs.Ends.{Moment}
 use Rattle.bucket_clock.specs.declared.crossings.Crossings.{Crossings}
 use Rattle.bucket_clock.specs.Sound.{Times}
 use Rattle.bucket_clock.specs.Clock.{Told, Saw, Answers, boundaries, last_time, moments_told}
-use Rattle.call_rules.specs.Calls.{Call, Crossed, Took, Demands}
-use Rattle.call_rules.specs.Moves.{Moves, MovesAll}
-use Rattle.call_rules.specs.LaneCalls.{crossing, crossing_of, cutting, handed_on}
-use Rattle.call_rules.proofs.RuleLemmas.{admits-front, admits-back}
-use Rattle.call_rules.proofs.LaneReach.{no_ends}
-use Rattle.call_rules.proofs.ClockOfCalls.{handed_on_is}
-use Rattle.count_metric.specs.declared.row.Row.{Row}
-use Rattle.count_metric.specs.declared.row.Closed.{Closed}
-use Rattle.count_metric.specs.Collecting.{Collecting, Gives}
+use Rattle.metric_producer.specs.Calls.{Call, Crossed, Took, Demands}
+use Rattle.metric_producer.specs.Moves.{Moves, MovesAll}
+use Rattle.metric_producer.specs.LaneCalls.{crossing, crossing_of, cutting, handed_on}
+use Rattle.metric_producer.proofs.RuleLemmas.{admits-front, admits-back}
+use Rattle.metric_producer.proofs.LaneReach.{no_ends}
+use Rattle.metric_producer.proofs.ClockOfCalls.{handed_on_is}
+use Rattle.metric_producer.specs.declared.row.Row.{Row}
+use Rattle.metric_producer.specs.declared.row.Closed.{Closed}
+use Rattle.metric_producer.specs.Collecting.{Collecting, Gives}
 use Rattle.metric_lane.specs.LaneClock.{HasClock, MayCross, ClockCrosses}
 use Rattle.metric_lane.specs.LaneStands.{GetsFrame, GetsCut, GetsReport, told_at}
 use Rattle.metric_lane.specs.declared.lane.Lane.{Lane}

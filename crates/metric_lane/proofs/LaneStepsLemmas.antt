@@ -8,16 +8,16 @@ use Rattle.bucket_meaning.specs.Ends.{Moment, crosses}
 use Rattle.bucket_meaning.specs.Meaning.{report_by}
 use Rattle.bucket_clock.specs.Sound.{Times}
 use Rattle.bucket_clock.specs.Clock.{Told, Saw, IsNextEnd, ClockStandsFor, moments_told}
-use Rattle.call_rules.specs.Calls.{Call, Demands, Standing, standing_of, clock_at}
-use Rattle.call_rules.specs.LaneCalls.{coming, event_asks, LaneStep, Logged, Reported, told_by, crossing, cutting, calls_at, calls_of, last_at, last_of, IsTimelyStep, AreTimely, AskWell}
-use Rattle.call_rules.proofs.RuleLemmas.{admits-front, admits-back}
-use Rattle.call_rules.proofs.LaneReach.{told_by-frame, told_by-cut, told_by-report}
-use Rattle.call_rules.proofs.LaneCrossing.{IsAlong}
-use Rattle.call_rules.specs.OpeningCalls.{AreOpening, calls_with}
-use Rattle.call_rules.proofs.OpeningLemmas.{all_along_opened, opened_step_admits}
-use Rattle.count_metric.specs.declared.row.Row.{Row}
-use Rattle.count_metric.specs.declared.row.Closed.{Closed}
-use Rattle.count_metric.specs.Collecting.{Collecting, calls_mean, closed_of}
+use Rattle.metric_producer.specs.Calls.{Call, Demands, Standing, standing_of, clock_at}
+use Rattle.metric_producer.specs.LaneCalls.{coming, event_asks, LaneStep, Logged, Reported, told_by, crossing, cutting, calls_at, calls_of, last_at, last_of, IsTimelyStep, AreTimely, AskWell}
+use Rattle.metric_producer.proofs.RuleLemmas.{admits-front, admits-back}
+use Rattle.metric_producer.proofs.LaneReach.{told_by-frame, told_by-cut, told_by-report}
+use Rattle.metric_producer.proofs.LaneCrossing.{IsAlong}
+use Rattle.metric_producer.specs.OpeningCalls.{AreOpening, calls_with}
+use Rattle.metric_producer.proofs.OpeningLemmas.{all_along_opened, opened_step_admits}
+use Rattle.metric_producer.specs.declared.row.Row.{Row}
+use Rattle.metric_producer.specs.declared.row.Closed.{Closed}
+use Rattle.metric_producer.specs.Collecting.{Collecting, calls_mean, closed_of}
 use Rattle.metric_lane.specs.LaneClock.{IsClockFor, HasClock, MayCross, MayCut}
 use Rattle.metric_lane.specs.LaneStands.{LaneHas, LaneStandsFor, OpenedStandsFor, GetsFrame, GetsCalls, GetsReport, LogsNews, LogsEvent, told_at}
 use Rattle.metric_lane.specs.declared.lane.Lane.{Lane}

@@ -4,13 +4,13 @@ use Rattle.bucket_meaning.specs.Limits.{time_limit}
 use Rattle.bucket_meaning.specs.Ends.{Moment}
 use Rattle.bucket_meaning.specs.Meaning.{report_by}
 use Rattle.bucket_clock.specs.Clock.{Told, Saw, Cut}
-use Rattle.call_rules.specs.Calls.{Call, Took, Demands}
-use Rattle.call_rules.specs.Rules.{AreAdmitted}
-use Rattle.call_rules.specs.LaneCalls.{LaneStep, Logged, told_by, crossing, cutting, calls_of, event_asks, AreTimely, AskWell}
-use Rattle.call_rules.specs.OpeningCalls.{AreOpening, calls_with}
-use Rattle.count_metric.specs.declared.row.Row.{Row}
-use Rattle.count_metric.specs.declared.row.Closed.{Closed}
-use Rattle.count_metric.specs.Collecting.{Collecting, calls_mean, closed_of}
+use Rattle.metric_producer.specs.Calls.{Call, Took, Demands}
+use Rattle.metric_producer.specs.Rules.{AreAdmitted}
+use Rattle.metric_producer.specs.LaneCalls.{LaneStep, Logged, told_by, crossing, cutting, calls_of, event_asks, AreTimely, AskWell}
+use Rattle.metric_producer.specs.OpeningCalls.{AreOpening, calls_with}
+use Rattle.metric_producer.specs.declared.row.Row.{Row}
+use Rattle.metric_producer.specs.declared.row.Closed.{Closed}
+use Rattle.metric_producer.specs.Collecting.{Collecting, calls_mean, closed_of}
 use Rattle.metric_lane.specs.LaneClock.{HasClock, MayCross, MayCut}
 use Rattle.metric_lane.specs.declared.lane.Lane.{Lane}
 

@@ -1,5 +1,5 @@
 pub mod LaneClock
 pub mod LaneStands
-pub use Rattle.call_rules.specs.Calls
-pub use Rattle.call_rules.specs.Rules
-pub use Rattle.call_rules.specs.LaneCalls
+pub use Rattle.metric_producer.specs.Calls
+pub use Rattle.metric_producer.specs.Rules
+pub use Rattle.metric_producer.specs.LaneCalls

@@ -2,8 +2,8 @@
 ghost use Rattle.std.specs.Prelude.{◌≡◌, ◌<◌, ◌≤◌, [], List, OnOk, IfOk};
 ghost use Rattle.bucket_meaning.specs.Limits.{time_limit, longest_bucket};
 ghost use Rattle.bucket_clock.specs.Clock.{frame_at};
-ghost use Rattle.call_rules.specs.Calls.{Call, Got, Learned};
-ghost use Rattle.call_rules.specs.LaneCalls.{coming};
+ghost use Rattle.metric_producer.specs.Calls.{Call, Got, Learned};
+ghost use Rattle.metric_producer.specs.LaneCalls.{coming};
 ghost use Rattle.metric_lane.specs.LaneClock.{IsNewClock, ClockCrosses, ClockCuts};
 ghost use Rattle.metric_lane.specs.LaneStands.{
   LaneHas,

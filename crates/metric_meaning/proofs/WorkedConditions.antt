@@ -11,7 +11,7 @@ use Rattle.config_links.specs.declared.linked.LPredBody.TheVariants.{Simple, Com
 use Rattle.config_links.specs.declared.linked.LLink.{LLink}
 use Rattle.config_links.specs.declared.linked.LMetric.{LMetric}
 use Rattle.config_links.specs.declared.linked.LKind.TheVariants.{Count}
-use Rattle.count_metric.specs.declared.row.Row.{Row}
+use Rattle.metric_producer.specs.declared.row.Row.{Row}
 use Rattle.metric_meaning.specs.Histories.{Step}
 use Rattle.metric_meaning.specs.PredicateSteps.{predicate_drops}
 use Rattle.metric_meaning.specs.CountSteps.{counts_shown}

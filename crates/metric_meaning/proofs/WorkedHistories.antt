@@ -8,7 +8,7 @@ use Rattle.atom_record.specs.declared.log.PullOutcome.TheVariants.{Failed}
 use Rattle.config_links.specs.declared.linked.LMetric.{LMetric}
 use Rattle.config_links.specs.declared.linked.LPredicate.{LPredicate}
 use Rattle.config_links.specs.declared.linked.LKind.TheVariants.{Count}
-use Rattle.count_metric.specs.declared.row.Row.{Row}
+use Rattle.metric_producer.specs.declared.row.Row.{Row}
 use Rattle.metric_meaning.specs.Histories.{Logged, Reported, Step, Installation}
 use Rattle.metric_meaning.specs.CountSteps.{counts_shown}
 use Rattle.config_links.specs.declared.linked.Linked.{Linked}

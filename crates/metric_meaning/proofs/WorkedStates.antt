@@ -15,7 +15,7 @@ use Rattle.config_links.specs.declared.linked.LState.{LState}
 use Rattle.config_links.specs.declared.linked.LGroup.{LGroup}
 use Rattle.config_links.specs.declared.linked.LMetric.{LMetric}
 use Rattle.config_links.specs.declared.linked.LKind.TheVariants.{Count}
-use Rattle.count_metric.specs.declared.row.Row.{Row}
+use Rattle.metric_producer.specs.declared.row.Row.{Row}
 use Rattle.metric_meaning.specs.Histories.{Step, Installation}
 use Rattle.metric_meaning.specs.StateDrops.{told_ids, drops_of_states, dropped_for}
 use Rattle.metric_meaning.specs.CountSteps.{counts_shown}

@@ -5,11 +5,10 @@ use Rattle.atom_record.specs.declared.log.LogFrame.TheVariants.{AtomAt}
 use Rattle.atom_record.specs.declared.value.MetricKey.{MetricKey}
 use Rattle.bucket_meaning.specs.Marks.{Mark, Came, no_edges}
 use Rattle.bucket_meaning.specs.Kept.{Taken}
-use Rattle.call_rules.specs.LaneCalls.{event_asks}
 use Rattle.field_select.specs.LeafValues.{key_of}
 use Rattle.config_links.specs.declared.linked.LMetric.{LMetric}
-use Rattle.count_metric.specs.declared.row.Row.{Row}
-use Rattle.count_metric.specs.Counting.{count_kind, CountParams}
+use Rattle.metric_producer.specs.declared.row.Row.{Row}
+use Rattle.metric_kinds.specs.Counts.{count_kind}
 use Rattle.metric_meaning.specs.Histories.{What, Logged, Step, Installation, truth_at}
 use Rattle.metric_meaning.specs.MetricConditions.{is_condition_true}
 use Rattle.metric_meaning.specs.StateSlices.{atom_slices}
@@ -52,23 +51,14 @@ count_news installed metric = record {
   comes = λ before step. arrival_mark (arrival_at installed metric before step);
 }
 
--- what a metric's producer of counts is made with
-abbrev pub count_params : ℕ → LMetric → CountParams
-count_params base metric = record { base = base; size = metric.size; bound = metric.bound }
-
--- what a metric of counts is: its producer gets the key that arrives, if one does
-abbrev pub count_way : Installation → LMetric
-    → Way CountParams (Option MetricKey) MetricKey (Unit {0}) (MetricKey × ℕ) MetricKey ℕ (Row ℕ)
+-- what a metric of counts is
+abbrev pub count_way : Installation → LMetric → Way (MetricKey × ℕ) MetricKey ℕ (Row ℕ)
 count_way installed metric = record {
   base = installed.base;
   size = metric.size;
   bound = metric.bound;
   kind = count_kind;
   shown = count_news installed metric;
-  params = count_params installed.base metric;
-  opens = [];
-  news = arrival_at installed metric;
-  asks = event_asks;
 }
 
 -- what a report shows of a metric of counts, which is made after these steps

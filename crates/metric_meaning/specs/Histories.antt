@@ -1,11 +1,9 @@
 -- What an installed configuration has seen: one step for each later frame of the log, and for each report of it.
 use Rattle.std.specs.Prelude.{ℕ, zero, suc, Bool, true, false, List, [], ◌∷◌, ◌++◌}
 use Rattle.std.specs.List.{flat_map}
-use Rattle.sd_base.specs.Outputs.{outputs}
 use Rattle.atom_record.specs.declared.log.LogFrame.{LogFrame}
 use Rattle.atom_record.specs.declared.log.LogFrame.TheVariants.{Tick, AtomAt, Pull}
 use Rattle.bucket_meaning.specs.Ends.{Moment}
-use Rattle.call_rules.specs.LaneCalls as lane
 use Rattle.config_links.specs.declared.linked.Linked.{Linked}
 
 -- What a step is: a frame of the log, or a report, with or without a cut.
@@ -77,14 +75,3 @@ moment_of frame time = record { at = time; is_pull = is_pull frame }
 abbrev pub moments_at : What → ℕ → List Moment
 moments_at (Logged frame) time = moment_of frame time ∷ []
 moments_at (Reported include_current) time = []
-
--- a step as the lane of a metric sees it: a frame with what it brings to the metric, or a report
-abbrev pub lane_step : {News : Type 0} → (Step → News) → Step → lane.LaneStep News
-lane_step {News} news step = of_what step.what where
-  of_what : What → lane.LaneStep News
-  of_what (Logged frame) = lane.Logged (moment_of frame step.at) (news step)
-  of_what (Reported include_current) = lane.Reported step.at include_current
-
--- all steps as the lane of a metric sees them, where what a frame brings hangs on the steps before it
-abbrev pub lane_steps : {News : Type 0} → (List Step → Step → News) → List Step → List (lane.LaneStep News)
-lane_steps news steps = outputs (λ before step. lane_step (news before) step ∷ []) steps

@@ -6,8 +6,8 @@ use Rattle.atom_record.specs.declared.value.Slice.{Slice}
 use Rattle.atom_record.specs.declared.value.MetricKey.{MetricKey}
 use Rattle.bucket_meaning.specs.Guard.{firsts}
 use Rattle.report_writer.specs.declared.tree.LeafTree.{LeafTree}
-use Rattle.count_metric.specs.declared.row.Row.{Row}
-use Rattle.count_metric.specs.Counting.{is_same_key}
+use Rattle.metric_producer.specs.declared.row.Row.{Row}
+use Rattle.metric_kinds.specs.Keys.{is_same_key}
 
 -- the values of one leaf, at its place in the key: one for each of many, and one without a value where there is none
 abbrev pub leaf_trees : ℕ → Leaf → List LeafTree

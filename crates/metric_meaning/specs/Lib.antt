@@ -6,7 +6,6 @@ pub mod StateSlices
 pub mod Scenes
 pub mod StepMarks
 pub mod Ways
-pub mod Memories
 pub mod CountSteps
 pub mod KeyTrees
 pub mod StateDrops

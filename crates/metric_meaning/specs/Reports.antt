@@ -10,7 +10,7 @@ use Rattle.report_writer.specs.declared.tree.MetricBody.{MetricBody}
 use Rattle.report_writer.specs.declared.tree.MetricBody.TheVariants.{Events, Counts}
 use Rattle.report_writer.specs.declared.tree.MetricTree.{MetricTree}
 use Rattle.report_writer.specs.declared.tree.ReportTree.{ReportTree}
-use Rattle.count_metric.specs.declared.row.Row.{Row}
+use Rattle.metric_producer.specs.declared.row.Row.{Row}
 use Rattle.metric_meaning.specs.Histories.{What, Logged, Reported, Step, Installation, History, log_of_history}
 use Rattle.metric_meaning.specs.PredicateSteps.{predicate_drops}
 use Rattle.metric_meaning.specs.StateDrops.{drops_of_states, dropped_for}

@@ -1,7 +1,7 @@
 use Rattle.std.proofs.Common.{sym, ap, ◌∙◌, ◌++◌, ◌∷◌, []}
 use Rattle.std.proofs.lemmas.Result.{on_ok_weaker}
 use Rattle.atom_record.specs.Equal.{metric_key_exact}
-use Rattle.count_metric.specs.Counting.{is_same_key}
+use Rattle.metric_kinds.specs.Keys.{is_same_key}
 use Rattle.dim_table.proofs.KeyLemmas.{inserted}
 use Rattle.indexmap.specs.Layout.{set_value_at}
 use Rattle.client_engine.proofs.GroupsLemmas.{adds_there, adds_new}

@@ -1,6 +1,6 @@
 -- Each row in its turn is kept or counted.
 use Rattle.std.proofs.Common.{refl}
-use Rattle.count_metric.specs.Counting.{row_weight}
+use Rattle.metric_kinds.specs.Counts.{row_weight}
 use Rattle.count_metric.proofs.CountLemmas.{adds_next}
 use Rattle.count_metric.proofs.count.keep_all.Goals as goal
 

@@ -2,7 +2,7 @@
 use Rattle.std.proofs.Common.{◌≡◌, List, ◌++◌, map, ℕ}
 use Rattle.atom_record.specs.declared.value.MetricKey.{MetricKey}
 use Rattle.kept_rows.specs.KeptRows.{AddsRows}
-use Rattle.count_metric.specs.Counting.{row_weight}
+use Rattle.metric_kinds.specs.Counts.{row_weight}
 use Rattle.count_metric.specs.CountStands.{tally_row}
 use Rattle.count_metric.proofs.count.keep_all.Given as goal
 

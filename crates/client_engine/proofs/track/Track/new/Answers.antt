@@ -1,5 +1,5 @@
 use Rattle.std.proofs.Common.{[], refl}
-use Rattle.metric_meaning.specs.CountSteps.{count_params}
+use Rattle.metric_calls.specs.CountCalls.{count_params}
 use Rattle.client_engine.proofs.TrackLemmas.{track_begins}
 use Rattle.client_engine.proofs.track.Track.new.Goals as goal
 

@@ -3,7 +3,7 @@ use Rattle.std.proofs.Common.{refl, subst}
 use Rattle.std.proofs.lemmas.Result.{on_ok_weaker}
 use Rattle.std.specs.Prelude.{map}
 use Rattle.kept_rows.specs.KeptRows.{AddsRows}
-use Rattle.count_metric.specs.Counting.{row_weight}
+use Rattle.metric_kinds.specs.Counts.{row_weight}
 use Rattle.count_metric.specs.CountStands.{tally_row}
 use Rattle.count_metric.proofs.CountLemmas.{closes}
 use Rattle.count_metric.proofs.count.CountProducer.close.Goals as goal

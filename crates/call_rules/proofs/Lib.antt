@@ -1,7 +1,0 @@
-pub mod RuleLemmas
-pub mod LaneReach
-pub mod LaneCrossing
-pub mod LaneCallsLemmas
-pub mod OpeningLemmas
-pub mod ClockOfCalls
-mod Worked

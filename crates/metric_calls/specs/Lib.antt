@@ -1,0 +1,4 @@
+pub mod LaneSteps
+pub mod Askings
+pub mod Memories
+pub mod CountCalls

@@ -1,0 +1,10 @@
+pub mod RuleLemmas
+pub mod LaneReach
+pub mod LaneCrossing
+pub mod LaneCallsLemmas
+pub mod OpeningLemmas
+pub mod ClockOfCalls
+pub mod CollectingLemmas
+pub mod KeysLemmas
+pub mod RowItemsLemmas
+mod Worked

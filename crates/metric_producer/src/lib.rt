@@ -1,0 +1,9 @@
+//! The law of all kinds of metric: the calls of a producer, which may come after which, and what each makes of it.
+#![tactic(auto)]
+
+mod flat;
+mod producer;
+mod row;
+
+pub use producer::Producer;
+pub use row::{Closed, Row};
