@@ -16,7 +16,7 @@ ghost use Rattle.metric_lane.specs.LaneStands.{
 };
 
 use bucket_clock::{Clock, Crossings};
-use count_metric::{Closed, Producer};
+use metric_producer::{Closed, Producer};
 use std::alloc::AllocError;
 
 /// All times are below this, in nanoseconds.
