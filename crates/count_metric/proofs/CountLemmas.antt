@@ -22,7 +22,7 @@ use Rattle.metric_producer.proofs.CollectingLemmas.{moves}
 use Rattle.metric_kinds.specs.Keys.{is_same_key}
 use Rattle.metric_kinds.specs.Counts.{row_weight, count_kind}
 use Rattle.count_metric.specs.Counting.{CountParams, count_demands, count_collecting}
-use Rattle.count_metric.specs.CountStands.{tally_of, tally, tally_row, IsTally, TakesKey, HasBooks, CountStandsFor, ClosesPart}
+use Rattle.count_metric.specs.CountStands.{tally_of, tally, tally_row, IsTally, TakesKey, HasBooks, count_law, ClosesPart}
 
 -- the rows of a part are those of its tally
 rows_by_tally : (bound start end : ℕ) (came : List (MetricKey × ℕ)) (ks : List MetricKey)
@@ -76,9 +76,9 @@ marked params books mark = after (drops count_kind params.bound) books mark
 
 -- a key came
 pub came : (old new : CountProducer) (at : ℕ) (key : MetricKey) → new.start ≡ old.start → new.kept ≡ old.kept
-    → TakesKey old.table new.table key → Moves CountStandsFor count_demands old new (Got at key)
+    → TakesKey old.table new.table key → Moves count_law old new (Got at key)
 came old new at key start kept takes =
-    moves count_demands count_collecting HasBooks old new (Got at key) (λ params calls books has may.
+    moves count_collecting HasBooks old new (Got at key) (λ params calls books has may.
     let same : old.table.bound ≡ params.bound = has.bound in
     record {
       bound = takes.bound ∙ same;
@@ -92,22 +92,22 @@ came old new at key start kept takes =
 
 -- a condition changes nothing
 pub learned : (it : CountProducer) (at : ℕ) (now : Unit {0})
-    → Moves CountStandsFor count_demands it it (Learned at now)
+    → Moves count_law it it (Learned at now)
 learned it at now =
-    moves count_demands count_collecting HasBooks it it (Learned at now) (λ params calls books has may. has)
+    moves count_collecting HasBooks it it (Learned at now) (λ params calls books has may. has)
 
 -- the open part was cut
 pub cuts : (old new : CountProducer) (at : ℕ) → ClosesPart old new at
-    → Moves CountStandsFor count_demands old new (CutAt at)
+    → Moves count_law old new (CutAt at)
 cuts old new at closed =
-    moves count_demands count_collecting HasBooks old new (CutAt at)
+    moves count_collecting HasBooks old new (CutAt at)
     (λ params calls books has may. closed params books has)
 
 -- what is kept was handed out
 pub took : (old new : CountProducer) → new.start ≡ old.start → new.table ≡ record old.table { dropped = 0 }
     → ((weigh : Row ℕ → ℕ) → IsKept weigh [] new.kept)
-    → Moves CountStandsFor count_demands old new Took
-took old new start table kept = moves count_demands count_collecting HasBooks old new Took
+    → Moves count_law old new Took
+took old new start table kept = moves count_collecting HasBooks old new Took
     (λ params calls books has may. record {
       bound = ap (λ (t : Table MetricKey ℕ). t.bound) table ∙ has.bound;
       start = start ∙ has.start;
@@ -163,9 +163,9 @@ closes_many (suc n) it params books size has none =
 -- ends of buckets were crossed
 pub crosses : (old mid : CountProducer) (crossings : Crossings) (start : ℕ) → ClosesPart old mid crossings.first_end
     → (last_end crossings < 2 ^ 63 → start ≡ last_end crossings)
-    → Moves CountStandsFor count_demands old (record mid { start = start }) (Crossed crossings)
+    → Moves count_law old (record mid { start = start }) (Crossed crossings)
 crosses old mid crossings start closed is_last =
-    moves count_demands count_collecting HasBooks old (record mid { start = start }) (Crossed crossings)
+    moves count_collecting HasBooks old (record mid { start = start }) (Crossed crossings)
     (λ params calls books has may.
     let first = crossings.first_end in
     let has_first = closed params books has in

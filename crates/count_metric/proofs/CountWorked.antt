@@ -8,7 +8,7 @@ use Rattle.bucket_meaning.specs.Kept.{Taken}
 use Rattle.metric_producer.specs.Calls.{Got, Crossed, CutAt, Took}
 use Rattle.metric_producer.specs.declared.row.Row.{Row}
 use Rattle.metric_producer.specs.Collecting.{calls_mean}
-use Rattle.count_metric.specs.Counting.{CountCall, count_demands, count_collecting}
+use Rattle.count_metric.specs.Counting.{CountCall, count_collecting}
 
 -- a key with one number
 abbrev key : ℕ → MetricKey
@@ -33,7 +33,7 @@ shown rows dropped = record { rows = rows; not_kept = 0; dropped = dropped; miss
 -- what a report shows after these calls, where a part admits two keys
 abbrev after_calls : List CountCall → Taken (Row ℕ)
 after_calls calls =
-    report_by (calls_mean count_demands count_collecting) (record { base = 0; size = 10; bound = 2 }) calls
+    report_by (calls_mean count_collecting) (record { base = 0; size = 10; bound = 2 }) calls
 
 -- two keys are admitted, and two arrivals of a third are dropped
 abbrev first_bucket : List CountCall

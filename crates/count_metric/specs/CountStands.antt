@@ -10,7 +10,7 @@ use Rattle.bucket_meaning.specs.Rows.{drops, closed_rows}
 use Rattle.bucket_meaning.specs.Meaning.{mark_on, books_by}
 use Rattle.metric_producer.specs.declared.row.Row.{Row}
 use Rattle.count_metric.specs.declared.count.CountProducer.{CountProducer}
-use Rattle.metric_producer.specs.Collecting.{calls_mean}
+use Rattle.metric_producer.specs.Collecting.{calls_mean, Law}
 use Rattle.metric_kinds.specs.Keys.{is_same_key}
 use Rattle.metric_kinds.specs.Counts.{row_weight, count_kind}
 use Rattle.count_metric.specs.Counting.{CountParams, CountCall, count_demands, count_collecting}
@@ -48,14 +48,18 @@ pub record HasBooks (it : CountProducer) (params : CountParams) (books : Books (
 
 -- what calls mean for counts
 abbrev pub counts_mean : CountParams → List CountCall → Books (MetricKey × ℕ)
-counts_mean = books_by (calls_mean count_demands count_collecting)
+counts_mean = books_by (calls_mean count_collecting)
 
 -- the producer was made with these, and has got these calls
 abbrev pub CountStandsFor : CountProducer → CountParams → List CountCall → Type 0
 CountStandsFor it params calls = HasBooks it params (counts_mean params calls)
 
+-- the law of counts
+abbrev pub count_law : Law CountProducer CountParams MetricKey (Unit {0}) (MetricKey × ℕ) MetricKey ℕ (Row ℕ)
+count_law = record { stands = CountStandsFor; collecting = count_collecting }
+
 -- whatever books the old one holds, the new one holds them after one more part is closed
 abbrev pub ClosesPart : CountProducer → CountProducer → ℕ → Type 0
 ClosesPart old new end =
     (params : CountParams) (books : Books (MetricKey × ℕ)) → HasBooks old params books
-    → HasBooks new params (mark_on (calls_mean count_demands count_collecting) params books (Ends end))
+    → HasBooks new params (mark_on (calls_mean count_collecting) params books (Ends end))

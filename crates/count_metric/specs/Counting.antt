@@ -25,6 +25,7 @@ count_demands params = event_demands params.base params.size
 -- each key that comes arrives, a condition changes nothing, and nothing more happens at a boundary
 abbrev pub count_collecting : Collecting CountParams MetricKey (Unit {0}) (MetricKey × ℕ) MetricKey ℕ (Row ℕ)
 count_collecting = record {
+  demands = count_demands;
   bound = λ params. params.bound;
   kind = λ params. count_kind;
   comes = λ params before at key. Came (key, 1) ∷ [];

@@ -100,8 +100,8 @@ fn raise(table: &mut Guarded<MetricKey, u64>, place: usize)
 impl Producer for CountProducer {
     ghost use Rattle.std.specs.Prelude.{ℕ};
     ghost use Rattle.atom_record.specs.declared.value.MetricKey.{MetricKey};
-    ghost use Rattle.count_metric.specs.Counting.{CountParams, count_demands, count_collecting};
-    ghost use Rattle.count_metric.specs.CountStands.{CountStandsFor};
+    ghost use Rattle.count_metric.specs.Counting.{CountParams};
+    ghost use Rattle.count_metric.specs.CountStands.{count_law};
 
     type Event = MetricKey;
 
@@ -117,11 +117,7 @@ impl Producer for CountProducer {
 
     ghost Share = { ℕ };
 
-    ghost stands = { CountStandsFor };
-
-    ghost demands = { count_demands };
-
-    ghost collecting = { count_collecting };
+    ghost law = { count_law };
 
     fn event(&mut self, at: u64, ev: MetricKey) -> Result<(), AllocError> {
         let _at = at;

@@ -12,7 +12,7 @@ use Rattle.metric_producer.proofs.LaneReach.{no_ends}
 use Rattle.metric_producer.proofs.ClockOfCalls.{handed_on_is}
 use Rattle.metric_producer.specs.declared.row.Row.{Row}
 use Rattle.metric_producer.specs.declared.row.Closed.{Closed}
-use Rattle.metric_producer.specs.Collecting.{Collecting, Gives}
+use Rattle.metric_producer.specs.Collecting.{Law, demands_of, Gives}
 use Rattle.metric_lane.specs.LaneClock.{HasClock, MayCross, ClockCrosses}
 use Rattle.metric_lane.specs.LaneStands.{GetsFrame, GetsCut, GetsReport, told_at}
 use Rattle.metric_lane.specs.declared.lane.Lane.{Lane}
@@ -63,55 +63,52 @@ answered Event After (Some old) (Some new) base size told moment answer crosses 
     }
 
 -- one call, as a list of calls
-pub moves_one : {P Params Event After : Type 0} (stands : P → Params → List (Call Event After) → Type 0)
-    (demands : Params → Demands Event) (old new : P) (call : Call Event After)
-    → Moves stands demands old new call → MovesAll stands demands old new (call ∷ [])
-moves_one stands demands old new call moves params calls has admitted = moves params calls has admitted.0
+pub moves_one : {P Params Event After X K C R : Type 0} (law : Law P Params Event After X K C R) (old new : P)
+    (call : Call Event After) → Moves law old new call → MovesAll law old new (call ∷ [])
+moves_one law old new call moves params calls has admitted = moves params calls has admitted.0
 
-module _ {P Params Event After Value : Type 0} (stands : P → Params → List (Call Event After) → Type 0)
-    (demands : Params → Demands Event) where
+module _ {P Params Event After X K C Value : Type 0} (law : Law P Params Event After X K C (Row Value)) where
   -- a frame: the producer was handed what the clock answered
   pub frame_on : (old new : Lane P Event After Value) (moment : Moment) (answer : Option Crossings)
       → ClockCrosses old.clock new.clock moment answer
-      → MovesAll stands demands old.producer new.producer (handed_on answer)
-      → GetsFrame stands demands old new moment
+      → MovesAll law old.producer new.producer (handed_on answer)
+      → GetsFrame law old new moment
   frame_on old new moment answer crosses moves params told calls has may admitted =
-      let base = (demands params).base in
-      let size = (demands params).size in
+      let base = (demands_of law params).base in
+      let size = (demands_of law params).size in
       let both = answered Event After old.clock new.clock base size told moment answer crosses has.clock may in
       record {
         clock = both.clock;
-        producer = subst (λ crossed. MovesAll stands demands old.producer new.producer crossed) both.crossed moves
+        producer = subst (λ crossed. MovesAll law old.producer new.producer crossed) both.crossed moves
             params calls has.producer admitted;
       }
 
   -- a frame that crosses ends: the producer was handed just that
   pub crossing_on : (old new : Lane P Event After Value) (moment : Moment) (crossings : Crossings)
       → ClockCrosses old.clock new.clock moment (Some crossings)
-      → Moves stands demands old.producer new.producer (Crossed crossings)
-      → GetsFrame stands demands old new moment
+      → Moves law old.producer new.producer (Crossed crossings)
+      → GetsFrame law old new moment
   crossing_on old new moment crossings crosses moves =
       frame_on old new moment (Some crossings) crosses
-      (moves_one stands demands old.producer new.producer (Crossed crossings) moves)
+      (moves_one law old.producer new.producer (Crossed crossings) moves)
 
   -- a report: the cut first, and then what is kept
-  pub report_on : {X K C : Type 0} (collecting : Collecting Params Event After X K C (Row Value))
-      (old middle new : Lane P Event After Value) (at : ℕ) (include_current : Bool) (closed : Closed Value)
-      → GetsCut stands demands old middle at include_current → new.clock ≡ middle.clock
-      → Gives stands demands collecting middle.producer closed
-      → Moves stands demands middle.producer new.producer Took
-      → GetsReport stands demands collecting old new at include_current closed
-  report_on collecting old middle new at include_current closed cuts clock gives moves params told calls has may
+  pub report_on : (old middle new : Lane P Event After Value) (at : ℕ) (include_current : Bool) (closed : Closed Value)
+      → GetsCut law old middle at include_current → new.clock ≡ middle.clock
+      → Gives law middle.producer closed
+      → Moves law middle.producer new.producer Took
+      → GetsReport law old new at include_current closed
+  report_on old middle new at include_current closed cuts clock gives moves params told calls has may
       admitted =
-      let cut : List (Call Event After) = cutting (demands params).size include_current at in
+      let cut : List (Call Event After) = cutting (demands_of law params).size include_current at in
       let took : List (Call Event After) = Took ∷ [] in
-      let after_cut = cuts params told calls has may (admits-front (demands params) calls cut took admitted) in
-      let taking = admits-back (demands params) calls cut took admitted in (
+      let after_cut = cuts params told calls has may (admits-front (demands_of law params) calls cut took admitted) in
+      let taking = admits-back (demands_of law params) calls cut took admitted in (
         record {
           clock = subst
-              (λ now. HasClock now (demands params).base (demands params).size (told ++ told_at include_current at))
+              (λ now. HasClock now (demands_of law params).base (demands_of law params).size (told ++ told_at include_current at))
               (sym clock) after_cut.clock;
-          producer = subst (stands new.producer params) (append_assoc calls cut took)
+          producer = subst (law.stands new.producer params) (append_assoc calls cut took)
               (moves params (calls ++ cut) after_cut.producer taking.0);
         },
         gives params (calls ++ cut) after_cut.producer,

@@ -17,7 +17,7 @@ use Rattle.metric_producer.specs.OpeningCalls.{AreOpening, calls_with}
 use Rattle.metric_producer.proofs.OpeningLemmas.{all_along_opened, opened_step_admits}
 use Rattle.metric_producer.specs.declared.row.Row.{Row}
 use Rattle.metric_producer.specs.declared.row.Closed.{Closed}
-use Rattle.metric_producer.specs.Collecting.{Collecting, calls_mean, closed_of}
+use Rattle.metric_producer.specs.Collecting.{Law, demands_of, calls_mean, closed_of}
 use Rattle.metric_lane.specs.LaneClock.{IsClockFor, HasClock, MayCross, MayCut}
 use Rattle.metric_lane.specs.LaneStands.{LaneHas, LaneStandsFor, OpenedStandsFor, GetsFrame, GetsCalls, GetsReport, LogsNews, LogsEvent, told_at}
 use Rattle.metric_lane.specs.declared.lane.Lane.{Lane}
@@ -116,103 +116,100 @@ calls_with-push demands asks opening steps step =
     append_assoc opening (calls_of demands asks steps) (calls_at demands asks steps step)
     ∙ ap (λ l. opening ++ l) (sym (outputs-push (calls_at demands asks) steps step))
 
-module _ {P Params Event After Value : Type 0} (stands : P → Params → List (Call Event After) → Type 0)
-    (demands : Params → Demands Event) where
+module _ {P Params Event After X K C Value : Type 0} (law : Law P Params Event After X K C (Row Value)) where
   module _ {News : Type 0} (asks : List (LaneStep News) → Moment → News → List (Call Event After)) (params : Params)
-      (steps : List (LaneStep News)) (fits : (demands params).base < time_limit) where
-    module _ (opening : List (Call Event After)) (opens : AreOpening (demands params) opening) where
+      (steps : List (LaneStep News)) (fits : (demands_of law params).base < time_limit) where
+    module _ (opening : List (Call Event After)) (opens : AreOpening (demands_of law params) opening) where
       -- one more frame of a lane that was opened: what it crosses, and then what the kind asks
       pub opened_logs : (old middle new : Lane P Event After Value) (moment : Moment) (news : News)
-          → GetsFrame stands demands old middle moment → GetsCalls stands demands middle new (asks steps moment news)
-          → OpenedStandsFor stands demands asks opening old params steps
-          → AreTimely (demands params).base (steps ++ Logged moment news ∷ [])
-          → AskWell (demands params) asks [] (steps ++ Logged moment news ∷ [])
-          → OpenedStandsFor stands demands asks opening new params (steps ++ Logged moment news ∷ [])
+          → GetsFrame law old middle moment → GetsCalls law middle new (asks steps moment news)
+          → OpenedStandsFor law asks opening old params steps
+          → AreTimely (demands_of law params).base (steps ++ Logged moment news ∷ [])
+          → AskWell (demands_of law params) asks [] (steps ++ Logged moment news ∷ [])
+          → OpenedStandsFor law asks opening new params (steps ++ Logged moment news ∷ [])
       opened_logs old middle new moment news crosses tells has timely well =
           let step : LaneStep News = Logged moment news in
-          let base = (demands params).base in
+          let base = (demands_of law params).base in
           let in_time = last_step base steps step timely in
-          let well_before = asks_before (demands params) asks [] steps step well in
-          let along = all_along_opened (demands params) fits opening opens asks steps in_time.0 well_before in
-          let before = calls_with (demands params) asks opening steps in
-          let crossed : List (Call Event After) = crossing base (demands params).size (told_by steps) moment in
+          let well_before = asks_before (demands_of law params) asks [] steps step well in
+          let along = all_along_opened (demands_of law params) fits opening opens asks steps in_time.0 well_before in
+          let before = calls_with (demands_of law params) asks opening steps in
+          let crossed : List (Call Event After) = crossing base (demands_of law params).size (told_by steps) moment in
           let own = asks steps moment news in
-          let admitted = opened_step_admits (demands params) fits opening opens asks steps step timely well in
-          let may = may_cross (demands params) steps (last_of base steps) (standing_of (demands params) before) along
+          let admitted = opened_step_admits (demands_of law params) fits opening opens asks steps step timely well in
+          let may = may_cross (demands_of law params) steps (last_of base steps) (standing_of (demands_of law params) before) along
           old.clock moment.at has.clock in_time.1.0 in_time.1.1 in
           let middle_has = crosses params (told_by steps) before has may
-          (admits-front (demands params) before crossed own admitted) in
+          (admits-front (demands_of law params) before crossed own admitted) in
           let new_has = tells params (told_by steps ++ Saw moment ∷ []) (before ++ crossed) middle_has
-          (admits-back (demands params) before crossed own admitted) in
-          subst (λ told. LaneHas stands demands new params told
-          (calls_with (demands params) asks opening (steps ++ step ∷ [])))
+          (admits-back (demands_of law params) before crossed own admitted) in
+          subst (λ told. LaneHas law new params told
+          (calls_with (demands_of law params) asks opening (steps ++ step ∷ [])))
           (sym (told_by-frame steps moment news))
-          (subst (LaneHas stands demands new params (told_by steps ++ Saw moment ∷ []))
-          (append_assoc before crossed own ∙ calls_with-push (demands params) asks opening steps step) new_has)
+          (subst (LaneHas law new params (told_by steps ++ Saw moment ∷ []))
+          (append_assoc before crossed own ∙ calls_with-push (demands_of law params) asks opening steps step) new_has)
 
       -- one more report of a lane that was opened: the cut, and then what is kept
-      pub opened_reports : {X K C : Type 0} (collecting : Collecting Params Event After X K C (Row Value))
-          (old new : Lane P Event After Value) (at : ℕ) (include_current : Bool) (closed : Closed Value)
-          → GetsReport stands demands collecting old new at include_current closed
-          → OpenedStandsFor stands demands asks opening old params steps
-          → AreTimely (demands params).base (steps ++ Reported at include_current ∷ [])
-          → AskWell (demands params) asks [] (steps ++ Reported at include_current ∷ [])
-          → OpenedStandsFor stands demands asks opening new params (steps ++ Reported at include_current ∷ [])
-          × (closed ≡ closed_of (report_by (calls_mean demands collecting) params
-          (calls_with (demands params) asks opening steps ++ cutting (demands params).size include_current at)))
-      opened_reports collecting old new at include_current closed reports has timely well =
+      pub opened_reports : (old new : Lane P Event After Value) (at : ℕ) (include_current : Bool) (closed : Closed Value)
+          → GetsReport law old new at include_current closed
+          → OpenedStandsFor law asks opening old params steps
+          → AreTimely (demands_of law params).base (steps ++ Reported at include_current ∷ [])
+          → AskWell (demands_of law params) asks [] (steps ++ Reported at include_current ∷ [])
+          → OpenedStandsFor law asks opening new params (steps ++ Reported at include_current ∷ [])
+          × (closed ≡ closed_of (report_by (calls_mean law.collecting) params
+          (calls_with (demands_of law params) asks opening steps ++ cutting (demands_of law params).size include_current at)))
+      opened_reports old new at include_current closed reports has timely well =
           let step : LaneStep News = Reported at include_current in
-          let base = (demands params).base in
+          let base = (demands_of law params).base in
           let in_time = last_step base steps step timely in
-          let well_before = asks_before (demands params) asks [] steps step well in
-          let along = all_along_opened (demands params) fits opening opens asks steps in_time.0 well_before in
-          let before = calls_with (demands params) asks opening steps in
-          let admitted = opened_step_admits (demands params) fits opening opens asks steps step timely well in
+          let well_before = asks_before (demands_of law params) asks [] steps step well in
+          let along = all_along_opened (demands_of law params) fits opening opens asks steps in_time.0 well_before in
+          let before = calls_with (demands_of law params) asks opening steps in
+          let admitted = opened_step_admits (demands_of law params) fits opening opens asks steps step timely well in
           let may = subst (MayCut old.clock) (sym in_time.1)
-          (may_cut (demands params) steps (last_of base steps) (standing_of (demands params) before) along old.clock
+          (may_cut (demands_of law params) steps (last_of base steps) (standing_of (demands_of law params) before) along old.clock
           has.clock) in
           let both = reports params (told_by steps) before has may admitted in (
-            subst (λ told. LaneHas stands demands new params told
-                (calls_with (demands params) asks opening (steps ++ step ∷ [])))
+            subst (λ told. LaneHas law new params told
+                (calls_with (demands_of law params) asks opening (steps ++ step ∷ [])))
                 (sym (told_by-step steps at include_current))
-                (subst (LaneHas stands demands new params (told_by steps ++ told_at include_current at))
-                (calls_with-push (demands params) asks opening steps step) both.0),
+                (subst (LaneHas law new params (told_by steps ++ told_at include_current at))
+                (calls_with-push (demands_of law params) asks opening steps step) both.0),
             both.1,
           )
 
     -- one more frame of a lane without opening calls
     pub lane_logs : (old middle new : Lane P Event After Value) (moment : Moment) (news : News)
-        → GetsFrame stands demands old middle moment → GetsCalls stands demands middle new (asks steps moment news)
-        → LaneStandsFor stands demands asks old params steps
-        → AreTimely (demands params).base (steps ++ Logged moment news ∷ [])
-        → AskWell (demands params) asks [] (steps ++ Logged moment news ∷ [])
-        → LaneStandsFor stands demands asks new params (steps ++ Logged moment news ∷ [])
+        → GetsFrame law old middle moment → GetsCalls law middle new (asks steps moment news)
+        → LaneStandsFor law asks old params steps
+        → AreTimely (demands_of law params).base (steps ++ Logged moment news ∷ [])
+        → AskWell (demands_of law params) asks [] (steps ++ Logged moment news ∷ [])
+        → LaneStandsFor law asks new params (steps ++ Logged moment news ∷ [])
     lane_logs = opened_logs [] tt
 
     -- one more report of such a lane
-    pub lane_reports : {X K C : Type 0} (collecting : Collecting Params Event After X K C (Row Value))
-        (old new : Lane P Event After Value) (at : ℕ) (include_current : Bool) (closed : Closed Value)
-        → GetsReport stands demands collecting old new at include_current closed
-        → LaneStandsFor stands demands asks old params steps
-        → AreTimely (demands params).base (steps ++ Reported at include_current ∷ [])
-        → AskWell (demands params) asks [] (steps ++ Reported at include_current ∷ [])
-        → LaneStandsFor stands demands asks new params (steps ++ Reported at include_current ∷ [])
-        × (closed ≡ closed_of (report_by (calls_mean demands collecting) params
-        (calls_of (demands params) asks steps ++ cutting (demands params).size include_current at)))
+    pub lane_reports : (old new : Lane P Event After Value) (at : ℕ) (include_current : Bool) (closed : Closed Value)
+        → GetsReport law old new at include_current closed
+        → LaneStandsFor law asks old params steps
+        → AreTimely (demands_of law params).base (steps ++ Reported at include_current ∷ [])
+        → AskWell (demands_of law params) asks [] (steps ++ Reported at include_current ∷ [])
+        → LaneStandsFor law asks new params (steps ++ Reported at include_current ∷ [])
+        × (closed ≡ closed_of (report_by (calls_mean law.collecting) params
+        (calls_of (demands_of law params) asks steps ++ cutting (demands_of law params).size include_current at)))
     lane_reports = opened_reports [] tt
 
   -- one more frame of a lane, for a kind that asks the same whatever the steps before
   pub news_logs : {News : Type 0} (asks : List (LaneStep News) → Moment → News → List (Call Event After))
       (old middle new : Lane P Event After Value) (moment : Moment) (news : News)
-      → GetsFrame stands demands old middle moment
-      → ((steps : List (LaneStep News)) → GetsCalls stands demands middle new (asks steps moment news))
-      → LogsNews stands demands asks old new moment news
+      → GetsFrame law old middle moment
+      → ((steps : List (LaneStep News)) → GetsCalls law middle new (asks steps moment news))
+      → LogsNews law asks old new moment news
   news_logs asks old middle new moment news crosses tells params opening steps opens has fits timely well =
       opened_logs asks params steps fits opening opens old middle new moment news crosses (tells steps) has timely well
 
   -- one more frame of a lane of events
   pub event_logs : (old middle new : Lane P Event After Value) (moment : Moment) (event : Option Event)
-      → GetsFrame stands demands old middle moment → GetsCalls stands demands middle new (coming moment.at event)
-      → LogsEvent stands demands old new moment event
+      → GetsFrame law old middle moment → GetsCalls law middle new (coming moment.at event)
+      → LogsEvent law old new moment event
   event_logs old middle new moment event crosses tells =
       news_logs event_asks old middle new moment event crosses (λ steps. tells)

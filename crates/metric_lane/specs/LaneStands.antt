@@ -10,7 +10,7 @@ use Rattle.metric_producer.specs.LaneCalls.{LaneStep, Logged, told_by, crossing,
 use Rattle.metric_producer.specs.OpeningCalls.{AreOpening, calls_with}
 use Rattle.metric_producer.specs.declared.row.Row.{Row}
 use Rattle.metric_producer.specs.declared.row.Closed.{Closed}
-use Rattle.metric_producer.specs.Collecting.{Collecting, calls_mean, closed_of}
+use Rattle.metric_producer.specs.Collecting.{Law, demands_of, calls_mean, closed_of}
 use Rattle.metric_lane.specs.LaneClock.{HasClock, MayCross, MayCut}
 use Rattle.metric_lane.specs.declared.lane.Lane.{Lane}
 
@@ -19,13 +19,12 @@ abbrev pub told_at : Bool → ℕ → List Told
 told_at true at = Cut at ∷ []
 told_at false at = []
 
-module _ {P Params Event After Value : Type 0} (stands : P → Params → List (Call Event After) → Type 0)
-    (demands : Params → Demands Event) where
+module _ {P Params Event After X K C Value : Type 0} (law : Law P Params Event After X K C (Row Value)) where
   -- the clock was told this, and the producer got these calls
   pub record LaneHas (lane : Lane P Event After Value) (params : Params) (told : List Told)
       (calls : List (Call Event After)) : Type 0 where
-    pub clock : HasClock lane.clock (demands params).base (demands params).size told
-    pub producer : stands lane.producer params calls
+    pub clock : HasClock lane.clock (demands_of law params).base (demands_of law params).size told
+    pub producer : law.stands lane.producer params calls
 
   -- The lane of these steps: its clock was told of their frames and cuts, and its producer got their calls. A kind of
   -- metric says what it asks at a frame.
@@ -33,28 +32,28 @@ module _ {P Params Event After Value : Type 0} (stands : P → Params → List (
       → (List (LaneStep News) → Moment → News → List (Call Event After))
       → Lane P Event After Value → Params → List (LaneStep News) → Type 0
   LaneStandsFor asks lane params steps =
-      LaneHas lane params (told_by steps) (calls_of (demands params) asks steps)
+      LaneHas lane params (told_by steps) (calls_of (demands_of law params) asks steps)
 
   -- The same of a lane whose producer got opening calls before the first step.
   abbrev pub OpenedStandsFor : {News : Type 0}
       → (List (LaneStep News) → Moment → News → List (Call Event After)) → List (Call Event After)
       → Lane P Event After Value → Params → List (LaneStep News) → Type 0
   OpenedStandsFor asks opening lane params steps =
-      LaneHas lane params (told_by steps) (calls_with (demands params) asks opening steps)
+      LaneHas lane params (told_by steps) (calls_with (demands_of law params) asks opening steps)
 
   -- whatever a lane had, a frame that may come adds itself for the clock, and what it crosses for the producer
   abbrev pub GetsFrame : Lane P Event After Value → Lane P Event After Value → Moment → Type 0
   GetsFrame old new moment =
       (params : Params) (told : List Told) (calls : List (Call Event After)) → LaneHas old params told calls
       → MayCross old.clock moment.at
-      → let crossed : List (Call Event After) = crossing (demands params).base (demands params).size told moment in
-      AreAdmitted (demands params) calls crossed → LaneHas new params (told ++ Saw moment ∷ []) (calls ++ crossed)
+      → let crossed : List (Call Event After) = crossing (demands_of law params).base (demands_of law params).size told moment in
+      AreAdmitted (demands_of law params) calls crossed → LaneHas new params (told ++ Saw moment ∷ []) (calls ++ crossed)
 
   -- whatever a lane had, calls that may come are added for the producer
   abbrev pub GetsCalls : Lane P Event After Value → Lane P Event After Value → List (Call Event After) → Type 0
   GetsCalls old new more =
       (params : Params) (told : List Told) (calls : List (Call Event After)) → LaneHas old params told calls
-      → AreAdmitted (demands params) calls more → LaneHas new params told (calls ++ more)
+      → AreAdmitted (demands_of law params) calls more → LaneHas new params told (calls ++ more)
 
   -- the same of one call
   abbrev pub GetsCall : Lane P Event After Value → Lane P Event After Value → Call Event After → Type 0
@@ -65,8 +64,8 @@ module _ {P Params Event After Value : Type 0} (stands : P → Params → List (
   GetsCut old new at include_current =
       (params : Params) (told : List Told) (calls : List (Call Event After)) → LaneHas old params told calls
       → MayCut old.clock at
-      → let cut : List (Call Event After) = cutting (demands params).size include_current at in
-      AreAdmitted (demands params) calls cut → LaneHas new params (told ++ told_at include_current at) (calls ++ cut)
+      → let cut : List (Call Event After) = cutting (demands_of law params).size include_current at in
+      AreAdmitted (demands_of law params) calls cut → LaneHas new params (told ++ told_at include_current at) (calls ++ cut)
 
   -- One more frame of the log with such news, for a kind that asks so, after any opening calls that may come: where
   -- times don't fall, and what is asked may come.
@@ -74,9 +73,9 @@ module _ {P Params Event After Value : Type 0} (stands : P → Params → List (
       → Lane P Event After Value → Lane P Event After Value → Moment → News → Type 0
   LogsNews {News} asks old new moment news =
       (params : Params) (opening : List (Call Event After)) (steps : List (LaneStep News))
-      → AreOpening (demands params) opening → OpenedStandsFor asks opening old params steps
+      → AreOpening (demands_of law params) opening → OpenedStandsFor asks opening old params steps
       → let all : List (LaneStep News) = steps ++ Logged moment news ∷ [] in
-      (demands params).base < time_limit → AreTimely (demands params).base all → AskWell (demands params) asks [] all
+      (demands_of law params).base < time_limit → AreTimely (demands_of law params).base all → AskWell (demands_of law params) asks [] all
       → OpenedStandsFor asks opening new params all
 
   -- the same of a lane of events alone
@@ -84,14 +83,12 @@ module _ {P Params Event After Value : Type 0} (stands : P → Params → List (
   LogsEvent old new moment event = LogsNews event_asks old new moment event
 
   -- whatever a lane had, a report that may come adds its cut and the taking, and hands out what the calls up to the
-  -- cut
-  -- mean
-  abbrev pub GetsReport : {X K C : Type 0} → Collecting Params Event After X K C (Row Value)
-      → Lane P Event After Value → Lane P Event After Value → ℕ → Bool → Closed Value → Type 0
-  GetsReport collecting old new at include_current closed =
+  -- cut mean
+  abbrev pub GetsReport : Lane P Event After Value → Lane P Event After Value → ℕ → Bool → Closed Value → Type 0
+  GetsReport old new at include_current closed =
       (params : Params) (told : List Told) (calls : List (Call Event After)) → LaneHas old params told calls
       → MayCut old.clock at
-      → let cut : List (Call Event After) = cutting (demands params).size include_current at in
-      AreAdmitted (demands params) calls (cut ++ (Took ∷ []))
+      → let cut : List (Call Event After) = cutting (demands_of law params).size include_current at in
+      AreAdmitted (demands_of law params) calls (cut ++ (Took ∷ []))
       → LaneHas new params (told ++ told_at include_current at) (calls ++ (cut ++ (Took ∷ [])))
-      × (closed ≡ closed_of (report_by (calls_mean demands collecting) params (calls ++ cut)))
+      × (closed ≡ closed_of (report_by (calls_mean law.collecting) params (calls ++ cut)))

@@ -4,6 +4,7 @@ ghost use Rattle.bucket_meaning.specs.Limits.{time_limit, longest_bucket};
 ghost use Rattle.bucket_clock.specs.Clock.{frame_at};
 ghost use Rattle.metric_producer.specs.Calls.{Call, Got, Learned};
 ghost use Rattle.metric_producer.specs.LaneCalls.{coming};
+ghost use Rattle.metric_producer.specs.Collecting.{demands_of};
 ghost use Rattle.metric_lane.specs.LaneClock.{IsNewClock, ClockCrosses, ClockCuts};
 ghost use Rattle.metric_lane.specs.LaneStands.{
   LaneHas,
@@ -38,9 +39,9 @@ impl<P: Producer> Lane<P> {
         requires base_fits { base < time_limit }
         requires most { size ≤ longest_bucket }
         ensures { (params : P.Params) (opening : List (Call P.Event P.After))
-            → (P.demands params).base ≡ base → (P.demands params).size ≡ size
-            → P.stands producer params opening
-            → LaneHas P.stands P.demands result params [] opening }
+            → (demands_of P.law params).base ≡ base → (demands_of P.law params).size ≡ size
+            → P.law.stands producer params opening
+            → LaneHas P.law result params [] opening }
     {
         Lane {
             clock: clock_from(base, size),
@@ -51,7 +52,7 @@ impl<P: Producer> Lane<P> {
     /// A frame of the log comes: hands on what it crosses.
     pub fn cross(&mut self, at: u64, is_pull: bool) -> Result<(), AllocError>
         ensures { OnOk result
-            (GetsFrame P.stands P.demands self.old self.new (frame_at at is_pull)) }
+            (GetsFrame P.law self.old self.new (frame_at at is_pull)) }
     {
         match crossed(&mut self.clock, at, is_pull) {
             None => Ok(()),
@@ -61,21 +62,21 @@ impl<P: Producer> Lane<P> {
 
     /// An event comes at the last frame.
     pub fn event(&mut self, at: u64, what: P::Event) -> Result<(), AllocError>
-        ensures { OnOk result (GetsCall P.stands P.demands self.old self.new (Got at what)) }
+        ensures { OnOk result (GetsCall P.law self.old self.new (Got at what)) }
     {
         self.producer.event(at, what)
     }
 
     /// The condition after the last frame is told.
     pub fn condition(&mut self, at: u64, now: P::After) -> Result<(), AllocError>
-        ensures { OnOk result (GetsCall P.stands P.demands self.old self.new (Learned at now)) }
+        ensures { OnOk result (GetsCall P.law self.old self.new (Learned at now)) }
     {
         self.producer.condition(at, now)
     }
 
     /// A frame of the log, with the event that it brings to a metric of events alone.
     pub fn log(&mut self, at: u64, is_pull: bool, event: Option<P::Event>) -> Result<(), AllocError>
-        ensures { OnOk result (LogsEvent P.stands P.demands self.old self.new
+        ensures { OnOk result (LogsEvent P.law self.old self.new
             (frame_at at is_pull) event) }
     {
         self.cross(at, is_pull)?;
@@ -84,7 +85,7 @@ impl<P: Producer> Lane<P> {
 
     /// A report at the time of the last frame: cuts the open part if that is wished, and hands out what is kept.
     pub fn report(&mut self, at: u64, include_current: bool) -> Result<Closed<P::Value>, AllocError>
-        ensures { IfOk result (λ closed. GetsReport P.stands P.demands P.collecting
+        ensures { IfOk result (λ closed. GetsReport P.law
             self.old self.new at include_current closed) }
     {
         self.close(at, include_current)?;
@@ -95,7 +96,7 @@ impl<P: Producer> Lane<P> {
 impl<P: Producer> Lane<P> {
     // Hands the event on, if there is one.
     fn tell(&mut self, at: u64, event: Option<P::Event>) -> Result<(), AllocError>
-        ensures { OnOk result (GetsCalls P.stands P.demands self.old self.new (coming at event)) }
+        ensures { OnOk result (GetsCalls P.law self.old self.new (coming at event)) }
     {
         match event {
             None => Ok(()),
@@ -105,7 +106,7 @@ impl<P: Producer> Lane<P> {
 
     // Cuts the open part, if that is wished and there is one.
     fn close(&mut self, at: u64, include_current: bool) -> Result<(), AllocError>
-        ensures { OnOk result (GetsCut P.stands P.demands self.old self.new at include_current) }
+        ensures { OnOk result (GetsCut P.law self.old self.new at include_current) }
     {
         if include_current && cut(&mut self.clock, at) {
             self.producer.cut(at)

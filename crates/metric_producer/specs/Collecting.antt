@@ -1,4 +1,4 @@
--- What a kind of producer makes of its calls, and what taking hands out.
+-- What a kind of producer makes of its calls, its law, and what taking hands out.
 use Rattle.std.specs.Prelude.{◌≡◌, ℕ, List, [], ◌∷◌, Some}
 use Rattle.bucket_clock.specs.Clock.{ends_of}
 use Rattle.bucket_meaning.specs.Marks.{Mark, Asked, Edges, boundary, boundary_marks}
@@ -9,17 +9,18 @@ use Rattle.metric_producer.specs.Calls.{Call, Got, Learned, Crossed, CutAt, Took
 use Rattle.metric_producer.specs.declared.row.Row.{Row}
 use Rattle.metric_producer.specs.declared.row.Closed.{Closed}
 
--- What a kind of producer says of itself, by what it was made with: how many keys a part admits, its kind of metric,
--- the marks of an event and of a condition, and what stands at a boundary, each knowing the calls before.
+-- What a kind of producer says of itself, by what it was made with: what it demands of its calls, how many keys a part
+-- admits, its kind of metric, the marks of an event and of a condition, and what stands at a boundary, each knowing the
+-- calls before.
 pub record Collecting (Params Event After X K C R : Type 0) : Type 0 where
+  pub demands : Params → Demands Event
   pub bound : Params → ℕ
   pub kind : Params → Kind X K C R
   pub comes : Params → List (Call Event After) → ℕ → Event → List (Mark X)
   pub learns : Params → List (Call Event After) → ℕ → After → List (Mark X)
   pub edges : Params → List (Call Event After) → Edges X
 
-module _ {Params Event After X K C R : Type 0} (demands : Params → Demands Event)
-    (collecting : Collecting Params Event After X K C R) where
+module _ {Params Event After X K C R : Type 0} (collecting : Collecting Params Event After X K C R) where
   -- the marks of a call: crossings and cuts are boundaries, and each taking is a report
   abbrev pub call_marks : Params → List (Call Event After) → Call Event After → List (Mark X)
   call_marks params before (Got at event) = collecting.comes params before at event
@@ -32,11 +33,22 @@ module _ {Params Event After X K C R : Type 0} (demands : Params → Demands Eve
   -- what calls mean; time begins where the producer says that its calls begin
   abbrev pub calls_mean : Meaning Params (Call Event After) X K C R
   calls_mean = record {
-    base = λ params. (demands params).base;
+    base = λ params. (collecting.demands params).base;
     bound = collecting.bound;
     kind = collecting.kind;
     marks = call_marks;
   }
+
+-- The law of a kind of producer: what an object stands for, by what it was made with and the calls that it has got, and
+-- what the kind says of itself.
+pub record Law (P Params Event After X K C R : Type 0) : Type 1 where
+  pub stands : P → Params → List (Call Event After) → Type 0
+  pub collecting : Collecting Params Event After X K C R
+
+-- what a producer of this law asks of its calls, by what it was made with
+abbrev pub demands_of : {P Params Event After X K C R : Type 0} → Law P Params Event After X K C R → Params
+    → Demands Event
+demands_of law params = law.collecting.demands params
 
 -- what is handed out of what a report shows
 abbrev pub closed_of : {V : Type 0} → Taken (Row V) → Closed V
@@ -48,8 +60,8 @@ closed_of shown = record {
 }
 
 -- whatever calls the object has got, what is handed out is what a report shows after them
-abbrev pub Gives : {P Params Event After X K C V : Type 0} → (P → Params → List (Call Event After) → Type 0)
-    → (Params → Demands Event) → Collecting Params Event After X K C (Row V) → P → Closed V → Type 0
-Gives {P} {Params} {Event} {After} stands demands collecting object closed =
-    (params : Params) (calls : List (Call Event After)) → stands object params calls
-    → closed ≡ closed_of (report_by (calls_mean demands collecting) params calls)
+abbrev pub Gives : {P Params Event After X K C V : Type 0} → Law P Params Event After X K C (Row V) → P → Closed V
+    → Type 0
+Gives {P} {Params} {Event} {After} law object closed =
+    (params : Params) (calls : List (Call Event After)) → law.stands object params calls
+    → closed ≡ closed_of (report_by (calls_mean law.collecting) params calls)

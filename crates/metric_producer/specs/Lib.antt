@@ -1,9 +1,9 @@
 pub mod Calls
 pub mod Rules
-pub mod Moves
 pub mod LaneCalls
 pub mod OpeningCalls
 pub mod Collecting
+pub mod Moves
 pub mod RowItems
 pub use Rattle.bucket_clock.specs.Clock
 pub use Rattle.bucket_clock.specs.Sound

@@ -1,9 +1,9 @@
 //! The law of all kinds of metric.
-ghost use Rattle.std.specs.Prelude.{◌≡◌, List, OnOk};
-ghost use Rattle.metric_producer.specs.Calls.{Call, Got, Learned, Crossed, CutAt, Took, Demands};
+ghost use Rattle.std.specs.Prelude.{OnOk};
+ghost use Rattle.metric_producer.specs.Calls.{Got, Learned, Crossed, CutAt, Took};
 ghost use Rattle.metric_producer.specs.Moves.{Moves};
 ghost use Rattle.metric_producer.specs.declared.row.Row.{Row};
-ghost use Rattle.metric_producer.specs.Collecting.{Collecting, Gives};
+ghost use Rattle.metric_producer.specs.Collecting.{Law, Gives};
 
 use crate::Closed;
 use bucket_clock::Crossings;
@@ -34,33 +34,27 @@ pub trait Producer: Sized {
     /// What an arrival contributes to its key.
     ghost Share: { Type 0 };
 
-    /// The object was made with these, and has got these calls.
-    ghost stands: { Self → Params → List (Call Self.Event Self.After) → Type 0 };
-
-    /// What it asks of its calls, by what it was made with.
-    ghost demands: { Params → Demands Self.Event };
-
-    /// What it makes of its calls.
-    ghost collecting: { Collecting Params Self.Event Self.After What Key Share (Row Self.Value) };
+    /// What an object stands for, what it asks of its calls, and what it makes of them.
+    ghost law: { Law Self Params Self.Event Self.After What Key Share (Row Self.Value) };
 
     /// An event comes.
     fn event(&mut self, at: u64, ev: Self::Event) -> Result<(), AllocError>
-        ensures { OnOk result (Moves stands demands self.old self.new (Got at ev)) };
+        ensures { OnOk result (Moves law self.old self.new (Got at ev)) };
 
     /// It learns its condition after a step.
     fn condition(&mut self, at: u64, now: Self::After) -> Result<(), AllocError>
-        ensures { OnOk result (Moves stands demands self.old self.new (Learned at now)) };
+        ensures { OnOk result (Moves law self.old self.new (Learned at now)) };
 
     /// A frame crosses ends of buckets, which closes the open part, and full buckets after it.
     fn cross(&mut self, crossings: Crossings) -> Result<(), AllocError>
-        ensures { OnOk result (Moves stands demands self.old self.new (Crossed crossings)) };
+        ensures { OnOk result (Moves law self.old self.new (Crossed crossings)) };
 
     /// A report cuts the open part, even if its length is 0.
     fn cut(&mut self, at: u64) -> Result<(), AllocError>
-        ensures { OnOk result (Moves stands demands self.old self.new (CutAt at)) };
+        ensures { OnOk result (Moves law self.old self.new (CutAt at)) };
 
     /// Hands out what a report shows, and starts anew. The open part goes on. It takes no memory.
     fn take(&mut self) -> Closed<Self::Value>
-        ensures gives { Gives stands demands collecting self.old result }
-        ensures moves { Moves stands demands self.old self.new Took };
+        ensures gives { Gives law self.old result }
+        ensures moves { Moves law self.old self.new Took };
 }

@@ -4,4 +4,4 @@ use Rattle.metric_lane.proofs.lane.Lane.log.Goals as goal
 
 -- the crossing first, and then the event
 pub returns : goal.returns
-returns g c = on_ok_weaker _ (event_logs _ _ _ _ _ _ _ c.in_ok-cross.ensures) c.tell.ensures
+returns g c = on_ok_weaker _ (event_logs _ _ _ _ _ _ c.in_ok-cross.ensures) c.tell.ensures
