@@ -6,11 +6,10 @@ use Rattle.sd_base.proofs.OutputsLemmas.{outputs-push}
 use Rattle.atom_record.specs.declared.log.LogFrame.{LogFrame}
 use Rattle.bucket_meaning.specs.Ends.{Moment}
 use Rattle.bucket_meaning.specs.Limits.{time_limit}
-use Rattle.metric_producer.specs.Calls.{Call, Demands}
 use Rattle.metric_producer.specs.LaneCalls.{LaneStep, AreTimely, AskWell}
 use Rattle.metric_producer.specs.declared.row.Row.{Row}
 use Rattle.metric_producer.specs.declared.row.Closed.{Closed}
-use Rattle.metric_producer.specs.Collecting.{Collecting, closed_of}
+use Rattle.metric_producer.specs.Collecting.{Law, closed_of}
 use Rattle.session_frames.specs.FrameReading.{log_time}
 use Rattle.metric_lane.specs.LaneStands.{LaneHas, OpenedStandsFor, LogsNews, GetsReport}
 use Rattle.metric_lane.specs.declared.lane.Lane.{Lane}
@@ -52,63 +51,63 @@ steps-push : {News : Type 0} (news : List Step → Step → News) (steps : List 
 steps-push news steps step = outputs-push (lane_step_after news) steps step
 
 module _ {P Params News Event After X K C V : Type 0} (asking : Asking Params News Event After X K C (Row V))
-    (demands : Params → Demands Event) (stands : P → Params → List (Call Event After) → Type 0) where
+    (law : Law P Params Event After X K C (Row V)) where
   -- a lane whose producer got the opening calls has seen no step
-  pub along_begins : (lane : Lane P Event After V) → (own_demands asking demands).base < time_limit
-      → LaneHas stands demands lane asking.params [] asking.opens → Along asking demands stands [] lane
+  pub along_begins : (lane : Lane P Event After V) → (own_demands asking law.collecting).base < time_limit
+      → LaneHas law lane asking.params [] asking.opens → Along asking law [] lane
   along_begins lane fits has = record {
     fits = fits;
-    collects = subst (LaneHas stands demands lane asking.params []) (sym (append-nil asking.opens)) has;
+    collects = subst (LaneHas law lane asking.params []) (sym (append-nil asking.opens)) has;
   }
 
-  module _ (well : AsksWell asking demands) (steps : List Step) where
+  module _ (well : AsksWell asking law.collecting) (steps : List Step) where
     -- one more frame of the log, which brings this news
     pub along_logs : (frame : LogFrame) (truths : List Bool) (old new : Lane P Event After V) (moment : Moment)
         (news : News)
         → moment ≡ moment_of frame (log_time frame) → news ≡ asking.news steps (logged_step frame truths)
-        → LogsNews stands demands asking.asks old new moment news → Along asking demands stands steps old
-        → ComeInTime (own_demands asking demands).base (steps ++ logged_step frame truths ∷ [])
-        → Along asking demands stands (steps ++ logged_step frame truths ∷ []) new
+        → LogsNews law asking.asks old new moment news → Along asking law steps old
+        → ComeInTime (own_demands asking law.collecting).base (steps ++ logged_step frame truths ∷ [])
+        → Along asking law (steps ++ logged_step frame truths ∷ []) new
     along_logs frame truths old new moment news moment_is news_is logs along in_time =
         let step = logged_step frame truths in
-        let base = (own_demands asking demands).base in
+        let base = (own_demands asking law.collecting).base in
         let seen = steps_seen asking steps in
         let all = seen ++ lane_step (asking.news steps) step ∷ [] in
         let pushed : steps_seen asking (steps ++ step ∷ []) ≡ all = steps-push asking.news steps step in
-        let logs_it : LogsNews stands demands asking.asks old new (moment_of frame (log_time frame))
+        let logs_it : LogsNews law asking.asks old new (moment_of frame (log_time frame))
         (asking.news steps step) =
-        subst (LogsNews stands demands asking.asks old new (moment_of frame (log_time frame))) news_is
-        (subst (λ m. LogsNews stands demands asking.asks old new m news) moment_is logs) in
+        subst (LogsNews law asking.asks old new (moment_of frame (log_time frame))) news_is
+        (subst (λ m. LogsNews law asking.asks old new m news) moment_is logs) in
         record {
           fits = along.fits;
-          collects = subst (OpenedStandsFor stands demands asking.asks asking.opens new asking.params) (sym pushed)
+          collects = subst (OpenedStandsFor law asking.asks asking.opens new asking.params) (sym pushed)
               (logs_it asking.params asking.opens seen well.opens along.collects along.fits
               (subst (AreTimely base) pushed (timely_from asking.news base (steps ++ step ∷ []) in_time))
-              (subst (AskWell (own_demands asking demands) asking.asks []) pushed
-              (asks_well asking demands well (steps ++ step ∷ []))));
+              (subst (AskWell (own_demands asking law.collecting) asking.asks []) pushed
+              (asks_well asking law.collecting well (steps ++ step ∷ []))));
         }
 
     -- one more report: what the lane hands out is what is shown of the metric by its steps
-    pub along_reports : (collecting : Collecting Params Event After X K C (Row V)) → Agrees asking demands collecting
-        → (include_current : Bool) (at : ℕ) (old new : Lane P Event After V) (closed : Closed V)
-        → GetsReport stands demands collecting old new at include_current closed → Along asking demands stands steps old
-        → ComeInTime (own_demands asking demands).base (steps ++ reported_step include_current at ∷ [])
-        → Along asking demands stands (steps ++ reported_step include_current at ∷ []) new
+    pub along_reports : Agrees asking law.collecting → (include_current : Bool) (at : ℕ)
+        (old new : Lane P Event After V) (closed : Closed V)
+        → GetsReport law old new at include_current closed → Along asking law steps old
+        → ComeInTime (own_demands asking law.collecting).base (steps ++ reported_step include_current at ∷ [])
+        → Along asking law (steps ++ reported_step include_current at ∷ []) new
         × (closed ≡ closed_of (shown_by_steps asking.way steps include_current at))
-    along_reports collecting agrees include_current at old new closed reports along in_time =
+    along_reports agrees include_current at old new closed reports along in_time =
         let step = reported_step include_current at in
-        let base = (own_demands asking demands).base in
+        let base = (own_demands asking law.collecting).base in
         let seen = steps_seen asking steps in
         let all = seen ++ lane_step (asking.news steps) step ∷ [] in
         let pushed : steps_seen asking (steps ++ step ∷ []) ≡ all = steps-push asking.news steps step in
-        let both = opened_reports stands demands asking.asks asking.params seen along.fits asking.opens well.opens collecting old
+        let both = opened_reports law asking.asks asking.params seen along.fits asking.opens well.opens old
         new at include_current closed reports along.collects
         (subst (AreTimely base) pushed (timely_from asking.news base (steps ++ step ∷ []) in_time))
-        (subst (AskWell (own_demands asking demands) asking.asks []) pushed
-        (asks_well asking demands well (steps ++ step ∷ []))) in (
+        (subst (AskWell (own_demands asking law.collecting) asking.asks []) pushed
+        (asks_well asking law.collecting well (steps ++ step ∷ []))) in (
           record {
             fits = along.fits;
-            collects = subst (OpenedStandsFor stands demands asking.asks asking.opens new asking.params) (sym pushed) both.0;
+            collects = subst (OpenedStandsFor law asking.asks asking.opens new asking.params) (sym pushed) both.0;
           },
-          both.1 ∙ ap closed_of (calls_mean_steps asking demands collecting agrees steps include_current at),
+          both.1 ∙ ap closed_of (calls_mean_steps asking law.collecting agrees steps include_current at),
         )

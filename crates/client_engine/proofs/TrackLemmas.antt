@@ -11,8 +11,7 @@ use Rattle.config_links.specs.declared.linked.LKind.TheVariants as kinds
 use Rattle.count_metric.specs.declared.count.CountProducer.{CountProducer}
 use Rattle.metric_producer.specs.declared.row.Closed.{Closed}
 use Rattle.metric_producer.specs.Collecting.{closed_of}
-use Rattle.count_metric.specs.Counting.{count_demands, count_collecting}
-use Rattle.count_metric.specs.CountStands.{CountStandsFor}
+use Rattle.count_metric.specs.CountStands.{count_law}
 use Rattle.report_writer.specs.declared.tree.MetricTree.{MetricTree}
 use Rattle.session_frames.specs.FrameReading.{log_time}
 use Rattle.metric_lane.specs.LaneStands.{LaneHas, LogsEvent, GetsReport}
@@ -48,7 +47,7 @@ is_counts (Counts lane) = refl
 counts_log : (given : Handed) (metric : LMetric) (shown : LogFrame) (truths : List Bool) (old new : CountLane)
     (key : Option MetricKey)
     → ((scene : Scene) → IsOfScene given scene → key ≡ arrival_by scene metric (logged_step shown truths))
-    → LogsEvent CountStandsFor count_demands old new (moment_of shown (log_time shown)) key
+    → LogsEvent count_law old new (moment_of shown (log_time shown)) key
     → (installed : Installation) (steps : List Step) (frame : LogFrame) → CountsAlong installed steps metric old
     → MayLog installed steps given shown frame truths
     → CountsAlong installed (steps ++ logged_step frame truths ∷ []) metric new
@@ -61,14 +60,14 @@ counts_log given metric shown truths old new key is logs installed steps frame a
     ∙ shown_arrival scene metric log frame truths in
     let moment : moment_of shown (log_time shown) ≡ moment_of frame (log_time frame) =
     ap (λ f. moment_of f (log_time f)) may.shown_is ∙ shown_moment log frame in
-    along_logs (count_asking installed metric) count_demands CountStandsFor (counts_ask_well installed metric) steps frame
+    along_logs (count_asking installed metric) count_law (counts_ask_well installed metric) steps frame
     truths old new (moment_of shown (log_time shown)) key moment arrives logs along may.in_time
 
 -- the same by the metric's kind
 pub lane_log : (given : Handed) (metric : LMetric) (kind : LKind) (shown : LogFrame) (truths : List Bool)
     (old new : CountLane) (key : Option MetricKey)
     → ((scene : Scene) → IsOfScene given scene → key ≡ arrival_by scene metric (logged_step shown truths))
-    → LogsEvent CountStandsFor count_demands old new (moment_of shown (log_time shown)) key
+    → LogsEvent count_law old new (moment_of shown (log_time shown)) key
     → (installed : Installation) (steps : List Step) (frame : LogFrame)
     → LaneAlong installed steps metric kind (Counts old)
     → MayLog installed steps given shown frame truths
@@ -79,19 +78,19 @@ lane_log given metric _ shown truths old new key is logs installed steps frame a
 
 -- what a lane of counts hands out is what a report shows of the metric
 counts_report : (metric : LMetric) (include_current : Bool) (at : ℕ) (old new : CountLane) (closed : Closed ℕ)
-    → GetsReport CountStandsFor count_demands count_collecting old new at include_current closed
+    → GetsReport count_law old new at include_current closed
     → (installed : Installation) (steps : List Step) → CountsAlong installed steps metric old
     → ComeInTime installed.base (steps ++ reported_step include_current at ∷ [])
     → CountsAlong installed (steps ++ reported_step include_current at ∷ []) metric new
     × (closed ≡ closed_of (counts_shown installed metric steps include_current at))
 counts_report metric include_current at old new closed reports installed steps along in_time =
-    along_reports (count_asking installed metric) count_demands CountStandsFor (counts_ask_well installed metric) steps
-    count_collecting (counts_agree installed metric) include_current at old new closed reports along in_time
+    along_reports (count_asking installed metric) count_law (counts_ask_well installed metric) steps
+    (counts_agree installed metric) include_current at old new closed reports along in_time
 
 -- the same by the metric's kind, with what the report shows
 pub lane_report : (metric : LMetric) (kind : LKind) (kind_is : kind ≡ metric.kind)
     (include_current : Bool) (at : ℕ) (old new : CountLane) (closed : Closed ℕ)
-    → GetsReport CountStandsFor count_demands count_collecting old new at include_current closed
+    → GetsReport count_law old new at include_current closed
     → (installed : Installation) (steps : List Step) → LaneAlong installed steps metric kind (Counts old)
     → ComeInTime installed.base (steps ++ reported_step include_current at ∷ [])
     → LaneAlong installed (steps ++ reported_step include_current at ∷ []) metric kind (Counts new)
@@ -108,10 +107,10 @@ lane_report metric _ kind_is include_current at old new closed reports installed
 
 -- a new lane of counts has seen no step
 counts_begin : (installed : Installation) (metric : LMetric) (lane : CountLane) → installed.base < time_limit
-    → LaneHas CountStandsFor count_demands lane (count_params installed.base metric) [] []
+    → LaneHas count_law lane (count_params installed.base metric) [] []
     → CountsAlong installed [] metric lane
 counts_begin installed metric lane fits has =
-    along_begins (count_asking installed metric) count_demands CountStandsFor lane fits has
+    along_begins (count_asking installed metric) count_law lane fits has
 
 -- the same by the metric's kind
 lane_begins : (installed : Installation) (metric : LMetric) (kind : LKind) (lane : CountLane)
@@ -129,17 +128,17 @@ lane_begins installed metric (kinds.MaxSparse spec) lane is along = absurd cc
 -- a new track, of what was installed at this clock
 pub track_begins : (installed : Installation) (base : ℕ) (metric : LMetric) (lane : CountLane)
     → installed.base ≡ base → base < time_limit → is_built_metric metric ≡ true
-    → LaneHas CountStandsFor count_demands lane (count_params base metric) [] []
+    → LaneHas count_law lane (count_params base metric) [] []
     → TrackStandsFor installed [] (record { metric = metric; lane = Counts lane })
 track_begins installed base metric lane base_is fits built has =
     lane_begins installed metric metric.kind lane built
     (counts_begin installed metric lane (subst (λ b. b < time_limit) (sym base_is) fits)
-    (subst (λ b. LaneHas CountStandsFor count_demands lane (count_params b metric) [] []) (sym base_is) has))
+    (subst (λ b. LaneHas count_law lane (count_params b metric) [] []) (sym base_is) has))
 
 -- a track takes one more report
 pub track_reports : (metric : LMetric) (base : ℕ) (include_current : Bool) (at : ℕ)
     (old new : CountLane) (closed : Closed ℕ)
-    → GetsReport CountStandsFor count_demands count_collecting old new at include_current closed
+    → GetsReport count_law old new at include_current closed
     → (tree : MetricTree) → tree ≡ closed_tree base metric closed
     → TrackReports base include_current at (record { metric = metric; lane = Counts old })
     (record { metric = metric; lane = Counts new }) tree

@@ -7,8 +7,7 @@ use Rattle.config_links.specs.declared.linked.LMetric.{LMetric}
 use Rattle.config_links.specs.declared.linked.LKind.{LKind}
 use Rattle.config_links.specs.declared.linked.LKind.TheVariants as kinds
 use Rattle.count_metric.specs.declared.count.CountProducer.{CountProducer}
-use Rattle.count_metric.specs.Counting.{count_demands}
-use Rattle.count_metric.specs.CountStands.{CountStandsFor}
+use Rattle.count_metric.specs.CountStands.{count_law}
 use Rattle.session_frames.specs.FrameReading.{log_time}
 use Rattle.metric_lane.specs.declared.lane.Lane.{Lane}
 use Rattle.metric_meaning.specs.Histories.{What, Logged, Reported, Step, Installation, log_after}
@@ -53,7 +52,7 @@ ComeInTime last (step ∷ steps) = ComesInTime last step × ComeInTime step.at s
 -- the lane of a metric of counts, after these steps of what was installed
 abbrev pub CountsAlong : Installation → List Step → LMetric → Lane CountProducer MetricKey (Unit {0}) ℕ → Type 0
 CountsAlong installed steps metric lane =
-    Along (count_asking installed metric) count_demands CountStandsFor steps lane
+    Along (count_asking installed metric) count_law steps lane
 
 -- a lane collects for its metric, by the metric's kind
 abbrev pub LaneAlong : Installation → List Step → LMetric → LKind → MetricLane → Type 0

@@ -224,7 +224,8 @@ takes_new old mid key place new added raised =
           ∙ ap (λ entry. map (tally_of (with_key_in came key)) ks ++ entry ∷ []) (sym first)
           ∙ sym (map-append (tally_of (with_key_in came key)) ks one)
           ∙ ap (map (tally_of (with_key_in came key))) (sym grows)
-          ∙ ap (λ l. map (tally_of (with_key_in came key)) (admitted is_same_key bound l)) (sym (keys_push came key 1)) in
+          ∙ ap (λ l. map (tally_of (with_key_in came key)) (admitted is_same_key bound l))
+          (sym (keys_push came key 1)) in
           record {
             rows = subst (λ n. new.rows ≡ tally n (with_key_in came key)) (sym same_bound) rows;
             dropped_are = same_dropped ∙ is.dropped_are ∙ lost_more lost _ none;

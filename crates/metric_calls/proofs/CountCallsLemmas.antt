@@ -13,18 +13,18 @@ use Rattle.metric_calls.proofs.AskingsLemmas.{calls_mean_steps}
 module _ (installed : Installation) (metric : LMetric) where
   -- the mark of an event that comes is that of its arrival
   coming_marks : (before : List CountCall) (at : ℕ) (key : Option MetricKey)
-      → marks_after (count_asking installed metric) count_demands count_collecting before (coming at key)
+      → marks_after (count_asking installed metric) count_collecting before (coming at key)
       ≡ arrival_mark key
   coming_marks before at None = refl
   coming_marks before at (Some key) = refl
 
   -- calls and steps agree for counts
-  pub counts_agree : Agrees (count_asking installed metric) count_demands count_collecting
+  pub counts_agree : Agrees (count_asking installed metric) count_collecting
   counts_agree = record {
     made = record { base = refl; size = refl; bound = refl; kind = refl };
     opens = refl;
     at_frame = λ before frame at truths.
-        coming_marks (calls_crossed (count_asking installed metric) count_demands before frame at) at
+        coming_marks (calls_crossed (count_asking installed metric) count_collecting before frame at) at
         (arrival_at installed metric before (frame_step frame at truths));
     at_boundary = λ before. record { closing = λ at. refl; closing_again = λ at. refl; opening = λ at. refl };
   }
@@ -37,7 +37,7 @@ module _ (installed : Installation) (metric : LMetric) where
   coming_well at (Some key) = (refl, refl, tt, tt)
 
   -- what a metric of counts asks may come
-  pub counts_ask_well : AsksWell (count_asking installed metric) count_demands
+  pub counts_ask_well : AsksWell (count_asking installed metric) count_collecting
   counts_ask_well = record {
     opens = tt;
     at_frame = λ before frame at truths.
@@ -46,6 +46,6 @@ module _ (installed : Installation) (metric : LMetric) where
 
   -- what the calls of these steps and a report's cut mean is what a report shows
   pub count_calls-mean : (steps : List Step) (include_current : Bool) (now : ℕ)
-      → shown_by_calls (count_asking installed metric) count_demands count_collecting steps include_current now
+      → shown_by_calls (count_asking installed metric) count_collecting steps include_current now
       ≡ counts_shown installed metric steps include_current now
-  count_calls-mean = calls_mean_steps (count_asking installed metric) count_demands count_collecting counts_agree
+  count_calls-mean = calls_mean_steps (count_asking installed metric) count_collecting counts_agree

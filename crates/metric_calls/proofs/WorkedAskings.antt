@@ -62,6 +62,7 @@ made_demands made = run_demands made.base made.size (λ event. true)
 module _ {K C R : Type 0} (kind : Kind Bool K C R) (bound : ℕ) where
   abbrev truths_collected : Collecting Made (Unit {0}) Bool Bool K C R
   truths_collected = record {
+    demands = made_demands;
     bound = λ params. bound;
     kind = λ params. kind;
     comes = λ params before at event. [];
@@ -73,14 +74,16 @@ module _ {K C R : Type 0} (kind : Kind Bool K C R) (bound : ℕ) where
     -- the metric tells the truth that stands when it begins, and then that after each frame
     abbrev truth_asking : Asking Made (Option (Unit {0}) × Bool) (Unit {0}) Bool Bool K C R
     truth_asking = record {
-      base = base;
-      size = size;
-      bound = bound;
-      kind = kind;
-      shown = record {
-        begins = begun false first;
-        edges = λ before. standing (truth_now first before);
-        comes = λ before step. begun (truth_now first before) (truth_now first (before ++ step ∷ []));
+      way = record {
+        base = base;
+        size = size;
+        bound = bound;
+        kind = kind;
+        shown = record {
+          begins = begun false first;
+          edges = λ before. standing (truth_now first before);
+          comes = λ before step. begun (truth_now first before) (truth_now first (before ++ step ∷ []));
+        };
       };
       params = record { base = base; size = size };
       opens = Learned base first ∷ [];
@@ -96,32 +99,33 @@ module _ {K C R : Type 0} (kind : Kind Bool K C R) (bound : ℕ) where
           truth_now-push first before (record { at = at; what = Reported include_current; truths = truths });
     }
 
-    truths_agree : Agrees truth_asking made_demands truths_collected
+    truths_agree : Agrees truth_asking truths_collected
     truths_agree = record {
       made = record { base = refl; size = refl; bound = refl; kind = refl };
       opens = append-nil (begun false first);
       at_frame = λ before frame at truths.
           let after = truth_now first (before ++ frame_step frame at truths ∷ []) in
-          let told = remembered last_told false (calls_crossed truth_asking made_demands before frame at) in
+          let told = remembered last_told false (calls_crossed truth_asking truths_collected before frame at) in
           append-nil (begun told after)
           ∙ ap (λ t. begun t after)
-          (remembered-crossed truth_asking made_demands last_told false (truth_now first) truth_follows before frame at);
+          (remembered-crossed truth_asking truths_collected last_told false (truth_now first) truth_follows before frame
+          at);
       at_boundary = λ before. record {
         closing = λ at. refl;
         closing_again = λ at. refl;
         opening = λ at. ap (begun false)
-            (remembered-is truth_asking made_demands last_told false (truth_now first) truth_follows before);
+            (remembered-is truth_asking truths_collected last_told false (truth_now first) truth_follows before);
       };
     }
 
-    truths_ask_well : AsksWell truth_asking made_demands
+    truths_ask_well : AsksWell truth_asking truths_collected
     truths_ask_well = record { opens = (refl, tt); at_frame = λ before frame at truths. (refl, tt) }
 
     -- calls mean for it what steps mean
     truths_mean : (steps : List Step) (include_current : Bool) (now : ℕ)
-        → shown_by_calls truth_asking made_demands truths_collected steps include_current now
+        → shown_by_calls truth_asking truths_collected steps include_current now
         ≡ shown_by_steps truth_asking.way steps include_current now
-    truths_mean = calls_mean_steps truth_asking made_demands truths_collected truths_agree
+    truths_mean = calls_mean_steps truth_asking truths_collected truths_agree
 
 -- a kind in which all that comes has one key
 abbrev one_key : Kind Bool ℕ Bool ℕ
@@ -144,7 +148,7 @@ with_buckets : marks_to (truth_asking one_key 800 0 10 true).way.shown 0 10 seen
     ≡ Came true ∷ (Ends 10 ∷ Came true ∷ (Ends 12 ∷ Came true ∷ (Asked ∷ [])))
 with_buckets = refl
 
-calls_with_buckets : calls_by_steps (truth_asking one_key 800 0 10 true) made_demands seen
+calls_with_buckets : calls_by_steps (truth_asking one_key 800 0 10 true) (truths_collected one_key 800) seen
     ≡ Learned 0 true ∷ (Crossed (record { start = 0; first_end = 10; full_buckets = 0; size = 10 })
     ∷ (Learned 12 true ∷ (CutAt 12 ∷ (Took ∷ (Learned 13 false ∷ [])))))
 calls_with_buckets = refl
@@ -153,6 +157,6 @@ calls_with_buckets = refl
 without_buckets : marks_to (truth_asking one_key 800 0 0 true).way.shown 0 0 seen true 13 ≡ Came true ∷ (Asked ∷ [])
 without_buckets = refl
 
-calls_without : calls_cut (truth_asking one_key 800 0 0 true) made_demands seen true 13
+calls_without : calls_cut (truth_asking one_key 800 0 0 true) (truths_collected one_key 800) seen true 13
     ≡ Learned 0 true ∷ (Learned 12 true ∷ (Took ∷ (Learned 13 false ∷ [])))
 calls_without = refl

@@ -44,10 +44,10 @@ module _ {Params News Event After X K C R : Type 0} (asking : Asking Params News
   asked_at before frame at truths =
       asking.asks (steps_seen before) (moment_of frame at) (asking.news before (frame_step frame at truths))
 
-  module _ (demands : Params → Demands Event) where
+  module _ (collecting : Collecting Params Event After X K C R) where
     -- what the producer demands
     abbrev pub own_demands : Demands Event
-    own_demands = demands asking.params
+    own_demands = collecting.demands asking.params
 
     -- the opening calls, and those of all steps
     abbrev pub calls_by_steps : List Step → List (Call Event After)
@@ -71,30 +71,29 @@ module _ {Params News Event After X K C R : Type 0} (asking : Asking Params News
       pub at_frame : (before : List Step) (frame : LogFrame) (at : ℕ) (truths : List Bool)
           → AreAskedAt own_demands at (asked_at before frame at truths)
 
-    module _ (collecting : Collecting Params Event After X K C R) where
-      -- the marks of calls, with others before
-      abbrev pub marks_after : List (Call Event After) → List (Call Event After) → List (Mark X)
-      marks_after before calls = outputs_after (call_marks demands collecting asking.params) before calls
+    -- the marks of calls, with others before
+    abbrev pub marks_after : List (Call Event After) → List (Call Event After) → List (Mark X)
+    marks_after before calls = outputs_after (call_marks collecting asking.params) before calls
 
-      -- what a report shows by the calls up to its cut
-      abbrev pub shown_by_calls : List Step → Bool → ℕ → Taken R
-      shown_by_calls steps include_current now =
-          report_by (calls_mean demands collecting) asking.params (calls_cut steps include_current now)
+    -- what a report shows by the calls up to its cut
+    abbrev pub shown_by_calls : List Step → Bool → ℕ → Taken R
+    shown_by_calls steps include_current now =
+        report_by (calls_mean collecting) asking.params (calls_cut steps include_current now)
 
-      -- The producer is made for this metric.
-      pub record IsMadeFor : Type 0 where
-        pub base : own_demands.base ≡ asking.way.base
-        pub size : own_demands.size ≡ asking.way.size
-        pub bound : collecting.bound asking.params ≡ asking.way.bound
-        pub kind : collecting.kind asking.params ≡ asking.way.kind
+    -- The producer is made for this metric.
+    pub record IsMadeFor : Type 0 where
+      pub base : own_demands.base ≡ asking.way.base
+      pub size : own_demands.size ≡ asking.way.size
+      pub bound : collecting.bound asking.params ≡ asking.way.bound
+      pub kind : collecting.kind asking.params ≡ asking.way.kind
 
-      -- Calls and steps agree: opening calls have the marks of the beginning; what is asked at a frame has the marks
-      -- that the frame brings; and the same stands at a boundary, after all steps before it.
-      pub record Agrees : Type 0 where
-        pub made : IsMadeFor
-        pub opens : marks_after [] asking.opens ≡ asking.way.shown.begins
-        pub at_frame : (before : List Step) (frame : LogFrame) (at : ℕ) (truths : List Bool)
-            → marks_after (calls_crossed before frame at) (asked_at before frame at truths)
-            ≡ asking.way.shown.comes before (frame_step frame at truths)
-        pub at_boundary : (before : List Step)
-            → AreSameEdges (collecting.edges asking.params (calls_by_steps before)) (asking.way.shown.edges before)
+    -- Calls and steps agree: opening calls have the marks of the beginning; what is asked at a frame has the marks
+    -- that the frame brings; and the same stands at a boundary, after all steps before it.
+    pub record Agrees : Type 0 where
+      pub made : IsMadeFor
+      pub opens : marks_after [] asking.opens ≡ asking.way.shown.begins
+      pub at_frame : (before : List Step) (frame : LogFrame) (at : ℕ) (truths : List Bool)
+          → marks_after (calls_crossed before frame at) (asked_at before frame at truths)
+          ≡ asking.way.shown.comes before (frame_step frame at truths)
+      pub at_boundary : (before : List Step)
+          → AreSameEdges (collecting.edges asking.params (calls_by_steps before)) (asking.way.shown.edges before)

@@ -100,13 +100,14 @@ module _ {P Params Event After X K C Value : Type 0} (law : Law P Params Event A
       → GetsReport law old new at include_current closed
   report_on old middle new at include_current closed cuts clock gives moves params told calls has may
       admitted =
-      let cut : List (Call Event After) = cutting (demands_of law params).size include_current at in
+      let demands = demands_of law params in
+      let cut : List (Call Event After) = cutting demands.size include_current at in
       let took : List (Call Event After) = Took ∷ [] in
       let after_cut = cuts params told calls has may (admits-front (demands_of law params) calls cut took admitted) in
       let taking = admits-back (demands_of law params) calls cut took admitted in (
         record {
           clock = subst
-              (λ now. HasClock now (demands_of law params).base (demands_of law params).size (told ++ told_at include_current at))
+              (λ now. HasClock now demands.base demands.size (told ++ told_at include_current at))
               (sym clock) after_cut.clock;
           producer = subst (law.stands new.producer params) (append_assoc calls cut took)
               (moves params (calls ++ cut) after_cut.producer taking.0);

@@ -137,8 +137,8 @@ module _ {P Params Event After X K C Value : Type 0} (law : Law P Params Event A
           let crossed : List (Call Event After) = crossing base (demands_of law params).size (told_by steps) moment in
           let own = asks steps moment news in
           let admitted = opened_step_admits (demands_of law params) fits opening opens asks steps step timely well in
-          let may = may_cross (demands_of law params) steps (last_of base steps) (standing_of (demands_of law params) before) along
-          old.clock moment.at has.clock in_time.1.0 in_time.1.1 in
+          let may = may_cross (demands_of law params) steps (last_of base steps)
+          (standing_of (demands_of law params) before) along old.clock moment.at has.clock in_time.1.0 in_time.1.1 in
           let middle_has = crosses params (told_by steps) before has may
           (admits-front (demands_of law params) before crossed own admitted) in
           let new_has = tells params (told_by steps ++ Saw moment ∷ []) (before ++ crossed) middle_has
@@ -150,14 +150,16 @@ module _ {P Params Event After X K C Value : Type 0} (law : Law P Params Event A
           (append_assoc before crossed own ∙ calls_with-push (demands_of law params) asks opening steps step) new_has)
 
       -- one more report of a lane that was opened: the cut, and then what is kept
-      pub opened_reports : (old new : Lane P Event After Value) (at : ℕ) (include_current : Bool) (closed : Closed Value)
+      pub opened_reports : (old new : Lane P Event After Value) (at : ℕ) (include_current : Bool)
+          (closed : Closed Value)
           → GetsReport law old new at include_current closed
           → OpenedStandsFor law asks opening old params steps
           → AreTimely (demands_of law params).base (steps ++ Reported at include_current ∷ [])
           → AskWell (demands_of law params) asks [] (steps ++ Reported at include_current ∷ [])
           → OpenedStandsFor law asks opening new params (steps ++ Reported at include_current ∷ [])
           × (closed ≡ closed_of (report_by (calls_mean law.collecting) params
-          (calls_with (demands_of law params) asks opening steps ++ cutting (demands_of law params).size include_current at)))
+          (calls_with (demands_of law params) asks opening steps
+          ++ cutting (demands_of law params).size include_current at)))
       opened_reports old new at include_current closed reports has timely well =
           let step : LaneStep News = Reported at include_current in
           let base = (demands_of law params).base in
@@ -167,8 +169,8 @@ module _ {P Params Event After X K C Value : Type 0} (law : Law P Params Event A
           let before = calls_with (demands_of law params) asks opening steps in
           let admitted = opened_step_admits (demands_of law params) fits opening opens asks steps step timely well in
           let may = subst (MayCut old.clock) (sym in_time.1)
-          (may_cut (demands_of law params) steps (last_of base steps) (standing_of (demands_of law params) before) along old.clock
-          has.clock) in
+          (may_cut (demands_of law params) steps (last_of base steps) (standing_of (demands_of law params) before) along
+          old.clock has.clock) in
           let both = reports params (told_by steps) before has may admitted in (
             subst (λ told. LaneHas law new params told
                 (calls_with (demands_of law params) asks opening (steps ++ step ∷ [])))

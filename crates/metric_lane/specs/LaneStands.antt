@@ -46,8 +46,9 @@ module _ {P Params Event After X K C Value : Type 0} (law : Law P Params Event A
   GetsFrame old new moment =
       (params : Params) (told : List Told) (calls : List (Call Event After)) → LaneHas old params told calls
       → MayCross old.clock moment.at
-      → let crossed : List (Call Event After) = crossing (demands_of law params).base (demands_of law params).size told moment in
-      AreAdmitted (demands_of law params) calls crossed → LaneHas new params (told ++ Saw moment ∷ []) (calls ++ crossed)
+      → let demands = demands_of law params in
+      let crossed : List (Call Event After) = crossing demands.base demands.size told moment in
+      AreAdmitted demands calls crossed → LaneHas new params (told ++ Saw moment ∷ []) (calls ++ crossed)
 
   -- whatever a lane had, calls that may come are added for the producer
   abbrev pub GetsCalls : Lane P Event After Value → Lane P Event After Value → List (Call Event After) → Type 0
@@ -65,7 +66,8 @@ module _ {P Params Event After X K C Value : Type 0} (law : Law P Params Event A
       (params : Params) (told : List Told) (calls : List (Call Event After)) → LaneHas old params told calls
       → MayCut old.clock at
       → let cut : List (Call Event After) = cutting (demands_of law params).size include_current at in
-      AreAdmitted (demands_of law params) calls cut → LaneHas new params (told ++ told_at include_current at) (calls ++ cut)
+      AreAdmitted (demands_of law params) calls cut
+      → LaneHas new params (told ++ told_at include_current at) (calls ++ cut)
 
   -- One more frame of the log with such news, for a kind that asks so, after any opening calls that may come: where
   -- times don't fall, and what is asked may come.
@@ -75,7 +77,8 @@ module _ {P Params Event After X K C Value : Type 0} (law : Law P Params Event A
       (params : Params) (opening : List (Call Event After)) (steps : List (LaneStep News))
       → AreOpening (demands_of law params) opening → OpenedStandsFor asks opening old params steps
       → let all : List (LaneStep News) = steps ++ Logged moment news ∷ [] in
-      (demands_of law params).base < time_limit → AreTimely (demands_of law params).base all → AskWell (demands_of law params) asks [] all
+      (demands_of law params).base < time_limit → AreTimely (demands_of law params).base all
+      → AskWell (demands_of law params) asks [] all
       → OpenedStandsFor asks opening new params all
 
   -- the same of a lane of events alone
