@@ -6,7 +6,8 @@ use Rattle.sd_base.proofs.OutputsLemmas.{outputs-push}
 use Rattle.atom_record.specs.declared.log.LogFrame.{LogFrame}
 use Rattle.bucket_meaning.specs.Ends.{Moment}
 use Rattle.bucket_meaning.specs.Limits.{time_limit}
-use Rattle.metric_producer.specs.LaneCalls.{LaneStep, AreTimely, AskWell}
+use Rattle.metric_producer.specs.LaneCalls.{LaneStep, AreTimely}
+use Rattle.metric_producer.specs.OpeningCalls.{AskWell}
 use Rattle.metric_producer.specs.declared.row.Row.{Row}
 use Rattle.metric_producer.specs.declared.row.Closed.{Closed}
 use Rattle.metric_producer.specs.Collecting.{Law, closed_of}
@@ -83,7 +84,7 @@ module _ {P Params News Event After X K C V : Type 0} (asking : Asking Params Ne
           collects = subst (OpenedStandsFor law asking.asks asking.opens new asking.params) (sym pushed)
               (logs_it asking.params asking.opens seen well.opens along.collects along.fits
               (subst (AreTimely base) pushed (timely_from asking.news base (steps ++ step ∷ []) in_time))
-              (subst (AskWell (own_demands asking law.collecting) asking.asks []) pushed
+              (subst (AskWell (own_demands asking law.collecting) asking.asks asking.opens []) pushed
               (asks_well asking law.collecting well (steps ++ step ∷ []))));
         }
 
@@ -103,7 +104,7 @@ module _ {P Params News Event After X K C V : Type 0} (asking : Asking Params Ne
         let both = opened_reports law asking.asks asking.params seen along.fits asking.opens well.opens old
         new at include_current closed reports along.collects
         (subst (AreTimely base) pushed (timely_from asking.news base (steps ++ step ∷ []) in_time))
-        (subst (AskWell (own_demands asking law.collecting) asking.asks []) pushed
+        (subst (AskWell (own_demands asking law.collecting) asking.asks asking.opens []) pushed
         (asks_well asking law.collecting well (steps ++ step ∷ []))) in (
           record {
             fits = along.fits;

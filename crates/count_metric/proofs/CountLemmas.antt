@@ -169,7 +169,7 @@ crosses old mid crossings start closed is_last =
     (λ params calls books has may.
     let first = crossings.first_end in
     let has_first = closed params books has in
-    let last : start ≡ last_end crossings = is_last (answer_fits (count_demands params) _ crossings may) in
+    let last : start ≡ last_end crossings = is_last (answer_fits (count_demands params) _ crossings may.0) in
     let many = closes_many crossings.full_buckets mid params (marked params books (Ends first)) crossings.size has_first
     refl in
     subst (λ s. HasBooks (record mid { start = s }) params

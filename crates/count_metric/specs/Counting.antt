@@ -19,7 +19,7 @@ abbrev pub CountCall : Type 0
 CountCall = Call MetricKey (Unit {0})
 
 -- it takes every key, and its calls keep to buckets
-abbrev pub count_demands : CountParams → Demands MetricKey
+abbrev pub count_demands : CountParams → Demands MetricKey (Unit {0})
 count_demands params = event_demands params.base params.size
 
 -- each key that comes arrives, a condition changes nothing, and nothing more happens at a boundary

@@ -9,7 +9,8 @@ use Rattle.bucket_meaning.specs.Marks.{Mark, Asked, Edges, edges_again, boundary
 use Rattle.bucket_meaning.specs.Rows.{report}
 use Rattle.bucket_clock.specs.Clock.{boundaries, last_time, moments_told}
 use Rattle.metric_producer.specs.Calls.{Call, CutAt, Took, Demands}
-use Rattle.metric_producer.specs.LaneCalls.{LaneStep, told_by, crossing_of, cutting, calls_at, calls_of, AskWell}
+use Rattle.metric_producer.specs.LaneCalls.{LaneStep, told_by, crossing_of, cutting, calls_at, calls_of}
+use Rattle.metric_producer.specs.OpeningCalls.{AskWell}
 use Rattle.metric_producer.proofs.LaneReach.{length-ends_from}
 use Rattle.metric_producer.specs.Collecting.{Collecting, call_marks}
 use Rattle.metric_meaning.specs.Histories.{What, Logged, Reported, Step, moment_of}
@@ -65,12 +66,12 @@ module _ {Params News Event After X K C R : Type 0} (asking : Asking Params News
 
   -- what is asked is well at the steps, where others came before
   asks_after : (well : AsksWell asking collecting) (before steps : List Step)
-      → AskWell (own_demands asking collecting) asking.asks (steps_seen asking before)
+      → AskWell (own_demands asking collecting) asking.asks asking.opens (steps_seen asking before)
       (outputs_after (lane_step_after asking.news) before steps)
   asks_after well before [] = tt
   asks_after well before (step ∷ steps) =
       at_step step.at step.what step.truths
-      (subst (λ seen. AskWell (own_demands asking collecting) asking.asks seen
+      (subst (λ seen. AskWell (own_demands asking collecting) asking.asks asking.opens seen
       (outputs_after (lane_step_after asking.news) (before ++ step ∷ []) steps))
       (outputs-push (lane_step_after asking.news) before step) (asks_after well (before ++ step ∷ []) steps))
     where
@@ -79,16 +80,16 @@ module _ {Params News Event After X K C R : Type 0} (asking : Asking Params News
 
       at_step : (at : ℕ) (what : What) (truths : List Bool)
           → let step : Step = record { at = at; what = what; truths = truths } in
-          AskWell (own_demands asking collecting) asking.asks
+          AskWell (own_demands asking collecting) asking.asks asking.opens
           (steps_seen asking before ++ lane_step (asking.news before) step ∷ []) others
-          → AskWell (own_demands asking collecting) asking.asks (steps_seen asking before)
+          → AskWell (own_demands asking collecting) asking.asks asking.opens (steps_seen asking before)
           (lane_step (asking.news before) step ∷ others)
       at_step at (Logged frame) truths rest = (well.at_frame before frame at truths, rest)
       at_step at (Reported include_current) truths rest = rest
 
   -- what is asked is well at all steps
   pub asks_well : AsksWell asking collecting → (steps : List Step)
-      → AskWell (own_demands asking collecting) asking.asks [] (steps_seen asking steps)
+      → AskWell (own_demands asking collecting) asking.asks asking.opens [] (steps_seen asking steps)
   asks_well well steps = asks_after well [] steps
 
   -- the marks of a producer's call

@@ -1,6 +1,7 @@
 -- What a metric of counts shows is what its calls mean: lemmas on `specs/CountSteps.antt`, for the proofs of instances.
 use Rattle.std.proofs.Common.{◌≡◌, ℕ, Bool, List, Option, Some, None, refl}
 use Rattle.atom_record.specs.declared.value.MetricKey.{MetricKey}
+use Rattle.metric_producer.specs.Rules.{AreTold}
 use Rattle.metric_producer.specs.LaneCalls.{coming, AreAskedAt}
 use Rattle.config_links.specs.declared.linked.LMetric.{LMetric}
 use Rattle.count_metric.specs.Counting.{CountCall, count_demands, count_collecting}
@@ -30,18 +31,19 @@ module _ (installed : Installation) (metric : LMetric) where
   }
 
   -- an event that comes may be asked
-  coming_well : (at : ℕ) (key : Option MetricKey)
+  coming_well : (before : List CountCall) (at : ℕ) (key : Option MetricKey)
       → let calls : List CountCall = coming at key in
-      AreAskedAt (count_demands (count_params installed.base metric)) at calls
-  coming_well at None = tt
-  coming_well at (Some key) = (refl, refl, tt, tt)
+      let demands = count_demands (count_params installed.base metric) in
+      AreAskedAt demands at calls × AreTold demands before calls
+  coming_well before at None = (tt, tt)
+  coming_well before at (Some key) = ((refl, refl, tt, tt), (tt, tt))
 
   -- what a metric of counts asks may come
   pub counts_ask_well : AsksWell (count_asking installed metric) count_collecting
   counts_ask_well = record {
-    opens = tt;
+    opens = (tt, tt);
     at_frame = λ before frame at truths.
-        coming_well at (arrival_at installed metric before (frame_step frame at truths));
+        coming_well (calls_crossed (count_asking installed metric) count_collecting before frame at) at (arrival_at installed metric before (frame_step frame at truths));
   }
 
   -- what the calls of these steps and a report's cut mean is what a report shows

@@ -56,7 +56,7 @@ record Made : Type 0 where
   base : ℕ
   size : ℕ
 
-abbrev made_demands : Made → Demands (Unit {0})
+abbrev made_demands : Made → Demands (Unit {0}) Bool
 made_demands made = run_demands made.base made.size (λ event. true)
 
 module _ {K C R : Type 0} (kind : Kind Bool K C R) (bound : ℕ) where
@@ -119,7 +119,10 @@ module _ {K C R : Type 0} (kind : Kind Bool K C R) (bound : ℕ) where
     }
 
     truths_ask_well : AsksWell truth_asking truths_collected
-    truths_ask_well = record { opens = (refl, tt); at_frame = λ before frame at truths. (refl, tt) }
+    truths_ask_well = record {
+      opens = ((refl, tt), (refl, tt));
+      at_frame = λ before frame at truths. ((refl, tt), (refl, tt));
+    }
 
     -- calls mean for it what steps mean
     truths_mean : (steps : List Step) (include_current : Bool) (now : ℕ)

@@ -7,6 +7,7 @@ use Rattle.bucket_meaning.specs.Marks.{Mark, Edges}
 use Rattle.bucket_meaning.specs.Kept.{Taken}
 use Rattle.bucket_meaning.specs.Meaning.{report_by}
 use Rattle.metric_producer.specs.Calls.{Call, Demands}
+use Rattle.metric_producer.specs.Rules.{AreTold}
 use Rattle.metric_producer.specs.LaneCalls.{LaneStep, told_by, crossing, cutting, AreAskedAt}
 use Rattle.metric_producer.specs.OpeningCalls.{AreOpening, calls_with}
 use Rattle.metric_producer.specs.Collecting.{Collecting, call_marks, calls_mean}
@@ -46,7 +47,7 @@ module _ {Params News Event After X K C R : Type 0} (asking : Asking Params News
 
   module _ (collecting : Collecting Params Event After X K C R) where
     -- what the producer demands
-    abbrev pub own_demands : Demands Event
+    abbrev pub own_demands : Demands Event After
     own_demands = collecting.demands asking.params
 
     -- the opening calls, and those of all steps
@@ -65,11 +66,12 @@ module _ {Params News Event After X K C R : Type 0} (asking : Asking Params News
         calls_by_steps steps ++ cutting own_demands.size include_current now
 
     -- What is asked may come: opening calls where the producer's time begins, and those of a frame at its time, each
-    -- event followed by its condition where that has to be.
+    -- event followed by its condition where that has to be; and each condition may be told after the calls before it.
     pub record AsksWell : Type 0 where
       pub opens : AreOpening own_demands asking.opens
       pub at_frame : (before : List Step) (frame : LogFrame) (at : ℕ) (truths : List Bool)
           → AreAskedAt own_demands at (asked_at before frame at truths)
+          × AreTold own_demands (calls_crossed before frame at) (asked_at before frame at truths)
 
     -- the marks of calls, with others before
     abbrev pub marks_after : List (Call Event After) → List (Call Event After) → List (Mark X)

@@ -9,11 +9,12 @@ use Rattle.bucket_meaning.specs.Meaning.{report_by}
 use Rattle.bucket_clock.specs.Sound.{Times}
 use Rattle.bucket_clock.specs.Clock.{Told, Saw, IsNextEnd, ClockStandsFor, moments_told}
 use Rattle.metric_producer.specs.Calls.{Call, Demands, Standing, standing_of, clock_at}
-use Rattle.metric_producer.specs.LaneCalls.{coming, event_asks, LaneStep, Logged, Reported, told_by, crossing, cutting, calls_at, calls_of, last_at, last_of, IsTimelyStep, AreTimely, AskWell}
+use Rattle.metric_producer.specs.LaneCalls.{coming, event_asks, LaneStep, Logged, Reported, told_by, crossing, cutting, calls_at, calls_of, last_at, last_of, IsTimelyStep, AreTimely}
 use Rattle.metric_producer.proofs.RuleLemmas.{admits-front, admits-back}
 use Rattle.metric_producer.proofs.LaneReach.{told_by-frame, told_by-cut, told_by-report}
 use Rattle.metric_producer.proofs.LaneCrossing.{IsAlong}
-use Rattle.metric_producer.specs.OpeningCalls.{AreOpening, calls_with}
+use Rattle.metric_producer.specs.OpeningCalls.{AreOpening, calls_with, AskWell}
+use Rattle.metric_producer.proofs.LaneCallsLemmas.{calls_with-push}
 use Rattle.metric_producer.proofs.OpeningLemmas.{all_along_opened, opened_step_admits}
 use Rattle.metric_producer.specs.declared.row.Row.{Row}
 use Rattle.metric_producer.specs.declared.row.Closed.{Closed}
@@ -48,7 +49,7 @@ one_next_end base size before end other one another =
     (cases_lt one.passed another.passed) in
     one.at ∙ ap (λ passed. base + suc passed * size) same ∙ sym another.at
 
-module _ {Event : Type 0} (demands : Demands Event) where
+module _ {Event After : Type 0} (demands : Demands Event After) where
   -- the clock of a lane has the start and the full end of what its calls come to
   record IsSameAs (clock : Times) (standing : Standing) : Type 0 where
     start : clock.start ≡ standing.start
@@ -97,24 +98,15 @@ last_step last (first ∷ steps) step timely =
     let rest = last_step (last_at last first) steps step timely.1 in ((timely.0, rest.0), rest.1)
 
 -- what a kind asks is well at the steps before the last
-asks_before : {News Event After : Type 0} (demands : Demands Event)
-    (asks : List (LaneStep News) → Moment → News → List (Call Event After)) (before steps : List (LaneStep News))
-    (step : LaneStep News) → AskWell demands asks before (steps ++ step ∷ []) → AskWell demands asks before steps
-asks_before demands asks before [] step well = tt
-asks_before demands asks before (Logged moment news ∷ steps) step well =
-    (well.0, asks_before demands asks (before ++ Logged moment news ∷ []) steps step well.1)
-asks_before demands asks before (Reported at include_current ∷ steps) step well =
-    asks_before demands asks (before ++ Reported at include_current ∷ []) steps step well
-
--- the calls after one more step
-calls_with-push : {News Event After : Type 0} (demands : Demands Event)
+asks_before : {News Event After : Type 0} (demands : Demands Event After)
     (asks : List (LaneStep News) → Moment → News → List (Call Event After)) (opening : List (Call Event After))
-    (steps : List (LaneStep News)) (step : LaneStep News)
-    → calls_with demands asks opening steps ++ calls_at demands asks steps step
-    ≡ calls_with demands asks opening (steps ++ step ∷ [])
-calls_with-push demands asks opening steps step =
-    append_assoc opening (calls_of demands asks steps) (calls_at demands asks steps step)
-    ∙ ap (λ l. opening ++ l) (sym (outputs-push (calls_at demands asks) steps step))
+    (before steps : List (LaneStep News)) (step : LaneStep News)
+    → AskWell demands asks opening before (steps ++ step ∷ []) → AskWell demands asks opening before steps
+asks_before demands asks opening before [] step well = tt
+asks_before demands asks opening before (Logged moment news ∷ steps) step well =
+    (well.0, asks_before demands asks opening (before ++ Logged moment news ∷ []) steps step well.1)
+asks_before demands asks opening before (Reported at include_current ∷ steps) step well =
+    asks_before demands asks opening (before ++ Reported at include_current ∷ []) steps step well
 
 module _ {P Params Event After X K C Value : Type 0} (law : Law P Params Event After X K C (Row Value)) where
   module _ {News : Type 0} (asks : List (LaneStep News) → Moment → News → List (Call Event After)) (params : Params)
@@ -125,13 +117,13 @@ module _ {P Params Event After X K C Value : Type 0} (law : Law P Params Event A
           → GetsFrame law old middle moment → GetsCalls law middle new (asks steps moment news)
           → OpenedStandsFor law asks opening old params steps
           → AreTimely (demands_of law params).base (steps ++ Logged moment news ∷ [])
-          → AskWell (demands_of law params) asks [] (steps ++ Logged moment news ∷ [])
+          → AskWell (demands_of law params) asks opening [] (steps ++ Logged moment news ∷ [])
           → OpenedStandsFor law asks opening new params (steps ++ Logged moment news ∷ [])
       opened_logs old middle new moment news crosses tells has timely well =
           let step : LaneStep News = Logged moment news in
           let base = (demands_of law params).base in
           let in_time = last_step base steps step timely in
-          let well_before = asks_before (demands_of law params) asks [] steps step well in
+          let well_before = asks_before (demands_of law params) asks opening [] steps step well in
           let along = all_along_opened (demands_of law params) fits opening opens asks steps in_time.0 well_before in
           let before = calls_with (demands_of law params) asks opening steps in
           let crossed : List (Call Event After) = crossing base (demands_of law params).size (told_by steps) moment in
@@ -155,7 +147,7 @@ module _ {P Params Event After X K C Value : Type 0} (law : Law P Params Event A
           → GetsReport law old new at include_current closed
           → OpenedStandsFor law asks opening old params steps
           → AreTimely (demands_of law params).base (steps ++ Reported at include_current ∷ [])
-          → AskWell (demands_of law params) asks [] (steps ++ Reported at include_current ∷ [])
+          → AskWell (demands_of law params) asks opening [] (steps ++ Reported at include_current ∷ [])
           → OpenedStandsFor law asks opening new params (steps ++ Reported at include_current ∷ [])
           × (closed ≡ closed_of (report_by (calls_mean law.collecting) params
           (calls_with (demands_of law params) asks opening steps
@@ -164,7 +156,7 @@ module _ {P Params Event After X K C Value : Type 0} (law : Law P Params Event A
           let step : LaneStep News = Reported at include_current in
           let base = (demands_of law params).base in
           let in_time = last_step base steps step timely in
-          let well_before = asks_before (demands_of law params) asks [] steps step well in
+          let well_before = asks_before (demands_of law params) asks opening [] steps step well in
           let along = all_along_opened (demands_of law params) fits opening opens asks steps in_time.0 well_before in
           let before = calls_with (demands_of law params) asks opening steps in
           let admitted = opened_step_admits (demands_of law params) fits opening opens asks steps step timely well in
@@ -185,20 +177,20 @@ module _ {P Params Event After X K C Value : Type 0} (law : Law P Params Event A
         → GetsFrame law old middle moment → GetsCalls law middle new (asks steps moment news)
         → LaneStandsFor law asks old params steps
         → AreTimely (demands_of law params).base (steps ++ Logged moment news ∷ [])
-        → AskWell (demands_of law params) asks [] (steps ++ Logged moment news ∷ [])
+        → AskWell (demands_of law params) asks [] [] (steps ++ Logged moment news ∷ [])
         → LaneStandsFor law asks new params (steps ++ Logged moment news ∷ [])
-    lane_logs = opened_logs [] tt
+    lane_logs = opened_logs [] (tt, tt)
 
     -- one more report of such a lane
     pub lane_reports : (old new : Lane P Event After Value) (at : ℕ) (include_current : Bool) (closed : Closed Value)
         → GetsReport law old new at include_current closed
         → LaneStandsFor law asks old params steps
         → AreTimely (demands_of law params).base (steps ++ Reported at include_current ∷ [])
-        → AskWell (demands_of law params) asks [] (steps ++ Reported at include_current ∷ [])
+        → AskWell (demands_of law params) asks [] [] (steps ++ Reported at include_current ∷ [])
         → LaneStandsFor law asks new params (steps ++ Reported at include_current ∷ [])
         × (closed ≡ closed_of (report_by (calls_mean law.collecting) params
         (calls_of (demands_of law params) asks steps ++ cutting (demands_of law params).size include_current at)))
-    lane_reports = opened_reports [] tt
+    lane_reports = opened_reports [] (tt, tt)
 
   -- one more frame of a lane, for a kind that asks the same whatever the steps before
   pub news_logs : {News : Type 0} (asks : List (LaneStep News) → Moment → News → List (Call Event After))

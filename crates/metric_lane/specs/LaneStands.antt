@@ -6,8 +6,8 @@ use Rattle.bucket_meaning.specs.Meaning.{report_by}
 use Rattle.bucket_clock.specs.Clock.{Told, Saw, Cut}
 use Rattle.metric_producer.specs.Calls.{Call, Took, Demands}
 use Rattle.metric_producer.specs.Rules.{AreAdmitted}
-use Rattle.metric_producer.specs.LaneCalls.{LaneStep, Logged, told_by, crossing, cutting, calls_of, event_asks, AreTimely, AskWell}
-use Rattle.metric_producer.specs.OpeningCalls.{AreOpening, calls_with}
+use Rattle.metric_producer.specs.LaneCalls.{LaneStep, Logged, told_by, crossing, cutting, calls_of, event_asks, AreTimely}
+use Rattle.metric_producer.specs.OpeningCalls.{AreOpening, calls_with, AskWell}
 use Rattle.metric_producer.specs.declared.row.Row.{Row}
 use Rattle.metric_producer.specs.declared.row.Closed.{Closed}
 use Rattle.metric_producer.specs.Collecting.{Law, demands_of, calls_mean, closed_of}
@@ -78,7 +78,7 @@ module _ {P Params Event After X K C Value : Type 0} (law : Law P Params Event A
       → AreOpening (demands_of law params) opening → OpenedStandsFor asks opening old params steps
       → let all : List (LaneStep News) = steps ++ Logged moment news ∷ [] in
       (demands_of law params).base < time_limit → AreTimely (demands_of law params).base all
-      → AskWell (demands_of law params) asks [] all
+      → AskWell (demands_of law params) asks opening [] all
       → OpenedStandsFor asks opening new params all
 
   -- the same of a lane of events alone

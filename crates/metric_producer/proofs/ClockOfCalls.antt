@@ -18,7 +18,7 @@ use Rattle.metric_producer.proofs.LaneReach.{length-ends_from}
 crosses_at : (at end : ℕ) → 0 < end → crosses (frame_at at false) end ≡ nat_le end at
 crosses_at at end some = grind (arith, nat_tests)
 
-module _ {Event : Type 0} (demands : Demands Event) (sized : 0 < demands.size) where
+module _ {Event After : Type 0} (demands : Demands Event After) (sized : 0 < demands.size) where
   -- what every standing of admitted calls keeps
   pub record IsWithin (standing : Standing) : Type 0 where
     pub from_start : standing.start ≤ standing.last
@@ -68,7 +68,7 @@ module _ {Event : Type 0} (demands : Demands Event) (sized : 0 < demands.size) w
     pub stands : ClockStandsFor (clock_at demands standing) told
 
   -- such a clock knows further calls that may come
-  clock_from : {After : Type 0} (calls : List (Call Event After)) (standing : Standing) (told : List Told)
+  clock_from : (calls : List (Call Event After)) (standing : Standing) (told : List Told)
       → ClockKnows standing told → MayComeAll demands standing calls
       → ClockKnows (standing_from demands standing calls) (told ++ told_of calls)
   clock_from [] standing told known may = subst (λ l. ClockKnows standing l) (sym (append-nil told)) known
@@ -149,18 +149,18 @@ module _ {Event : Type 0} (demands : Demands Event) (sized : 0 < demands.size) w
   }
 
   -- after admitted calls there is a clock that was told of the same crossings and cuts
-  pub a_clock : {After : Type 0} (calls : List (Call Event After)) → AreAdmitted demands [] calls
+  pub a_clock : (calls : List (Call Event After)) → AreAdmitted demands [] calls
       → ClockKnows (standing_of demands calls) (told_of calls)
   a_clock calls all = clock_from calls (first_standing demands) [] first_clock (may_come demands [] calls all)
 
   -- a crossing that may come next is what that clock answers to the next frame that crosses an end
-  pub is_answer : {After : Type 0} (calls : List (Call Event After)) (crossings : Crossings)
+  pub is_answer : (calls : List (Call Event After)) (crossings : Crossings)
       → AreAdmitted demands [] calls
       → IsAdmitted demands calls (Crossed crossings)
       → ends_of (Some crossings) ≡ boundaries_at demands.base demands.size (told_of calls)
       (Saw (frame_at (last_end crossings) false))
   is_answer calls crossings all may = (crossed_by (standing_of demands calls) crossings (told_of calls)
-      (a_clock calls all).within may (a_clock calls all).stands).0
+      (a_clock calls all).within may.0 (a_clock calls all).stands).0
 
 -- what a clock answers is the crossing that the definition names
 pub handed_on_is : {Event After : Type 0} (old new : Times) (told : List Told) (moment : Moment)

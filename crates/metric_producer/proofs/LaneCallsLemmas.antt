@@ -1,34 +1,53 @@
 -- The calls that a lane makes of timely steps are all admitted.
-use Rattle.std.proofs.Common.{append_assoc, append-nil, ◌≡◌, ℕ, ◌<◌, ◌≤◌, Bool, true, false, List, [], ◌∷◌, ◌++◌, Option, Some, None, if◌then◌else◌, refl, sym, ap, subst, arith, ⊎_elim}
+use Rattle.std.proofs.Common.{append_assoc, append-nil, ◌≡◌, ℕ, ◌<◌, ◌≤◌, Bool, true, false, List, [], ◌∷◌, ◌++◌, Option, Some, None, if◌then◌else◌, refl, sym, ap, subst, ◌∙◌, arith, ⊎_elim}
+use Rattle.std.specs.Prelude.{nat_lt}
 use Rattle.std.proofs.lemmas.Bool.{cases_lt}
 use Rattle.sd_base.specs.Outputs.{outputs_after}
 use Rattle.sd_base.proofs.OutputsLemmas.{outputs-push}
 use Rattle.bucket_meaning.specs.Limits.{time_limit}
 use Rattle.bucket_meaning.specs.Ends.{Moment}
 use Rattle.bucket_clock.specs.Sound.{times}
-use Rattle.bucket_clock.specs.Clock.{ClockStandsFor}
+use Rattle.bucket_clock.specs.Clock.{Saw, boundaries, boundaries_at, last_time, ClockStandsFor}
 use Rattle.bucket_clock.proofs.ClockLemmas.{cut_made}
 use Rattle.metric_producer.specs.Calls.{Call, CutAt, Took, Demands, Standing, standing_from, first_standing, clock_at}
-use Rattle.metric_producer.specs.Rules.{AreAdmitted}
-use Rattle.metric_producer.specs.LaneCalls.{LaneStep, Logged, Reported, told_by, crossing, calls_at, calls_of, AreTimely, last_of, AreAskedAt, AskWell, event_asks, coming, event_demands, run_asks, run_demands, AllTaken}
-use Rattle.metric_producer.proofs.RuleLemmas.{MayComeAll, may_come-append, may_come-back, standing_from-append, admitted}
+use Rattle.metric_producer.specs.Rules.{AreAdmitted, AreTold}
+use Rattle.metric_producer.specs.LaneCalls.{LaneStep, Logged, Reported, told_by, crossing, crossing_of, cutting, calls_at, calls_of, AreTimely, last_of, AreAskedAt, event_asks, coming, event_demands, run_asks, run_demands, AllTaken}
+use Rattle.metric_producer.specs.OpeningCalls.{calls_with, calls_before, AskWell}
+use Rattle.metric_producer.proofs.RuleLemmas.{MayComeAll, may_come-append, may_come-back, standing_from-append, admitted, told-append, told-back}
 use Rattle.metric_producer.proofs.LaneReach.{told_by-cut, told_by-report, some_size, no_size}
 use Rattle.metric_producer.proofs.LaneCrossing.{IsAlong, Goes, HasAsked, Owes, asked_come, crossing_goes}
 
-module _ {Event : Type 0} (demands : Demands Event) where
-  module _ {News After : Type 0} (asks : List (LaneStep News) → Moment → News → List (Call Event After)) where
+module _ {Event After : Type 0} (demands : Demands Event After) where
+  -- a crossing tells nothing
+  crossing_told : (before : List (Call Event After)) (start size : ℕ) (ends : List ℕ)
+      → AreTold demands before (crossing_of start size ends)
+  crossing_told before start size [] = tt
+  crossing_told before start size (first ∷ others) = (tt, tt)
+
+  cut_told : (before : List (Call Event After)) (at : ℕ) (sized : Bool)
+      → AreTold demands before ((if sized then CutAt at ∷ [] else []) ++ (Took ∷ []))
+  cut_told before at true = (tt, (tt, tt))
+  cut_told before at false = (tt, tt)
+
+  -- nor does a report
+  report_told : (before : List (Call Event After)) (size : ℕ) (include_current : Bool) (at : ℕ)
+      → AreTold demands before (cutting size include_current at ++ (Took ∷ []))
+  report_told before size true at = cut_told before at (nat_lt 0 size)
+  report_told before size false at = (tt, tt)
+
+  module _ {News : Type 0} (asks : List (LaneStep News) → Moment → News → List (Call Event After)) where
     -- the calls of a frame may come: what it crosses, and what the kind asks
     logged_goes : (before : List (LaneStep News)) (last : ℕ) (standing : Standing)
         (along : IsAlong demands before last standing)
         (moment : Moment) (news : News)
         → last ≤ moment.at → moment.at < time_limit → AreAskedAt demands moment.at (asks before moment news)
-        → Goes demands {After = After} (before ++ Logged moment news ∷ []) moment.at standing
+        → Goes demands (before ++ Logged moment news ∷ []) moment.at standing
         (calls_at demands asks before (Logged moment news))
     unfolding Owes
     logged_goes before last standing along moment news le fits asked =
         let crossed : List (Call Event After) = crossing demands.base demands.size (told_by before) moment in
         let own = asks before moment news in
-        let goes = crossing_goes demands {After = After} before last standing along moment news le fits in
+        let goes = crossing_goes demands before last standing along moment news le fits in
         let middle = standing_from demands standing crossed in
         let owed : middle.owed ≡ None = goes.along.settled in
         let answered = asked_come demands middle.start middle.next_end middle.last None moment.at own asked tt
@@ -65,7 +84,7 @@ module _ {Event : Type 0} (demands : Demands Event) where
     reported_goes : (before : List (LaneStep News)) (last : ℕ) (standing : Standing)
         (along : IsAlong demands before last standing)
         (at : ℕ) (include_current : Bool)
-        → at ≡ last → Goes demands {After = After} (before ++ Reported at include_current ∷ []) last standing
+        → at ≡ last → Goes demands (before ++ Reported at include_current ∷ []) last standing
         (calls_at demands asks before (Reported at include_current))
     reported_goes before last standing along at false is = record {
       may = (along.settled, tt);
@@ -83,7 +102,7 @@ module _ {Event : Type 0} (demands : Demands Event) where
     }
     reported_goes before last standing along at true is = ⊎_elim
         (λ (sized : 0 < demands.size). subst
-        (λ b. Goes demands {After = After} (before ++ Reported at true ∷ []) last standing
+        (λ b. Goes demands (before ++ Reported at true ∷ []) last standing
         ((if b then CutAt at ∷ [] else []) ++ (Took ∷ []))) (sym (some_size demands.size sized))
         (record {
           may = (
@@ -113,7 +132,7 @@ module _ {Event : Type 0} (demands : Demands Event) where
           };
         }))
         (λ (none : demands.size ≤ 0). subst
-        (λ b. Goes demands {After = After} (before ++ Reported at true ∷ []) last standing
+        (λ b. Goes demands (before ++ Reported at true ∷ []) last standing
         ((if b then CutAt at ∷ [] else []) ++ (Took ∷ []))) (sym (no_size demands.size none))
         (record {
           may = (along.settled, tt);
@@ -130,58 +149,92 @@ module _ {Event : Type 0} (demands : Demands Event) where
         }))
         (cases_lt 0 demands.size)
 
-    -- the calls of all steps may come
-    pub walk : (before steps : List (LaneStep News)) (last : ℕ) (standing : Standing)
-        → IsAlong demands before last standing
-        → AreTimely last steps → AskWell demands asks before steps
-        → MayComeAll demands standing (outputs_after (calls_at demands asks) before steps)
-    walk before [] last standing along timely well = tt
-    walk before (Logged moment news ∷ steps) last standing along timely well =
-        let step = Logged moment news in
-        let goes = logged_goes before last standing along moment news timely.0.0 timely.0.1 well.0 in
-        may_come-append demands standing (calls_at demands asks before step)
-        (outputs_after (calls_at demands asks) (before ++ step ∷ []) steps) (goes.may)
-        (walk (before ++ step ∷ []) steps moment.at
-        (standing_from demands standing (calls_at demands asks before step))
-        (goes.along) timely.1 well.1)
-    walk before (Reported at include_current ∷ steps) last standing along timely well =
-        let step : LaneStep News = Reported at include_current in
-        let goes = reported_goes before last standing along at include_current timely.0 in
-        may_come-append demands standing (calls_at demands asks before step)
-        (outputs_after (calls_at demands asks) (before ++ step ∷ []) steps) (goes.may)
-        (walk (before ++ step ∷ []) steps last (standing_from demands standing (calls_at demands asks before step))
-        (goes.along) timely.1 well)
+    module _ (opening : List (Call Event After)) where
+      -- the calls of all steps may come
+      pub walk : (before steps : List (LaneStep News)) (last : ℕ) (standing : Standing)
+          → IsAlong demands before last standing
+          → AreTimely last steps → AskWell demands asks opening before steps
+          → MayComeAll demands standing (outputs_after (calls_at demands asks) before steps)
+      walk before [] last standing along timely well = tt
+      walk before (Logged moment news ∷ steps) last standing along timely well =
+          let step = Logged moment news in
+          let goes = logged_goes before last standing along moment news timely.0.0 timely.0.1 well.0.0 in
+          may_come-append demands standing (calls_at demands asks before step)
+          (outputs_after (calls_at demands asks) (before ++ step ∷ []) steps) (goes.may)
+          (walk (before ++ step ∷ []) steps moment.at
+          (standing_from demands standing (calls_at demands asks before step))
+          (goes.along) timely.1 well.1)
+      walk before (Reported at include_current ∷ steps) last standing along timely well =
+          let step : LaneStep News = Reported at include_current in
+          let goes = reported_goes before last standing along at include_current timely.0 in
+          may_come-append demands standing (calls_at demands asks before step)
+          (outputs_after (calls_at demands asks) (before ++ step ∷ []) steps) (goes.may)
+          (walk (before ++ step ∷ []) steps last (standing_from demands standing (calls_at demands asks before step))
+          (goes.along) timely.1 well)
 
-    -- what holds after all steps
-    pub walk_on : (before steps : List (LaneStep News)) (last : ℕ) (standing : Standing)
-        → IsAlong demands before last standing
-        → AreTimely last steps → AskWell demands asks before steps
-        → IsAlong demands (before ++ steps) (last_of last steps)
-        (standing_from demands standing (outputs_after (calls_at demands asks) before steps))
-    walk_on before [] last standing along timely well =
-        subst (λ b. IsAlong demands b last standing) (sym (append-nil before)) along
-    walk_on before (Logged moment news ∷ steps) last standing along timely well =
-        let step = Logged moment news in
-        let goes = logged_goes before last standing along moment news timely.0.0 timely.0.1 well.0 in
-        let middle = standing_from demands standing (calls_at demands asks before step) in
-        let more = outputs_after (calls_at demands asks) (before ++ step ∷ []) steps in
-        subst (λ b. IsAlong demands b (last_of moment.at steps)
-        (standing_from demands standing (calls_at demands asks before step ++ more)))
-        (append_assoc before (step ∷ []) steps)
-        (subst (λ u. IsAlong demands ((before ++ step ∷ []) ++ steps) (last_of moment.at steps) u)
-        (sym (standing_from-append demands standing (calls_at demands asks before step) more))
-        (walk_on (before ++ step ∷ []) steps moment.at middle (goes.along) timely.1 well.1))
-    walk_on before (Reported at include_current ∷ steps) last standing along timely well =
-        let step : LaneStep News = Reported at include_current in
-        let goes = reported_goes before last standing along at include_current timely.0 in
-        let middle = standing_from demands standing (calls_at demands asks before step) in
-        let more = outputs_after (calls_at demands asks) (before ++ step ∷ []) steps in
-        subst (λ b. IsAlong demands b (last_of last steps)
-        (standing_from demands standing (calls_at demands asks before step ++ more)))
-        (append_assoc before (step ∷ []) steps)
-        (subst (λ u. IsAlong demands ((before ++ step ∷ []) ++ steps) (last_of last steps) u)
-        (sym (standing_from-append demands standing (calls_at demands asks before step) more))
-        (walk_on (before ++ step ∷ []) steps last middle (goes.along) timely.1 well))
+      -- what holds after all steps
+      pub walk_on : (before steps : List (LaneStep News)) (last : ℕ) (standing : Standing)
+          → IsAlong demands before last standing
+          → AreTimely last steps → AskWell demands asks opening before steps
+          → IsAlong demands (before ++ steps) (last_of last steps)
+          (standing_from demands standing (outputs_after (calls_at demands asks) before steps))
+      walk_on before [] last standing along timely well =
+          subst (λ b. IsAlong demands b last standing) (sym (append-nil before)) along
+      walk_on before (Logged moment news ∷ steps) last standing along timely well =
+          let step = Logged moment news in
+          let goes = logged_goes before last standing along moment news timely.0.0 timely.0.1 well.0.0 in
+          let middle = standing_from demands standing (calls_at demands asks before step) in
+          let more = outputs_after (calls_at demands asks) (before ++ step ∷ []) steps in
+          subst (λ b. IsAlong demands b (last_of moment.at steps)
+          (standing_from demands standing (calls_at demands asks before step ++ more)))
+          (append_assoc before (step ∷ []) steps)
+          (subst (λ u. IsAlong demands ((before ++ step ∷ []) ++ steps) (last_of moment.at steps) u)
+          (sym (standing_from-append demands standing (calls_at demands asks before step) more))
+          (walk_on (before ++ step ∷ []) steps moment.at middle (goes.along) timely.1 well.1))
+      walk_on before (Reported at include_current ∷ steps) last standing along timely well =
+          let step : LaneStep News = Reported at include_current in
+          let goes = reported_goes before last standing along at include_current timely.0 in
+          let middle = standing_from demands standing (calls_at demands asks before step) in
+          let more = outputs_after (calls_at demands asks) (before ++ step ∷ []) steps in
+          subst (λ b. IsAlong demands b (last_of last steps)
+          (standing_from demands standing (calls_at demands asks before step ++ more)))
+          (append_assoc before (step ∷ []) steps)
+          (subst (λ u. IsAlong demands ((before ++ step ∷ []) ++ steps) (last_of last steps) u)
+          (sym (standing_from-append demands standing (calls_at demands asks before step) more))
+          (walk_on (before ++ step ∷ []) steps last middle (goes.along) timely.1 well))
+
+      -- one more step brings its calls
+      pub calls_with-push : (steps : List (LaneStep News)) (step : LaneStep News)
+          → calls_with demands asks opening steps ++ calls_at demands asks steps step
+          ≡ calls_with demands asks opening (steps ++ step ∷ [])
+      calls_with-push steps step =
+          append_assoc opening (calls_of demands asks steps) (calls_at demands asks steps step)
+          ∙ ap (λ l. opening ++ l) (sym (outputs-push (calls_at demands asks) steps step))
+
+      -- what the calls of all steps tell may be told
+      pub walk_told : (before steps : List (LaneStep News)) → AskWell demands asks opening before steps
+          → AreTold demands (calls_with demands asks opening before)
+          (outputs_after (calls_at demands asks) before steps)
+      walk_told before [] well = tt
+      walk_told before (Logged moment news ∷ steps) well =
+          let step = Logged moment news in
+          let seen = calls_with demands asks opening before in
+          let ends = boundaries_at demands.base demands.size (told_by before) (Saw moment) in
+          let start = last_time demands.base (boundaries demands.base demands.size (told_by before)) in
+          told-append demands seen (calls_at demands asks before step)
+          (outputs_after (calls_at demands asks) (before ++ step ∷ []) steps)
+          (told-append demands seen (crossing_of start demands.size ends) (asks before moment news)
+          (crossing_told seen start demands.size ends) well.0.1)
+          (subst (λ l. AreTold demands l (outputs_after (calls_at demands asks) (before ++ step ∷ []) steps))
+          (sym (calls_with-push before step)) (walk_told (before ++ step ∷ []) steps well.1))
+      walk_told before (Reported at include_current ∷ steps) well =
+          let step : LaneStep News = Reported at include_current in
+          let seen = calls_with demands asks opening before in
+          told-append demands seen (calls_at demands asks before step)
+          (outputs_after (calls_at demands asks) (before ++ step ∷ []) steps)
+          (report_told seen demands.size include_current at)
+          (subst (λ l. AreTold demands l (outputs_after (calls_at demands asks) (before ++ step ∷ []) steps))
+          (sym (calls_with-push before step)) (walk_told (before ++ step ∷ []) steps well))
 
     -- it holds at the beginning
     first_along : demands.base < time_limit
@@ -207,49 +260,55 @@ module _ {Event : Type 0} (demands : Demands Event) where
 
     -- what holds of the calls of all steps
     pub all_along : (steps : List (LaneStep News)) → demands.base < time_limit → AreTimely demands.base steps
-        → AskWell demands asks [] steps
+        → AskWell demands asks [] [] steps
         → IsAlong demands steps (last_of demands.base steps)
         (standing_from demands (first_standing demands) (calls_of demands asks steps))
     all_along steps fits timely well =
-        walk_on [] steps demands.base (first_standing demands) (first_along fits) timely well
+        walk_on [] [] steps demands.base (first_standing demands) (first_along fits) timely well
 
     -- the law: all calls that a lane makes of timely steps are admitted, each after those before it
     pub lane_admits : (steps : List (LaneStep News)) → demands.base < time_limit → AreTimely demands.base steps
-        → AskWell demands asks [] steps
+        → AskWell demands asks [] [] steps
         → AreAdmitted demands [] (calls_of demands asks steps)
     lane_admits steps fits timely well =
         admitted demands [] (calls_of demands asks steps)
-        (walk [] steps demands.base (first_standing demands) (first_along fits) timely well)
+        (walk [] [] steps demands.base (first_standing demands) (first_along fits) timely well)
+        (walk_told [] [] steps well)
 
     -- the same of one step's calls, after those of the steps before
     pub step_admits : (steps : List (LaneStep News)) (step : LaneStep News) → demands.base < time_limit
-        → AreTimely demands.base (steps ++ step ∷ []) → AskWell demands asks [] (steps ++ step ∷ [])
+        → AreTimely demands.base (steps ++ step ∷ []) → AskWell demands asks [] [] (steps ++ step ∷ [])
         → AreAdmitted demands (calls_of demands asks steps) (calls_at demands asks steps step)
     step_admits steps step fits timely well =
         admitted demands (calls_of demands asks steps) (calls_at demands asks steps step)
         (may_come-back demands (first_standing demands) (calls_of demands asks steps) (calls_at demands asks steps step)
         (subst (λ calls. MayComeAll demands (first_standing demands) calls)
         (outputs-push (calls_at demands asks) steps step)
-        (walk [] (steps ++ step ∷ []) demands.base (first_standing demands) (first_along fits) timely well)))
+        (walk [] [] (steps ++ step ∷ []) demands.base (first_standing demands) (first_along fits) timely well)))
+        (told-back demands [] (calls_of demands asks steps) (calls_at demands asks steps step)
+        (subst (AreTold demands []) (outputs-push (calls_at demands asks) steps step)
+        (walk_told [] [] (steps ++ step ∷ []) well)))
 
 -- a lane of events asks well at a frame, whatever comes
 event_asked : (Event After : Type 0) (base size at : ℕ) (event : Option Event)
-    → let calls : List (Call Event After) = coming at event in AreAskedAt (event_demands base size) at calls
-event_asked Event After base size at None = tt
-event_asked Event After base size at (Some event) = (refl, refl, tt, tt)
+    → (before : List (Call Event After))
+    → let calls : List (Call Event After) = coming at event in
+    AreAskedAt (event_demands base size) at calls × AreTold (event_demands base size) before calls
+event_asked Event After base size at None before = (tt, tt)
+event_asked Event After base size at (Some event) before = ((refl, refl, tt, tt), (tt, tt))
 
 -- a lane of events asks well, whatever comes
-pub events_ask_well : (Event After : Type 0) (base size : ℕ) (before steps : List (LaneStep (Option Event)))
-    → let asks : List (LaneStep (Option Event)) → Moment → Option Event → List (Call Event After) = event_asks in
-    AskWell (event_demands base size) asks before steps
-events_ask_well Event After base size before [] = tt
-events_ask_well Event After base size before (Logged moment event ∷ steps) = (
-  event_asked Event After base size moment.at event,
-  events_ask_well Event After base size
-      (before ++ Logged moment event ∷ []) steps,
+pub events_ask_well : (Event After : Type 0) (base size : ℕ) (opening : List (Call Event After))
+    (before steps : List (LaneStep (Option Event)))
+    → AskWell (event_demands base size) event_asks opening before steps
+events_ask_well Event After base size opening before [] = tt
+events_ask_well Event After base size opening before (Logged moment event ∷ steps) = (
+  event_asked Event After base size moment.at event
+      (calls_before (event_demands base size) event_asks opening before moment),
+  events_ask_well Event After base size opening (before ++ Logged moment event ∷ []) steps,
 )
-events_ask_well Event After base size before (Reported at include_current ∷ steps) =
-    events_ask_well Event After base size (before ++ Reported at include_current ∷ []) steps
+events_ask_well Event After base size opening before (Reported at include_current ∷ steps) =
+    events_ask_well Event After base size opening (before ++ Reported at include_current ∷ []) steps
 
 -- the calls of a lane of events are admitted
 pub events_admitted : (Event After : Type 0) (base size : ℕ) (steps : List (LaneStep (Option Event)))
@@ -258,23 +317,23 @@ pub events_admitted : (Event After : Type 0) (base size : ℕ) (steps : List (La
     AreAdmitted (event_demands base size) [] (calls_of (event_demands base size) asks steps)
 events_admitted Event After base size steps fits timely =
     lane_admits (event_demands base size) event_asks steps fits timely
-    (events_ask_well Event After base size [] steps)
+    (events_ask_well Event After base size [] [] steps)
 
 -- a lane of runs asks well, where all events of its steps pass the test
 pub runs_ask_well : (Event After : Type 0) (base size : ℕ) (takes : Event → Bool)
-    (before steps : List (LaneStep (Option Event × After))) → AllTaken takes steps
-    → AskWell (run_demands base size takes) run_asks before steps
-runs_ask_well Event After base size takes before [] all = tt
-runs_ask_well Event After base size takes before (Logged moment (None, after) ∷ steps) all = (
-  (refl, tt),
-  runs_ask_well Event After base size takes (before ++ Logged moment (None, after) ∷ []) steps all,
+    (opening : List (Call Event After)) (before steps : List (LaneStep (Option Event × After)))
+    → AllTaken takes steps → AskWell (run_demands base size takes) run_asks opening before steps
+runs_ask_well Event After base size takes opening before [] all = tt
+runs_ask_well Event After base size takes opening before (Logged moment (None, after) ∷ steps) all = (
+  ((refl, tt), (refl, tt)),
+  runs_ask_well Event After base size takes opening (before ++ Logged moment (None, after) ∷ []) steps all,
 )
-runs_ask_well Event After base size takes before (Logged moment (Some event, after) ∷ steps) all = (
-  (refl, all.0, tt, (refl, tt)),
-  runs_ask_well Event After base size takes (before ++ Logged moment (Some event, after) ∷ []) steps all.1,
+runs_ask_well Event After base size takes opening before (Logged moment (Some event, after) ∷ steps) all = (
+  ((refl, all.0, tt, (refl, tt)), (tt, (refl, tt))),
+  runs_ask_well Event After base size takes opening (before ++ Logged moment (Some event, after) ∷ []) steps all.1,
 )
-runs_ask_well Event After base size takes before (Reported at include_current ∷ steps) all =
-    runs_ask_well Event After base size takes (before ++ Reported at include_current ∷ []) steps all
+runs_ask_well Event After base size takes opening before (Reported at include_current ∷ steps) all =
+    runs_ask_well Event After base size takes opening (before ++ Reported at include_current ∷ []) steps all
 
 -- the calls of a lane of runs are admitted, where all its events pass the test
 pub runs_admitted : (Event After : Type 0) (base size : ℕ) (takes : Event → Bool)
@@ -283,4 +342,4 @@ pub runs_admitted : (Event After : Type 0) (base size : ℕ) (takes : Event → 
     (calls_of (run_demands base size takes) run_asks steps)
 runs_admitted Event After base size takes steps fits timely all =
     lane_admits (run_demands base size takes) run_asks steps fits timely
-    (runs_ask_well Event After base size takes [] steps all)
+    (runs_ask_well Event After base size takes [] [] steps all)

@@ -12,7 +12,7 @@ use Rattle.metric_producer.specs.LaneCalls.{LaneStep, Logged, told_by, crossing,
 use Rattle.metric_producer.proofs.RuleLemmas.{MayComeAll}
 use Rattle.metric_producer.proofs.LaneReach.{told_by-frame, length-ends_from, reach_of, reaches, reach-le, short, no_ends}
 
-module _ {Event : Type 0} (demands : Demands Event) where
+module _ {Event After : Type 0} (demands : Demands Event After) where
   -- what holds of the calls that these steps made
   pub record IsAlong {News : Type 0} (before : List (LaneStep News)) (last : ℕ) (standing : Standing) : Type 0 where
     pub settled : standing.owed ≡ None
@@ -25,7 +25,7 @@ module _ {Event : Type 0} (demands : Demands Event) where
     pub stands : 0 < demands.size → ClockStandsFor (clock_at demands standing) (told_by before)
 
   -- these calls may come, and lead to a standing of which the same holds
-  pub record Goes {News After : Type 0} (before : List (LaneStep News)) (last : ℕ) (standing : Standing)
+  pub record Goes {News : Type 0} (before : List (LaneStep News)) (last : ℕ) (standing : Standing)
       (calls : List (Call Event After)) : Type 0 where
     pub may : MayComeAll demands standing calls
     pub along : IsAlong before last (standing_from demands standing calls)
@@ -38,12 +38,12 @@ module _ {Event : Type 0} (demands : Demands Event) where
     pub settled : standing.owed ≡ None
 
   -- the condition that is owed is told next, at the time of its event
-  unfoldable pub Owes : {After : Type 0} → Option ℕ → ℕ → List (Call Event After) → Type 0
+  unfoldable pub Owes : Option ℕ → ℕ → List (Call Event After) → Type 0
   Owes None at calls = Unit {0}
   Owes (Some event_at) at calls = (at ≡ event_at) × TellsNext demands calls
 
   -- an event owes its condition where that has to follow
-  pub owes_by : {After : Type 0} (b : Bool) (time at : ℕ) (calls : List (Call Event After)) → time ≡ at
+  pub owes_by : (b : Bool) (time at : ℕ) (calls : List (Call Event After)) → time ≡ at
       → IsFollowed demands b calls
       → Owes (if b then Some time else None) at calls
   unfolding Owes
@@ -51,7 +51,7 @@ module _ {Event : Type 0} (demands : Demands Event) where
   owes_by false time at calls e followed = tt
 
   -- what a kind asks at a frame may come
-  pub asked_come : {After : Type 0} (start next_end last : ℕ) (owed : Option ℕ) (at : ℕ)
+  pub asked_come : (start next_end last : ℕ) (owed : Option ℕ) (at : ℕ)
       (calls : List (Call Event After))
       → AreAskedAt demands at calls → Owes owed at calls → last ≤ at → start ≤ at
       → (0 < demands.size → at ≤ next_end) → at < time_limit
@@ -118,15 +118,15 @@ module _ {Event : Type 0} (demands : Demands Event) where
   asked_come start next_end last owed at (CutAt time ∷ calls) asked owes le from within fits = absurd asked
   asked_come start next_end last owed at (Took ∷ calls) asked owes le from within fits = absurd asked
 
-  module _ {News After : Type 0} (before : List (LaneStep News)) (last : ℕ) (standing : Standing)
+  module _ {News : Type 0} (before : List (LaneStep News)) (last : ℕ) (standing : Standing)
       (along : IsAlong before last standing) where
     module _ (moment : Moment) (news : News) (le : last ≤ moment.at) (fits : moment.at < time_limit) where
       -- without buckets nothing is crossed
       unsized_goes : demands.size ≤ 0
-          → Goes {After = After} (before ++ Logged moment news ∷ []) moment.at standing
+          → Goes (before ++ Logged moment news ∷ []) moment.at standing
           (crossing demands.base demands.size (told_by before) moment)
       unsized_goes none =
-          subst (λ ends. Goes {After = After} (before ++ Logged moment news ∷ []) moment.at standing
+          subst (λ ends. Goes (before ++ Logged moment news ∷ []) moment.at standing
           (crossing_of (last_time demands.base
           (boundaries demands.base demands.size (told_by before))) demands.size ends))
           (sym (no_ends demands.base demands.size (moments_told (told_by before)) moment none))
@@ -147,13 +147,13 @@ module _ {Event : Type 0} (demands : Demands Event) where
       module _ (sized : 0 < demands.size) where
         -- a frame that reaches no full end crosses none
         none_goes : reach_of moment < standing.next_end
-            → Goes {After = After} (before ++ Logged moment news ∷ []) moment.at standing
+            → Goes (before ++ Logged moment news ∷ []) moment.at standing
             (crossing demands.base demands.size (told_by before) moment)
         none_goes less =
             let made = none_made (clock_at demands standing) moment sized along.bucket
             (omega (arith, along.from_start)) (reach_of moment) (along.some_end sized) (reaches moment) less
             (told_by before) (along.stands sized) in
-            subst (λ ends. Goes {After = After} (before ++ Logged moment news ∷ []) moment.at standing
+            subst (λ ends. Goes (before ++ Logged moment news ∷ []) moment.at standing
             (crossing_of (last_time demands.base
             (boundaries demands.base demands.size (told_by before))) demands.size ends))
             made.0
@@ -174,7 +174,7 @@ module _ {Event : Type 0} (demands : Demands Event) where
 
         -- a frame that reaches the full end crosses it, and all that it reaches
         some_goes : standing.next_end ≤ reach_of moment
-            → Goes {After = After} (before ++ Logged moment news ∷ []) moment.at standing
+            → Goes (before ++ Logged moment news ∷ []) moment.at standing
             (crossing demands.base demands.size (told_by before) moment)
         some_goes enough =
             let full = (reach_of moment - standing.next_end) / demands.size in
@@ -205,7 +205,7 @@ module _ {Event : Type 0} (demands : Demands Event) where
             ((along.stands sized).start)
             ∙ ap (λ ends. crossing_of (last_time demands.base
             (boundaries demands.base demands.size (told_by before))) demands.size ends) made.0 in
-            subst (λ calls. Goes {After = After} (before ++ Logged moment news ∷ []) moment.at standing calls) is
+            subst (λ calls. Goes (before ++ Logged moment news ∷ []) moment.at standing calls) is
             (record {
               may = (
                 record {
@@ -242,7 +242,7 @@ module _ {Event : Type 0} (demands : Demands Event) where
             })
 
       -- what a frame crosses may come
-      pub crossing_goes : Goes {After = After} (before ++ Logged moment news ∷ []) moment.at standing
+      pub crossing_goes : Goes (before ++ Logged moment news ∷ []) moment.at standing
           (crossing demands.base demands.size (told_by before) moment)
       crossing_goes = ⊎_elim
           (λ (sized : 0 < demands.size). ⊎_elim

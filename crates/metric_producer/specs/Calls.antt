@@ -13,12 +13,14 @@ pub data Call (Event After : Type 0) : Type 0 where
   Took : Call Event After  -- the kept rows were handed out
 
 -- What a producer asks of its calls: where its time begins; how long its buckets are, or 0 where it has none; whether
--- the condition has to follow each event; and which events it takes.
-pub record Demands (Event : Type 0) : Type 0 where
+-- the condition has to follow each event; which events it takes; and which condition may be told after which calls, for
+-- a producer that is told what changed, or nothing before an event has told it what stands at its beginning.
+pub record Demands (Event After : Type 0) : Type 0 where
   pub base : ℕ
   pub size : ℕ
   pub is_paired : Bool
   pub takes : Event → Bool
+  pub tells : List (Call Event After) → After → Bool
 
 -- How far the calls have come: where the open part began, its full end, the time before which nothing more may come,
 -- and the time of an event whose condition is still to be told.
@@ -28,7 +30,7 @@ pub record Standing : Type 0 where
   pub last : ℕ
   pub owed : Option ℕ
 
-module _ {Event : Type 0} (demands : Demands Event) where
+module _ {Event After : Type 0} (demands : Demands Event After) where
   -- before all calls
   abbrev pub first_standing : Standing
   first_standing = record {
@@ -49,7 +51,7 @@ module _ {Event : Type 0} (demands : Demands Event) where
       record standing { start = end; next_end = end + crossings.size; last = end }
 
   -- after one more call: an event may owe its condition, and a cut keeps the full end
-  abbrev pub after_call : {After : Type 0} → Standing → Call Event After → Standing
+  abbrev pub after_call : Standing → Call Event After → Standing
   after_call standing (Got at event) =
       record standing { last = at; owed = if demands.is_paired then Some at else None }
   after_call standing (Learned at now) = record standing { last = at; owed = None }
@@ -58,10 +60,10 @@ module _ {Event : Type 0} (demands : Demands Event) where
   after_call standing Took = standing
 
   -- how far these calls have come, from a standing on
-  abbrev pub standing_from : {After : Type 0} → Standing → List (Call Event After) → Standing
+  abbrev pub standing_from : Standing → List (Call Event After) → Standing
   standing_from standing [] = standing
   standing_from standing (call ∷ calls) = standing_from (after_call standing call) calls
 
   -- how far these calls have come, from the beginning
-  abbrev pub standing_of : {After : Type 0} → List (Call Event After) → Standing
+  abbrev pub standing_of : List (Call Event After) → Standing
   standing_of calls = standing_from first_standing calls

@@ -13,7 +13,7 @@ use Rattle.metric_producer.specs.declared.row.Closed.{Closed}
 -- admits, its kind of metric, the marks of an event and of a condition, and what stands at a boundary, each knowing the
 -- calls before.
 pub record Collecting (Params Event After X K C R : Type 0) : Type 0 where
-  pub demands : Params → Demands Event
+  pub demands : Params → Demands Event After
   pub bound : Params → ℕ
   pub kind : Params → Kind X K C R
   pub comes : Params → List (Call Event After) → ℕ → Event → List (Mark X)
@@ -47,7 +47,7 @@ pub record Law (P Params Event After X K C R : Type 0) : Type 1 where
 
 -- what a producer of this law asks of its calls, by what it was made with
 abbrev pub demands_of : {P Params Event After X K C R : Type 0} → Law P Params Event After X K C R → Params
-    → Demands Event
+    → Demands Event After
 demands_of law params = law.collecting.demands params
 
 -- what is handed out of what a report shows

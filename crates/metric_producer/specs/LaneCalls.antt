@@ -35,7 +35,7 @@ abbrev pub cutting : {Event After : Type 0} → ℕ → Bool → ℕ → List (C
 cutting size true at = if nat_lt 0 size then CutAt at ∷ [] else []
 cutting size false at = []
 
-module _ {News Event After : Type 0} (demands : Demands Event)
+module _ {News Event After : Type 0} (demands : Demands Event After)
     (asks : List (LaneStep News) → Moment → News → List (Call Event After)) where
   -- The calls of one step. A kind of metric says what it asks of its producer at a frame; all else is the same for
   -- each.
@@ -69,34 +69,25 @@ abbrev pub last_of : {News : Type 0} → ℕ → List (LaneStep News) → ℕ
 last_of last [] = last
 last_of last (step ∷ steps) = last_of (last_at last step) steps
 
-module _ {Event : Type 0} (demands : Demands Event) where
+module _ {Event After : Type 0} (demands : Demands Event After) where
   -- a condition is told next
-  abbrev pub TellsNext : {After : Type 0} → List (Call Event After) → Type 0
+  abbrev pub TellsNext : List (Call Event After) → Type 0
   TellsNext (Learned at now ∷ calls) = Unit {0}
   TellsNext _ = ⊥
 
   -- a condition is told next, if it has to be
-  abbrev pub IsFollowed : {After : Type 0} → Bool → List (Call Event After) → Type 0
+  abbrev pub IsFollowed : Bool → List (Call Event After) → Type 0
   IsFollowed true calls = TellsNext calls
   IsFollowed false calls = Unit {0}
 
   -- what a kind may ask at a frame: events that the producer takes and conditions, all at the frame's time, and each
   -- event followed by its condition where that has to be
-  abbrev pub AreAskedAt : {After : Type 0} → ℕ → List (Call Event After) → Type 0
+  abbrev pub AreAskedAt : ℕ → List (Call Event After) → Type 0
   AreAskedAt time [] = Unit {0}
   AreAskedAt time (Got at event ∷ calls) =
       (at ≡ time) × (demands.takes event ≡ true) × IsFollowed demands.is_paired calls × AreAskedAt time calls
   AreAskedAt time (Learned at now ∷ calls) = (at ≡ time) × AreAskedAt time calls
   AreAskedAt time _ = ⊥
-
-  -- the same at each frame of these steps
-  abbrev pub AskWell : {News After : Type 0} → (List (LaneStep News) → Moment → News → List (Call Event After))
-      → List (LaneStep News) → List (LaneStep News) → Type 0
-  AskWell asks before [] = Unit {0}
-  AskWell asks before (Logged moment news ∷ steps) =
-      AreAskedAt moment.at (asks before moment news) × AskWell asks (before ++ Logged moment news ∷ []) steps
-  AskWell asks before (Reported at include_current ∷ steps) =
-      AskWell asks (before ++ Reported at include_current ∷ []) steps
 
 -- the event, if one comes
 abbrev pub coming : {Event After : Type 0} → ℕ → Option Event → List (Call Event After)
@@ -109,8 +100,14 @@ abbrev pub event_asks : {Event After : Type 0} → List (LaneStep (Option Event)
 event_asks before moment event = coming moment.at event
 
 -- what a producer of events alone demands: it takes every event
-abbrev pub event_demands : {Event : Type 0} → ℕ → ℕ → Demands Event
-event_demands base size = record { base = base; size = size; is_paired = false; takes = λ event. true }
+abbrev pub event_demands : {Event After : Type 0} → ℕ → ℕ → Demands Event After
+event_demands base size = record {
+  base = base;
+  size = size;
+  is_paired = false;
+  takes = λ event. true;
+  tells = λ calls now. true;
+}
 
 -- a lane of runs tells the condition at each frame, after the event if one comes
 abbrev pub run_asks : {Event After : Type 0} → List (LaneStep (Option Event × After)) → Moment → Option Event × After
@@ -118,8 +115,14 @@ abbrev pub run_asks : {Event After : Type 0} → List (LaneStep (Option Event ×
 run_asks before moment news = coming moment.at news.0 ++ (Learned moment.at news.1 ∷ [])
 
 -- what a producer of runs demands: the condition after each event, and events that pass a test
-abbrev pub run_demands : {Event : Type 0} → ℕ → ℕ → (Event → Bool) → Demands Event
-run_demands base size takes = record { base = base; size = size; is_paired = true; takes = takes }
+abbrev pub run_demands : {Event After : Type 0} → ℕ → ℕ → (Event → Bool) → Demands Event After
+run_demands base size takes = record {
+  base = base;
+  size = size;
+  is_paired = true;
+  takes = takes;
+  tells = λ calls now. true;
+}
 
 -- all events of these steps pass the test
 abbrev pub AllTaken : {Event After : Type 0} → (Event → Bool) → List (LaneStep (Option Event × After)) → Type 0

@@ -11,7 +11,7 @@ abbrev pub IsOwed : Option ℕ → ℕ → Type 0
 IsOwed None at = Unit {0}
 IsOwed (Some event_at) at = at ≡ event_at
 
-module _ {Event : Type 0} (demands : Demands Event) where
+module _ {Event After : Type 0} (demands : Demands Event After) where
   -- A time may come now: times don't fall, and where there are buckets none is past the full end of the open part.
   pub record IsTimely (standing : Standing) (at : ℕ) : Type 0 where
     pub not_before : standing.last ≤ at
@@ -47,18 +47,28 @@ module _ {Event : Type 0} (demands : Demands Event) where
     pub settled : standing.owed ≡ None
 
   -- the call may come now
-  abbrev pub MayCome : {After : Type 0} → Standing → Call Event After → Type 0
+  abbrev pub MayCome : Standing → Call Event After → Type 0
   MayCome standing (Got at event) = IsEvent standing at event
   MayCome standing (Learned at now) = IsCondition standing at
   MayCome standing (Crossed crossings) = IsAnswer standing crossings
   MayCome standing (CutAt at) = IsCut standing at
   MayCome standing Took = standing.owed ≡ None
 
-  -- the call may come after these
-  abbrev pub IsAdmitted : {After : Type 0} → List (Call Event After) → Call Event After → Type 0
-  IsAdmitted calls call = MayCome (standing_of demands calls) call
+  -- what a call tells may be told after these
+  abbrev pub MayBeTold : List (Call Event After) → Call Event After → Type 0
+  MayBeTold calls (Learned at now) = demands.tells calls now ≡ true
+  MayBeTold calls _ = Unit {0}
+
+  -- the call may come after these: where they led, and as what it tells may be told after them
+  abbrev pub IsAdmitted : List (Call Event After) → Call Event After → Type 0
+  IsAdmitted calls call = MayCome (standing_of demands calls) call × MayBeTold calls call
 
   -- each of the calls may come where it comes, after those before
-  abbrev pub AreAdmitted : {After : Type 0} → List (Call Event After) → List (Call Event After) → Type 0
+  abbrev pub AreAdmitted : List (Call Event After) → List (Call Event After) → Type 0
   AreAdmitted before [] = Unit {0}
   AreAdmitted before (call ∷ calls) = IsAdmitted before call × AreAdmitted (before ++ call ∷ []) calls
+
+  -- what each of the calls tells may be told after those before it
+  abbrev pub AreTold : List (Call Event After) → List (Call Event After) → Type 0
+  AreTold before [] = Unit {0}
+  AreTold before (call ∷ calls) = MayBeTold before call × AreTold (before ++ call ∷ []) calls
