@@ -25,20 +25,21 @@ module _ {K : Type 0} (same : K → K → Bool) (exact : (x y : K) → Decides (
       let later = differs_from_all key ks all.1 in
       grind (arith, here, later)
 
-  -- the contributions of a key, once another key arrives
-  pub of_other : {C : Type 0} (arrivals : List (K × C)) (key other : K) (share : C) → same other key ≡ false
-      → of_key same other (arrivals ++ (key, share) ∷ []) ≡ of_key same other arrivals
-  of_other arrivals key other share differ =
-      of_key-push same other arrivals (key, share)
-      ∙ ap (λ b. of_key same other arrivals ++ (if b then share ∷ [] else [])) (other_way other key differ)
-      ∙ append-nil (of_key same other arrivals)
-
   -- the contributions of a key, once it arrives
   pub of_own : {C : Type 0} (arrivals : List (K × C)) (key : K) (share : C)
       → of_key same key (arrivals ++ (key, share) ∷ []) ≡ of_key same key arrivals ++ share ∷ []
   of_own arrivals key share =
       of_key-push same key arrivals (key, share)
       ∙ ap (λ b. of_key same key arrivals ++ (if b then share ∷ [] else [])) ((exact key key).1 refl)
+
+-- the contributions of a key, once another key arrives
+pub of_other : {K C : Type 0} (same : K → K → Bool) (arrivals : List (K × C)) (key other : K) (share : C)
+    → same key other ≡ false
+    → of_key same other (arrivals ++ (key, share) ∷ []) ≡ of_key same other arrivals
+of_other same arrivals key other share differ =
+    of_key-push same other arrivals (key, share)
+    ∙ ap (λ b. of_key same other arrivals ++ (if b then share ∷ [] else [])) differ
+    ∙ append-nil (of_key same other arrivals)
 
 -- a key that differs from all of these differs from each
 pub differs_from_one : {K : Type 0} (same : K → K → Bool) (key found : K) (ks : List K) (place : ℕ)

@@ -6,5 +6,6 @@ pub mod OpeningLemmas
 pub mod ClockOfCalls
 pub mod CollectingLemmas
 pub mod KeysLemmas
+pub mod TableLemmas
 pub mod RowItemsLemmas
 mod Worked

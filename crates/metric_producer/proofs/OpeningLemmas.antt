@@ -19,8 +19,8 @@ module _ {Event After : Type 0} (demands : Demands Event After) (fits : demands.
     opened : MayComeAll demands (first_standing demands) opening
         × HasAsked demands demands.base (demands.base + demands.size) demands.base (standing_of demands opening)
     unfolding Owes
-    opened = asked_come demands demands.base (demands.base + demands.size) demands.base None demands.base opening opens.0
-        tt (omega arith) (omega arith) (λ sized. omega arith) fits
+    opened = asked_come demands demands.base (demands.base + demands.size) demands.base None demands.base opening
+        opens.0 tt (omega arith) (omega arith) (λ sized. omega arith) fits
 
     -- opening calls are admitted
     pub opening_admits : AreAdmitted demands [] opening
@@ -73,7 +73,8 @@ module _ {Event After : Type 0} (demands : Demands Event After) (fits : demands.
           (walk_on demands asks opening [] steps demands.base (standing_of demands opening) opened_along timely well)
 
       -- the law: opening calls and all calls that a lane makes of timely steps are admitted, each after those before it
-      pub opened_admits : (steps : List (LaneStep News)) → AreTimely demands.base steps → AskWell demands asks opening [] steps
+      pub opened_admits : (steps : List (LaneStep News)) → AreTimely demands.base steps
+          → AskWell demands asks opening [] steps
           → AreAdmitted demands [] (calls_with demands asks opening steps)
       opened_admits steps timely well =
           admitted demands [] (calls_with demands asks opening steps)

@@ -1,5 +1,5 @@
--- Opening calls, which tell a producer what stood when it was made, before any step of its lane; and what a kind may ask
--- at the frames after them.
+-- Opening calls, which tell a producer what stood when it was made, before any step of its lane; and what a kind may
+-- ask at the frames after them.
 use Rattle.std.specs.Prelude.{List, [], ◌∷◌, ◌++◌}
 use Rattle.bucket_meaning.specs.Ends.{Moment}
 use Rattle.metric_producer.specs.Calls.{Call, Demands}
