@@ -13,7 +13,7 @@ use Rattle.count_metric.specs.declared.count.CountProducer.{CountProducer}
 use Rattle.metric_producer.specs.Collecting.{calls_mean, Law}
 use Rattle.metric_kinds.specs.Keys.{is_same_key}
 use Rattle.metric_kinds.specs.Counts.{row_weight, count_kind}
-use Rattle.count_metric.specs.Counting.{CountParams, CountCall, count_demands, count_collecting}
+use Rattle.count_metric.specs.Counting.{CountParams, CountCall, count_collecting}
 
 -- a key with the number of its arrivals
 abbrev pub tally_of : List (MetricKey × ℕ) → MetricKey → MetricKey × ℕ

@@ -8,7 +8,7 @@ use Rattle.bucket_meaning.specs.Ends.{Moment, ends_from, ends_at}
 use Rattle.bucket_meaning.specs.Marks.{Mark, Asked, Edges, edges_again, boundary, boundary_marks}
 use Rattle.bucket_meaning.specs.Rows.{report}
 use Rattle.bucket_clock.specs.Clock.{boundaries, last_time, moments_told}
-use Rattle.metric_producer.specs.Calls.{Call, CutAt, Took, Demands}
+use Rattle.metric_producer.specs.Calls.{Call, CutAt, Took}
 use Rattle.metric_producer.specs.LaneCalls.{LaneStep, told_by, crossing_of, cutting, calls_at, calls_of}
 use Rattle.metric_producer.specs.OpeningCalls.{AskWell}
 use Rattle.metric_producer.proofs.LaneReach.{length-ends_from}

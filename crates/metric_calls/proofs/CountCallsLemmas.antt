@@ -43,7 +43,8 @@ module _ (installed : Installation) (metric : LMetric) where
   counts_ask_well = record {
     opens = (tt, tt);
     at_frame = λ before frame at truths.
-        coming_well (calls_crossed (count_asking installed metric) count_collecting before frame at) at (arrival_at installed metric before (frame_step frame at truths));
+        coming_well (calls_crossed (count_asking installed metric) count_collecting before frame at) at
+        (arrival_at installed metric before (frame_step frame at truths));
   }
 
   -- what the calls of these steps and a report's cut mean is what a report shows

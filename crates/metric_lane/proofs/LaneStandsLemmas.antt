@@ -4,7 +4,7 @@ use Rattle.bucket_meaning.specs.Ends.{Moment}
 use Rattle.bucket_clock.specs.declared.crossings.Crossings.{Crossings}
 use Rattle.bucket_clock.specs.Sound.{Times}
 use Rattle.bucket_clock.specs.Clock.{Told, Saw, Answers, boundaries, last_time, moments_told}
-use Rattle.metric_producer.specs.Calls.{Call, Crossed, Took, Demands}
+use Rattle.metric_producer.specs.Calls.{Call, Crossed, Took}
 use Rattle.metric_producer.specs.Moves.{Moves, MovesAll}
 use Rattle.metric_producer.specs.LaneCalls.{crossing, crossing_of, cutting, handed_on}
 use Rattle.metric_producer.proofs.RuleLemmas.{admits-front, admits-back}

@@ -2,14 +2,13 @@
 use Rattle.std.proofs.Common.{◌≡◌, ℕ, ◌<◌, ◌≤◌, Bool, true, false, List, [], ◌∷◌, ◌++◌, Option, Some, None, sym, ap, subst, ◌∙◌, append_assoc, append-nil, arith, suc, ◌+◌, ◌*◌, ⊎_elim}
 use Rattle.std.specs.List.{list_any}
 use Rattle.std.proofs.lemmas.Bool.{cases_lt, true≢false}
-use Rattle.sd_base.proofs.OutputsLemmas.{outputs-push}
 use Rattle.bucket_meaning.specs.Limits.{time_limit}
 use Rattle.bucket_meaning.specs.Ends.{Moment, crosses}
 use Rattle.bucket_meaning.specs.Meaning.{report_by}
 use Rattle.bucket_clock.specs.Sound.{Times}
 use Rattle.bucket_clock.specs.Clock.{Told, Saw, IsNextEnd, ClockStandsFor, moments_told}
 use Rattle.metric_producer.specs.Calls.{Call, Demands, Standing, standing_of, clock_at}
-use Rattle.metric_producer.specs.LaneCalls.{coming, event_asks, LaneStep, Logged, Reported, told_by, crossing, cutting, calls_at, calls_of, last_at, last_of, IsTimelyStep, AreTimely}
+use Rattle.metric_producer.specs.LaneCalls.{coming, event_asks, LaneStep, Logged, Reported, told_by, crossing, cutting, calls_of, last_at, last_of, IsTimelyStep, AreTimely}
 use Rattle.metric_producer.proofs.RuleLemmas.{admits-front, admits-back}
 use Rattle.metric_producer.proofs.LaneReach.{told_by-frame, told_by-cut, told_by-report}
 use Rattle.metric_producer.proofs.LaneCrossing.{IsAlong}

@@ -4,7 +4,7 @@ use Rattle.bucket_meaning.specs.Limits.{time_limit}
 use Rattle.bucket_meaning.specs.Ends.{Moment}
 use Rattle.bucket_meaning.specs.Meaning.{report_by}
 use Rattle.bucket_clock.specs.Clock.{Told, Saw, Cut}
-use Rattle.metric_producer.specs.Calls.{Call, Took, Demands}
+use Rattle.metric_producer.specs.Calls.{Call, Took}
 use Rattle.metric_producer.specs.Rules.{AreAdmitted}
 use Rattle.metric_producer.specs.LaneCalls.{LaneStep, Logged, told_by, crossing, cutting, calls_of, event_asks, AreTimely}
 use Rattle.metric_producer.specs.OpeningCalls.{AreOpening, calls_with, AskWell}
