@@ -17,6 +17,7 @@ use Rattle.predicate_state.specs.declared.truth.Truth.{Truth}
 use Rattle.predicate_state.specs.PredicateTable.{PredicateTable}
 use Rattle.report_writer.specs.declared.tree.Drop64.{Drop64}
 use Rattle.metric_meaning.specs.Histories.{Step}
+use Rattle.metric_meaning.specs.Readings.{LeafReading}
 use Rattle.metric_meaning.specs.MetricConditions.{metric_binds, condition_tree, is_condition_true}
 use Rattle.metric_meaning.specs.PredicateSteps.{table_spec, table_with, table_after, tables_after, atom_events, drop_above_zero}
 use Rattle.metric_meaning.proofs.PredicateStepsLemmas.{table_after-push, tables_after-idle}
@@ -224,15 +225,17 @@ are_tables nodes tables asks binds kept are = record {
 }
 
 -- without a condition all is counted
-pub no_condition : (predicates : List LPredicate) (tables : List PredicateTable) (metric : LMetric) (atom : Atom)
-    → metric.condition ≡ None → true ≡ is_condition_true predicates tables metric atom
-no_condition predicates tables metric atom none =
-    let binds = metric_binds predicates metric atom in
+pub no_condition : (predicates : List LPredicate) (tables : List PredicateTable) (metric : LMetric)
+    (reading : LeafReading) → metric.condition ≡ None → true ≡ is_condition_true predicates tables metric reading
+no_condition predicates tables metric reading none =
+    let binds = metric_binds predicates metric reading in
     sym (ap (λ root. is_true (root_truth (predicate_truth tables binds predicates) root)) none)
 
 -- what was found is whether the condition holds
-pub condition_found : (predicates : List LPredicate) (tables : List PredicateTable) (metric : LMetric) (atom : Atom)
-    (truth : Truth) (binds : List (List Bind)) → truth ≡ condition_of (condition_tree predicates metric) tables binds
-    → binds ≡ metric_binds predicates metric atom → is_true truth ≡ is_condition_true predicates tables metric atom
-condition_found predicates tables metric atom truth binds found asked =
+pub condition_found : (predicates : List LPredicate) (tables : List PredicateTable) (metric : LMetric)
+    (reading : LeafReading) (truth : Truth) (binds : List (List Bind))
+    → truth ≡ condition_of (condition_tree predicates metric) tables binds
+    → binds ≡ metric_binds predicates metric reading
+    → is_true truth ≡ is_condition_true predicates tables metric reading
+condition_found predicates tables metric reading truth binds found asked =
     ap is_true (found ∙ ap (condition_of (condition_tree predicates metric) tables) asked)

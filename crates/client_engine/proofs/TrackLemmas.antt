@@ -1,5 +1,6 @@
 -- A metric with its lane, one step more.
 use Rattle.std.proofs.Common.{◌≡◌, ℕ, ◌<◌, Bool, true, false, List, [], ◌∷◌, ◌++◌, ◌&&◌, if◌then◌else◌, Option, Some, None, refl, sym, ap, subst, ◌∙◌}
+use Rattle.std.specs.Option.{option_map}
 use Rattle.atom_record.specs.declared.atom.Atom.{Atom}
 use Rattle.atom_record.specs.declared.log.LogFrame.{LogFrame}
 use Rattle.atom_record.specs.declared.log.LogFrame.TheVariants.{AtomAt}
@@ -19,9 +20,11 @@ use Rattle.metric_lane.specs.declared.lane.Lane.{Lane}
 use Rattle.metric_meaning.specs.Histories.{Step, Installation, truth_at, moment_of, log_after}
 use Rattle.metric_meaning.specs.Scenes.{Scene, scene_after}
 use Rattle.metric_meaning.specs.Forms.{is_count, is_built_metric}
-use Rattle.metric_meaning.specs.CountSteps.{atom_key, arrival_by, arrival_at, counts_shown}
+use Rattle.metric_meaning.specs.CountSteps.{arrival_by, arrival_at, counts_shown}
 use Rattle.metric_calls.specs.CountCalls.{count_params, count_asking}
+use Rattle.metric_meaning.specs.Readings.{LeafReading, atom_reading}
 use Rattle.metric_meaning.specs.MetricConditions.{is_condition_true}
+use Rattle.metric_meaning.specs.Arrivals.{atom_key, holds_in}
 use Rattle.metric_meaning.specs.Reports.{metric_tree}
 use Rattle.metric_calls.proofs.CountCallsLemmas.{counts_agree, counts_ask_well}
 use Rattle.client_engine.specs.Handed.{Handed, IsOfScene}
@@ -147,39 +150,39 @@ track_reports metric base include_current at old new closed reports tree is inst
     steps along may.in_time in
     (both.0, is ∙ ap (λ b. closed_tree b metric closed) (sym may.base_is) ∙ both.1)
 
--- a key that isn't there, where one of two truths isn't
-none_without : {A : Type 0} (first second : Bool) (x : A) → second ≡ false
-    → None ≡ (if first && second then Some x else None)
-none_without true second x is = ap (λ b. if b then Some x else None) (sym is)
-none_without false second x is = refl
+-- nothing comes, where one of two truths isn't
+none_without : {A B : Type 0} (first second : Bool) (f : A → B) (x : A) → second ≡ false
+    → None ≡ option_map f (if first && second then Some x else None)
+none_without true second f x is = ap (λ b. option_map f (if b then Some x else None)) (sym is)
+none_without false second f x is = refl
 
 -- where the condition isn't true, nothing arrives
 pub not_arrived : (scene : Scene) (metric : LMetric) (frame : LogFrame) (at : ℕ) (atom : Atom) (truths : List Bool)
     (holds : Bool) → frame ≡ AtomAt at atom
-    → holds ≡ is_condition_true scene.linked.predicates scene.tables metric atom → holds ≡ false
+    → holds ≡ holds_in scene metric (atom_reading atom) → holds ≡ false
     → None ≡ arrival_by scene metric (logged_step frame truths)
 not_arrived scene metric frame at atom truths holds is means off =
     subst (λ (f : LogFrame). None ≡ arrival_by scene metric (logged_step f truths)) (sym is)
-    (none_without (truth_at metric.what truths) (is_condition_true scene.linked.predicates scene.tables metric atom)
-    (atom_key scene metric atom) (sym means ∙ off))
+    (none_without (truth_at metric.what truths) (holds_in scene metric (atom_reading atom)) (atom_key scene metric) atom
+    (sym means ∙ off))
 
 -- where both are true, the atom's key arrives
 pub arrived : (scene : Scene) (metric : LMetric) (frame : LogFrame) (at : ℕ) (atom : Atom) (truths : List Bool)
     (holds : Bool) (key : MetricKey) → frame ≡ AtomAt at atom → true ≡ truth_at metric.what truths
-    → holds ≡ is_condition_true scene.linked.predicates scene.tables metric atom → holds ≡ true
+    → holds ≡ holds_in scene metric (atom_reading atom) → holds ≡ true
     → key ≡ atom_key scene metric atom
     → Some key ≡ arrival_by scene metric (logged_step frame truths)
 arrived scene metric frame at atom truths holds key is what means on key_is =
     subst (λ (f : LogFrame). Some key ≡ arrival_by scene metric (logged_step f truths)) (sym is)
     (ap (λ k. Some k) key_is
-    ∙ ap (λ b. if b then Some (atom_key scene metric atom) else None) (sym on ∙ means)
-    ∙ ap (λ b. if b && is_condition_true scene.linked.predicates scene.tables metric atom
-    then Some (atom_key scene metric atom) else None) what)
+    ∙ ap (λ b. option_map (atom_key scene metric) (if b then Some atom else None)) (sym on ∙ means)
+    ∙ ap (λ b. option_map (atom_key scene metric)
+    (if b && holds_in scene metric (atom_reading atom) then Some atom else None)) what)
 
 -- what is handed has the truth of the condition there
-pub condition_there : (given : Handed) (scene : Scene) (metric : LMetric) (atom : Atom) → IsOfScene given scene
-    → is_condition_true given.known.predicates given.known.tables metric atom
-    ≡ is_condition_true scene.linked.predicates scene.tables metric atom
-condition_there given scene metric atom found =
-    ap (λ predicates. is_condition_true predicates given.known.tables metric atom) found.predicates
-    ∙ ap (λ tables. is_condition_true scene.linked.predicates tables metric atom) found.tables
+pub condition_there : (given : Handed) (scene : Scene) (metric : LMetric) (reading : LeafReading)
+    → IsOfScene given scene
+    → is_condition_true given.known.predicates given.known.tables metric reading ≡ holds_in scene metric reading
+condition_there given scene metric reading found =
+    ap (λ predicates. is_condition_true predicates given.known.tables metric reading) found.predicates
+    ∙ ap (λ tables. is_condition_true scene.linked.predicates tables metric reading) found.tables

@@ -1,6 +1,7 @@
 //! What a metric asks of predicates.
 ghost use Rattle.std.specs.Prelude.{◌≡◌, [], map, replicate, OnOk};
 ghost use Rattle.std.specs.List.{range_with_len};
+ghost use Rattle.metric_meaning.specs.Readings.{atom_reading};
 ghost use Rattle.metric_meaning.specs.MetricConditions.{binds_at};
 
 use atom_record::Atom;
@@ -19,7 +20,7 @@ pub fn ask_all(
     binds: &mut Vec<BindList>,
 ) -> Result<(), AllocError>
     ensures { OnOk result
-        (binds.new.items ≡ map (binds_at links.now atom.now) (range_with_len 0 predicates)) }
+        (binds.new.items ≡ map (binds_at links.now (atom_reading atom.now)) (range_with_len 0 predicates)) }
 {
     ask_nothing(alloc, predicates, binds)?;
     // from the last on, since of two links to a predicate the first one counts

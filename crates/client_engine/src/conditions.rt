@@ -2,6 +2,7 @@
 ghost use Rattle.std.specs.Prelude.{◌≡◌, [], length, OnOk, IfOk};
 ghost use Rattle.config_links.specs.SoundConfig.{MayBeWithin};
 ghost use Rattle.condition_links.specs.ThreeValues.{is_true};
+ghost use Rattle.metric_meaning.specs.Readings.{atom_reading};
 ghost use Rattle.metric_meaning.specs.MetricConditions.{is_condition_true};
 ghost use Rattle.client_engine.specs.TrackStands.{logged_step};
 ghost use Rattle.client_engine.specs.Known.{KnowsAfter, KnowsStep, drops_in};
@@ -85,7 +86,7 @@ impl Conditions {
     ) -> Result<bool, AllocError>
         requires within { MayBeWithin (length self.old.predicates) metric.now.condition }
         ensures truth { IfOk result (λ truth. truth
-            ≡ is_condition_true self.old.predicates self.old.tables metric.now atom.now) }
+            ≡ is_condition_true self.old.predicates self.old.tables metric.now (atom_reading atom.now)) }
         ensures known { self.new ≡ self.old }
     {
         if metric.condition.is_none() {

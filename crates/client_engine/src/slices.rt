@@ -2,7 +2,8 @@
 ghost use Rattle.std.specs.Prelude.{◌≡◌, ◌++◌, List, OnOk, IfOk};
 ghost use Rattle.atom_record.specs.declared.log.LogFrame.{LogFrame};
 ghost use Rattle.state_slicer.specs.StateBooks.{StateBookStandsFor};
-ghost use Rattle.metric_meaning.specs.StateSlices.{state_key, atom_slice, atom_slices};
+ghost use Rattle.metric_meaning.specs.StateSlices.{state_key, named_slice, named_slices};
+ghost use Rattle.metric_meaning.specs.Readings.{atom_reading};
 
 use atom_record::{Atom, DimKey, Slice};
 use config_links::{LSlice, LState};
@@ -20,7 +21,7 @@ pub fn slices_of(
     book: &StateBook,
 ) -> Result<Seq<Slice>, AllocError>
     ensures { (log : List LogFrame) → StateBookStandsFor book.now log
-        → IfOk result (λ shown. shown ≡ atom_slices states.now log atom.now slices.now) }
+        → IfOk result (λ shown. shown ≡ named_slices states.now log (atom_reading atom.now) slices.now) }
 {
     let mut shown = Seq::new(alloc);
     for by in slices {
@@ -39,7 +40,7 @@ fn add_slice(
     book: &StateBook,
 ) -> Result<(), AllocError>
     ensures { (log : List LogFrame) → StateBookStandsFor book.now log
-        → OnOk result (shown.new ≡ shown.old ++ atom_slice states.now log atom.now by.now) }
+        → OnOk result (shown.new ≡ shown.old ++ named_slice states.now log (atom_reading atom.now) by.now) }
 {
     match states.get(by.state as usize) {
         Some(state) => {
@@ -52,7 +53,7 @@ fn add_slice(
 
 // The key by which an atom asks for a state.
 fn state_key(alloc: Global, in_what: &Option<FieldSet>, atom: &Atom) -> Result<DimKey, AllocError>
-    ensures { IfOk result (λ key. key ≡ state_key in_what.now atom.now) }
+    ensures { IfOk result (λ key. key ≡ state_key in_what.now (atom_reading atom.now)) }
 {
     match in_what {
         Some(set) => key_of(alloc, set, atom),

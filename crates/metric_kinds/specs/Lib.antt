@@ -1,2 +1,10 @@
 pub mod Keys
 pub mod Counts
+pub mod Runs
+pub mod Durations
+pub mod Values
+pub mod Gauges
+pub mod Events
+pub mod Intervals
+pub mod Diffs
+pub mod PulledSamples

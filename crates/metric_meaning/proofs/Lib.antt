@@ -1,4 +1,19 @@
 mod WorkedHistories
 mod WorkedConditions
 mod WorkedStates
+mod WorkedDurations
+pub mod DurationStepsLemmas
+mod WorkedMetrics
+mod WorkedEvents
+mod WorkedPushedValues
+mod WorkedPushedGauges
+mod WorkedTouched
+mod WorkedPulls
+mod WorkedPulledValues
+mod WorkedPulledGauges
 pub mod PredicateStepsLemmas
+pub mod TouchedLemmas
+pub mod TouchedDurations
+pub mod SnapshotStepsLemmas
+pub mod PulledIntervalsLemmas
+pub mod PulledStepsLemmas

@@ -58,7 +58,7 @@ abbrev pub tick : ℕ → Step
 tick at = logged at (Tick at) []
 
 -- a failed pull, which is a frame of the log like others
-abbrev pull : ℕ → Step
+abbrev pub pull : ℕ → Step
 pull at = logged at (Pull at 10001 Failed) []
 
 -- a report at the clock

@@ -26,7 +26,7 @@ abbrev no_fields : FieldSet
 no_fields = record { atom_id = 0; leaves = [] }
 
 -- the state that atoms of the id 27 tell, with these groups of its values or none
-abbrev screen : Option (List LGroup) → LState
+abbrev pub screen : Option (List LGroup) → LState
 screen groups = record { atom_id = 27; map = groups }
 
 -- a metric that counts what the first matcher means, sliced by the first state, whose key is field 1 or the empty one
@@ -45,7 +45,7 @@ sliced link = record {
 }
 
 -- an installation with this state, after this log
-abbrev beside : LState → List LogFrame → Installation
+abbrev pub beside : LState → List LogFrame → Installation
 beside state opening = record {
   base = 0;
   opening = opening;
@@ -53,7 +53,7 @@ beside state opening = record {
 }
 
 -- an atom of the id 27 tells a state, of the empty key
-abbrev screen_is : ℕ → ℕ → LogFrame
+abbrev pub screen_is : ℕ → ℕ → LogFrame
 screen_is at state = AtomAt at
     (record { id = 27; fields = record { field = 1; index = 0; sub = 0; flags = 1; value = Int (pos state) } ∷ [] })
 

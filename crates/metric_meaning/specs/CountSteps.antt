@@ -1,38 +1,21 @@
 -- What a metric of counts gets at each step.
-use Rattle.std.specs.Prelude.{ℕ, Bool, ◌&&◌, List, [], ◌∷◌, ◌++◌, Option, Some, None, if◌then◌else◌}
-use Rattle.atom_record.specs.declared.atom.Atom.{Atom}
-use Rattle.atom_record.specs.declared.log.LogFrame.TheVariants.{AtomAt}
+use Rattle.std.specs.Prelude.{ℕ, Bool, List, [], ◌∷◌, ◌++◌, Option, Some, None}
+use Rattle.std.specs.Option.{option_map}
 use Rattle.atom_record.specs.declared.value.MetricKey.{MetricKey}
 use Rattle.bucket_meaning.specs.Marks.{Mark, Came, no_edges}
 use Rattle.bucket_meaning.specs.Kept.{Taken}
-use Rattle.field_select.specs.LeafValues.{key_of}
 use Rattle.config_links.specs.declared.linked.LMetric.{LMetric}
 use Rattle.metric_producer.specs.declared.row.Row.{Row}
 use Rattle.metric_kinds.specs.Counts.{count_kind}
-use Rattle.metric_meaning.specs.Histories.{What, Logged, Step, Installation, truth_at}
-use Rattle.metric_meaning.specs.MetricConditions.{is_condition_true}
-use Rattle.metric_meaning.specs.StateSlices.{atom_slices}
+use Rattle.metric_meaning.specs.Histories.{Step, Installation}
 use Rattle.metric_meaning.specs.Scenes.{Scene, scene_after}
+use Rattle.metric_meaning.specs.Arrivals.{atom_key, arriving_by}
 use Rattle.metric_meaning.specs.StepMarks.{StepNews}
 use Rattle.metric_meaning.specs.Ways.{Way, shown_by_steps}
 
--- the key by which a metric counts an atom: its values at the metric's dimensions, and its slices by states
-abbrev pub atom_key : Scene → LMetric → Atom → MetricKey
-atom_key scene metric atom = record {
-  dims = key_of metric.dims atom;
-  slices = atom_slices scene.linked.states scene.log atom metric.slices;
-}
-
--- the key that arrives at a step which leaves this scene: that of an atom, where the matcher of what is counted holds
--- and the condition is true
+-- the key that arrives at a step which leaves this scene: that of the atom that arrives, if one does
 abbrev pub arrival_by : Scene → LMetric → Step → Option MetricKey
-arrival_by scene metric step = of_what step.what where
-  of_what : What → Option MetricKey
-  of_what (Logged (AtomAt at atom)) =
-      if truth_at metric.what step.truths
-      && is_condition_true scene.linked.predicates scene.tables metric atom
-      then Some (atom_key scene metric atom) else None
-  of_what _ = None
+arrival_by scene metric step = option_map (atom_key scene metric) (arriving_by scene metric step)
 
 -- the key that arrives at a step after others: conditions and states are asked after what the step itself does to them
 abbrev pub arrival_at : Installation → LMetric → List Step → Step → Option MetricKey

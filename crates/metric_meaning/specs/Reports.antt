@@ -3,11 +3,11 @@ use Rattle.std.specs.Prelude.{ℕ, ℤ, pos, ◌-◌, ◌^◌, min, Bool, List, 
 use Rattle.bucket_meaning.specs.Kept.{Taken}
 use Rattle.config_links.specs.declared.linked.LMetric.{LMetric}
 use Rattle.config_links.specs.declared.linked.LKind.{LKind}
-use Rattle.config_links.specs.declared.linked.LKind.TheVariants.{Count}
+use Rattle.config_links.specs.declared.linked.LKind.TheVariants.{Event, Count, PushedValue, PulledValue, PushedGauge, PulledGauge, SumDuration, MaxSparse}
 use Rattle.report_writer.specs.declared.tree.NumBucket.{NumBucket}
 use Rattle.report_writer.specs.declared.tree.NumTree.{NumTree}
 use Rattle.report_writer.specs.declared.tree.MetricBody.{MetricBody}
-use Rattle.report_writer.specs.declared.tree.MetricBody.TheVariants.{Events, Counts}
+use Rattle.report_writer.specs.declared.tree.MetricBody.TheVariants.{Counts, Durations}
 use Rattle.report_writer.specs.declared.tree.MetricTree.{MetricTree}
 use Rattle.report_writer.specs.declared.tree.ReportTree.{ReportTree}
 use Rattle.metric_producer.specs.declared.row.Row.{Row}
@@ -16,12 +16,22 @@ use Rattle.metric_meaning.specs.PredicateSteps.{predicate_drops}
 use Rattle.metric_meaning.specs.StateDrops.{drops_of_states, dropped_for}
 use Rattle.metric_meaning.specs.KeyTrees.{groups_of}
 use Rattle.metric_meaning.specs.CountSteps.{counts_shown}
+use Rattle.metric_meaning.specs.DurationSteps.{sums_shown, longest_shown}
+use Rattle.metric_meaning.specs.EventSteps.{events_shown}
+use Rattle.metric_meaning.specs.EventTrees.{events_body}
+use Rattle.metric_meaning.specs.ValueLeaves.{ValueLeaf}
+use Rattle.metric_meaning.specs.PushedValueSteps.{pushed_values_shown}
+use Rattle.metric_meaning.specs.ValueTrees.{values_body}
+use Rattle.metric_meaning.specs.PushedGaugeSteps.{pushed_gauge_shown}
+use Rattle.metric_meaning.specs.GaugeTrees.{gauge_body}
+use Rattle.metric_meaning.specs.PulledValueSteps.{pulled_values_shown}
+use Rattle.metric_meaning.specs.PulledGaugeSteps.{pulled_gauge_shown}
 
--- a count in a report ends where a signed number of 64 bits does
+-- a count or a time in a report ends where a signed number of 64 bits does
 abbrev pub bucket_of : Row ℕ → NumBucket
 bucket_of row = record { start = row.start; end = row.end; value = pos (min row.value (2 ^ 63 - 1)) }
 
--- rows of counts by their keys
+-- rows of counts or times by their keys
 abbrev pub count_groups : List (Row ℕ) → List NumTree
 count_groups = groups_of (λ leaves slices buckets. record { leaves = leaves; slices = slices; buckets = buckets })
     bucket_of
@@ -38,18 +48,36 @@ tree_with_body base metric shown body = record {
   body = body;
 }
 
--- what is shown of a metric of a kind that isn't acted on yet
-abbrev pub nothing_shown : Taken (Row ℕ)
-nothing_shown = record { rows = []; not_kept = 0; dropped = 0; missing = 0 }
-
 -- what a report shows of a metric, by its kind
 abbrev pub metric_tree : Installation → List Step → Bool → ℕ → LMetric → MetricTree
 metric_tree installed steps include_current now metric = by_kind metric.kind where
   by_kind : LKind → MetricTree
+  by_kind Event =
+      let shown = events_shown installed metric steps include_current now in
+      tree_with_body installed.base metric shown (events_body shown.rows)
   by_kind Count =
       let shown = counts_shown installed metric steps include_current now in
       tree_with_body installed.base metric shown (Counts (count_groups shown.rows))
-  by_kind _ = tree_with_body installed.base metric nothing_shown (Events [])
+  by_kind (PushedValue atom_id leaf aggregation) =
+      let source : ValueLeaf = record { atom_id = atom_id; leaf = leaf } in
+      let shown = pushed_values_shown installed metric source aggregation steps include_current now in
+      tree_with_body installed.base metric shown (values_body shown.rows)
+  by_kind (PulledValue atom_id leaf spec) =
+      let source : ValueLeaf = record { atom_id = atom_id; leaf = leaf } in
+      let shown = pulled_values_shown installed metric source spec steps include_current now in
+      tree_with_body installed.base metric shown (values_body shown.rows)
+  by_kind (PushedGauge fields samples) =
+      let shown = pushed_gauge_shown installed metric fields samples steps include_current now in
+      tree_with_body installed.base metric shown (gauge_body shown.rows)
+  by_kind (PulledGauge fields samples mode trigger) =
+      let shown = pulled_gauge_shown installed metric fields samples mode trigger steps include_current now in
+      tree_with_body installed.base metric shown (gauge_body shown.rows)
+  by_kind (SumDuration spec) =
+      let shown = sums_shown installed metric spec steps include_current now in
+      tree_with_body installed.base metric shown (Durations (count_groups shown.rows))
+  by_kind (MaxSparse spec) =
+      let shown = longest_shown installed metric spec steps include_current now in
+      tree_with_body installed.base metric shown (Durations (count_groups shown.rows))
 
 -- the clock at the last report, or the base
 abbrev pub last_report : ℕ → List Step → ℕ

@@ -1,9 +1,9 @@
 -- What happens to a metric at each step: first the ends of buckets that it crosses, then what it brings, or the report.
-use Rattle.std.specs.Prelude.{ℕ, Bool, true, false, List, [], ◌∷◌, ◌++◌, if◌then◌else◌, nat_lt}
+use Rattle.std.specs.Prelude.{ℕ, Bool, true, false, List, [], ◌∷◌, ◌++◌, if◌then◌else◌, nat_lt, Option, Some, None}
 use Rattle.std.specs.List.{flat_map}
 use Rattle.sd_base.specs.Outputs.{outputs}
 use Rattle.bucket_meaning.specs.Ends.{Moment, ends_at}
-use Rattle.bucket_meaning.specs.Marks.{Mark, Asked, Edges, boundary, boundary_marks}
+use Rattle.bucket_meaning.specs.Marks.{Mark, Came, Asked, Edges, no_edges, boundary, boundary_marks}
 use Rattle.metric_meaning.specs.Histories.{What, Logged, Reported, Step, moments_at}
 
 -- the frames of the log among these steps
@@ -20,6 +20,19 @@ pub record StepNews (X : Type 0) : Type 0 where
   pub begins : List (Mark X)
   pub edges : List Step → Edges X
   pub comes : List Step → Step → List (Mark X)
+
+-- the mark of what arrives, if something does
+abbrev pub arrival_marks : {X : Type 0} → Option X → List (Mark X)
+arrival_marks None = []
+arrival_marks (Some arrival) = Came arrival ∷ []
+
+-- the news of a kind to which at most one arrival comes at a step: nothing stands at the beginning and at boundaries
+abbrev pub arrivals_alone : {X : Type 0} → (List Step → Step → Option X) → StepNews X
+arrivals_alone arrives = record {
+  begins = [];
+  edges = λ before. no_edges;
+  comes = λ before step. arrival_marks (arrives before step);
+}
 
 -- the marks of a report's cut at the clock, if it asks for one; without buckets nothing is cut
 abbrev pub cut_marks : {X : Type 0} → Edges X → ℕ → Bool → ℕ → List (Mark X)

@@ -5,6 +5,7 @@ use Rattle.std.proofs.lemmas.Option.{slice_get_read, slice_get_past}
 use Rattle.std.proofs.lemmas.Result.{on_ok_weaker}
 use Rattle.std.specs.Prelude.{slice_get}
 use Rattle.state_slicer.specs.Slices.{slice_of}
+use Rattle.metric_meaning.specs.Readings.{atom_reading}
 use Rattle.client_engine.proofs.SliceLemmas.{slice_there, slice_past}
 use Rattle.client_engine.proofs.slices.add_slice.Goals as goal
 
@@ -13,7 +14,7 @@ pub returns-in_ok-key-in-Some : goal.returns-in_ok-key-in-Some
 returns-in_ok-key-in-Some c = λ log stands.
     let states = c.args.states.now in
     let by = c.args.by.now in
-    let atom = c.args.atom.now in
+    let reading = atom_reading c.args.atom.now in
     let state = c.in-Some.state.now in
     let found = c.in-Some.ensures.lookup in
     let within = found.0 in
@@ -24,12 +25,12 @@ returns-in_ok-key-in-Some c = λ log stands.
     let same = to_z-of_z w32 c.value.result fits in
     on_ok_weaker c.push.result (λ added. added
     ∙ ap (λ l. c.args.shown.now ++ l) (ap (λ s. s ∷ []) (c.slice.ensures ∙ ap (slice_of state) (same ∙ value))
-    ∙ slice_there states log atom by state c.in_ok-key-in-Some.key there c.in_ok-key-in-Some.ensures))
+    ∙ slice_there states log reading by state c.in_ok-key-in-Some.key there c.in_ok-key-in-Some.ensures))
     c.push.ensures.added
 
 -- no state, no slice
 pub returns-in-None : goal.returns-in-None
 returns-in-None c = λ log stands.
     sym (append-nil c.args.shown.now)
-    ∙ ap (λ l. c.args.shown.now ++ l) (slice_past c.args.states.now log c.args.atom.now c.args.by.now
+    ∙ ap (λ l. c.args.shown.now ++ l) (slice_past c.args.states.now log (atom_reading c.args.atom.now) c.args.by.now
     (slice_get_past c.args.states.now c.args.by.now.state c.in-None.ensures.lookup.3))

@@ -1,7 +1,8 @@
 -- Nothing arrives where the condition isn't true; else the atom's key does.
 use Rattle.std.proofs.Common.{◌∙◌, ap, arith}
 use Rattle.field_select.specs.LeafValues.{key_of}
-use Rattle.metric_meaning.specs.StateSlices.{atom_slices}
+use Rattle.metric_meaning.specs.Readings.{atom_reading}
+use Rattle.metric_meaning.specs.StateSlices.{named_slices}
 use Rattle.client_engine.specs.Handed.{handed}
 use Rattle.client_engine.proofs.TrackLemmas.{not_arrived, arrived, condition_there}
 use Rattle.client_engine.proofs.track.arrival.Goals as goal
@@ -13,7 +14,7 @@ returns-then-not-branch-clause-key c = λ scene found.
     let given = handed c.args.conditions.now c.args.states.now c.args.view.now.states.now in
     not_arrived scene c.args.metric.now c.args.frame.now c.in-AtomAt.at c.in-AtomAt.atom
     c.args.view.now.matched.now c.in_ok-holds.field-0 c.in-AtomAt.is
-    (c.in_ok-holds.ensures.truth ∙ condition_there given scene c.args.metric.now c.in-AtomAt.atom found)
+    (c.in_ok-holds.ensures.truth ∙ condition_there given scene c.args.metric.now (atom_reading c.in-AtomAt.atom) found)
     (grind (arith, off))
 
 -- the atom's key arrives
@@ -27,9 +28,9 @@ returns-clause-key c = λ scene found.
     let atom = c.in-AtomAt.atom in
     arrived scene metric c.args.frame.now c.in-AtomAt.at atom c.args.view.now.matched.now c.in_ok-holds.field-0
     (record { dims = c.in_ok-dims.dims; slices = c.in_ok-slices.slices }) c.in-AtomAt.is (grind (arith, matches, what))
-    (c.in_ok-holds.ensures.truth ∙ condition_there given scene metric atom found) (grind (arith, on))
+    (c.in_ok-holds.ensures.truth ∙ condition_there given scene metric (atom_reading atom) found) (grind (arith, on))
     (ap (λ dims. record { dims = dims; slices = c.in_ok-slices.slices }) c.in_ok-dims.ensures.key
     ∙ ap (λ slices. record { dims = key_of metric.dims atom; slices = slices })
     (c.in_ok-slices.ensures scene.log found.book
-    ∙ ap (λ by. atom_slices c.args.states.now scene.log atom by) c.as_slice-by.ensures
-    ∙ ap (λ states. atom_slices states scene.log atom metric.slices) found.states))
+    ∙ ap (λ by. named_slices c.args.states.now scene.log (atom_reading atom) by) c.as_slice-by.ensures
+    ∙ ap (λ states. named_slices states scene.log (atom_reading atom) metric.slices) found.states))

@@ -1,5 +1,6 @@
 use Rattle.std.proofs.Common.{◌∙◌, length, map, ap}
 use Rattle.std.specs.List.{range_with_len}
+use Rattle.metric_meaning.specs.Readings.{atom_reading}
 use Rattle.metric_meaning.specs.MetricConditions.{binds_at}
 use Rattle.client_engine.proofs.KeptPredicatesLemmas.{are_tables, condition_found}
 use Rattle.client_engine.proofs.conditions.Conditions.holds.Goals as goal
@@ -7,7 +8,7 @@ use Rattle.client_engine.proofs.conditions.Conditions.holds.Goals as goal
 -- there is a table for each predicate, and a list of what is asked
 pub query-truth-requires-clause-tables : goal.query-truth-requires-clause-tables
 query-truth-requires-clause-tables c =
-    let asks = binds_at c.as_slice-links.result.now c.args.atom.now in
+    let asks = binds_at c.as_slice-links.result.now (atom_reading c.args.atom.now) in
     rw (c.as_slice.ensures.value, c.as_slice-2.ensures.value)
     (are_tables c.self.inside.tree.nodes c.self.inside.tables.items asks _ c.self.invariant
     (c.in_ok-ask_all.ensures ∙ ap (λ n. map asks (range_with_len 0 n)) c.len.ensures))
@@ -17,11 +18,11 @@ pub returns-clause-truth : goal.returns-clause-truth
 returns-clause-truth c =
     let nodes = c.self.inside.tree.nodes in
     let metric = c.args.metric.now in
-    let atom = c.args.atom.now in
-    let asks = binds_at c.as_slice-links.result.now atom in
+    let reading = atom_reading c.args.atom.now in
+    let asks = binds_at c.as_slice-links.result.now reading in
     let found = rw (c.as_slice.ensures.value, c.as_slice-2.ensures.value) at c.query-truth.ensures in
     rw (← c.self.view_is)
     (c.is_for_sure.ensures
-    ∙ condition_found nodes c.self.inside.tables.items metric atom c.query-truth.result _ found
+    ∙ condition_found nodes c.self.inside.tables.items metric reading c.query-truth.result _ found
     (c.in_ok-ask_all.ensures ∙ ap (λ n. map asks (range_with_len 0 n)) c.len.ensures
-    ∙ ap (λ links. map (binds_at links atom) (range_with_len 0 (length nodes))) c.as_slice-links.ensures))
+    ∙ ap (λ links. map (binds_at links reading) (range_with_len 0 (length nodes))) c.as_slice-links.ensures))
