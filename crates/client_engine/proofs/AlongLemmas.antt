@@ -22,7 +22,8 @@ use Rattle.metric_calls.specs.Askings.{Asking, own_demands, steps_seen, AsksWell
 use Rattle.metric_calls.proofs.StepLemmas.{lane_step_after}
 use Rattle.metric_calls.proofs.AskingsLemmas.{asks_well, calls_mean_steps}
 use Rattle.client_engine.specs.Along.{Along}
-use Rattle.client_engine.specs.TrackStands.{logged_step, reported_step, ComesInTime, ComeInTime}
+use Rattle.client_engine.specs.NextSteps.{logged_step, reported_step, with_logged, with_reported, ComesInTime, ComeInTime}
+use Rattle.client_engine.specs.declared.request.ReportRequest.{ReportRequest}
 
 -- a step that comes in time is timely for a lane, before others that are
 timely_step : {News : Type 0} (news : Step → News) (last at : ℕ) (what : What) (truths : List Bool)
@@ -67,8 +68,8 @@ module _ {P Params News Event After X K C V : Type 0} (asking : Asking Params Ne
         (news : News)
         → moment ≡ moment_of frame (log_time frame) → news ≡ asking.news steps (logged_step frame truths)
         → LogsNews law asking.asks old new moment news → Along asking law steps old
-        → ComeInTime (own_demands asking law.collecting).base (steps ++ logged_step frame truths ∷ [])
-        → Along asking law (steps ++ logged_step frame truths ∷ []) new
+        → ComeInTime (own_demands asking law.collecting).base (with_logged steps frame truths)
+        → Along asking law (with_logged steps frame truths) new
     along_logs frame truths old new moment news moment_is news_is logs along in_time =
         let step = logged_step frame truths in
         let base = (own_demands asking law.collecting).base in
@@ -89,20 +90,20 @@ module _ {P Params News Event After X K C V : Type 0} (asking : Asking Params Ne
         }
 
     -- one more report: what the lane hands out is what is shown of the metric by its steps
-    pub along_reports : Agrees asking law.collecting → (include_current : Bool) (at : ℕ)
-        (old new : Lane P Event After V) (closed : Closed V)
-        → GetsReport law old new at include_current closed → Along asking law steps old
-        → ComeInTime (own_demands asking law.collecting).base (steps ++ reported_step include_current at ∷ [])
-        → Along asking law (steps ++ reported_step include_current at ∷ []) new
-        × (closed ≡ closed_of (shown_by_steps asking.way steps include_current at))
-    along_reports agrees include_current at old new closed reports along in_time =
-        let step = reported_step include_current at in
+    pub along_reports : Agrees asking law.collecting → (request : ReportRequest) (old new : Lane P Event After V)
+        (closed : Closed V)
+        → GetsReport law old new request.at request.include_current closed → Along asking law steps old
+        → ComeInTime (own_demands asking law.collecting).base (with_reported steps request)
+        → Along asking law (with_reported steps request) new
+        × (closed ≡ closed_of (shown_by_steps asking.way steps request.include_current request.at))
+    along_reports agrees request old new closed reports along in_time =
+        let step = reported_step request in
         let base = (own_demands asking law.collecting).base in
         let seen = steps_seen asking steps in
         let all = seen ++ lane_step (asking.news steps) step ∷ [] in
         let pushed : steps_seen asking (steps ++ step ∷ []) ≡ all = steps-push asking.news steps step in
         let both = opened_reports law asking.asks asking.params seen along.fits asking.opens well.opens old
-        new at include_current closed reports along.collects
+        new request.at request.include_current closed reports along.collects
         (subst (AreTimely base) pushed (timely_from asking.news base (steps ++ step ∷ []) in_time))
         (subst (AskWell (own_demands asking law.collecting) asking.asks asking.opens []) pushed
         (asks_well asking law.collecting well (steps ++ step ∷ []))) in (
@@ -110,5 +111,6 @@ module _ {P Params News Event After X K C V : Type 0} (asking : Asking Params Ne
             fits = along.fits;
             collects = subst (OpenedStandsFor law asking.asks asking.opens new asking.params) (sym pushed) both.0;
           },
-          both.1 ∙ ap closed_of (calls_mean_steps asking law.collecting agrees steps include_current at),
+          both.1 ∙ ap closed_of
+              (calls_mean_steps asking law.collecting agrees steps request.include_current request.at),
         )

@@ -1,5 +1,5 @@
 -- The parts of an instance, one step more.
-use Rattle.std.proofs.Common.{◌≡◌, ℕ, ℤ, ◌<◌, ◌≤◌, Bool, List, [], ◌∷◌, ◌++◌, true, length, map, get_or, filter, All, refl, sym, ap, subst, ◌∙◌, append_assoc, arith}
+use Rattle.std.proofs.Common.{◌≡◌, ℕ, ◌<◌, ◌≤◌, Bool, List, [], ◌∷◌, ◌++◌, true, length, map, filter, All, refl, sym, ap, subst, ◌∙◌, append_assoc, arith}
 use Rattle.std.specs.Prelude.{Option, Some, None}
 use Rattle.std.proofs.Props.{props}
 use Rattle.std.specs.List.{list_all}
@@ -11,30 +11,29 @@ use Rattle.atom_record.specs.declared.log.LogFrame.{LogFrame}
 use Rattle.bucket_meaning.specs.Limits.{time_limit}
 use Rattle.config_links.specs.declared.linked.Linked.{Linked}
 use Rattle.config_links.specs.declared.linked.LMetric.{LMetric}
-use Rattle.config_links.specs.declared.linked.LKind.{LKind}
-use Rattle.config_links.specs.declared.linked.LKind.TheVariants as kinds
 use Rattle.config_links.specs.declared.linked.LPredicate.{LPredicate}
 use Rattle.config_links.specs.declared.linked.LPredBody.{LPredBody}
 use Rattle.config_links.specs.declared.linked.LPredBody.TheVariants.{Simple, Combo}
-use Rattle.config_links.specs.SoundConfig.{IsBound, IsSize, MayBeWithin, IsSoundKind, IsSoundBody, IsSoundPredicate, IsSoundMetric, IsSoundConfig}
+use Rattle.config_links.specs.SoundConfig.{IsBound, MayBeWithin, IsSoundBody, IsSoundPredicate, IsSoundMetric, IsSoundConfig}
 use Rattle.config_links.proofs.SoundUses.{references_end}
 use Rattle.session_frames.specs.FrameReading.{log_time}
 use Rattle.metric_meaning.specs.Histories.{Step, What, Reported, Logged, Installation, History, with_step, frames_at, logged_frames, log_after, log_of_history}
 use Rattle.metric_meaning.specs.ShownFrames.{shown_as}
 use Rattle.metric_meaning.specs.StateDrops.{drops_of_states, dropped_for}
 use Rattle.metric_meaning.specs.PredicateSteps.{table_spec, tables_after, predicate_drops, table_after, drop_above_zero}
-use Rattle.metric_meaning.specs.Forms.{is_count, is_built_metric, is_built}
-use Rattle.metric_meaning.specs.Reports.{report_of, last_report, metric_tree}
+use Rattle.metric_meaning.specs.Forms.{is_built_metric, is_built}
+use Rattle.metric_meaning.specs.Reports.{report_of, last_report}
 use Rattle.metric_meaning.proofs.PredicateStepsLemmas.{tables_after-idle}
 use Rattle.report_writer.specs.declared.tree.ReportTree.{ReportTree}
-use Rattle.client_engine.specs.TrackStands.{logged_step, reported_step, ComesInTime, ComeInTime, MayReport, last_from}
+use Rattle.client_engine.specs.NextSteps.{logged_step, reported_step, with_logged, ComesInTime, ComeInTime, MayReport, requested_tree, last_from}
 use Rattle.client_engine.specs.Known.{Known, KnowsAfter, drops_in}
 use Rattle.client_engine.specs.Handed.{BookOfStates}
 use Rattle.client_engine.proofs.ShownLemmas.{shown_time, shown_tables}
 use Rattle.client_engine.specs.KeptPredicates.{HasItsLeaves, KeepsItsLeaves, HasBound, CanBeKept}
 use Rattle.client_engine.specs.Tracks.{CanBeTracked, metric_in, AsksWithin, AreNew}
-use Rattle.client_engine.specs.InsideParts.{tree_with, linked_of_inside, AreAsked, InsideStandsFor, new_history, IsFreshInside, InsideLogs, InsideReports}
-use Rattle.client_engine.specs.declared.inside.Inside.{Inside}
+use Rattle.client_engine.specs.Running.{Running, linked_of, AreAsked}
+use Rattle.client_engine.specs.InsideParts.{requested_report, tree_with, InsideStandsFor, new_history, IsFreshInside, InsideLogs, InsideReports}
+use Rattle.client_engine.specs.declared.request.ReportRequest.{ReportRequest}
 
 -- the clock at the last report, after a step at a time
 abbrev reported_or : ℕ → ℕ → What → ℕ
@@ -74,14 +73,14 @@ drops_are (predicate ∷ predicates) steps =
 
 -- the whole log after one more frame
 log_after-push : (installed : Installation) (steps : List Step) (frame : LogFrame) (truths : List Bool)
-    → log_after installed (steps ++ logged_step frame truths ∷ []) ≡ log_after installed steps ++ frame ∷ []
+    → log_after installed (with_logged steps frame truths) ≡ log_after installed steps ++ frame ∷ []
 log_after-push installed steps frame truths =
     ap (λ l. installed.opening ++ l)
     (flat_map-append (λ (step : Step). frames_at step.what) steps (logged_step frame truths ∷ []))
     ∙ sym (append_assoc installed.opening (logged_frames steps) (frame ∷ []))
 
 -- an instance takes one more frame of the log, which is shown so
-pub inside_logs : (old new : Inside) (shown : LogFrame) (truths : List Bool) (book : BookOfStates)
+pub inside_logs : (old new : Running) (shown : LogFrame) (truths : List Bool) (book : BookOfStates)
     → InsideLogs shown truths book old new → log_time shown < time_limit
     → (history : History) (frame : LogFrame) → InsideStandsFor old history
     → last_from history.installed.base history.steps ≤ log_time frame
@@ -93,25 +92,25 @@ inside_logs old new shown truths book logs fits history frame has later shown_is
     let installed = history.installed in
     let linked = installed.linked in
     let log = log_of_history history in
-    let base : new.base ≡ old.base = ap (λ (it : Inside). it.base) logs.same in
+    let base : new.base ≡ old.base = ap (λ (it : Running). it.base) logs.same in
     let time : log_time shown ≡ log_time frame = ap log_time shown_is ∙ shown_time log frame in
     let in_time = in_time-push installed.base history.steps step has.in_time
     (later, subst (λ t. t < time_limit) time fits) in
-    let predicates : new.conditions.predicates ≡ linked.predicates =
+    let predicates : new.known.predicates ≡ linked.predicates =
     logs.known.predicates ∙ ap (λ (l : Linked). l.predicates) has.linked in
-    let knows : new.conditions.tables ≡ tables_after new.conditions.predicates (history.steps ++ step ∷ []) =
+    let knows : new.known.tables ≡ tables_after new.known.predicates (history.steps ++ step ∷ []) =
     logs.known.tables history.steps has.knows
-    ∙ ap (λ f. tables_after new.conditions.predicates (history.steps ++ logged_step f truths ∷ [])) shown_is
-    ∙ shown_tables new.conditions.predicates history.steps log frame truths in
+    ∙ ap (λ f. tables_after new.known.predicates (history.steps ++ logged_step f truths ∷ [])) shown_is
+    ∙ shown_tables new.known.predicates history.steps log frame truths in
     record {
-      linked = ap linked_of_inside logs.same
-          ∙ ap (λ predicates. record (linked_of_inside old) {
+      linked = ap linked_of logs.same
+          ∙ ap (λ predicates. record (linked_of old) {
             predicates = predicates;
-            metrics = map metric_in new.tracks.items;
+            metrics = map metric_in new.tracks;
           }) logs.known.predicates
-          ∙ ap (λ metrics. record (linked_of_inside old) { metrics = metrics }) logs.tracks.metrics ∙ has.linked;
+          ∙ ap (λ metrics. record (linked_of old) { metrics = metrics }) logs.tracks.metrics ∙ has.linked;
       base = base ∙ has.base;
-      last = ap (λ (it : Inside). it.last) logs.same ∙ has.last
+      last = ap (λ (it : Running). it.last) logs.same ∙ has.last
           ∙ sym (last_report-push installed.base history.steps step);
       in_time = in_time;
       knows = knows;
@@ -128,58 +127,58 @@ inside_logs old new shown truths book logs fits history frame has later shown_is
     }
 
 -- what metrics ask stays over a frame of the log
-pub asked_after_log : (old new : Inside) (shown : LogFrame) (truths : List Bool) (book : BookOfStates)
+pub asked_after_log : (old new : Running) (shown : LogFrame) (truths : List Bool) (book : BookOfStates)
     → InsideLogs shown truths book old new → AreAsked old → AreAsked new
 asked_after_log old new shown truths book logs asked =
-    subst (λ ps. All (AsksWithin (length ps)) (map metric_in new.tracks.items)) (sym logs.known.predicates)
-    (subst (All (AsksWithin (length old.conditions.predicates))) (sym logs.tracks.metrics) asked)
+    subst (λ ps. All (AsksWithin (length ps)) (map metric_in new.tracks)) (sym logs.known.predicates)
+    (subst (All (AsksWithin (length old.known.predicates))) (sym logs.tracks.metrics) asked)
 
 -- what metrics ask stays over a report
-pub asked_after_report : (old new : Inside) (uid id : ℤ) (include_current : Bool) (at : ℕ) (book : BookOfStates)
-    (tree : ReportTree) → InsideReports uid id include_current at book old new tree → AreAsked old → AreAsked new
-asked_after_report old new uid id include_current at book tree reports asked =
-    subst (λ (known : Known). All (AsksWithin (length known.predicates)) (map metric_in new.tracks.items))
-    (sym (ap (λ (it : Inside). it.conditions) reports.same))
-    (subst (All (AsksWithin (length old.conditions.predicates))) (sym reports.tracks.metrics) asked)
+pub asked_after_report : (old new : Running) (request : ReportRequest) (book : BookOfStates) (tree : ReportTree)
+    → InsideReports request book old new tree → AreAsked old → AreAsked new
+asked_after_report old new request book tree reports asked =
+    subst (λ (known : Known). All (AsksWithin (length known.predicates)) (map metric_in new.tracks))
+    (sym (ap (λ (it : Running). it.known) reports.same))
+    (subst (All (AsksWithin (length old.known.predicates))) (sym reports.tracks.metrics) asked)
 
 -- an instance takes one more report
-pub inside_reports : (old new : Inside) (uid id : ℤ) (include_current : Bool) (at : ℕ) (book : BookOfStates)
-    (tree : ReportTree) → InsideReports uid id include_current at book old new tree
-    → (history : History) → InsideStandsFor old history → last_from history.installed.base history.steps ≡ at
-    → InsideStandsFor new (with_step history (reported_step include_current at))
-    × (StateBookStandsFor book (log_of_history history) → tree ≡ report_of history uid id include_current at)
+pub inside_reports : (old new : Running) (request : ReportRequest) (book : BookOfStates) (tree : ReportTree)
+    → InsideReports request book old new tree
+    → (history : History) → InsideStandsFor old history → last_from history.installed.base history.steps ≡ request.at
+    → InsideStandsFor new (with_step history (reported_step request))
+    × (StateBookStandsFor book (log_of_history history) → tree ≡ requested_report history request)
 unfolding report_of
-inside_reports old new uid id include_current at book tree reports history has now =
-    let step = reported_step include_current at in
+inside_reports old new request book tree reports history has now =
+    let step = reported_step request in
     let steps = history.steps in
     let installed = history.installed in
     let linked = installed.linked in
     let in_time = in_time-push installed.base steps step has.in_time (sym now) in
-    let may : MayReport installed steps old.base include_current at = record {
+    let may : MayReport installed steps old.base request = record {
       base_is = sym has.base;
       in_time = in_time;
     } in
-    let predicates_are : old.conditions.predicates ≡ linked.predicates = ap (λ (l : Linked). l.predicates) has.linked
+    let predicates_are : old.known.predicates ≡ linked.predicates = ap (λ (l : Linked). l.predicates) has.linked
     in
     let states_are : old.states ≡ linked.states = ap (λ (l : Linked). l.states) has.linked in
-    let known : new.conditions ≡ old.conditions = ap (λ (it : Inside). it.conditions) reports.same in
+    let known : new.known ≡ old.known = ap (λ (it : Running). it.known) reports.same in
     let last = last_report installed.base steps in
     let trees = tree.metrics in
     let drops = reports.drops in (
       record {
-        linked = ap linked_of_inside reports.same
-            ∙ ap (λ metrics. record (linked_of_inside old) { metrics = metrics }) reports.tracks.metrics ∙ has.linked;
-        base = ap (λ (it : Inside). it.base) reports.same ∙ has.base;
-        last = ap (λ (it : Inside). it.last) reports.same ∙ sym (last_report-push installed.base steps step);
+        linked = ap linked_of reports.same
+            ∙ ap (λ metrics. record (linked_of old) { metrics = metrics }) reports.tracks.metrics ∙ has.linked;
+        base = ap (λ (it : Running). it.base) reports.same ∙ has.base;
+        last = ap (λ (it : Running). it.last) reports.same ∙ sym (last_report-push installed.base steps step);
         in_time = in_time;
         knows = subst (KnowsAfter (steps ++ step ∷ [])) (sym known)
-            (has.knows ∙ sym (tables_after-idle old.conditions.predicates steps step (λ predicate. refl)));
+            (has.knows ∙ sym (tables_after-idle old.known.predicates steps step (λ predicate. refl)));
         tracks = reports.tracks.stand installed steps has.tracks may;
       },
       λ book_is.
           let of_predicates : drops.of_predicates ≡ predicate_drops linked.predicates steps =
-          reports.of_predicates ∙ ap (drops_in old.conditions.predicates) has.knows
-          ∙ drops_are old.conditions.predicates steps ∙ ap (λ ps. predicate_drops ps steps) predicates_are in
+          reports.of_predicates ∙ ap (drops_in old.known.predicates) has.knows
+          ∙ drops_are old.known.predicates steps ∙ ap (λ ps. predicate_drops ps steps) predicates_are in
           let of_states : drops.of_states ≡ drops_of_states linked.states (log_of_history history) =
           reports.of_states.keys (log_of_history history) book_is
           ∙ ap (λ states. drops_of_states states (log_of_history history)) states_are in
@@ -187,25 +186,25 @@ inside_reports old new uid id include_current at book tree reports history has n
           reports.of_states.atoms (log_of_history history) book_is
           ∙ ap (λ states. dropped_for states (log_of_history history)) states_are in
           reports.tree_is
-          ∙ ap (λ time. tree_with uid id time at trees drops) has.last
-          ∙ ap (λ l. tree_with uid id last at trees (record drops { of_predicates = l })) of_predicates
-          ∙ ap (λ l. tree_with uid id last at trees (record {
+          ∙ ap (λ time. tree_with request time trees drops) has.last
+          ∙ ap (λ l. tree_with request last trees (record drops { of_predicates = l })) of_predicates
+          ∙ ap (λ l. tree_with request last trees (record {
             of_predicates = predicate_drops linked.predicates steps;
             of_states = l;
             of_atoms = drops.of_atoms;
           })) of_states
-          ∙ ap (λ n. tree_with uid id last at trees (record {
+          ∙ ap (λ n. tree_with request last trees (record {
             of_predicates = predicate_drops linked.predicates steps;
             of_states = drops_of_states linked.states (log_of_history history);
             of_atoms = n;
           })) of_atoms
-          ∙ ap (λ shown. tree_with uid id last at shown (record {
+          ∙ ap (λ shown. tree_with request last shown (record {
             of_predicates = predicate_drops linked.predicates steps;
             of_states = drops_of_states linked.states (log_of_history history);
             of_atoms = dropped_for linked.states (log_of_history history);
           }))
           (reports.tracks.shown installed steps has.tracks may
-          ∙ ap (λ metrics. map (metric_tree installed steps include_current at)
+          ∙ ap (λ metrics. map (requested_tree installed steps request)
           (filter (λ (metric : LMetric). metric.shown) metrics))
           (ap (λ (l : Linked). l.metrics) has.linked)),
     )
@@ -237,9 +236,9 @@ sound_kept linked sound =
     }
 
 -- the parts of a sound configuration, to which nothing has happened yet
-pub fresh_inside : (linked : Linked) (base : ℕ) (it : Inside) → IsSoundConfig linked → it.matchers ≡ linked.matchers
-    → it.conditions.predicates ≡ linked.predicates → it.states ≡ linked.states → it.base ≡ base → it.last ≡ base
-    → KnowsAfter [] it.conditions → AreNew base linked.metrics it.tracks.items → IsFreshInside linked base it
+pub fresh_inside : (linked : Linked) (base : ℕ) (it : Running) → IsSoundConfig linked → it.matchers ≡ linked.matchers
+    → it.known.predicates ≡ linked.predicates → it.states ≡ linked.states → it.base ≡ base → it.last ≡ base
+    → KnowsAfter [] it.known → AreNew base linked.metrics it.tracks → IsFreshInside linked base it
 fresh_inside linked base it sound matchers predicates states base_is last_is knows are =
     let metrics = are.metrics_are in
     let asks : All (AsksWithin (length linked.predicates)) linked.metrics =
@@ -247,10 +246,10 @@ fresh_inside linked base it sound matchers predicates states base_is last_is kno
     sound.metrics in
     record {
       stands = λ opening. record {
-        linked = ap (λ ms. record (linked_of_inside it) { matchers = ms }) matchers
-            ∙ ap (λ ps. record linked { predicates = ps; states = it.states; metrics = map metric_in it.tracks.items })
+        linked = ap (λ ms. record (linked_of it) { matchers = ms }) matchers
+            ∙ ap (λ ps. record linked { predicates = ps; states = it.states; metrics = map metric_in it.tracks })
             predicates
-            ∙ ap (λ ss. record linked { states = ss; metrics = map metric_in it.tracks.items }) states
+            ∙ ap (λ ss. record linked { states = ss; metrics = map metric_in it.tracks }) states
             ∙ ap (λ ms. record linked { metrics = ms }) metrics;
         base = base_is;
         last = last_is;
@@ -258,7 +257,7 @@ fresh_inside linked base it sound matchers predicates states base_is last_is kno
         knows = knows;
         tracks = are.stand (new_history base opening linked).installed refl;
       };
-      asked = subst (λ ps. All (AsksWithin (length ps)) (map metric_in it.tracks.items)) (sym predicates)
+      asked = subst (λ ps. All (AsksWithin (length ps)) (map metric_in it.tracks)) (sym predicates)
           (subst (All (AsksWithin (length linked.predicates))) (sym metrics) asks);
     }
 
@@ -272,7 +271,7 @@ asks_prop : (count : ℕ) (metric : LMetric) → IsProp (AsksWithin count metric
 asks_prop count metric = within_prop count metric.condition
 
 -- what metrics merely ask they ask
-pub all_asked : (it : Inside) → ∥ AreAsked it ∥₁ → AreAsked it
+pub all_asked : (it : Running) → ∥ AreAsked it ∥₁ → AreAsked it
 all_asked it asked = ∥∥₁_elim asked (hlevel asks_prop) (λ all. all)
 
 -- each metric of a configuration that is acted on is acted on
@@ -283,22 +282,10 @@ each_built (metric ∷ metrics) all =
     All-cons (λ metric. is_built_metric metric ≡ true) metric metrics (grind (arith, all))
     (each_built metrics (grind (arith, all)))
 
--- a sound metric that counts has buckets
-has_size : (linked : Linked) (metric : LMetric) (kind : LKind) → is_count kind ≡ true → IsSoundKind linked metric kind
-    → IsSize metric.size
-has_size linked metric kinds.Count is sound = sound.1
-has_size linked metric kinds.Event is sound = absurd cc
-has_size linked metric (kinds.PushedValue atom_id leaf agg) is sound = absurd cc
-has_size linked metric (kinds.PulledValue atom_id leaf spec) is sound = absurd cc
-has_size linked metric (kinds.PushedGauge fields samples) is sound = absurd cc
-has_size linked metric (kinds.PulledGauge fields samples mode trigger) is sound = absurd cc
-has_size linked metric (kinds.SumDuration spec) is sound = absurd cc
-has_size linked metric (kinds.MaxSparse spec) is sound = absurd cc
-
 -- the metrics of a sound configuration that is acted on can be tracked
 pub all_tracked : (linked : Linked) → IsSoundConfig linked → is_built linked ≡ true → All CanBeTracked linked.metrics
-all_tracked linked sound built = λ k d within.
-    let metric = get_or linked.metrics k d in
-    let is = each_built linked.metrics built k d within in
-    let whole : IsSoundMetric linked metric = sound.metrics k d within in
-    record { built = is; sized = has_size linked metric metric.kind is whole.kind; bound = whole.bound }
+all_tracked linked sound built = λ k d within. record {
+  built = each_built linked.metrics built k d within;
+  linked = linked;
+  sound = sound.metrics k d within;
+}

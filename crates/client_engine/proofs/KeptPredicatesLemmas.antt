@@ -22,7 +22,7 @@ use Rattle.metric_meaning.specs.MetricConditions.{metric_binds, condition_tree, 
 use Rattle.metric_meaning.specs.PredicateSteps.{table_spec, table_with, table_after, tables_after, atom_events, drop_above_zero}
 use Rattle.metric_meaning.proofs.PredicateStepsLemmas.{table_after-push, tables_after-idle}
 use Rattle.client_engine.specs.Known.{Known, KnowsStep, drops_in}
-use Rattle.client_engine.specs.TrackStands.{logged_step}
+use Rattle.client_engine.specs.NextSteps.{logged_step}
 use Rattle.client_engine.specs.KeptPredicates.{HaveTheirSpecs, CanBeKept, AreKept, tables_with}
 use Rattle.client_engine.proofs.TracksLemmas.{same_here, map-set_same}
 

@@ -6,6 +6,7 @@ pub mod ShownLemmas
 pub mod SliceLemmas
 pub mod StateDropsLemmas
 pub mod AlongLemmas
+pub mod CountsLemmas
 pub mod TrackLemmas
 pub mod TracksLemmas
 pub mod InsidePartsLemmas

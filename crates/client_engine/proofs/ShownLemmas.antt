@@ -11,7 +11,7 @@ use Rattle.metric_meaning.specs.PredicateSteps.{tables_after}
 use Rattle.metric_meaning.specs.Scenes.{Scene}
 use Rattle.metric_meaning.specs.CountSteps.{arrival_by}
 use Rattle.metric_meaning.proofs.PredicateStepsLemmas.{tables_after-idle}
-use Rattle.client_engine.specs.TrackStands.{logged_step}
+use Rattle.client_engine.specs.NextSteps.{logged_step, with_logged}
 
 -- both have the same time
 pub shown_time : (log : List LogFrame) (frame : LogFrame) → log_time (shown_as log frame) ≡ log_time frame
@@ -38,7 +38,7 @@ shown_arrival scene metric log (Pull at id outcome) truths = refl
 pub shown_tables : (predicates : List LPredicate) (steps : List Step) (log : List LogFrame) (frame : LogFrame)
     (truths : List Bool)
     → tables_after predicates (steps ++ logged_step (shown_as log frame) truths ∷ [])
-    ≡ tables_after predicates (steps ++ logged_step frame truths ∷ [])
+    ≡ tables_after predicates (with_logged steps frame truths)
 shown_tables predicates steps log (Tick at) truths = refl
 shown_tables predicates steps log (AtomAt at atom) truths = refl
 shown_tables predicates steps log (Pull at id outcome) truths =

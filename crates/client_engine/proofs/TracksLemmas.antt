@@ -6,14 +6,15 @@ use Rattle.std.proofs.lemmas.List.Elements.{All-nil, All-push, All-get_or}
 use Rattle.atom_record.specs.declared.log.LogFrame.{LogFrame}
 use Rattle.config_links.specs.declared.linked.LMetric.{LMetric}
 use Rattle.metric_meaning.specs.Histories.{Step, Installation}
-use Rattle.metric_meaning.specs.Reports.{metric_tree}
 use Rattle.report_writer.specs.Writable.{IsWritableMetric}
 use Rattle.report_writer.specs.declared.tree.MetricTree.{MetricTree}
-use Rattle.client_engine.specs.TrackStands.{TrackStandsFor, MayLog, MayReport, TrackLogs, TrackReports, logged_step, reported_step}
+use Rattle.client_engine.specs.NextSteps.{MayLog, MayReport, with_logged, with_reported, requested_tree, TakesFrame, TakesReport}
+use Rattle.client_engine.specs.TrackStands.{TrackStandsFor}
 use Rattle.client_engine.specs.Known.{Known}
 use Rattle.client_engine.specs.Handed.{Handed}
 use Rattle.client_engine.specs.Tracks.{metric_in, AsksWithin, AreNew, AllStandFor, AllStep, AllReport}
 use Rattle.client_engine.specs.declared.track.Track.{Track}
+use Rattle.client_engine.specs.declared.request.ReportRequest.{ReportRequest}
 
 -- no metric has a track yet
 pub none_new : (base : ℕ) → AreNew base [] []
@@ -54,7 +55,7 @@ pub record AreStepped (given : Handed) (shown : LogFrame) (truths : List Bool) (
   pub rest : drop index now ≡ drop index old
   pub stand : (installed : Installation) (steps : List Step) (frame : LogFrame) → AllStandFor installed steps old
       → MayLog installed steps given shown frame truths
-      → AllStandFor installed (steps ++ logged_step frame truths ∷ []) (take index now)
+      → AllStandFor installed (with_logged steps frame truths) (take index now)
 
 module _ (given : Handed) (shown : LogFrame) (truths : List Bool) where
   -- none took it yet
@@ -64,13 +65,14 @@ module _ (given : Handed) (shown : LogFrame) (truths : List Bool) where
     metrics = refl;
     rest = refl;
     stand = λ installed steps frame all may.
-        All-nil (TrackStandsFor installed (steps ++ logged_step frame truths ∷ []));
+        All-nil (TrackStandsFor installed (with_logged steps frame truths));
   }
 
   -- one more took it
   pub one_stepped : (old now : List Track) (index : ℕ) (track none : Track) → index < length now
       → AreStepped given shown truths old now index → track.metric ≡ (get_or now index none).metric
-      → (now_given : Handed) → now_given ≡ given → TrackLogs now_given shown truths (get_or now index none) track
+      → (now_given : Handed) → now_given ≡ given
+      → TakesFrame TrackStandsFor now_given shown truths (get_or now index none) track
       → AreStepped given shown truths old (set now index track) (index + 1)
   one_stepped old now index track none within are metric now_given same logs = record {
     len = length-set now index track ∙ are.len;
@@ -78,15 +80,15 @@ module _ (given : Handed) (shown : LogFrame) (truths : List Bool) where
     rest = drop-set-lt (index + 1) now index track (omega arith) ∙ sym (drop-drop 1 index now)
         ∙ ap (drop 1) are.rest ∙ drop-drop 1 index old;
     stand = λ installed steps frame all may.
-        let after = steps ++ logged_step frame truths ∷ [] in
+        let after = with_logged steps frame truths in
         let here : TrackStandsFor installed steps (get_or now index none) =
         subst (TrackStandsFor installed steps) (sym (same_here now old index none are.rest))
         (All-get_or (TrackStandsFor installed steps) old index none
         (subst (λ n. index < n) are.len within) all) in
         subst (AllStandFor installed after) (sym (take_more_set now index track within))
         (All-push (TrackStandsFor installed after) (take index now) track (are.stand installed steps frame all may)
-        (subst (λ g. TrackLogs g shown truths (get_or now index none) track) same logs installed steps frame here
-        may));
+        (subst (λ g. TakesFrame TrackStandsFor g shown truths (get_or now index none) track) same logs installed steps
+        frame here may));
   }
 
   -- all took it
@@ -95,7 +97,7 @@ module _ (given : Handed) (shown : LogFrame) (truths : List Bool) where
   all_stepped old now index ends are = record {
     metrics = are.metrics;
     stand = λ installed steps frame all may.
-        subst (AllStandFor installed (steps ++ logged_step frame truths ∷ []))
+        subst (AllStandFor installed (with_logged steps frame truths))
         (take_all index now (omega (arith, ends))) (are.stand installed steps frame all may);
   }
 
@@ -120,29 +122,29 @@ whole items old len same is =
     ∙ ap (take len) (append-nil items) ∙ take_all len items (omega (arith, same, is))
 
 -- So many of the tracks were reported: they took the step, and their trees are there.
-pub record AreReported (base : ℕ) (include_current : Bool) (at : ℕ) (old now : List Track) (index : ℕ)
+pub record AreReported (base : ℕ) (request : ReportRequest) (old now : List Track) (index : ℕ)
     (trees : List MetricTree) : Type 0 where
   pub len : length now ≡ length old
   pub metrics : map metric_in now ≡ map metric_in old
   pub rest : drop index now ≡ drop index old
   pub stand : (installed : Installation) (steps : List Step) → AllStandFor installed steps old
-      → MayReport installed steps base include_current at
-      → AllStandFor installed (steps ++ reported_step include_current at ∷ []) (take index now)
+      → MayReport installed steps base request
+      → AllStandFor installed (with_reported steps request) (take index now)
   pub shown : (installed : Installation) (steps : List Step) → AllStandFor installed steps old
-      → MayReport installed steps base include_current at
-      → trees ≡ map (metric_tree installed steps include_current at)
+      → MayReport installed steps base request
+      → trees ≡ map (requested_tree installed steps request)
       (filter (λ (metric : LMetric). metric.shown) (map metric_in (take index old)))
   pub writable : All IsWritableMetric trees
 
 -- none was reported yet
-pub none_reported : (base : ℕ) (include_current : Bool) (at : ℕ) (tracks : List Track)
-    → AreReported base include_current at tracks tracks 0 []
-none_reported base include_current at tracks = record {
+pub none_reported : (base : ℕ) (request : ReportRequest) (tracks : List Track)
+    → AreReported base request tracks tracks 0 []
+none_reported base request tracks = record {
   len = refl;
   metrics = refl;
   rest = refl;
   stand = λ installed steps all may.
-      All-nil (TrackStandsFor installed (steps ++ reported_step include_current at ∷ []));
+      All-nil (TrackStandsFor installed (with_reported steps request));
   shown = λ installed steps all may. refl;
   writable = All-nil IsWritableMetric;
 }
@@ -176,28 +178,29 @@ writable_if true trees tree all one = All-push IsWritableMetric trees tree all o
 writable_if false trees tree all one = subst (All IsWritableMetric) (sym (append-nil trees)) all
 
 -- one more was reported
-pub one_reported : (base : ℕ) (include_current : Bool) (at : ℕ) (old now : List Track) (index : ℕ)
+pub one_reported : (base : ℕ) (request : ReportRequest) (old now : List Track) (index : ℕ)
     (trees more : List MetricTree) (track none : Track) (tree : MetricTree) (is_shown : Bool) → index < length now
-    → AreReported base include_current at old now index trees → track.metric ≡ (get_or now index none).metric
+    → AreReported base request old now index trees → track.metric ≡ (get_or now index none).metric
     → is_shown ≡ (get_or now index none).metric.shown
-    → TrackReports base include_current at (get_or now index none) track tree → IsWritableMetric tree
+    → TakesReport TrackStandsFor (get_or now index none).metric base request (get_or now index none) track tree
+    → IsWritableMetric tree
     → more ≡ trees ++ (if is_shown then tree ∷ [] else [])
-    → AreReported base include_current at old (set now index track) (index + 1) more
-one_reported base include_current at old now index trees more track none tree is_shown within are metric shown_is
+    → AreReported base request old (set now index track) (index + 1) more
+one_reported base request old now index trees more track none tree is_shown within are metric shown_is
     reports writable more_is = record {
       len = length-set now index track ∙ are.len;
       metrics = map-set_same metric_in now index track none within metric ∙ are.metrics;
       rest = drop-set-lt (index + 1) now index track (omega arith) ∙ sym (drop-drop 1 index now)
           ∙ ap (drop 1) are.rest ∙ drop-drop 1 index old;
       stand = λ installed steps all may.
-          let step = reported_step include_current at in
+          let after = with_reported steps request in
           let here = stands_here installed steps all in
-          subst (AllStandFor installed (steps ++ step ∷ [])) (sym (take_more_set now index track within))
-          (All-push (TrackStandsFor installed (steps ++ step ∷ [])) (take index now) track
+          subst (AllStandFor installed after) (sym (take_more_set now index track within))
+          (All-push (TrackStandsFor installed after) (take index now) track
           (are.stand installed steps all may) (reports installed steps here may).0);
       shown = λ installed steps all may.
           let here = stands_here installed steps all in
-          let show = metric_tree installed steps include_current at in
+          let show = requested_tree installed steps request in
           let those = filter (λ (m : LMetric). m.shown) (map metric_in (take index old)) in
           let own = (get_or now index none).metric in
           more_is
@@ -222,16 +225,16 @@ one_reported base include_current at old now index trees more track none tree is
         all)
 
 -- all were reported
-pub all_reported : (base : ℕ) (include_current : Bool) (at : ℕ) (old now : List Track) (index : ℕ)
-    (trees : List MetricTree) → length now ≡ index → AreReported base include_current at old now index trees
-    → AllReport base include_current at old now trees
-all_reported base include_current at old now index trees ends are = record {
+pub all_reported : (base : ℕ) (request : ReportRequest) (old now : List Track) (index : ℕ)
+    (trees : List MetricTree) → length now ≡ index → AreReported base request old now index trees
+    → AllReport base request old now trees
+all_reported base request old now index trees ends are = record {
   metrics = are.metrics;
   stand = λ installed steps all may.
-      subst (AllStandFor installed (steps ++ reported_step include_current at ∷ []))
+      subst (AllStandFor installed (with_reported steps request))
       (take_all index now (omega (arith, ends))) (are.stand installed steps all may);
   shown = λ installed steps all may. are.shown installed steps all may
-      ∙ ap (λ l. map (metric_tree installed steps include_current at)
+      ∙ ap (λ l. map (requested_tree installed steps request)
       (filter (λ (metric : LMetric). metric.shown) (map metric_in l)))
       (take_all index old (let len = are.len in omega (arith, len, ends)));
   writable = are.writable;

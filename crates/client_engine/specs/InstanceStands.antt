@@ -1,5 +1,5 @@
 -- What history an instance stands for, and how it goes from step to step.
-use Rattle.std.specs.Prelude.{◌≡◌, ℕ, ◌≤◌, ℤ, Bool, List, [], ◌∷◌, ◌++◌, length}
+use Rattle.std.specs.Prelude.{◌≡◌, ℕ, ◌≤◌, Bool, List, [], ◌∷◌, ◌++◌, length}
 use Rattle.atom_record.specs.declared.log.LogFrame.{LogFrame}
 use Rattle.atom_record.specs.declared.log.LogFrame.TheVariants.{AtomAt}
 use Rattle.session_frames.specs.FrameReading.{log_time}
@@ -8,15 +8,16 @@ use Rattle.state_slicer.specs.StateBooks.{StateBookStandsFor}
 use Rattle.report_writer.specs.declared.tree.ReportTree.{ReportTree}
 use Rattle.metric_meaning.specs.Histories.{History, with_step, log_of_history}
 use Rattle.metric_meaning.specs.ShownFrames.{shown_as}
-use Rattle.metric_meaning.specs.Reports.{report_of}
-pub use Rattle.client_engine.specs.TrackStands.{logged_step, reported_step, last_from}
-pub use Rattle.client_engine.specs.InsideParts.{linked_of_inside, InsideStandsFor, new_history}
+pub use Rattle.client_engine.specs.NextSteps.{logged_step, reported_step, last_from}
+pub use Rattle.client_engine.specs.Running.{linked_of}
+pub use Rattle.client_engine.specs.InsideParts.{InsideStandsFor, new_history, requested_report}
 use Rattle.client_engine.specs.Handed.{BookOfStates}
 use Rattle.client_engine.specs.declared.instance.Instance.{Instance}
+use Rattle.client_engine.specs.declared.request.ReportRequest.{ReportRequest}
 
 -- the configuration of an instance
 abbrev pub linked_in : Instance → Linked
-linked_in it = linked_of_inside it.inside.value
+linked_in it = linked_of it.inside.value
 
 -- an instance is what its history makes of a new one
 abbrev pub InstanceStandsFor : Instance → History → Type 0
@@ -47,8 +48,8 @@ Logs old shown truths book new =
 
 -- whatever history the old stood for, the new stands for it with that report, and what is shown is its report, if the
 -- book is that of the log
-abbrev pub Reports : Instance → ℤ → ℤ → Bool → ℕ → BookOfStates → Instance → ReportTree → Type 0
-Reports old uid id include_current at book new tree =
-    (history : History) → InstanceStandsFor old history → last_step_time history ≡ at
-    → InstanceStandsFor new (with_step history (reported_step include_current at))
-    × (StateBookStandsFor book (log_of_history history) → tree ≡ report_of history uid id include_current at)
+abbrev pub Reports : Instance → ReportRequest → BookOfStates → Instance → ReportTree → Type 0
+Reports old request book new tree =
+    (history : History) → InstanceStandsFor old history → last_step_time history ≡ request.at
+    → InstanceStandsFor new (with_step history (reported_step request))
+    × (StateBookStandsFor book (log_of_history history) → tree ≡ requested_report history request)

@@ -3,8 +3,11 @@ pub mod Groups
 pub mod Known
 pub mod Handed
 pub mod KeptPredicates
+pub mod NextSteps
 pub mod Along
+pub mod CountsAlong
 pub mod TrackStands
 pub mod Tracks
+pub mod Running
 pub mod InsideParts
 pub mod InstanceStands

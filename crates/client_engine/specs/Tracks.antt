@@ -1,23 +1,25 @@
 -- The metrics of a configuration with their lanes, all together.
-use Rattle.std.specs.Prelude.{◌≡◌, ℕ, true, Bool, List, [], ◌∷◌, ◌++◌, length, map, filter, All}
+use Rattle.std.specs.Prelude.{◌≡◌, ℕ, true, Bool, List, [], length, map, filter, All}
 use Rattle.atom_record.specs.declared.log.LogFrame.{LogFrame}
-use Rattle.config_links.specs.SoundConfig.{IsSize, IsBound, MayBeWithin}
+use Rattle.config_links.specs.SoundConfig.{IsSoundMetric, MayBeWithin}
+use Rattle.config_links.specs.declared.linked.Linked.{Linked}
 use Rattle.config_links.specs.declared.linked.LMetric.{LMetric}
 use Rattle.metric_meaning.specs.Histories.{Step, Installation}
 use Rattle.metric_meaning.specs.Forms.{is_built_metric}
-use Rattle.metric_meaning.specs.Reports.{metric_tree}
 use Rattle.report_writer.specs.Writable.{IsWritableMetric}
 use Rattle.report_writer.specs.declared.tree.MetricTree.{MetricTree}
-use Rattle.client_engine.specs.TrackStands.{TrackStandsFor, MayLog, MayReport, logged_step, reported_step}
+use Rattle.client_engine.specs.NextSteps.{MayReport, with_reported, requested_tree, TakesFrame}
+use Rattle.client_engine.specs.TrackStands.{TrackStandsFor}
 use Rattle.client_engine.specs.Known.{Known}
 use Rattle.client_engine.specs.Handed.{Handed}
 use Rattle.client_engine.specs.declared.track.Track.{Track}
+use Rattle.client_engine.specs.declared.request.ReportRequest.{ReportRequest}
 
--- a metric that is acted on, with the bounds that each metric has
+-- A metric that is acted on, of a configuration in which it is sound.
 pub record CanBeTracked (metric : LMetric) : Type 0 where
   pub built : is_built_metric metric ≡ true
-  pub sized : IsSize metric.size
-  pub bound : IsBound metric.bound
+  pub linked : Linked
+  pub sound : IsSoundMetric linked metric
 
 -- a metric's condition, if it has one, is one of so many predicates
 abbrev pub AsksWithin : ℕ → LMetric → Type 0
@@ -43,19 +45,17 @@ pub record AreNew (base : ℕ) (metrics : List LMetric) (tracks : List Track) : 
 -- one frame of the log more for all, which is shown so
 pub record AllStep (given : Handed) (shown : LogFrame) (truths : List Bool) (old new : List Track) : Type 0 where
   pub metrics : map metric_in new ≡ map metric_in old
-  pub stand : (installed : Installation) (steps : List Step) (frame : LogFrame) → AllStandFor installed steps old
-      → MayLog installed steps given shown frame truths
-      → AllStandFor installed (steps ++ logged_step frame truths ∷ []) new
+  pub stand : TakesFrame AllStandFor given shown truths old new
 
 -- a report of all: one step more, and what it shows of those that are shown
-pub record AllReport (base : ℕ) (include_current : Bool) (at : ℕ) (old new : List Track) (trees : List MetricTree)
+pub record AllReport (base : ℕ) (request : ReportRequest) (old new : List Track) (trees : List MetricTree)
     : Type 0 where
   pub metrics : map metric_in new ≡ map metric_in old
   pub stand : (installed : Installation) (steps : List Step) → AllStandFor installed steps old
-      → MayReport installed steps base include_current at
-      → AllStandFor installed (steps ++ reported_step include_current at ∷ []) new
+      → MayReport installed steps base request
+      → AllStandFor installed (with_reported steps request) new
   pub shown : (installed : Installation) (steps : List Step) → AllStandFor installed steps old
-      → MayReport installed steps base include_current at
-      → trees ≡ map (metric_tree installed steps include_current at)
+      → MayReport installed steps base request
+      → trees ≡ map (requested_tree installed steps request)
       (filter (λ (metric : LMetric). metric.shown) (map metric_in old))
   pub writable : All IsWritableMetric trees

@@ -4,7 +4,7 @@ ghost use Rattle.config_links.specs.SoundConfig.{MayBeWithin};
 ghost use Rattle.condition_links.specs.ThreeValues.{is_true};
 ghost use Rattle.metric_meaning.specs.Readings.{atom_reading};
 ghost use Rattle.metric_meaning.specs.MetricConditions.{is_condition_true};
-ghost use Rattle.client_engine.specs.TrackStands.{logged_step};
+ghost use Rattle.client_engine.specs.NextSteps.{logged_step};
 ghost use Rattle.client_engine.specs.Known.{KnowsAfter, KnowsStep, drops_in};
 ghost use Rattle.client_engine.specs.KeptPredicates.{CanBeKept};
 

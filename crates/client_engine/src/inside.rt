@@ -8,10 +8,12 @@ ghost use Rattle.metric_meaning.specs.Forms.{is_built};
 ghost use Rattle.client_engine.specs.Known.{drops_in};
 ghost use Rattle.client_engine.specs.Handed.{handed};
 ghost use Rattle.client_engine.specs.Tracks.{CanBeTracked, AllAskWithin, AreNew, AllStep, AllReport};
-ghost use Rattle.client_engine.specs.InsideParts.{AreAsked, tree_with, IsFreshInside, InsideLogs, InsideReports, AreStateDrops};
+ghost use Rattle.client_engine.specs.Running.{AreAsked};
+ghost use Rattle.client_engine.specs.InsideParts.{tree_with, IsFreshInside, InsideLogs, InsideReports, AreStateDrops};
 
 use crate::conditions::Conditions;
 use crate::instance::LogView;
+use crate::request::ReportRequest;
 use crate::state_drops::{dropped_atoms, state_drops};
 use crate::track::Track;
 use atom_record::LogFrame;
@@ -20,18 +22,38 @@ use report_writer::{Drop64, MetricTree, ReportTree};
 use sd_base::Seq;
 use state_slicer::StateBook;
 use std::alloc::{AllocError, Global};
+use std::marker::Model;
 
 /// The parts of a configuration, its predicates with what they know, its metrics with their lanes, and when it was
 /// installed and last reported.
 #[derive(Drop)]
 pub struct Inside {
-    pub alloc: Global,
-    pub matchers: Seq<LMatcher>,
-    pub conditions: Conditions,
-    pub states: Seq<LState>,
-    pub tracks: Vec<Track>,
-    pub base: u64,
-    pub last: u64,
+    alloc: Global,
+    matchers: Seq<LMatcher>,
+    conditions: Conditions,
+    states: Seq<LState>,
+    tracks: Vec<Track>,
+    base: u64,
+    last: u64,
+}
+
+impl Model for Inside {
+    ghost use Rattle.std.specs.Coded.{codes};
+    ghost use Rattle.config_types.specs.contracts.matcher.Test as test;
+    ghost use Rattle.client_engine.specs.Running.{Running};
+
+    ghost Value = { Running };
+
+    ghost coded = { Prim.hlevel (codes, test.the_row.coded) };
+
+    ghost view = { λ it. record {
+      matchers = it.matchers;
+      known = it.conditions;
+      states = it.states;
+      tracks = it.tracks.items;
+      base = it.base;
+      last = it.last;
+    } };
 }
 
 /// What a report shows beside its metrics: what found no room.
@@ -69,6 +91,13 @@ impl Inside {
         })
     }
 
+    /// The matchers of the configuration, in config order.
+    pub fn matchers(&self) -> &[LMatcher]
+        ensures { result.now ≡ self.now.matchers }
+    {
+        self.matchers.as_slice()
+    }
+
     /// A frame of the log comes: it acts on predicates, and then comes to each metric.
     pub fn log(&mut self, frame: &LogFrame, view: &LogView<'_>) -> Result<(), AllocError>
         requires asked { AreAsked self.old }
@@ -86,30 +115,27 @@ impl Inside {
         log_all(*alloc, conditions, states.as_slice(), tracks, frame, view)
     }
 
-    /// A report at the clock, for a client's configuration.
+    /// A report of the configuration.
     pub fn report(
         &mut self,
-        uid: i32,
-        id: i64,
-        include_current: bool,
-        at: u64,
+        request: ReportRequest,
         book: &StateBook,
     ) -> Result<ReportTree, AllocError>
         ensures reports { IfOk result
-            (InsideReports uid id include_current at book.now self.old self.new) }
+            (InsideReports request book.now self.old self.new) }
         ensures writable { IfOk result IsWritableReport }
     {
         let last = self.last;
-        self.last = at;
-        let metrics = report_all(self.alloc, self.base, &mut self.tracks, include_current, at)?;
+        self.last = request.at;
+        let metrics = report_all(self.alloc, self.base, &mut self.tracks, request)?;
         let drops = self.drops(book)?;
-        Ok(tree_of(uid, id, last, at, metrics, drops))
+        Ok(tree_of(request, last, metrics, drops))
     }
 
     // What found no room, as a report shows it.
     fn drops(&self, book: &StateBook) -> Result<Drops, AllocError>
         ensures of_predicates { IfOk result (λ drops. drops.of_predicates
-            ≡ drops_in self.now.conditions.predicates self.now.conditions.tables) }
+            ≡ drops_in self.now.known.predicates self.now.known.tables) }
         ensures of_states { IfOk result (AreStateDrops self.now.states book.now) }
     {
         let states = self.states.as_slice();
@@ -160,16 +186,15 @@ fn report_all(
     alloc: Global,
     base: u64,
     tracks: &mut Vec<Track>,
-    include_current: bool,
-    at: u64,
+    request: ReportRequest,
 ) -> Result<Seq<MetricTree>, AllocError>
     ensures { IfOk result
-        (AllReport base include_current at tracks.old.items tracks.new.items) }
+        (AllReport base request tracks.old.items tracks.new.items) }
 {
     let mut trees = Seq::new(alloc);
     for track in tracks.iter_mut() {
         let is_shown = track.metric.shown;
-        let tree = track.report(alloc, base, include_current, at)?;
+        let tree = track.report(alloc, base, request)?;
         show(&mut trees, tree, is_shown)?;
     }
     Ok(trees)
@@ -186,21 +211,14 @@ fn show(trees: &mut Seq<MetricTree>, tree: MetricTree, is_shown: bool) -> Result
 }
 
 // The tree of a report, with what it shows of metrics, predicates and states.
-fn tree_of(
-    uid: i32,
-    id: i64,
-    last: u64,
-    now: u64,
-    metrics: Seq<MetricTree>,
-    drops: Drops,
-) -> ReportTree
-    ensures { result ≡ tree_with uid id last now metrics drops }
+fn tree_of(request: ReportRequest, last: u64, metrics: Seq<MetricTree>, drops: Drops) -> ReportTree
+    ensures { result ≡ tree_with request last metrics drops }
 {
     ReportTree {
-        uid,
-        id,
+        uid: request.name.uid,
+        id: request.name.id,
         last,
-        now,
+        now: request.at,
         metrics,
         predicate_drops: drops.of_predicates,
         state_drops: drops.of_states,

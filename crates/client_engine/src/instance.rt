@@ -3,9 +3,10 @@ ghost use Rattle.std.specs.Prelude.{◌≡◌, ◌<◌, true, List, OnOk, IfOk};
 ghost use Rattle.atom_record.specs.declared.log.LogFrame.{LogFrame};
 ghost use Rattle.pull_book.specs.PullBooks.{PullBookStandsFor};
 ghost use Rattle.state_slicer.specs.StateBooks.{StateBookStandsFor};
-ghost use Rattle.client_engine.specs.InsideParts.{AreAsked};
+ghost use Rattle.client_engine.specs.Running.{AreAsked};
 
 use crate::inside::Inside;
+use crate::request::ReportRequest;
 use atom_record::LogFrame;
 use config_links::{LMatcher, Linked};
 use pull_book::PullBook;
@@ -61,7 +62,7 @@ impl Instance {
     pub fn matchers(&self) -> &[LMatcher]
         ensures { result.now ≡ (linked_in self.now).matchers }
     {
-        self.inside.matchers.as_slice()
+        self.inside.matchers()
     }
 
     /// A frame of the log comes as it is shown, with the truth of each matcher for an atom, and the states after it.
@@ -75,23 +76,20 @@ impl Instance {
         Ok(Instance { inside })
     }
 
-    /// A report at the clock, for a client's configuration, with or without a cut, where the log gave these states.
+    /// A report of the configuration, where the log gave these states.
     pub fn report(
         self,
-        uid: i32,
-        id: i64,
-        include_current: bool,
-        at: u64,
+        request: ReportRequest,
         states: &StateBook,
     ) -> Result<(Instance, ReportTree), AllocError>
-        requires fits { at < time_limit }
+        requires fits { request.at < time_limit }
         ensures reports { IfOk result (λ r.
-            Reports self uid id include_current at states.now r.0 r.1) }
+            Reports self request states.now r.0 r.1) }
         ensures linked { IfOk result (λ r. linked_in r.0 ≡ linked_in self) }
         ensures writable { IfOk result (λ r. IsWritableReport r.1) }
     {
         let Instance { mut inside } = self;
-        let tree = inside.report(uid, id, include_current, at, states)?;
+        let tree = inside.report(request, states)?;
         Ok((Instance { inside }, tree))
     }
 }

@@ -7,8 +7,12 @@ mod form;
 mod groups;
 mod inside;
 mod instance;
+mod kinds;
 mod leaves;
+mod live_id;
 mod matched;
+mod moments;
+mod request;
 mod slices;
 mod state_drops;
 mod tables;
@@ -16,3 +20,5 @@ mod track;
 
 pub use form::built;
 pub use instance::{Instance, LogView};
+pub use live_id::LiveId;
+pub use request::ReportRequest;

@@ -13,63 +13,62 @@ use Rattle.atom_record.specs.declared.log.LogFrame.{LogFrame}
 use Rattle.client_engine.specs.InstanceStands.{IsFresh}
 use Rattle.hub_core.specs.declared.books.Books.{Books}
 use Rattle.hub_core.specs.BookStands.{BooksStandFor}
-use Rattle.hub_core.specs.declared.live_id.LiveId.{LiveId}
+use Rattle.client_engine.specs.declared.live_id.LiveId.{LiveId}
 use Rattle.hub_core.specs.declared.live_instance.LiveInstance.{LiveInstance}
 use Rattle.hub_core.specs.declared.lives.Lives.{Lives}
-use Rattle.hub_meaning.specs.Acceptance.{most_configs}
-use Rattle.hub_core.specs.InstallReading.{linked_read}
-use Rattle.hub_core.specs.Slots.{live_id, same_id, slot_at, count_at}
-use Rattle.hub_core.specs.Commands.{held_at, others, StaysWith, PutsIn, InstallsLinked, Installs, TakesOut, Removes}
+use Rattle.hub_meaning.specs.Acceptance.{most_configs, linked_read}
+use Rattle.hub_core.specs.Slots.{same_id, slot_at, count_at}
+use Rattle.hub_core.specs.Commands.{change, held_at, others, StaysWith, PutsIn, InstallsLinked, Installs, TakesOut, Removes}
 
 -- it stands under its name, and its client's count is one more than that of the others
-pub puts_in : (clock : ℕ) (books : Books) (uid id : ℤ) (linked : Linked) (old new : Lives) (body : ReplyBody)
+pub puts_in : (clock : ℕ) (books : Books) (name : LiveId) (linked : Linked) (old new : Lives) (body : ReplyBody)
     (fresh : LiveInstance) (count : ℕ)
     → ((opening : List LogFrame) → BooksStandFor books opening → IsFresh linked clock opening fresh.instance)
-    → ((name : LiveId) → slot_at name new.slots.entries
-    ≡ cond (same_id (live_id uid id) name) (Some (Some fresh)) (slot_at name old.slots.entries))
+    → ((other : LiveId) → slot_at other new.slots.entries
+    ≡ cond (same_id name other) (Some (Some fresh)) (slot_at other old.slots.entries))
     → ((client : ℤ) → count_at client new.counts.entries
-    ≡ cond (int_eq uid client) (count + 1) (count_at client old.counts.entries))
-    → count ≡ others uid id old → body ≡ cond (is_some (held_at uid id old)) answers.Replaced answers.Installed
-    → PutsIn clock books uid id linked old new body
-puts_in clock books uid id linked old new body fresh count is_fresh slots counts is answer = record {
+    ≡ cond (int_eq name.uid client) (count + 1) (count_at client old.counts.entries))
+    → count ≡ others name old → body ≡ cond (is_some (held_at name old)) answers.Replaced answers.Installed
+    → PutsIn clock books name linked (change old new body)
+puts_in clock books name linked old new body fresh count is_fresh slots counts is answer = record {
   fresh = fresh;
   is_fresh = is_fresh;
   changes = record {
     slots = slots;
     counts = λ client.
-        counts client ∙ ap (λ n. cond (int_eq uid client) (n + 1) (count_at client old.counts.entries)) is;
+        counts client ∙ ap (λ n. cond (int_eq name.uid client) (n + 1) (count_at client old.counts.entries)) is;
   };
   answer = answer;
 }
 
 -- what goes in with room for it, and without a refusal, is installed
-pub installs : {E : Type 0} (clock : ℕ) (books : Books) (uid id : ℤ) (config : Config) (linked : Linked) (old : Lives)
-    (result : Result (Lives × ReplyBody) E) → nat_le most_configs (others uid id old) ≡ false
-    → linked_read uid config ≡ Ok linked → IfOk result (λ r. PutsIn clock books uid id linked old r.0 r.1)
-    → IfOk result (λ r. Installs clock books uid id (Ok config) old r.0 r.1)
-installs clock books uid id config linked old (Err e) room is puts = tt
-installs clock books uid id config linked old (Ok r) room is puts =
-    subst (λ full. MatchBool full (StaysWith (answers.ClientFull most_configs) old r.0 r.1)
-    (InstallsLinked clock books uid id (linked_read uid config) old r.0 r.1)) (sym room)
-    (subst (λ read. InstallsLinked clock books uid id read old r.0 r.1) (sym is) puts)
+pub installs : {E : Type 0} (clock : ℕ) (books : Books) (name : LiveId) (config : Config) (linked : Linked)
+    (old : Lives) (result : Result (Lives × ReplyBody) E) → nat_le most_configs (others name old) ≡ false
+    → linked_read name.uid config ≡ Ok linked → IfOk result (λ r. PutsIn clock books name linked (change old r.0 r.1))
+    → IfOk result (λ r. Installs clock books name (Ok config) (change old r.0 r.1))
+installs clock books name config linked old (Err e) room is puts = tt
+installs clock books name config linked old (Ok r) room is puts =
+    subst (λ full. MatchBool full (StaysWith (answers.ClientFull most_configs) (change old r.0 r.1))
+    (InstallsLinked clock books name (linked_read name.uid config) (change old r.0 r.1))) (sym room)
+    (subst (λ read. InstallsLinked clock books name read (change old r.0 r.1)) (sym is) puts)
 
 -- what stood under its name is taken out, and its client's count is that of the others
-pub takes_out : (uid id : ℤ) (old new : Lives) (count : ℕ) → is_some (held_at uid id old) ≡ true
-    → ((name : LiveId) → slot_at name new.slots.entries
-    ≡ cond (same_id (live_id uid id) name) None (slot_at name old.slots.entries))
+pub takes_out : (name : LiveId) (old new : Lives) (count : ℕ) → is_some (held_at name old) ≡ true
+    → ((other : LiveId) → slot_at other new.slots.entries
+    ≡ cond (same_id name other) None (slot_at other old.slots.entries))
     → ((client : ℤ) → count_at client new.counts.entries
-    ≡ cond (int_eq uid client) count (count_at client old.counts.entries))
-    → count ≡ others uid id old → Removes uid id old new answers.Removed
-takes_out uid id old new count there slots counts is = by_slot (held_at uid id old) there where
+    ≡ cond (int_eq name.uid client) count (count_at client old.counts.entries))
+    → count ≡ others name old → Removes name (change old new answers.Removed)
+takes_out name old new count there slots counts is = by_slot (held_at name old) there where
   by_slot : (slot : Option (Option LiveInstance)) → is_some slot ≡ true
-      → MatchOption slot (StaysWith answers.NoConfig old new answers.Removed)
-      (λ held. TakesOut uid id old new answers.Removed)
+      → MatchOption slot (StaysWith answers.NoConfig (change old new answers.Removed))
+      (λ held. TakesOut name (change old new answers.Removed))
   by_slot None absent = absurd (false≢true absent)
   by_slot (Some slot) held = record {
     changes = record {
       slots = slots;
       counts = λ client.
-          counts client ∙ ap (λ n. cond (int_eq uid client) n (count_at client old.counts.entries)) is;
+          counts client ∙ ap (λ n. cond (int_eq name.uid client) n (count_at client old.counts.entries)) is;
     };
     answer = refl;
   }

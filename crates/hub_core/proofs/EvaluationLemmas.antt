@@ -23,7 +23,7 @@ use Rattle.metric_meaning.specs.ShownFrames.{shown_as}
 use Rattle.client_engine.specs.Handed.{BookOfStates}
 use Rattle.hub_meaning.specs.LiveConfigs.{truths_at}
 use Rattle.client_engine.specs.declared.instance.Instance.{Instance}
-use Rattle.client_engine.specs.TrackStands.{logged_step}
+use Rattle.client_engine.specs.NextSteps.{logged_step}
 use Rattle.client_engine.specs.InstanceStands.{linked_in, InstanceStandsFor, IsView, Logs}
 use Rattle.hub_core.specs.FrameTruths.{truths_by, LogsBy}
 

@@ -17,7 +17,7 @@ use Rattle.atom_record.specs.declared.log.LogFrame.{LogFrame}
 use Rattle.config_types.specs.declared.matcher.SimpleMatcher.{SimpleMatcher}
 use Rattle.hub_core.specs.declared.live_instance.LiveInstance.{LiveInstance}
 use Rattle.client_engine.specs.Handed.{BookOfStates}
-use Rattle.hub_core.specs.declared.live_id.LiveId.{LiveId}
+use Rattle.client_engine.specs.declared.live_id.LiveId.{LiveId}
 use Rattle.hub_core.specs.SlotLogs.{AllLog}
 use Rattle.hub_core.specs.Slots.{live_id, same_id, slot_at, listed_at, listed, count_at, held_by}
 

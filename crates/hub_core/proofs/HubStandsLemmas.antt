@@ -28,26 +28,25 @@ use Rattle.metric_meaning.specs.ShownFrames.{shown_as}
 use Rattle.metric_meaning.specs.Reports.{report_of}
 use Rattle.state_slicer.specs.StateBooks.{StateBookStandsFor}
 use Rattle.hub_meaning.specs.SessionLog.{is_own, own, log_frame_in, log_frames, clock_of}
-use Rattle.hub_meaning.specs.Acceptance.{LiveConfig, most_configs, has_other_id, is_full, acceptance}
+use Rattle.hub_meaning.specs.Acceptance.{LiveConfig, most_configs, has_other_id, config_read, linked_read, accepted_as, accepted_read, acceptance}
 use Rattle.hub_meaning.specs.LiveConfigs.{with_config, without_id, config_at, live_with, live_after, live, truths_at, step_at, history_of}
 use Rattle.hub_meaning.specs.ClientAnswers.{install_answer, remove_answer, report_answer, reply_of, reply_to}
 use Rattle.hub_meaning.proofs.SessionLogLaws.{own-push_own, own-push_other, log_frames-push, log_frames-own, clock_of-push, clock_of-own}
 use Rattle.hub_meaning.proofs.LiveConfigLaws.{live-push, live_placed, live_distinct, history_of-push, history_of-new, history_of-log, one_if, config_at-with_config, config_at-without_id, length-with_config, length-without_id, placed_at}
-use Rattle.client_engine.specs.TrackStands.{last_from, logged_step, reported_step}
+use Rattle.client_engine.specs.NextSteps.{last_from, logged_step, reported_step}
 use Rattle.client_engine.specs.Handed.{BookOfStates}
 use Rattle.client_engine.specs.InstanceStands.{InstanceStandsFor, last_step_time, new_history}
 use Rattle.hub_core.specs.declared.books.Books.{Books}
 use Rattle.hub_core.specs.BookStands.{BooksStandFor}
-use Rattle.hub_core.specs.declared.live_id.LiveId.{LiveId}
+use Rattle.client_engine.specs.declared.live_id.LiveId.{LiveId}
 use Rattle.hub_core.specs.declared.live_instance.LiveInstance.{LiveInstance}
 use Rattle.hub_core.specs.declared.lives.Lives.{Lives}
 use Rattle.hub_core.specs.declared.hub.Hub.{Hub}
-use Rattle.hub_core.specs.InstallReading.{config_read, linked_read}
 use Rattle.hub_core.specs.SlotLogs.{SlotLogs, AllLog}
-use Rattle.hub_core.specs.Slots.{live_id, same_id, slot_at, count_at, ShowsAt}
-use Rattle.hub_core.specs.Commands.{held_at, others, Changes, Stays, StaysWith, PutsIn, InstallsLinked, Installs, TakesOut, Removes, ReportsLive}
+use Rattle.hub_core.specs.Slots.{live_id, request_of, same_id, slot_at, count_at, ShowsAt}
+use Rattle.hub_core.specs.Commands.{change, held_at, others, Changes, Stays, StaysWith, PutsIn, InstallsLinked, Installs, TakesOut, Removes, ReportsLive}
 use Rattle.hub_core.specs.HubStands.{SlotStandsFor, LivesStandFor, HubStandsFor}
-use Rattle.hub_core.proofs.InstallReadingLemmas.{accepted_as, accepted_read, accepted, linked_is}
+use Rattle.hub_core.proofs.InstallReadingLemmas.{linked_is}
 
 -- a number is itself
 int_eq_refl : (n : ℤ) → int_eq n n ≡ true
@@ -270,12 +269,13 @@ module _ (says : SimpleMatcher → Atom → Bool) where
     }
 
     -- one slot changed, on both sides
-    changed : (slot : Option (Option LiveInstance)) (count : ℕ) → Changes uid id slot count old new
+    changed : (slot : Option (Option LiveInstance)) (count : ℕ) (body : ReplyBody)
+        → Changes (live_id uid id) slot count (change old new body)
         → SlotStandsFor says uid (before ++ frame ∷ []) slot (config_at id after)
         → ((other : ℤ) → int_eq id other ≡ false → IsIdle other) → ((other : ℤ) → int_eq id other ≡ false
         → config_at other after ≡ config_at other (live before)) → count ≡ length after
         → LivesStandFor says new (frames ++ frame ∷ [])
-    changed slot count c here idle same_configs is = record {
+    changed slot count body c here idle same_configs is = record {
       slots = all_slots own_slots (λ n other e. c.slots (live_id n other)
           ∙ ap (λ b. cond (b && int_eq id other) slot (slot_at (live_id n other) old.slots.entries)) e);
       counts = all_counts (c.counts uid ∙ ap (λ b. cond b count (count_at uid old.counts.entries))
@@ -310,23 +310,23 @@ module _ (says : SimpleMatcher → Atom → Bool) where
     lives_before = live (own uid frames)
 
     -- one is held where one is live
-    there : is_some (held_at uid id old) ≡ is_some (config_at id lives_before)
-    there = both_there uid (own uid frames) (held_at uid id old) (config_at id lives_before) (h.slots uid id)
+    there : is_some (held_at (live_id uid id) old) ≡ is_some (config_at id lives_before)
+    there = both_there uid (own uid frames) (held_at (live_id uid id) old) (config_at id lives_before) (h.slots uid id)
 
     -- the others that the table counts are the others that are live
-    others_are : others uid id old ≡ length (without_id id lives_before)
+    others_are : others (live_id uid id) old ≡ length (without_id id lives_before)
     others_are = by_case (is_some (config_at id lives_before)) refl where
       by_case : (is : Bool) → is_some (config_at id lives_before) ≡ is
-          → others uid id old ≡ length (without_id id lives_before)
+          → others (live_id uid id) old ≡ length (without_id id lives_before)
       by_case true e =
-          let found_it : others uid id old ≡ count_at uid old.counts.entries - 1 = ap
+          let found_it : others (live_id uid id) old ≡ count_at uid old.counts.entries - 1 = ap
           (λ b. count_at uid old.counts.entries - cond b 1 0) (there ∙ e) in
           let one : length (without_id id lives_before) + 1 ≡ length lives_before =
           ap (λ b. length (without_id id lives_before) + one_if b) (sym e)
           ∙ length-without_id id lives_before (live_distinct (own uid frames)) in
           omega (arith, found_it, one, h.counts uid)
       by_case false e =
-          let found_none : others uid id old ≡ count_at uid old.counts.entries - 0 = ap
+          let found_none : others (live_id uid id) old ≡ count_at uid old.counts.entries - 0 = ap
           (λ b. count_at uid old.counts.entries - cond b 1 0) (there ∙ e) in
           let none : length (without_id id lives_before) + 0 ≡ length lives_before =
           ap (λ b. length (without_id id lives_before) + one_if b) (sym e)
@@ -335,7 +335,8 @@ module _ (says : SimpleMatcher → Atom → Bool) where
 
     remove_case : (slot : Option (Option LiveInstance)) (config : Option LiveConfig)
         → config_at id lives_before ≡ config → SlotStandsFor says uid (own uid frames) slot config
-        → MatchOption slot (StaysWith answers.NoConfig old new body) (λ slot. TakesOut uid id old new body)
+        → MatchOption slot (StaysWith answers.NoConfig (change old new body))
+        (λ slot. TakesOut (live_id uid id) (change old new body))
         → LivesStandFor says new (frames ++ Remove uid id ∷ []) × (body ≡ remove_answer config)
     remove_case None None none s r = (
       stays frames (Remove uid id) uid id (λ n. refl) (λ clock. refl) old new h r.stays (λ other config is. refl)
@@ -350,7 +351,8 @@ module _ (says : SimpleMatcher → Atom → Bool) where
       absent other true e = sym (ap (λ n. config_at n lives_before) (sym ((signed_Decides id other).0 e)) ∙ none)
       absent other false e = refl
     remove_case (Some slot) (Some config) is s r = (
-      changed frames (Remove uid id) uid id (λ n. refl) (λ clock. refl) old new h None (others uid id old) r.changes
+      changed frames (Remove uid id) uid id (λ n. refl) (λ clock. refl) old new h None
+          (others (live_id uid id) old) body r.changes
           (subst (SlotStandsFor says uid (own uid frames ++ Remove uid id ∷ []) None) (sym
           (config_at-without_id id id lives_before
           ∙ ap (λ b. cond b None (config_at id lives_before)) (int_eq_refl id))) tt)
@@ -365,9 +367,9 @@ module _ (says : SimpleMatcher → Atom → Bool) where
     remove_case (Some None) None is s r = absurd s
 
     -- what a remove makes of what is held, and its answer
-    pub serves_remove : Removes uid id old new body → LivesStandFor says new (frames ++ Remove uid id ∷ []) × (body
-        ≡ remove_answer (config_at id lives_before))
-    serves_remove r = remove_case (held_at uid id old) (config_at id lives_before) refl (h.slots uid id) r
+    pub serves_remove : Removes (live_id uid id) (change old new body)
+        → LivesStandFor says new (frames ++ Remove uid id ∷ []) × (body ≡ remove_answer (config_at id lives_before))
+    serves_remove r = remove_case (held_at (live_id uid id) old) (config_at id lives_before) refl (h.slots uid id) r
 
     same_count : (n : ℤ) (same : Bool) → int_eq uid n ≡ same
         → count_at n old.counts.entries ≡ cond same (count_at uid old.counts.entries) (count_at n old.counts.entries)
@@ -381,8 +383,8 @@ module _ (says : SimpleMatcher → Atom → Bool) where
         → SlotStandsFor says uid (own uid frames) slot config
         → new.counts ≡ old.counts
         → MatchOption slot ((new.slots.entries ≡ old.slots.entries) × (body
-        ≡ answers.NoConfig)) (λ slot. MatchOption slot (Unit {0}) (λ instance. ShowsAt clock book
-        (live_id uid id) include_current instance old.slots.entries new.slots.entries body))
+        ≡ answers.NoConfig)) (λ slot. MatchOption slot (Unit {0}) (λ instance. ShowsAt
+        (request_of uid id include_current clock) book instance old.slots.entries new.slots.entries body))
         → LivesStandFor says new (frames ++ Report uid id include_current ∷ []) × (body
         ≡ report_answer says uid id (own uid frames) include_current config)
     report_case clock book include_current now book_is None None none s counts r = (
@@ -400,26 +402,27 @@ module _ (says : SimpleMatcher → Atom → Bool) where
           let two : None ≡ Some config = sym none ∙ ap (λ n. config_at n lives_before)
           ((signed_Decides id config.id).0 e ∙ own_id) ∙ is in
           absurd (cc)
-      idle other config is false e = ap (λ b. cond b (reported_step include_current (clock_of
-          (own uid frames)) ∷ []) []) e
+      idle other config is false e = ap (λ b. cond b (reported_step (request_of uid id include_current
+          (clock_of (own uid frames))) ∷ []) []) e
     report_case clock book include_current now book_is (Some (Some it)) (Some config) is s counts r =
         let mine = own uid frames in
         let at = placed_at (length mine) id lives_before (live_placed mine) config is in
         let time : clock ≡ clock_of mine = now ∙ sym (clock_of-own uid frames) in
         let same : int_eq id config.id ≡ true = ap (λ n. int_eq id n) at.1 ∙ int_eq_refl id in
         let step : step_at says config.id (linked_form config.config uid) mine (Report uid id include_current)
-        ≡ reported_step include_current clock ∷ [] =
-        ap (λ b. cond b (reported_step include_current (clock_of mine) ∷ []) []) same
-        ∙ ap (λ t. reported_step include_current t ∷ []) (sym time) in
+        ≡ reported_step (request_of uid id include_current clock) ∷ [] =
+        ap (λ b. cond b (reported_step (request_of uid id include_current (clock_of mine)) ∷ []) []) same
+        ∙ ap (λ t. reported_step (request_of uid id include_current t) ∷ []) (sym time) in
         let history : history_of says uid (mine ++ Report uid id include_current ∷ []) config
-        ≡ with_steps (history_of says uid mine config) (reported_step include_current clock ∷ []) =
+        ≡ with_steps (history_of says uid mine config)
+        (reported_step (request_of uid id include_current clock) ∷ []) =
         history_of-push says uid mine (Report uid id include_current) config at.0
         ∙ ap (with_steps (history_of says uid mine config)) step in
         let log : log_of_history (history_of says uid mine config) ≡ log_frames frames =
         history_of-log says uid mine config ∙ log_frames-own uid frames in
         let done = r.steps (history_of says uid mine config) s.instance (s.time ∙ sym time) in (
           changed frames (Report uid id include_current) uid id (λ n. refl) (λ clock. refl) old new h (Some
-              (Some r.next)) (count_at uid old.counts.entries) (record {
+              (Some r.next)) (count_at uid old.counts.entries) body (record {
                 slots = r.slots;
                 counts = λ n. ap (λ
                     (c : _). count_at n c.entries) counts ∙ same_count n (int_eq uid n) refl;
@@ -428,12 +431,13 @@ module _ (says : SimpleMatcher → Atom → Bool) where
               (sym is) (record {
                 instance = subst (InstanceStandsFor r.next.instance) (sym history) done.0;
                 time = ap last_step_time history ∙ last_from-push (clock_of (take config.place mine))
-                    (history_of says uid mine config).steps (reported_step include_current clock) ∙ time
+                    (history_of says uid mine config).steps
+                    (reported_step (request_of uid id include_current clock)) ∙ time
                     ∙ sym (clock_of-push mine (Report uid id include_current));
               }))
               (λ other e other_config other_is.
               let other_id = (placed_at (length mine) other lives_before (live_placed mine) other_config other_is).1 in
-              ap (λ b. cond b (reported_step include_current (clock_of mine) ∷ []) []) (ap
+              ap (λ b. cond b (reported_step (request_of uid id include_current (clock_of mine)) ∷ []) []) (ap
               (λ n. int_eq id n) other_id ∙ e))
               (λ other e. refl)
               (h.counts uid),
@@ -449,11 +453,12 @@ module _ (says : SimpleMatcher → Atom → Bool) where
 
     -- what a report makes of what is held, and its answer
     pub serves_report : (clock : ℕ) (book : BookOfStates) (include_current : Bool) → clock ≡ clock_of frames
-        → StateBookStandsFor book (log_frames frames) → ReportsLive clock book uid id include_current old new body
+        → StateBookStandsFor book (log_frames frames)
+        → ReportsLive (request_of uid id include_current clock) book (change old new body)
         → LivesStandFor says new (frames ++ Report uid id include_current ∷ []) × (body
         ≡ report_answer says uid id (own uid frames) include_current (config_at id lives_before))
     serves_report clock book include_current now book_is r =
-        report_case clock book include_current now book_is (held_at uid id old)
+        report_case clock book include_current now book_is (held_at (live_id uid id) old)
         (config_at id lives_before) refl (h.slots uid id) r.counts r.slots
 
     module _ (config : List ℕ) (clock : ℕ) (now : clock ≡ clock_of frames) (books : Books)
@@ -463,7 +468,7 @@ module _ (says : SimpleMatcher → Atom → Bool) where
       brought = acceptance uid id config lives_before
 
       -- it is refused with this answer
-      refused : (refusal : ReplyBody) → brought ≡ Err refusal → StaysWith refusal old new body
+      refused : (refusal : ReplyBody) → brought ≡ Err refusal → StaysWith refusal (change old new body)
           → LivesStandFor says new (frames ++ Install uid id config ∷ []) × (body
           ≡ install_answer brought (config_at id lives_before))
       refused refusal is r = (
@@ -476,7 +481,7 @@ module _ (says : SimpleMatcher → Atom → Bool) where
 
       -- it is accepted
       accepted_case : (decoded : Config) (linked : Linked) → linked ≡ linked_form decoded uid
-          → brought ≡ Ok decoded → PutsIn clock books uid id linked old new body
+          → brought ≡ Ok decoded → PutsIn clock books (live_id uid id) linked (change old new body)
           → LivesStandFor says new (frames ++ Install uid id config ∷ []) × (body
           ≡ install_answer brought (config_at id lives_before))
       accepted_case decoded linked form is r =
@@ -501,10 +506,10 @@ module _ (says : SimpleMatcher → Atom → Bool) where
           ∙ ap (λ b. cond b (Some put) (config_at id lives_before)) (int_eq_refl id) in
           let with_len = length-with_config put lives_before in
           let without_len = length-without_id id lives_before (live_distinct mine) in
-          let len : others uid id old + 1 ≡ length (with_config put lives_before) = omega
+          let len : others (live_id uid id) old + 1 ≡ length (with_config put lives_before) = omega
           (arith, with_len, without_len, others_are) in (
             changed frames (Install uid id config) uid id (λ n. refl) (λ clock. refl) old new h (Some
-                (Some r.fresh)) (others uid id old + 1) r.changes
+                (Some r.fresh)) (others (live_id uid id) old + 1) body r.changes
                 (subst (SlotStandsFor says uid (mine ++ Install uid id config ∷ []) (Some (Some r.fresh)))
                 (sym at_id) (record {
                   instance = fresh;
@@ -526,7 +531,7 @@ module _ (says : SimpleMatcher → Atom → Bool) where
 
       -- it was linked, or refused by a fault of its references or by its form
       linked_case : (decoded : Config) (read : Result Linked Refusal) → linked_read uid decoded ≡ read
-          → brought ≡ accepted_as decoded read → InstallsLinked clock books uid id read old new body
+          → brought ≡ accepted_as decoded read → InstallsLinked clock books (live_id uid id) read (change old new body)
           → LivesStandFor says new (frames ++ Install uid id config ∷ []) × (body
           ≡ install_answer brought (config_at id lives_before))
       linked_case decoded (Err refusal) read is r = refused (answers.Refused refusal) is r
@@ -534,8 +539,8 @@ module _ (says : SimpleMatcher → Atom → Bool) where
 
       -- the client is full or not
       full_case : (decoded : Config) (full : Bool) → brought ≡ accepted_read uid full (Ok decoded)
-          → MatchBool full (StaysWith (answers.ClientFull most_configs) old new body) (InstallsLinked clock books uid id
-          (linked_read uid decoded) old new body)
+          → MatchBool full (StaysWith (answers.ClientFull most_configs) (change old new body))
+          (InstallsLinked clock books (live_id uid id) (linked_read uid decoded) (change old new body))
           → LivesStandFor says new (frames ++ Install uid id config ∷ []) × (body
           ≡ install_answer brought (config_at id lives_before))
       full_case decoded true is r = refused (answers.ClientFull most_configs) is r
@@ -543,25 +548,24 @@ module _ (says : SimpleMatcher → Atom → Bool) where
 
       -- it was decoded or not
       read_case : (read : Result Config Refusal) → brought
-          ≡ accepted_read uid (nat_le most_configs (others uid id old)) read
-          → Installs clock books uid id read old new body
+          ≡ accepted_read uid (nat_le most_configs (others (live_id uid id) old)) read
+          → Installs clock books (live_id uid id) read (change old new body)
           → LivesStandFor says new (frames ++ Install uid id config ∷ []) × (body
           ≡ install_answer brought (config_at id lives_before))
       read_case (Err refusal) is r = refused (answers.Refused refusal) is r
-      read_case (Ok decoded) is r = full_case decoded (nat_le most_configs (others uid id old)) is r
+      read_case (Ok decoded) is r = full_case decoded (nat_le most_configs (others (live_id uid id) old)) is r
 
       -- what it brings, by what was read and by the others that are held
       brought_is : (read : Result Config Refusal) → read ≡ config_read (config_of config)
-          → brought ≡ accepted_read uid (nat_le most_configs (others uid id old)) read
+          → brought ≡ accepted_read uid (nat_le most_configs (others (live_id uid id) old)) read
       unfolding acceptance
       brought_is read is =
-          accepted uid (is_full id lives_before) (config_of config)
-          ∙ ap (λ n. accepted_read uid (nat_le most_configs n) (config_read (config_of config))) (sym (length-filter
+          ap (λ n. accepted_read uid (nat_le most_configs n) (config_read (config_of config))) (sym (length-filter
           (has_other_id id) lives_before) ∙ sym others_are)
-          ∙ ap (accepted_read uid (nat_le most_configs (others uid id old))) (sym is)
+          ∙ ap (accepted_read uid (nat_le most_configs (others (live_id uid id) old))) (sym is)
 
       pub serves_install : (read : Result Config Refusal) → read ≡ config_read (config_of config)
-          → Installs clock books uid id read old new body
+          → Installs clock books (live_id uid id) read (change old new body)
           → LivesStandFor says new (frames ++ Install uid id config ∷ []) × (body
           ≡ install_answer brought (config_at id lives_before))
       serves_install read is r = read_case read (brought_is read is) r
@@ -609,7 +613,7 @@ module _ (says : SimpleMatcher → Atom → Bool) where
           (sym (log_frames-push frames frame ∙ ap (λ l. log_frames frames ++ l) none ∙ append-nil (log_frames frames)))
           (subst (λ books. BooksStandFor books (log_frames frames)) (sym same_books) h.books)
 
-      pub hub_remove : Removes uid id hub.lives new.lives body
+      pub hub_remove : Removes (live_id uid id) (change hub.lives new.lives body)
           → Serves new frames (Remove uid id) (reply_of uid id body)
       unfolding reply_to
       hub_remove r =
@@ -624,9 +628,10 @@ module _ (says : SimpleMatcher → Atom → Bool) where
             answer = ap (reply_of uid id) done.1;
           }
 
-      pub hub_report : (include_current : Bool) → ReportsLive hub.clock.time hub.books.states uid id include_current
-          hub.lives
-          new.lives body → Serves new frames (Report uid id include_current) (reply_of uid id body)
+      pub hub_report : (include_current : Bool)
+          → ReportsLive (request_of uid id include_current hub.clock.time) hub.books.states
+          (change hub.lives new.lives body)
+          → Serves new frames (Report uid id include_current) (reply_of uid id body)
       unfolding reply_to
       hub_report include_current r =
           let done = serves_report frames uid id hub.lives new.lives body h.lives hub.clock.time hub.books.states
@@ -643,7 +648,7 @@ module _ (says : SimpleMatcher → Atom → Bool) where
           }
 
       pub hub_install : (config : List ℕ) (read : Result Config Refusal) → read ≡ config_read (config_of config)
-          → Installs hub.clock.time hub.books uid id read hub.lives new.lives body
+          → Installs hub.clock.time hub.books (live_id uid id) read (change hub.lives new.lives body)
           → Serves new frames (Install uid id config) (reply_of uid id body)
       unfolding reply_to
       hub_install config read is r =

@@ -1,5 +1,5 @@
 -- A report of what stands under a name.
-use Rattle.std.proofs.Common.{◌≡◌, ℕ, Bool, cond, List, Option, Some, sym, subst}
+use Rattle.std.proofs.Common.{◌≡◌, cond, List, Option, Some, sym, subst}
 use Rattle.std.specs.Option.{MatchOption}
 use Rattle.session_frames.specs.declared.reply.ReplyBody.{ReplyBody}
 use Rattle.session_frames.specs.declared.reply.ReplyBody.TheVariants as answers
@@ -7,20 +7,21 @@ use Rattle.report_writer.specs.declared.tree.ReportTree.{ReportTree}
 use Rattle.report_writer.specs.ReportSpelling.{report_message}
 use Rattle.client_engine.specs.Handed.{BookOfStates}
 use Rattle.client_engine.specs.InstanceStands.{Reports}
-use Rattle.hub_core.specs.declared.live_id.LiveId.{LiveId}
+use Rattle.client_engine.specs.declared.request.ReportRequest.{ReportRequest}
+use Rattle.client_engine.specs.declared.live_id.LiveId.{LiveId}
 use Rattle.hub_core.specs.declared.live_instance.LiveInstance.{LiveInstance}
 use Rattle.hub_core.specs.Slots.{same_id, slot_at, ShowsAt, ReportsAt}
 
-module _ (clock : ℕ) (book : BookOfStates) (name : LiveId) (include_current : Bool)
-    (old new : List (LiveId × Option LiveInstance))
+module _ (request : ReportRequest) (book : BookOfStates) (old new : List (LiveId × Option LiveInstance))
     (body : ReplyBody) where
   -- it was found, and its next stands there
-  pub shows : (live next : LiveInstance) (tree : ReportTree) → slot_at name old ≡ Some (Some live)
-      → Reports live.instance name.uid name.id include_current clock book next.instance tree
-      → ((other : LiveId) → slot_at other new ≡ cond (same_id name other) (Some (Some next)) (slot_at other old))
+  pub shows : (live next : LiveInstance) (tree : ReportTree) → slot_at request.name old ≡ Some (Some live)
+      → Reports live.instance request book next.instance tree
+      → ((other : LiveId) → slot_at other new
+      ≡ cond (same_id request.name other) (Some (Some next)) (slot_at other old))
       → body ≡ answers.ReportBytes (report_message tree)
-      → ReportsAt clock book name include_current old new body
+      → ReportsAt request book old new body
   shows live next tree is steps slots answer =
       subst (λ found. MatchOption found ((new ≡ old) × (body ≡ answers.NoConfig))
-      (λ slot. MatchOption slot (Unit {0}) (λ it. ShowsAt clock book name include_current it old new body))) (sym is)
+      (λ slot. MatchOption slot (Unit {0}) (λ it. ShowsAt request book it old new body))) (sym is)
       (record { next = next; tree = tree; steps = steps; slots = slots; answer = answer })

@@ -11,7 +11,7 @@ use Rattle.std.specs.Prelude.{Bool}
 use Rattle.indexmap.specs.IndexMap.{set_value_at}
 use Rattle.hub_core.specs.declared.live_instance.LiveInstance.{LiveInstance}
 use Rattle.client_engine.specs.Handed.{BookOfStates}
-use Rattle.hub_core.specs.declared.live_id.LiveId.{LiveId}
+use Rattle.client_engine.specs.declared.live_id.LiveId.{LiveId}
 use Rattle.hub_core.specs.SlotLogs.{SlotLogs, AllLog, asked_of, asked_by_all}
 use Rattle.std.proofs.lemmas.List.Sums.{sum_by-cons}
 

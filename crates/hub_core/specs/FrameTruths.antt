@@ -12,7 +12,7 @@ use Rattle.metric_meaning.specs.ShownFrames.{shown_as}
 use Rattle.hub_meaning.specs.LiveConfigs.{truths_at}
 use Rattle.client_engine.specs.declared.instance.Instance.{Instance}
 use Rattle.client_engine.specs.InstanceStands.{InstanceStandsFor, last_step_time}
-use Rattle.client_engine.specs.TrackStands.{logged_step}
+use Rattle.client_engine.specs.NextSteps.{logged_step}
 use Rattle.client_engine.specs.Handed.{BookOfStates}
 use Rattle.state_slicer.specs.StateBooks.{StateBookStandsFor}
 

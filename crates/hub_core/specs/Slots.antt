@@ -9,13 +9,22 @@ use Rattle.report_writer.specs.declared.tree.ReportTree.{ReportTree}
 use Rattle.report_writer.specs.ReportSpelling.{report_message}
 use Rattle.client_engine.specs.Handed.{BookOfStates}
 use Rattle.client_engine.specs.InstanceStands.{Reports}
-use Rattle.hub_core.specs.declared.live_id.LiveId.{LiveId}
+use Rattle.client_engine.specs.declared.request.ReportRequest.{ReportRequest}
+use Rattle.client_engine.specs.declared.live_id.LiveId.{LiveId}
 use Rattle.hub_core.specs.declared.live_instance.LiveInstance.{LiveInstance}
-use Rattle.hub_core.specs.contracts.live_id.LiveIdPartialEq.TheImpl as block
+use Rattle.client_engine.specs.contracts.live_id.LiveIdPartialEq.TheImpl as block
 
 -- a client's configuration of an id
 abbrev pub live_id : ℤ → ℤ → LiveId
 live_id uid id = record { uid = uid; id = id }
+
+-- a report of it at the clock, with or without a cut
+abbrev pub request_of : ℤ → ℤ → Bool → ℕ → ReportRequest
+request_of uid id include_current clock = record {
+  name = live_id uid id;
+  include_current = include_current;
+  at = clock;
+}
 
 -- two are of one client and one id
 abbrev pub same_id : LiveId → LiveId → Bool
@@ -46,19 +55,18 @@ abbrev pub held_by : ℤ → List (LiveId × Option LiveInstance) → ℕ
 held_by uid slots = count_by (λ (row : LiveId × Option LiveInstance). int_eq row.0.uid uid) slots
 
 -- A report of what stands under a name.
-pub record ShowsAt (clock : ℕ) (book : BookOfStates) (name : LiveId) (include_current : Bool) (live : LiveInstance)
+pub record ShowsAt (request : ReportRequest) (book : BookOfStates) (live : LiveInstance)
     (old new : List (LiveId × Option LiveInstance)) (body : ReplyBody) : Type 0 where
   pub next : LiveInstance
   pub tree : ReportTree
-  pub steps : Reports live.instance name.uid name.id include_current clock book next.instance tree
-  pub slots : (other : LiveId) → slot_at other new ≡ (if same_id name other then Some
-      (Some next) else slot_at other old)
+  pub steps : Reports live.instance request book next.instance tree
+  pub slots : (other : LiveId) → slot_at other new
+      ≡ (if same_id request.name other then Some (Some next) else slot_at other old)
   pub answer : body ≡ answers.ReportBytes (report_message tree)
 
 -- a report of what stands under a name; a slot that is found isn't empty
-abbrev pub ReportsAt : ℕ → BookOfStates → LiveId → Bool → List (LiveId × Option LiveInstance)
-    → List (LiveId × Option LiveInstance)
-    → ReplyBody → Type 0
-ReportsAt clock book name include_current old new body =
-    MatchOption (slot_at name old) ((new ≡ old) × (body ≡ answers.NoConfig))
-    (λ slot. MatchOption slot (Unit {0}) (λ live. ShowsAt clock book name include_current live old new body))
+abbrev pub ReportsAt : ReportRequest → BookOfStates → List (LiveId × Option LiveInstance)
+    → List (LiveId × Option LiveInstance) → ReplyBody → Type 0
+ReportsAt request book old new body =
+    MatchOption (slot_at request.name old) ((new ≡ old) × (body ≡ answers.NoConfig))
+    (λ slot. MatchOption slot (Unit {0}) (λ live. ShowsAt request book live old new body))

@@ -2,7 +2,8 @@
 ghost use Rattle.std.specs.Prelude.{◌≡◌, true, IfOk};
 ghost use Rattle.config_decode.specs.Config.{config_of};
 ghost use Rattle.metric_meaning.specs.Forms.{is_built};
-ghost use Rattle.hub_core.specs.InstallReading.{config_read, form_read, linked_read, MayRun};
+ghost use Rattle.hub_meaning.specs.Acceptance.{config_read, form_read, linked_read};
+ghost use Rattle.hub_core.specs.InstallReading.{MayRun};
 
 use client_engine::built;
 use config_decode::{DecodeFault, decode};

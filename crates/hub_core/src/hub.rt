@@ -11,12 +11,12 @@ ghost use Rattle.hub_meaning.specs.ClientIsolation.{EqualOwnFramesEqualReplies};
 
 use crate::books::{Books, shown_of};
 use crate::configs::read_config;
-use crate::live_id::LiveId;
 use crate::lives::Lives;
 use crate::log_clock::LogClock;
 use atom_record::LogFrame;
+use client_engine::{LiveId, ReportRequest};
 use matcher_eval::Judge;
-use session_frames::{Frame, Reply};
+use session_frames::{Frame, Reply, time_of};
 use std::alloc::{AllocError, Global};
 
 /// All clients with their live configurations, the clock, the books of the log, and the judge. It keeps no frame.
@@ -130,23 +130,17 @@ impl<J: Judge> Hub<J> {
                 id,
                 include_current,
             } => {
-                let name = LiveId { uid, id };
+                let request = ReportRequest {
+                    name: LiveId { uid, id },
+                    include_current,
+                    at: self.clock.time,
+                };
                 let lives = self.lives;
-                let now = self.clock.time;
                 let states = &self.books.states;
-                let (lives, body) = lives.report(self.alloc, now, name, include_current, states)?;
+                let (lives, body) = lives.report(self.alloc, request, states)?;
                 self.lives = lives;
                 Ok((self, Some(Reply { uid, id, body })))
             }
         }
-    }
-}
-
-/// The time of a frame of the log, in nanoseconds.
-fn time_of(frame: &LogFrame) -> u64
-    ensures { result ≡ log_time frame.now }
-{
-    match frame {
-        LogFrame::Tick { at } | LogFrame::AtomAt { at, .. } | LogFrame::Pull { at, .. } => *at,
     }
 }

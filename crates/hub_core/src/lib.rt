@@ -4,7 +4,6 @@
 mod books;
 mod configs;
 mod hub;
-mod live_id;
 mod live_instance;
 mod lives;
 mod log_clock;

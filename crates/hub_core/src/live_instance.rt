@@ -16,7 +16,7 @@ ghost use Rattle.std.specs.List.{All};
 
 use crate::books::Books;
 use atom_record::LogFrame;
-use client_engine::{Instance, LogView};
+use client_engine::{Instance, LogView, ReportRequest};
 use config_links::{LMatcher, Linked};
 use matcher_eval::Judge;
 use matcher_truths::{evaluate, evaluation_order};
@@ -82,19 +82,16 @@ impl LiveInstance {
     /// Reports what came since the last report.
     pub fn report(
         self,
-        uid: i32,
-        id: i64,
-        include_current: bool,
-        at: u64,
+        request: ReportRequest,
         states: &StateBook,
     ) -> Result<(LiveInstance, ReportTree), AllocError>
-        requires timely { at < 2 ^ 63 }
+        requires timely { request.at < 2 ^ 63 }
         ensures reports { IfOk result (λ r.
-            Reports self.instance uid id include_current at states.now r.0.instance r.1) }
+            Reports self.instance request states.now r.0.instance r.1) }
         ensures writable { IfOk result (λ r. IsWritableReport r.1) }
     {
         let LiveInstance { instance, order } = self;
-        let (instance, tree) = instance.report(uid, id, include_current, at, states)?;
+        let (instance, tree) = instance.report(request, states)?;
         Ok((LiveInstance { instance, order }, tree))
     }
 }

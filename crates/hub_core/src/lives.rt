@@ -4,11 +4,11 @@ ghost use Rattle.hub_core.specs.Slots.{held_by, listed_at, count_at};
 
 use crate::books::Books;
 use crate::configs::link_config;
-use crate::live_id::LiveId;
 use crate::live_instance::LiveInstance;
 use crate::logging::log_all;
 use crate::slots::{install_answer, others_of, put, report_at, set_count, take_out};
 use atom_record::LogFrame;
+use client_engine::{LiveId, ReportRequest};
 use config_links::Linked;
 use config_types::Config;
 use indexmap::IndexMap;
@@ -37,7 +37,7 @@ impl Lives {
     ghost use Rattle.matcher_truths.specs.QuestionCounts.{AreTicks};
     ghost use Rattle.hub_core.specs.InstallReading.{MayRun};
     ghost use Rattle.hub_core.specs.SlotLogs.{AllLog, asked_by_all};
-    ghost use Rattle.hub_core.specs.Commands.{others, Installs, PutsIn, Removes, ReportsLive};
+    ghost use Rattle.hub_core.specs.Commands.{change, others, Installs, PutsIn, Removes, ReportsLive};
 
     /// Nothing is live. It takes no memory yet.
     pub fn new(alloc: Global) -> Lives
@@ -80,7 +80,7 @@ impl Lives {
         read: Result<Config, Refusal>,
     ) -> Result<(Lives, ReplyBody), AllocError>
         requires timely { clock < 2 ^ 63 }
-        ensures { IfOk result (λ r. Installs clock books.now name.uid name.id read self r.0 r.1) }
+        ensures { IfOk result (λ r. Installs clock books.now name read (change self r.0 r.1)) }
     {
         let config = match read {
             Ok(config) => config,
@@ -107,8 +107,8 @@ impl Lives {
     ) -> Result<(Lives, ReplyBody), AllocError>
         requires timely { clock < 2 ^ 63 }
         requires may_run { MayRun linked }
-        requires room { others name.uid name.id self < 10 }
-        ensures { IfOk result (λ r. PutsIn clock books.now name.uid name.id linked self r.0 r.1) }
+        requires room { others name self < 10 }
+        ensures { IfOk result (λ r. PutsIn clock books.now name linked (change self r.0 r.1)) }
     {
         let there = self.slots.contains_key(&name);
         let others = others_of(&self.counts, name.uid, there);
@@ -125,7 +125,7 @@ impl Lives {
 
     /// Takes a client's configuration out. The last slot of the table takes its place.
     pub fn remove(self, name: LiveId) -> Result<(Lives, ReplyBody), AllocError>
-        ensures { IfOk result (λ r. Removes name.uid name.id self r.0 r.1) }
+        ensures { IfOk result (λ r. Removes name (change self r.0 r.1)) }
     {
         if !self.slots.contains_key(&name) {
             return Ok((self, ReplyBody::NoConfig));
@@ -144,17 +144,14 @@ impl Lives {
     pub fn report(
         self,
         alloc: Global,
-        clock: u64,
-        name: LiveId,
-        include_current: bool,
+        request: ReportRequest,
         states: &StateBook,
     ) -> Result<(Lives, ReplyBody), AllocError>
-        requires timely { clock < 2 ^ 63 }
-        ensures { IfOk result (λ r.
-            ReportsLive clock states.now name.uid name.id include_current self r.0 r.1) }
+        requires timely { request.at < 2 ^ 63 }
+        ensures { IfOk result (λ r. ReportsLive request states.now (change self r.0 r.1)) }
     {
         let Lives { mut slots, counts } = self;
-        let body = report_at(&mut slots, alloc, clock, name, include_current, states)?;
+        let body = report_at(&mut slots, alloc, request, states)?;
         Ok((Lives { slots, counts }, body))
     }
 }

@@ -4,9 +4,9 @@ ghost use Rattle.session_frames.specs.Faultless.{IsFaultlessLog};
 ghost use Rattle.matcher_truths.specs.QuestionCounts.{AreTicks};
 ghost use Rattle.hub_core.specs.SlotLogs.{SlotLogs, AllLog, asked_of, asked_by_all};
 
-use crate::live_id::LiveId;
 use crate::live_instance::LiveInstance;
 use atom_record::LogFrame;
+use client_engine::LiveId;
 use indexmap::IndexMap;
 use matcher_eval::Judge;
 use state_slicer::StateBook;

@@ -1,11 +1,11 @@
 //! Slots under names, and counts of them.
 ghost use Rattle.std.specs.Prelude.{◌≡◌, ◌+◌, ◌<◌, ◌^◌, ℤ, not, ◌&&◌, Some, None, is_some, OnOk, IfOk, if◌then◌else◌};
 ghost use Rattle.std.specs.Ordering.{int_eq};
-ghost use Rattle.hub_core.specs.declared.live_id.LiveId.{LiveId};
+ghost use Rattle.client_engine.specs.declared.live_id.LiveId.{LiveId};
 ghost use Rattle.hub_core.specs.Slots.{same_id, slot_at, listed_at, listed, others_at, held_by, ReportsAt};
 
-use crate::live_id::LiveId;
 use crate::live_instance::LiveInstance;
+use client_engine::{LiveId, ReportRequest};
 use indexmap::IndexMap;
 use report_writer::write;
 use sd_base::Seq;
@@ -40,28 +40,26 @@ pub fn take_out(slots: &mut IndexMap<LiveId, Option<LiveInstance>>, name: LiveId
     slots.swap_remove(&name);
 }
 
-/// Reports what is under a name, as the bytes of its message.
+/// Reports what is under the name that is asked for, as the bytes of its message.
 pub fn report_at(
     slots: &mut IndexMap<LiveId, Option<LiveInstance>>,
     alloc: Global,
-    clock: u64,
-    name: LiveId,
-    include_current: bool,
+    request: ReportRequest,
     states: &StateBook,
 ) -> Result<ReplyBody, AllocError>
-    requires timely { clock < 2 ^ 63 }
+    requires timely { request.at < 2 ^ 63 }
     ensures reports { IfOk result
-        (ReportsAt clock states.now name include_current slots.old.entries slots.new.entries) }
+        (ReportsAt request states.now slots.old.entries slots.new.entries) }
     ensures held { OnOk result ((uid : ℤ) →
         held_by uid slots.new.entries ≡ held_by uid slots.old.entries) }
 {
-    let Some(slot) = slots.get_mut(&name) else {
+    let Some(slot) = slots.get_mut(&request.name) else {
         return Ok(ReplyBody::NoConfig);
     };
     let Some(live) = slot.take() else {
         return Ok(ReplyBody::NoConfig);
     };
-    let (live, tree) = live.report(name.uid, name.id, include_current, clock, states)?;
+    let (live, tree) = live.report(request, states)?;
     *slot = Some(live);
     Ok(ReplyBody::ReportBytes(Seq::from_vec(write(alloc, &tree)?)))
 }

@@ -42,21 +42,35 @@ refusal_of (fault.Unsupported path) = Unsupported path
 abbrev pub other_form : Refusal
 other_form = Unsupported []
 
--- a configuration without faults is accepted if it has the form that is acted on
-abbrev pub accepted_form : Config → Linked → Result Config ReplyBody
-accepted_form config linked = if is_built linked then Ok config else Err (Refused other_form)
+-- what was decoded, or the refusal of bytes that aren't a configuration
+abbrev pub config_read : Result Config ConfigFault → Result Config Refusal
+config_read (Ok config) = Ok config
+config_read (Err found) = Err (refusal_of found)
 
--- the references are judged, and then the form, of a configuration of this client
-abbrev pub accepted_links : ℤ → Config → Option LinkFault → Result Config ReplyBody
-accepted_links uid config (Some found) = Err (Refused (Link found.number found.reason found.value))
-accepted_links uid config None = accepted_form config (linked_form config uid)
+-- a linked form, if it has the form that is acted on
+abbrev pub form_read : Linked → Result Linked Refusal
+form_read linked = if is_built linked then Ok linked else Err other_form
 
--- a full client is told so before the references are judged
-abbrev pub accepted_config : ℤ → Bool → Result Config ConfigFault → Result Config ReplyBody
-accepted_config uid full (Err found) = Err (Refused (refusal_of found))
-accepted_config uid full (Ok config) =
-    if full then Err (ClientFull most_configs) else accepted_links uid config (verdict config)
+-- a linked form, unless the references have a fault: they are judged first, and then the form
+abbrev pub read_unless : Option LinkFault → Linked → Result Linked Refusal
+read_unless (Some found) linked = Err (Link found.number found.reason found.value)
+read_unless None linked = form_read linked
+
+-- the linked form of a client's configuration, or its refusal
+abbrev pub linked_read : ℤ → Config → Result Linked Refusal
+linked_read uid config = read_unless (verdict config) (linked_form config uid)
+
+-- a configuration is accepted if it was linked
+abbrev pub accepted_as : Config → Result Linked Refusal → Result Config ReplyBody
+accepted_as config (Ok linked) = Ok config
+accepted_as config (Err refusal) = Err (Refused refusal)
+
+-- what was decoded of a client is accepted or not: a full client is told so before the references are judged
+abbrev pub accepted_read : ℤ → Bool → Result Config Refusal → Result Config ReplyBody
+accepted_read uid full (Err refusal) = Err (Refused refusal)
+accepted_read uid full (Ok config) =
+    if full then Err (ClientFull most_configs) else accepted_as config (linked_read uid config)
 
 -- what a client's install of an id brings, with these live before it, or the answer that refuses it
 unfoldable pub acceptance : ℤ → ℤ → List ℕ → List LiveConfig → Result Config ReplyBody
-acceptance uid id bytes configs = accepted_config uid (is_full id configs) (config_of bytes)
+acceptance uid id bytes configs = accepted_read uid (is_full id configs) (config_read (config_of bytes))

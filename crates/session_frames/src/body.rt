@@ -335,8 +335,8 @@ fn read_body(alloc: Global, kind: u8, body: &[u8]) -> Result<Frame, BodyError>
     }
 }
 
-// The time of a frame of the log.
-fn time_of(frame: &LogFrame) -> u64
+/// The time of a frame of the log, in nanoseconds.
+pub fn time_of(frame: &LogFrame) -> u64
     ensures { result ≡ frames.log_time frame.now }
 {
     match frame {

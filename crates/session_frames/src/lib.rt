@@ -8,6 +8,7 @@ mod reader;
 mod reply;
 mod writing;
 
+pub use body::time_of;
 pub use frame::{
     BAD_FLAG, Frame, FrameError, FrameFault, LATE, LEFT_OVER, SessionFault, TOO_MANY_ATOMS,
     TOO_SHORT,

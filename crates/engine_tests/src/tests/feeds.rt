@@ -1,10 +1,10 @@
 //! Instances, and what comes to them.
-ghost use Rattle.std.specs.Prelude.{◌<◌};
+ghost use Rattle.std.specs.Prelude.{◌≡◌, ◌<◌};
 ghost use Rattle.bucket_meaning.specs.Limits.{time_limit};
 
 use crate::tests::shown::text_of;
 use atom_record::{LogFrame, PullOutcome, parse_atom};
-use client_engine::{Instance, LogView, built};
+use client_engine::{Instance, LiveId, LogView, ReportRequest, built};
 use config_decode::decode;
 use config_links::link;
 use pull_book::PullBook;
@@ -150,6 +150,17 @@ pub fn log_tick(instance: Instance, states: &StateBook, at: u64) -> Result<(Inst
     Ok((instance, true))
 }
 
+/// A report that is asked for at a time.
+pub fn request(include_current: bool, at: u64) -> ReportRequest
+    ensures { result.at ≡ at }
+{
+    ReportRequest {
+        name: LiveId { uid: 10, id: 7 },
+        include_current,
+        at,
+    }
+}
+
 fn report(
     alloc: Global,
     instance: Instance,
@@ -161,7 +172,7 @@ fn report(
     if at >= LATE {
         return Ok((instance, false));
     }
-    let (instance, tree) = instance.report(10, 7, include_current, at, states)?;
+    let (instance, tree) = instance.report(request(include_current, at), states)?;
     let text = text_of(alloc, &tree)?;
     Ok((instance, text.as_str() == shown))
 }

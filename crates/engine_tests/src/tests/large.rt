@@ -1,5 +1,5 @@
 //! As many rows as a metric keeps, in one key and in as many keys.
-use crate::tests::feeds::{instance_of, log_payload, log_tick};
+use crate::tests::feeds::{instance_of, log_payload, log_tick, request};
 use atom_record::Value;
 use client_engine::Instance;
 use report_writer::{MetricBody, NumTree, ReportTree};
@@ -61,7 +61,7 @@ fn keeps_16384_buckets_and_counts_the_next(rt: HostRuntime) -> Result<(), Fail> 
         return Err(Fail::new("not acted on"));
     };
     let instance = feed_buckets(rt.alloc(), instance, KEPT + 1)?;
-    let (_instance, tree) = instance.report(10, 7, false, 16_385 * SECOND, &states)?;
+    let (_instance, tree) = instance.report(request(false, 16_385 * SECOND), &states)?;
     let (keys, not_kept) = shown(&tree).unwrap_or((&[], 0));
     assert!(rt; has_first_buckets(keys));
     assert!(rt; not_kept == 1);
@@ -109,7 +109,7 @@ fn shows_16384_keys(rt: HostRuntime) -> Result<(), Fail> {
         return Err(Fail::new("not acted on"));
     };
     let instance = feed_keys(rt.alloc(), instance, KEPT)?;
-    let (_instance, tree) = instance.report(10, 7, false, 6 * SECOND, &states)?;
+    let (_instance, tree) = instance.report(request(false, 6 * SECOND), &states)?;
     let (keys, not_kept) = shown(&tree).unwrap_or((&[], 1));
     assert!(rt; has_each_key_once(keys));
     assert!(rt; not_kept == 0);

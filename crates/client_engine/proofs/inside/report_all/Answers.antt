@@ -6,7 +6,7 @@ use Rattle.client_engine.proofs.inside.report_all.Goals as goal
 -- one more track was reported
 pub loop-track-preserved : goal.loop-track-preserved
 loop-track-preserved c =
-    one_reported c.args.base c.args.include_current c.args.at c.deref_mut-track-items.result.now
+    one_reported c.args.base c.args.request c.deref_mut-track-items.result.now
     c.loop-track.track-items c.loop-track.track-index c.loop-track.trees c.show.new.trees c.report.new.self _
     c.in_ok-tree.tree _ (omega arith) c.loop-track.invariant c.in_ok-tree.ensures.metric refl
     c.in_ok-tree.ensures.reports c.in_ok-tree.ensures.writable c.in_ok-show.ensures
@@ -15,8 +15,7 @@ loop-track-preserved c =
 pub returns : goal.returns
 returns c =
     let base = c.args.base in
-    let cut = c.args.include_current in
-    let at = c.args.at in
+    let request = c.args.request in
     let items = c.loop-track.track-items in
     let trees = c.loop-track.trees in
     let size = c.loop-track.invariant.len in
@@ -24,10 +23,10 @@ returns c =
     let ends = c.loop-track-test.false in
     let index = c.loop-track.auto.track-index-end in
     let old_size = c.args.tracks.now.ok.0 in
-    let reported : AllReport base cut at c.deref_mut-track-items.result.now items trees =
-    all_reported base cut at c.deref_mut-track-items.result.now items c.loop-track.track-index trees
+    let reported : AllReport base request c.deref_mut-track-items.result.now items trees =
+    all_reported base request c.deref_mut-track-items.result.now items c.loop-track.track-index trees
     (omega (arith, size, ends, index)) c.loop-track.invariant in
     let same = subst (λ old. length items ≡ length old) value size in
-    subst (λ new. AllReport base cut at c.args.tracks.now.items new trees)
+    subst (λ new. AllReport base request c.args.tracks.now.items new trees)
     (sym (whole items c.args.tracks.now.items c.args.tracks.now.len same old_size))
-    (subst (λ old. AllReport base cut at old items trees) value reported)
+    (subst (λ old. AllReport base request old items trees) value reported)

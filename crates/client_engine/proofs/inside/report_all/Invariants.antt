@@ -4,4 +4,4 @@ use Rattle.client_engine.proofs.inside.report_all.Given as goal
 
 abbrev pub invariant-loop-track : goal.invariant-loop-track
 invariant-loop-track l =
-    AreReported l.base l.include_current l.at l.initial.track-items l.track-items l.track-index l.trees
+    AreReported l.base l.request l.initial.track-items l.track-items l.track-index l.trees

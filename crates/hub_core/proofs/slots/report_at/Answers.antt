@@ -1,6 +1,5 @@
 -- The write at the name leaves the numbers, and what was found was reported.
-use Rattle.std.proofs.Common.{SFits, w32, w64, rules, refl, ap, ◌∙◌, Some, sym, subst}
-use Rattle.std.proofs.lemmas.Int.{to_z-of_z}
+use Rattle.std.proofs.Common.{refl, ap, ◌∙◌, Some, sym, subst}
 use Rattle.std.specs.Prelude.{IsSome}
 use Rattle.session_frames.specs.declared.reply.ReplyBody.TheVariants.{ReportBytes}
 use Rattle.hub_core.specs.Slots.{held_by}
@@ -10,22 +9,18 @@ use Rattle.hub_core.proofs.slots.report_at.Goals as goal
 
 pub returns-clause-reports : goal.returns-clause-reports
 returns-clause-reports c =
-    let uid_fits : SFits w32 c.args.name.uid = search rules in
-    let id_fits : SFits w64 c.args.name.id = search rules in
-    let reports = simp to_z-of_z at c.in_ok-live.ensures.reports in
-    shows c.args.clock c.args.states.now c.args.name c.args.include_current c.args.slots.now.entries _ _
-    c.in-Some-take.live
-    c.in_ok-live.live
-    c.in_ok-live.tree (sym c.in-Some.ensures.value ∙ ap Some (sym c.in-Some-take.ensures.value)) reports
+    shows c.args.request c.args.states.now c.args.slots.now.entries _ _ c.in-Some-take.live c.in_ok-live.live
+    c.in_ok-live.tree (sym c.in-Some.ensures.value ∙ ap Some (sym c.in-Some-take.ensures.value))
+    c.in_ok-live.ensures.reports
     ((c.get_mut.follows.holds (Some c.in_ok-live.live)).3 (subst IsSome c.in-Some.ensures.value refl)).0
     (ap ReportBytes (c.from_vec.ensures ∙ c.in_ok-write.ensures))
 
 pub returns-clause-held : goal.returns-clause-held
 returns-clause-held c = λ uid.
     ap (held_by uid) (c.get_mut.follows.holds (Some c.in_ok-live.live)).0
-    ∙ held-set_value uid c.args.name (Some c.in_ok-live.live) c.args.slots.now.entries
+    ∙ held-set_value uid c.args.request.name (Some c.in_ok-live.live) c.args.slots.now.entries
 
 pub returns-in_default-take-clause-held : goal.returns-in_default-take-clause-held
 returns-in_default-take-clause-held c = λ uid.
     ap (held_by uid) (c.get_mut.follows.holds c.take.new.self).0
-    ∙ held-set_value uid c.args.name c.take.new.self c.args.slots.now.entries
+    ∙ held-set_value uid c.args.request.name c.take.new.self c.args.slots.now.entries

@@ -1,6 +1,7 @@
 use Rattle.std.proofs.Common.{subst, sym, arith}
 use Rattle.std.proofs.lemmas.Grind.{merely}
-use Rattle.client_engine.specs.InsideParts.{AreAsked, InsideLogs}
+use Rattle.client_engine.specs.Running.{AreAsked}
+use Rattle.client_engine.specs.InsideParts.{InsideLogs}
 use Rattle.client_engine.proofs.InsidePartsLemmas.{inside_logs, asked_after_log, all_asked}
 use Rattle.client_engine.proofs.instance.Instance.log.Goals as goal
 

@@ -1,13 +1,8 @@
-use Rattle.std.proofs.lemmas.Result.{IfOk-weaker}
-use Rattle.client_engine.proofs.TrackLemmas.{the_lane, is_counts, track_reports}
+use Rattle.client_engine.proofs.TrackLemmas.{is_counts}
 use Rattle.client_engine.proofs.track.Track.report.Goals as goal
 
--- what the lane handed out is shown
+-- the lane was reported
 pub returns-clause-reports : goal.returns-clause-reports
 returns-clause-reports c =
-    let lane = c.args.self.now.lane in
-    let metric = c.args.self.now.metric in
-    let reports = rw (is_counts lane) at c.in_ok-closed.ensures in
-    rw (is_counts lane) (IfOk-weaker c.counts_tree.result _ _
-    (λ tree is. track_reports metric c.args.base c.args.include_current c.args.at (the_lane lane)
-    c.report.new.self c.in_ok-closed.closed reports tree is) c.counts_tree.ensures)
+    let reports = rw (is_counts c.args.self.now.lane) at c.report.ensures.reports in
+    rw (is_counts c.args.self.now.lane) reports

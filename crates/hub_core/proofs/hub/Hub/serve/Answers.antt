@@ -5,7 +5,7 @@ use Rattle.session_frames.specs.declared.frame.Frame.TheVariants.{Log}
 use Rattle.session_frames.specs.Frames.{IsInTime}
 use Rattle.config_decode.specs.Config.{config_of}
 use Rattle.hub_meaning.specs.SessionLog.{clock_of}
-use Rattle.hub_core.specs.InstallReading.{config_read}
+use Rattle.hub_meaning.specs.Acceptance.{config_read}
 use Rattle.hub_core.proofs.HubStandsLemmas.{serves_as, served_log, hub_remove, hub_report, hub_install}
 use Rattle.hub_core.proofs.hub.Hub.serve.Goals as goal
 

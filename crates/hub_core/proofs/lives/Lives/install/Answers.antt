@@ -12,10 +12,10 @@ returns-in-Ok-2 c =
     let uid_fits : SFits w32 c.args.name.uid = search rules in
     let count = simp to_z-of_z at c.others_of.ensures in
     let linked = simp to_z-of_z at c.in_ok-linked.ensures.linked in
-    let same : c.others_of.result ≡ others c.args.name.uid c.args.name.id c.args.self =
+    let same : c.others_of.result ≡ others c.args.name c.args.self =
     count ∙ ap (λ b. others_at c.args.name.uid b c.args.self.counts.entries) c.contains_key-there.ensures in
     let room : nat_le 10 c.others_of.result ≡ false = grind (arith, nat_tests, c.if-others_of-ge-MOST_CONFIGS.false) in
-    rw c.in-Ok.is (installs c.args.clock c.args.books.now c.args.name.uid c.args.name.id c.in-Ok.config
+    rw c.in-Ok.is (installs c.args.clock c.args.books.now c.args.name c.in-Ok.config
     c.in-Ok-2.linked c.args.self
     c.put_in.result (ap (nat_le 10) (sym same) ∙ room) (sym linked ∙ c.in-Ok-2.is)
     c.put_in.ensures)

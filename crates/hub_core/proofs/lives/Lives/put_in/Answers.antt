@@ -18,7 +18,7 @@ invariant_of-result c =
     let set = counts_set c.args.name.uid count counts c.set_count.new.counts.entries listed in
     let there = c.contains_key-there.ensures in
     let is = simp to_z-of_z at c.others_of-others.ensures in
-    let same : c.others_of-others.result ≡ others c.args.name.uid c.args.name.id c.args.self =
+    let same : c.others_of-others.result ≡ others c.args.name c.args.self =
     is ∙ ap (λ b. others_at c.args.name.uid b c.args.self.counts.entries) there in
     let room : c.others_of-others.result < 10 = omega (arith, same, c.requires.room) in
     let all = counted_put c.args.name.uid c.args.name.id c.args.self.slots.entries c.put.new.slots.entries
@@ -38,7 +38,7 @@ returns c =
     c.set_count.new.counts.entries (simp to_z-of_z at c.in_ok-set_count.ensures) in
     let there = c.contains_key-there.ensures in
     let is = simp to_z-of_z at c.others_of-others.ensures in
-    puts_in c.args.clock c.args.books.now c.args.name.uid c.args.name.id c.args.linked c.args.self _
+    puts_in c.args.clock c.args.books.now c.args.name c.args.linked c.args.self _
     c.install_answer.result
     c.in_ok-live.live c.others_of-others.result c.in_ok-live.ensures slots set
     (is ∙ ap (λ b. others_at c.args.name.uid b c.args.self.counts.entries) there)

@@ -33,5 +33,5 @@ returns c =
     (simp to_z-of_z at c.in_ok-set_count.ensures) in
     let there = sym c.contains_key.ensures ∙ c.if-not-contains_key.false in
     let is = simp to_z-of_z at c.others_of-others.ensures in
-    takes_out c.args.name.uid c.args.name.id c.args.self _ c.others_of-others.result there c.take_out.ensures.slots set
+    takes_out c.args.name c.args.self _ c.others_of-others.result there c.take_out.ensures.slots set
     (is ∙ ap (λ b. others_at c.args.name.uid b counts) (sym there))

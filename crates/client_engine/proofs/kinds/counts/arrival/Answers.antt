@@ -4,8 +4,8 @@ use Rattle.field_select.specs.LeafValues.{key_of}
 use Rattle.metric_meaning.specs.Readings.{atom_reading}
 use Rattle.metric_meaning.specs.StateSlices.{named_slices}
 use Rattle.client_engine.specs.Handed.{handed}
-use Rattle.client_engine.proofs.TrackLemmas.{not_arrived, arrived, condition_there}
-use Rattle.client_engine.proofs.track.arrival.Goals as goal
+use Rattle.client_engine.proofs.CountsLemmas.{not_arrived, arrived, condition_there}
+use Rattle.client_engine.proofs.kinds.counts.arrival.Goals as goal
 
 -- the condition isn't true
 pub returns-then-not-branch-clause-key : goal.returns-then-not-branch-clause-key

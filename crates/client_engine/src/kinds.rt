@@ -1,0 +1,3 @@
+//! What each kind of metric has of its own: its lane, what comes to it with a frame, and what a report shows of it.
+
+pub mod counts;
