@@ -20,7 +20,8 @@ use Rattle.link_rules.specs.declared.entities.Kind.{Kind}
 use Rattle.link_rules.specs.declared.entities.Kind.TheVariants.{Gauge}
 use Rattle.link_rules.specs.declared.fault.LinkFault.{LinkFault}
 use Rattle.link_rules.specs.declared.known.Ids.{Ids}
-use Rattle.link_rules.specs.EntityLimits.{limit_fault, limits, count_limit, number_limit, most_bound, most_samples, most_bucket_samples, default_samples, number_or, samples_by, bound_or_default, samples_limit, samples_of, metric_limit}
+use Rattle.link_rules.specs.declared.limits.Limit.TheVariants.{MetricBound, Samples, BucketSamples}
+use Rattle.link_rules.specs.EntityLimits.{limit_fault, limits, count_limit, number_limit, default_samples, number_or, samples_by, bound_or_default, samples_limit, samples_of, metric_limit}
 use Rattle.link_rules.specs.EntityIds.{no_id_fault, duplicate_id_fault, set_ids, id_of_predicate, matcher_ids, predicate_ids, place_in}
 use Rattle.link_rules.specs.EntityNames.{first_unknown, predicates_of_predicate, unknown_predicates, unknown_predicate_fault, unknown_matcher_fault, unknown_state_fault}
 use Rattle.link_rules.specs.LinkFaults.{fault, unknown_predicate, predicate_kind}
@@ -40,13 +41,13 @@ fits_by n true true found is h = leb-true n 100 is
 fits_by n false below found is h = absurd (cc)
 fits_by n true false found is h = absurd (cc)
 
-number_fits : (samples : Option ℤ) → number_limit 7 most_samples samples ≡ None
+number_fits : (samples : Option ℤ) → number_limit Samples samples ≡ None
     → number_or default_samples samples ≤ 100
 number_fits None h = lit≤ tt
 number_fits (Some (negsuc n)) h = lit≤ tt
 number_fits (Some (pos n)) h = fits_by n (nat_lt 0 n) (nat_le n 100) _ refl h
 
-samples_fit : (sampling : SamplingType) (samples : Option ℤ) → number_limit 7 most_samples samples ≡ None
+samples_fit : (sampling : SamplingType) (samples : Option ℤ) → number_limit Samples samples ≡ None
     → samples_by sampling samples ≤ 100
 samples_fit RandomOne samples h = lit≤ tt
 samples_fit ChangeToTrue samples h = number_fits samples h
@@ -55,14 +56,14 @@ samples_fit FirstN samples h = number_fits samples h
 few_by_kind : (kind : Kind) (bound : ℕ) → samples_limit bound kind ≡ None → TakesFew kind
 few_by_kind (Gauge gauge) bound h = samples_fit gauge.sampling gauge.max_samples
     (none_of
-    (number_limit 7 most_samples gauge.max_samples ∷ count_limit 8 most_bucket_samples (bound * samples_of gauge) ∷ [])
+    (number_limit Samples gauge.max_samples ∷ count_limit BucketSamples (bound * samples_of gauge) ∷ [])
     h).0
 few_by_kind _ bound h = tt
 
 few_of : (metric : Metric) → metric_limit metric ≡ None → TakesFew metric.kind
 few_of metric h = few_by_kind metric.kind (bound_or_default metric.sliced.bound)
     (none_of
-    (number_limit 6 most_bound metric.sliced.bound
+    (number_limit MetricBound metric.sliced.bound
     ∷ samples_limit (bound_or_default metric.sliced.bound) metric.kind ∷ [])
     h).1.0
 

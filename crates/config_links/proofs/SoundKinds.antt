@@ -16,7 +16,8 @@ use Rattle.field_select.specs.declared.leaf.FieldSet.{FieldSet}
 use Rattle.field_select.specs.declared.leaf.LeafPath.{LeafPath}
 use Rattle.field_select.specs.FieldSets.{IsLeaf, is_all}
 use Rattle.link_rules.specs.declared.fault.LinkFault.{LinkFault}
-use Rattle.link_rules.specs.EntityLimits.{count_limit, number_limit, most_samples, most_bucket_samples, number_or, default_samples, samples_by}
+use Rattle.link_rules.specs.declared.limits.Limit.TheVariants.{Samples, BucketSamples}
+use Rattle.link_rules.specs.EntityLimits.{most_samples, most_bucket_samples, count_limit, number_limit, number_or, default_samples, samples_by}
 use Rattle.link_rules.specs.EntityIds.{place_in}
 use Rattle.config_links.specs.declared.linked.LPredicate.{LPredicate}
 use Rattle.config_links.specs.declared.linked.LSlice.{LSlice}
@@ -88,13 +89,13 @@ limit_step : (within : Bool) (found : LinkFault) → (if within then None else S
 limit_step true found h = refl
 limit_step false found h = absurd (cc)
 
-number_fits : (samples : Option ℤ) → number_limit 7 most_samples samples ≡ None
+number_fits : (samples : Option ℤ) → number_limit Samples samples ≡ None
     → IsFromOne 100 (number_or default_samples samples)
 number_fits None h = (omega arith, omega arith)
 number_fits (Some (pos n)) h = number_from_one most_samples (Some (pos n)) (limit_step _ _ h)
 number_fits (Some (negsuc n)) h = absurd (cc)
 
-pub samples_fit : (sampling : SamplingType) (samples : Option ℤ) → number_limit 7 most_samples samples ≡ None
+pub samples_fit : (sampling : SamplingType) (samples : Option ℤ) → number_limit Samples samples ≡ None
     → IsFromOne 100 (samples_by sampling samples)
 samples_fit RandomOne samples h = (omega arith, omega arith)
 samples_fit ChangeToTrue samples h = number_fits samples h
@@ -106,7 +107,7 @@ within_by most count false found is h = ltb-false most count is
 within_by most count true found is h = absurd (cc)
 
 -- all samples of a bucket
-pub product_fits : (count : ℕ) → count_limit 8 most_bucket_samples count ≡ None → count ≤ 16384
+pub product_fits : (count : ℕ) → count_limit BucketSamples count ≡ None → count ≤ 16384
 product_fits count h = within_by most_bucket_samples count (nat_lt most_bucket_samples count) _ refl h
 
 module _ {A : Type 0} where
@@ -179,7 +180,8 @@ module _ (scope : Scope) (what : ℤ) where
       → linked.predicates ≡ scope.predicates → metric.what ≡ place_in scope.ids.predicates what
       → metric.bound ≡ bound → metric.slices ≡ map (linked_slice scope links) ids
       → is_some (spec_in (predicate_named scope what)) ≡ true
-      → are_within (dims_in (predicate_named scope what)) metric.dims metric.links links ≡ true
+      → are_within (dims_in (predicate_named scope what))
+      (record { what = what; dims = metric.dims; links = metric.links; state_links = links }) ≡ true
       → IsSoundDuration linked metric (timed_spec scope what bound)
   duration_sound linked metric bound links ids known many same_predicates same_what same_bound same_slices simple
       within =

@@ -12,7 +12,8 @@ use Rattle.link_rules.specs.declared.entities.Kind.TheVariants.{Event, Count, Va
 use Rattle.link_rules.specs.declared.entities.GaugeParts.{GaugeParts}
 use Rattle.link_rules.specs.declared.entities.ValueParts.{ValueParts}
 use Rattle.link_rules.specs.EntityIds.{place_in}
-use Rattle.link_rules.specs.EntityLimits.{bound_or_default, samples_of, most_bound, most_samples, most_bucket_samples, number_limit, count_limit, samples_limit, metric_limit}
+use Rattle.link_rules.specs.declared.limits.Limit.TheVariants.{MetricBound, Samples, BucketSamples}
+use Rattle.link_rules.specs.EntityLimits.{bound_or_default, samples_of, number_limit, count_limit, samples_limit, metric_limit}
 use Rattle.link_rules.specs.EntityNames.{first_unknown, matchers_of_metric, predicates_of_metric, states_of_metric, link_condition}
 use Rattle.link_rules.proofs.LinkFaultLemmas.{none_of}
 use Rattle.config_links.specs.declared.linked.Linked.{Linked}
@@ -20,6 +21,7 @@ use Rattle.config_links.specs.declared.linked.LMetric.{LMetric}
 use Rattle.config_links.specs.declared.scope.Scope.{Scope}
 use Rattle.config_links.specs.declared.sets.LinkSets.{LinkSets}
 use Rattle.config_links.specs.declared.sets.StateLinkSets.{StateLinkSets}
+use Rattle.config_links.specs.declared.reasons.Reason.{Reason}
 use Rattle.config_links.specs.LinkReasons.{set_or_none, may_stand}
 use Rattle.config_links.specs.LinkScopes.{names_pulled}
 use Rattle.config_links.specs.MetricTrees.{metric_stands, metric_sets, own_tree, link_stands, sets_of_link}
@@ -141,11 +143,10 @@ module _ (scope : Scope) (metrics : List LMetric)
       → is_none def.common.what ≡ false
       → samples_limit (bound_or_default def.sliced.bound) kind ≡ None
       → may_stand (own_tree kind) ≡ true
-      → AllByRecursion (λ (row : ℕ × Bool). row.1
+      → AllByRecursion (λ (row : Reason × Bool). row.1
       ≡ false) (kind_reasons (is_pulled_kind scope kind (what_id def)) (length def.common.links) kind)
-      → AllByRecursion (λ (row : ℕ × Bool). row.1 ≡ false)
-      (time_reasons scope kind (what_id def) (metric_sets def).dims (linked_links scope def)
-      (metric_sets def).state_links)
+      → AllByRecursion (λ (row : Reason × Bool). row.1 ≡ false)
+      (time_reasons scope kind (metric_parts scope def))
       → fit_slices scope kind (what_id def) def.sliced.slices ≡ true
       → IsSoundKind whole (made def kind) (linked_kind scope (what_id def) (bound_or_default def.sliced.bound) kind)
   unfolding linked_kind what_place bucket_size bucket_bound
@@ -167,8 +168,8 @@ module _ (scope : Scope) (metrics : List LMetric)
       let known = may_known scope.ids.matchers def.common.what each.0 has in
       let set = set_or_none gauge.fields in
       let limits = none_of
-      (number_limit 7 most_samples gauge.max_samples
-      ∷ count_limit 8 most_bucket_samples (bound_or_default def.sliced.bound * samples_of gauge) ∷ []) limit in
+      (number_limit Samples gauge.max_samples
+      ∷ count_limit BucketSamples (bound_or_default def.sliced.bound * samples_of gauge) ∷ []) limit in
       gauge_by whole (made def (Gauge gauge)) scope (names_pulled scope (what_id def)) gauge set
       (place_here (what_id def) known) (size_fits def.sliced.bucket uid) (pulled_at scope (what_id def) known)
       (filter_sound gauge.include_all set (set_is_sound gauge.fields own) (holds _ tests.1.1.1.0))
@@ -204,41 +205,35 @@ module _ (scope : Scope) (metrics : List LMetric)
       (names_known scope.ids.predicates (def.common.what ∷ def.common.condition ∷ map link_condition def.common.links)
       names).1
 
-  bound_by : (def : Metric) (kind : Kind) → number_limit 6 most_bound def.sliced.bound ≡ None
+  bound_by : (def : Metric) (kind : Kind) → number_limit MetricBound def.sliced.bound ≡ None
       → IsBound (bucket_bound kind def.sliced.bound)
   unfolding bucket_bound
   bound_by def Event within = (omega arith, omega arith)
-  bound_by def Count within = bound_fits 6 def.sliced.bound within
-  bound_by def (Value value) within = bound_fits 6 def.sliced.bound within
-  bound_by def (Gauge gauge) within = bound_fits 6 def.sliced.bound within
-  bound_by def (Duration max_sparse) within = bound_fits 6 def.sliced.bound within
+  bound_by def Count within = bound_fits MetricBound refl def.sliced.bound within
+  bound_by def (Value value) within = bound_fits MetricBound refl def.sliced.bound within
+  bound_by def (Gauge gauge) within = bound_fits MetricBound refl def.sliced.bound within
+  bound_by def (Duration max_sparse) within = bound_fits MetricBound refl def.sliced.bound within
 
   link_tests : (def : Metric) → bad_links scope def ≡ None
-      → AllByRecursion (λ (row : ℕ × Bool). row.1 ≡ false) (link_reasons scope def)
+      → AllByRecursion (λ (row : Reason × Bool). row.1 ≡ false) (link_reasons scope def)
   unfolding bad_links
   link_tests def none = no_test def.common.id (link_reasons scope def) none
 
   rest_parts : (def : Metric) → bad_rest scope def (metric_parts scope def) ≡ None
-      → AllByRecursion (λ (row : ℕ × Bool). row.1 ≡ false)
-      (time_reasons scope def.kind (what_id def) (metric_sets def).dims (linked_links scope def)
-      (metric_sets def).state_links)
-      × AllByRecursion (λ (row : ℕ × Bool). row.1 ≡ false)
-      (slice_reasons scope def.kind (what_id def) def.sliced.slices (metric_sets def).state_links)
-      × AllByRecursion (λ (row : ℕ × Bool). row.1 ≡ false)
+      → AllByRecursion (λ (row : Reason × Bool). row.1 ≡ false)
+      (time_reasons scope def.kind (metric_parts scope def))
+      × AllByRecursion (λ (row : Reason × Bool). row.1 ≡ false) (slice_reasons scope def (metric_parts scope def))
+      × AllByRecursion (λ (row : Reason × Bool). row.1 ≡ false)
       (kind_reasons (is_pulled_kind scope def.kind (what_id def)) (length def.common.links) def.kind)
   unfolding bad_rest bad_times bad_slices bad_kind
   rest_parts def none =
       let parts = none_of
-      (bad_times scope def.common.id def.kind (what_id def) (metric_sets def).dims (linked_links scope def)
-      (metric_sets def).state_links
-      ∷ bad_slices scope def.common.id def.kind (what_id def) def.sliced.slices (metric_sets def).state_links
-      ∷ bad_kind def.common.id (is_pulled_kind scope def.kind (what_id def)) (length def.common.links) def.kind
+      (bad_times scope def (metric_parts scope def)
+      ∷ bad_slices scope def (metric_parts scope def)
+      ∷ bad_kind def.common (is_pulled_kind scope def.kind (what_id def)) def.kind
       ∷ []) none in (
-        no_test def.common.id
-            (time_reasons scope def.kind (what_id def) (metric_sets def).dims (linked_links scope def)
-            (metric_sets def).state_links) parts.0,
-        no_test def.common.id (slice_reasons scope def.kind (what_id def) def.sliced.slices
-            (metric_sets def).state_links) parts.1.0,
+        no_test def.common.id (time_reasons scope def.kind (metric_parts scope def)) parts.0,
+        no_test def.common.id (slice_reasons scope def (metric_parts scope def)) parts.1.0,
         no_test def.common.id (kind_reasons (is_pulled_kind scope def.kind (what_id def)) (length def.common.links)
             def.kind) parts.1.1.0,
       )
@@ -256,7 +251,7 @@ module _ (scope : Scope) (metrics : List LMetric)
       let tests = link_tests def parts.0 in
       let rest = rest_parts def parts.1.0 in
       let limits = none_of
-      (number_limit 6 most_bound def.sliced.bound ∷ samples_limit (bound_or_default def.sliced.bound) def.kind ∷ [])
+      (number_limit MetricBound def.sliced.bound ∷ samples_limit (bound_or_default def.sliced.bound) def.kind ∷ [])
       limit in
       let sets = (metric_sets def).links in
       let state_sets = (metric_sets def).state_links in

@@ -1,5 +1,5 @@
 -- Linked matchers, predicates and states are sound where no rule is broken and none of them has a reason.
-use Rattle.std.proofs.Common.{◌≡◌, ◌≢◌, ℕ, ◌<◌, ◌≤◌, Bool, true, false, not, ◌&&◌, List, [], ◌∷◌, map, length, Option, Some, None, Ok, if◌then◌else◌, nat_lt, nat_le, AllPairs, refl, sym, ap, ◌∙◌, arith}
+use Rattle.std.proofs.Common.{◌≡◌, ◌≢◌, ℕ, ◌<◌, ◌≤◌, Bool, true, false, not, ◌&&◌, List, [], ◌∷◌, map, length, Option, Some, None, Ok, if◌then◌else◌, nat_lt, nat_le, AllPairs, refl, sym, ap, ◌∙◌, subst, arith}
 use Rattle.std.specs.Prelude.{ℤ, pos, negsuc}
 use Rattle.std.specs.Ordering.{int_eq}
 use Rattle.std.specs.Option.{option_map}
@@ -22,11 +22,14 @@ use Rattle.field_select.specs.WellFormed.{is_number_to, number_in, number_or_zer
 use Rattle.field_select.proofs.LeafLemmas.{answer_is_set}
 use Rattle.link_rules.specs.declared.fault.LinkFault.{LinkFault}
 use Rattle.link_rules.specs.LinkFaults.{first_reason}
-use Rattle.link_rules.specs.EntityLimits.{number_limit, predicate_limit, bound_or_default, most_bound}
+use Rattle.link_rules.specs.declared.limits.Limit.{Limit}
+use Rattle.link_rules.specs.declared.limits.Limit.TheVariants.{PredicateBound}
+use Rattle.link_rules.specs.EntityLimits.{most_bound, most_of, number_limit, predicate_limit, bound_or_default}
 use Rattle.link_rules.specs.EntityIds.{place_in}
 use Rattle.link_rules.specs.EntityNames.{first_unknown, matchers_of_matcher, matchers_of_predicate, predicates_of_predicate}
 use Rattle.link_rules.specs.Cycles.{child_matchers, child_predicates, matcher_node, predicate_node, places_of}
 use Rattle.link_rules.proofs.LinkFaultLemmas.{no_reason}
+use Rattle.config_links.specs.declared.reasons.Reason.{Reason}
 use Rattle.config_links.specs.LinkReasons.{least_reason, type_fault, takes_children, is_combo, set_or_none, may_stand, matcher_reasons, bad_matcher, predicate_reasons, bad_predicate, state_reasons, bad_state}
 use Rattle.config_links.specs.LinkedForm.{operation_or_and, matcher_form, linked_matcher, linked_body, linked_predicate, linked_state}
 use Rattle.config_links.specs.LinkScopes.{named_predicates, body_children}
@@ -57,8 +60,8 @@ nothing_mapped f None h = refl
 nothing_mapped f (Some x) h = absurd (cc)
 
 -- without a fault no test of a table holds
-pub no_test : (id : Option ℤ) (rows : List (ℕ × Bool)) → least_reason id rows ≡ None
-    → AllByRecursion (λ (row : ℕ × Bool). row.1 ≡ false) rows
+pub no_test : (id : Option ℤ) (rows : List (Reason × Bool)) → least_reason id rows ≡ None
+    → AllByRecursion (λ (row : Reason × Bool). row.1 ≡ false) rows
 no_test id rows h = no_reason rows (nothing_mapped (type_fault id) (first_reason rows) h)
 
 -- a number that is set up to a greatest one is from 1 to it
@@ -97,13 +100,13 @@ limit_step true found h = refl
 limit_step false found h = absurd (cc)
 
 -- a number within its limit, or the one that an absent one stands for
-pub bound_fits : (reason : ℕ) (bound : Option ℤ) → number_limit reason most_bound bound ≡ None
+pub bound_fits : (limit : Limit) → most_of limit ≡ most_bound → (bound : Option ℤ) → number_limit limit bound ≡ None
     → IsBound (bound_or_default bound)
-bound_fits reason None h = (omega arith, omega arith)
-bound_fits reason (Some (pos n)) h =
-    let is : is_number_to most_bound (Some (pos n)) ≡ true = limit_step _ _ h in
-    number_from_one most_bound (Some (pos n)) is
-bound_fits reason (Some (negsuc n)) h = absurd (cc)
+bound_fits limit most None h = (omega arith, omega arith)
+bound_fits limit most (Some (pos n)) h =
+    let is : is_number_to (most_of limit) (Some (pos n)) ≡ true = limit_step _ _ h in
+    subst (λ (greatest : ℕ). IsFromOne greatest n) most (number_from_one (most_of limit) (Some (pos n)) is)
+bound_fits limit most (Some (negsuc n)) h = absurd (cc)
 
 -- the operation of a combination takes as many children
 pub combo_takes : (op : Option Operation) (count : ℕ) → is_combo op count ≡ true
@@ -126,7 +129,7 @@ module _ (known : List ℤ) (count : ℕ) (few : length known ≤ count) where
 
   matcher_body_sound : (def : MatcherDef) (body : Option MatcherBody)
       → first_unknown known (matchers_of_matcher (record def { body = body })) ≡ None
-      → AllByRecursion (λ (row : ℕ × Bool). row.1 ≡ false) (matcher_reasons body)
+      → AllByRecursion (λ (row : Reason × Bool). row.1 ≡ false) (matcher_reasons body)
       → IsSoundMatcher count (matcher_form known body)
   matcher_body_sound def (Some (matcher.Simple simple)) names tests =
       both_hold (is_set_up_to greatest_atom_id simple.atom_id) (list_all is_askable_test simple.tests)
@@ -173,7 +176,7 @@ module _ (matchers predicates : List ℤ) (some many : ℕ) (few : length matche
       → first_unknown matchers (matchers_of_predicate (record def { body = body })) ≡ None
       → first_unknown predicates (predicates_of_predicate (record def { body = body })) ≡ None
       → predicate_limit (record def { body = body }) ≡ None
-      → AllByRecursion (λ (row : ℕ × Bool). row.1 ≡ false) (predicate_reasons body)
+      → AllByRecursion (λ (row : Reason × Bool). row.1 ≡ false) (predicate_reasons body)
       → IsSoundBody some many (linked_body matchers predicates body)
   predicate_body_sound def (Some (predicate.Simple simple)) starts names within tests =
       let start = first_name_within matchers some few simple.start (simple.stop ∷ simple.stop_all ∷ []) starts in
@@ -185,7 +188,7 @@ module _ (matchers predicates : List ℤ) (some many : ℕ) (few : length matche
         stops_all = stop_all.0;
         fields = set_is_sound simple.dims (holds _ tests.1.1.0);
         leaves = refl;
-        bound = bound_fits 5 simple.bound within;
+        bound = bound_fits PredicateBound refl simple.bound within;
       }
   predicate_body_sound def (Some (predicate.Combo combo)) starts names within tests = (
     combo_sound predicates combo.op combo.children (holds _ tests.1.0),

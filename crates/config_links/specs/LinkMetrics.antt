@@ -1,5 +1,5 @@
 -- Metrics: what they can't be, and their linked form.
-use Rattle.std.specs.Prelude.{ℕ, ℤ, pos, Bool, not, List, [], ◌∷◌, length, Option}
+use Rattle.std.specs.Prelude.{ℕ, ℤ, pos, Bool, not, List, [], ◌∷◌, Option}
 use Rattle.std.specs.Option.{unwrap_or}
 use Rattle.std.specs.Ordering.{int_eq}
 use Rattle.std.specs.List.{list_any}
@@ -55,9 +55,9 @@ is_shown no_report id = not (list_any (λ hidden. int_eq hidden id) no_report)
 -- the fault of what a metric times, of its slices, or of its kind
 unfoldable pub bad_rest : Scope → Metric → MetricParts → Option LinkFault
 bad_rest scope metric parts = first_of
-    (bad_times scope metric.common.id metric.kind parts.what parts.dims parts.links parts.state_links
-    ∷ bad_slices scope metric.common.id metric.kind parts.what metric.sliced.slices parts.state_links
-    ∷ bad_kind metric.common.id (is_pulled_kind scope metric.kind parts.what) (length metric.common.links) metric.kind
+    (bad_times scope metric parts
+    ∷ bad_slices scope metric parts
+    ∷ bad_kind metric.common (is_pulled_kind scope metric.kind parts.what) metric.kind
     ∷ [])
 
 -- the least reason of a metric: of its trees and links, and then of the rest

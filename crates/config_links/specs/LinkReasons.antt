@@ -17,17 +17,41 @@ use Rattle.field_select.specs.declared.leaf.FieldSet.{FieldSet}
 use Rattle.field_select.specs.WellFormed.{is_well_formed, set_of}
 use Rattle.link_rules.specs.declared.fault.LinkFault.{LinkFault}
 use Rattle.link_rules.specs.LinkFaults.{fault, first_reason}
+use Rattle.config_links.specs.declared.reasons.Reason.{Reason}
+use Rattle.config_links.specs.declared.reasons.Reason.TheVariants.{NoBody, BadCombination, NoAtom, BadTest, BadFields, UnevenLink, LinkNotAsked, LinkOutside, NoWhat, NotTimed, TimedOutside, BadStateLink, BadSlices, NoValue, BadDiff, PulledLinks, NoFilter, BadSampling, UnknownHidden}
 
 -- an entity isn't what it should be; the value is its id
 abbrev pub bad_type : ℕ
 bad_type = 9
 
--- the fault of an entity of this id for a reason
-abbrev pub type_fault : Option ℤ → ℕ → LinkFault
-type_fault id reason = fault bad_type reason (unwrap_or id (pos 0))
+-- the number by which a refusal names a reason; of several the least is named
+abbrev pub reason_number : Reason → ℕ
+reason_number NoBody = 1
+reason_number BadCombination = 2
+reason_number NoAtom = 3
+reason_number BadTest = 4
+reason_number BadFields = 5
+reason_number UnevenLink = 6
+reason_number LinkNotAsked = 7
+reason_number LinkOutside = 8
+reason_number NoWhat = 9
+reason_number NotTimed = 10
+reason_number TimedOutside = 11
+reason_number BadStateLink = 12
+reason_number BadSlices = 13
+reason_number NoValue = 14
+reason_number BadDiff = 15
+reason_number PulledLinks = 16
+reason_number NoFilter = 17
+reason_number BadSampling = 18
+reason_number UnknownHidden = 19
 
--- the fault of an entity of this id, for the least reason whose test holds
-abbrev pub least_reason : Option ℤ → List (ℕ × Bool) → Option LinkFault
+-- the fault of an entity of this id for a reason
+abbrev pub type_fault : Option ℤ → Reason → LinkFault
+type_fault id reason = fault bad_type (reason_number reason) (unwrap_or id (pos 0))
+
+-- the fault of an entity of this id, for the first reason whose test holds; they stand by their numbers
+abbrev pub least_reason : Option ℤ → List (Reason × Bool) → Option LinkFault
 least_reason id reasons = option_map (type_fault id) (first_reason reasons)
 
 -- an operation has a child, and NOT has one
@@ -70,9 +94,13 @@ has_bad_test (Some (matcher.Simple simple)) = not (list_all is_askable_test simp
 has_bad_test _ = false
 
 -- the reasons of a matcher
-abbrev pub matcher_reasons : Option MatcherBody → List (ℕ × Bool)
+abbrev pub matcher_reasons : Option MatcherBody → List (Reason × Bool)
 matcher_reasons body =
-    (1, is_none body) ∷ (2, has_bad_combo body) ∷ (3, has_bad_atom body) ∷ (4, has_bad_test body) ∷ []
+    (NoBody, is_none body)
+    ∷ (BadCombination, has_bad_combo body)
+    ∷ (NoAtom, has_bad_atom body)
+    ∷ (BadTest, has_bad_test body)
+    ∷ []
 
 -- a matcher
 abbrev pub bad_matcher : MatcherDef → Option LinkFault
@@ -89,16 +117,17 @@ has_bad_dims (Some (predicate.Simple simple)) = not (may_stand simple.dims)
 has_bad_dims _ = false
 
 -- the reasons of a predicate
-abbrev pub predicate_reasons : Option PredicateBody → List (ℕ × Bool)
-predicate_reasons body = (1, is_none body) ∷ (2, has_bad_children body) ∷ (5, has_bad_dims body) ∷ []
+abbrev pub predicate_reasons : Option PredicateBody → List (Reason × Bool)
+predicate_reasons body =
+    (NoBody, is_none body) ∷ (BadCombination, has_bad_children body) ∷ (BadFields, has_bad_dims body) ∷ []
 
 -- a predicate
 abbrev pub bad_predicate : PredicateDef → Option LinkFault
 bad_predicate def = least_reason def.id (predicate_reasons def.body)
 
 -- the reasons of a state
-abbrev pub state_reasons : StateDef → List (ℕ × Bool)
-state_reasons def = (3, not (names_atom def.atom_id)) ∷ []
+abbrev pub state_reasons : StateDef → List (Reason × Bool)
+state_reasons def = (NoAtom, not (names_atom def.atom_id)) ∷ []
 
 -- a state
 abbrev pub bad_state : StateDef → Option LinkFault

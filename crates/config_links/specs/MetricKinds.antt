@@ -9,6 +9,7 @@ use Rattle.config_types.specs.declared.parameters.Sampling.TheVariants.{AtStart,
 use Rattle.field_select.specs.declared.leaf.FieldSet.{FieldSet}
 use Rattle.field_select.specs.declared.leaf.LeafPath.{LeafPath}
 use Rattle.field_select.specs.FieldSets.{is_all}
+use Rattle.config_types.specs.declared.metric.Common.{Common}
 use Rattle.link_rules.specs.declared.entities.Kind.{Kind}
 use Rattle.link_rules.specs.declared.entities.Kind.TheVariants.{Event, Count, Value, Gauge, Duration}
 use Rattle.link_rules.specs.declared.entities.GaugeParts.{GaugeParts}
@@ -19,6 +20,8 @@ use Rattle.link_rules.specs.EntityLimits.{samples_of}
 use Rattle.config_links.specs.declared.linked.LKind.{LKind}
 use Rattle.config_links.specs.declared.linked.LKind.TheVariants as kinds
 use Rattle.config_links.specs.declared.scope.Scope.{Scope}
+use Rattle.config_links.specs.declared.reasons.Reason.{Reason}
+use Rattle.config_links.specs.declared.reasons.Reason.TheVariants.{NoValue, BadDiff, PulledLinks, NoFilter, BadSampling}
 use Rattle.config_links.specs.LinkReasons.{least_reason, set_or_none}
 use Rattle.config_links.specs.LinkScopes.{predicate_named, spec_in, names_pulled}
 
@@ -61,18 +64,18 @@ fits_samples pulled (Gauge gauge) = may_sample pulled gauge.sampling gauge.trigg
 fits_samples pulled _ = true
 
 -- what a kind of metric can't be
-abbrev pub kind_reasons : Bool → ℕ → Kind → List (ℕ × Bool)
+abbrev pub kind_reasons : Bool → ℕ → Kind → List (Reason × Bool)
 kind_reasons pulled links kind =
-    (14, not (has_value kind))
-    ∷ (15, not (fits_diff pulled kind))
-    ∷ (16, pulled && not (links == 0))
-    ∷ (17, not (has_filter kind))
-    ∷ (18, not (fits_samples pulled kind))
+    (NoValue, not (has_value kind))
+    ∷ (BadDiff, not (fits_diff pulled kind))
+    ∷ (PulledLinks, pulled && not (links == 0))
+    ∷ (NoFilter, not (has_filter kind))
+    ∷ (BadSampling, not (fits_samples pulled kind))
     ∷ []
 
--- the fault of a kind of metric, which acts on what was pulled or not, and has so many links
-unfoldable pub bad_kind : Option ℤ → Bool → ℕ → Kind → Option LinkFault
-bad_kind id pulled links kind = least_reason id (kind_reasons pulled links kind)
+-- the fault of a kind of metric, which acts on what was pulled or not
+unfoldable pub bad_kind : Common → Bool → Kind → Option LinkFault
+bad_kind common pulled kind = least_reason common.id (kind_reasons pulled (length common.links) kind)
 
 -- no leaf
 abbrev pub no_leaf : LeafPath

@@ -17,6 +17,8 @@ use Rattle.config_links.specs.declared.linked.LPredicate.{LPredicate}
 use Rattle.config_links.specs.declared.scope.Scope.{Scope}
 use Rattle.config_links.specs.declared.table.DimsTable.{DimsTable}
 use Rattle.config_links.specs.declared.sets.LinkSets.{LinkSets}
+use Rattle.config_links.specs.declared.reasons.Reason.{Reason}
+use Rattle.config_links.specs.declared.reasons.Reason.TheVariants.{BadFields, UnevenLink, LinkNotAsked, LinkOutside, NoWhat}
 use Rattle.config_links.specs.LinkReasons.{least_reason}
 use Rattle.config_links.specs.LinkScopes.{predicate_named, spec_in, dims_in, named_predicates}
 use Rattle.config_links.specs.MetricTrees.{metric_stands, metric_sets}
@@ -110,13 +112,13 @@ abbrev pub linked_links : Scope → Metric → List LLink
 linked_links scope metric = map (linked_link scope) (metric_sets metric).links
 
 -- what the trees and the links of a metric can't be
-abbrev pub link_reasons : Scope → Metric → List (ℕ × Bool)
+abbrev pub link_reasons : Scope → Metric → List (Reason × Bool)
 link_reasons scope metric =
-    (5, not (metric_stands metric))
-    ∷ (6, not (list_all is_even (metric_sets metric).links))
-    ∷ (7, not (are_asked scope metric.common.condition (metric_sets metric).links))
-    ∷ (8, not (list_all (is_bound scope) (metric_sets metric).links))
-    ∷ (9, is_none metric.common.what)
+    (BadFields, not (metric_stands metric))
+    ∷ (UnevenLink, not (list_all is_even (metric_sets metric).links))
+    ∷ (LinkNotAsked, not (are_asked scope metric.common.condition (metric_sets metric).links))
+    ∷ (LinkOutside, not (list_all (is_bound scope) (metric_sets metric).links))
+    ∷ (NoWhat, is_none metric.common.what)
     ∷ []
 
 -- the fault of a metric's trees, its links or its missing name

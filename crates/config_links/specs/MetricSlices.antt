@@ -6,14 +6,18 @@ use Rattle.std.specs.List.{list_all, list_any, find}
 use Rattle.distinct.specs.Repeats.{repeat_in}
 use Rattle.field_select.specs.declared.leaf.FieldSet.{FieldSet}
 use Rattle.field_select.specs.declared.leaf.LeafPath.{LeafPath}
+use Rattle.link_rules.specs.declared.entities.Metric.{Metric}
 use Rattle.link_rules.specs.declared.entities.Kind.{Kind}
 use Rattle.link_rules.specs.declared.entities.Kind.TheVariants.{Event, Value, Gauge, Duration}
 use Rattle.link_rules.specs.declared.fault.LinkFault.{LinkFault}
 use Rattle.link_rules.specs.EntityIds.{set_ids, place_in}
 use Rattle.config_links.specs.declared.linked.LLink.{LLink}
 use Rattle.config_links.specs.declared.linked.LSlice.{LSlice}
+use Rattle.config_links.specs.declared.metrics.MetricParts.{MetricParts}
 use Rattle.config_links.specs.declared.scope.Scope.{Scope}
 use Rattle.config_links.specs.declared.sets.StateLinkSets.{StateLinkSets}
+use Rattle.config_links.specs.declared.reasons.Reason.{Reason}
+use Rattle.config_links.specs.declared.reasons.Reason.TheVariants.{NotTimed, TimedOutside, BadStateLink, BadSlices}
 use Rattle.config_links.specs.LinkReasons.{least_reason}
 use Rattle.config_links.specs.LinkScopes.{predicate_named, spec_in, dims_in, names_pulled, state_atom}
 use Rattle.config_links.specs.MetricLinks.{are_as_many, are_one_of}
@@ -23,21 +27,20 @@ abbrev pub times_simple : Scope → Kind → ℤ → Bool
 times_simple scope (Duration max_sparse) what = is_some (spec_in (predicate_named scope what))
 times_simple scope _ what = true
 
--- the fields of these sets of a metric are among these leaves, and of this atom
-abbrev pub are_among : ℕ → List LeafPath → FieldSet → List LLink → List StateLinkSets → Bool
-are_among atom leaves dims links state_links =
-    are_one_of atom leaves dims && (list_all (λ (link : LLink). are_one_of atom leaves link.in_what) links
-    && list_all (λ (sets : StateLinkSets). are_one_of atom leaves sets.in_what) state_links)
+-- the fields of a metric are among these leaves, and of this atom
+abbrev pub are_among : ℕ → List LeafPath → MetricParts → Bool
+are_among atom leaves parts =
+    are_one_of atom leaves parts.dims && (list_all (λ (link : LLink). are_one_of atom leaves link.in_what) parts.links
+    && list_all (λ (sets : StateLinkSets). are_one_of atom leaves sets.in_what) parts.state_links)
 
--- the fields of these sets of a metric are among these dimensions
-abbrev pub are_within : FieldSet → FieldSet → List LLink → List StateLinkSets → Bool
-are_within timed dims links state_links = are_among timed.atom_id timed.leaves dims links state_links
+-- the fields of a metric are among these dimensions
+abbrev pub are_within : FieldSet → MetricParts → Bool
+are_within timed parts = are_among timed.atom_id timed.leaves parts
 
--- the fields of what a duration times are among that predicate's dimensions
-abbrev pub is_timed_within : Scope → Kind → ℤ → FieldSet → List LLink → List StateLinkSets → Bool
-is_timed_within scope (Duration max_sparse) what dims links state_links =
-    are_within (dims_in (predicate_named scope what)) dims links state_links
-is_timed_within scope _ what dims links state_links = true
+-- the fields of a duration are among the dimensions of the predicate that it times
+abbrev pub is_timed_within : Scope → Kind → MetricParts → Bool
+is_timed_within scope (Duration max_sparse) parts = are_within (dims_in (predicate_named scope parts.what)) parts
+is_timed_within scope _ parts = true
 
 -- the atoms of the states by which a metric is sliced
 abbrev pub sliced_atoms : Scope → List ℤ → List ℕ
@@ -116,24 +119,23 @@ linked_slices scope (Gauge gauge) links slices = []
 linked_slices scope _ links slices = map (linked_slice scope links) slices
 
 -- what a duration can't time
-abbrev pub time_reasons : Scope → Kind → ℤ → FieldSet → List LLink → List StateLinkSets → List (ℕ × Bool)
-time_reasons scope kind what dims links state_links =
-    (10, not (times_simple scope kind what))
-    ∷ (11, not (is_timed_within scope kind what dims links state_links))
+abbrev pub time_reasons : Scope → Kind → MetricParts → List (Reason × Bool)
+time_reasons scope kind parts =
+    (NotTimed, not (times_simple scope kind parts.what))
+    ∷ (TimedOutside, not (is_timed_within scope kind parts))
     ∷ []
 
--- the fault of what a duration of this id times
-unfoldable pub bad_times : Scope → Option ℤ → Kind → ℤ → FieldSet → List LLink → List StateLinkSets → Option LinkFault
-bad_times scope id kind what dims links state_links =
-    least_reason id (time_reasons scope kind what dims links state_links)
+-- the fault of what a metric times, if it is a duration
+unfoldable pub bad_times : Scope → Metric → MetricParts → Option LinkFault
+bad_times scope metric parts = least_reason metric.common.id (time_reasons scope metric.kind parts)
 
 -- what the slices of a metric can't be
-abbrev pub slice_reasons : Scope → Kind → ℤ → List ℤ → List StateLinkSets → List (ℕ × Bool)
-slice_reasons scope kind what slices state_links =
-    (12, not (fit_states (sliced_atoms scope slices) state_links))
-    ∷ (13, not (fit_slices scope kind what slices))
+abbrev pub slice_reasons : Scope → Metric → MetricParts → List (Reason × Bool)
+slice_reasons scope metric parts =
+    (BadStateLink, not (fit_states (sliced_atoms scope metric.sliced.slices) parts.state_links))
+    ∷ (BadSlices, not (fit_slices scope metric.kind parts.what metric.sliced.slices))
     ∷ []
 
--- the fault of the slices of a metric of this id
-unfoldable pub bad_slices : Scope → Option ℤ → Kind → ℤ → List ℤ → List StateLinkSets → Option LinkFault
-bad_slices scope id kind what slices state_links = least_reason id (slice_reasons scope kind what slices state_links)
+-- the fault of the slices of a metric
+unfoldable pub bad_slices : Scope → Metric → MetricParts → Option LinkFault
+bad_slices scope metric parts = least_reason metric.common.id (slice_reasons scope metric parts)

@@ -19,7 +19,8 @@ use Rattle.config_links.specs.declared.linked.LState.{LState}
 use Rattle.config_links.specs.declared.linked.LMetric.{LMetric}
 use Rattle.config_links.specs.declared.linked.Linked.{Linked}
 use Rattle.config_links.specs.declared.scope.Scope.{Scope}
-use Rattle.config_links.specs.LinkReasons.{bad_type, bad_matcher, bad_predicate, bad_state}
+use Rattle.config_links.specs.declared.reasons.Reason.TheVariants.{UnknownHidden}
+use Rattle.config_links.specs.LinkReasons.{bad_type, reason_number, bad_matcher, bad_predicate, bad_state}
 use Rattle.config_links.specs.LinkedForm.{linked_matcher, linked_predicate, linked_state}
 use Rattle.config_links.specs.LinkMetrics.{bad_metric, linked_metric}
 
@@ -51,7 +52,8 @@ bad_part_fault matchers predicates states = first_of
 
 -- the first id without a metric, where metrics have these ids, among those of metrics that no report shows
 abbrev pub hidden_fault : List ℤ → List ℤ → Option LinkFault
-hidden_fault known no_report = option_map (fault bad_type 19) (first_unknown known (map Some no_report))
+hidden_fault known no_report =
+    option_map (fault bad_type (reason_number UnknownHidden)) (first_unknown known (map Some no_report))
 
 -- number 9 of metrics, which have these ids, and last of those that no report shows
 unfoldable pub bad_metric_fault : Scope → List ℤ → List Metric → List ℤ → Option LinkFault

@@ -3,17 +3,19 @@ ghost use Rattle.std.specs.Prelude.{◌≡◌, Some, None, if◌then◌else◌};
 ghost use Rattle.std.specs.Option.{option_map};
 ghost use Rattle.link_rules.specs.LinkFaults.{Links};
 ghost use Rattle.link_rules.specs.declared.entities.Kind.TheVariants as kind_of;
+ghost use Rattle.link_rules.specs.EntityLimits.{bound_or_default};
 ghost use Rattle.config_links.specs.LinkReasons.{set_or_none};
 ghost use Rattle.config_links.specs.MetricTrees.{own_tree};
 ghost use Rattle.config_links.specs.MetricSlices.{is_pulled_kind};
 ghost use Rattle.config_links.specs.MetricKinds as words;
 
 use crate::LKind;
-use crate::reasons::{make_fault, place_of_option};
+use crate::predicates::choose_bound;
+use crate::reasons::{Reason, make_fault, place_of_option};
 use crate::scope::Scope;
-use config_types::{DiffSpec, Position, PredSpec, Sampling, SamplingType};
+use config_types::{Common, DiffSpec, Position, PredSpec, Sampling, SamplingType};
 use field_select::{FieldSet, LeafPath};
-use link_rules::{GaugeParts, Kind, LinkError, ValueParts, count_samples};
+use link_rules::{GaugeParts, Kind, LinkError, Metric, ValueParts, count_samples};
 
 // How no table is kept.
 const NO_SPEC: PredSpec = PredSpec {
@@ -44,27 +46,27 @@ fn accepts_diff(pulled: bool, diff: Option<bool>) -> bool
     }
 }
 
-// The values of a metric of this id, or its least reason from 14 on.
+// The values of a metric, or why it can't have them.
 #[tactic(auto, unfolding(crate::specs::MetricKinds::bad_kind))]
 fn value_in(
-    id: Option<i64>,
+    common: &Common,
     pulled: bool,
-    links: usize,
     own: FieldSet,
     value: &ValueParts,
 ) -> Result<LKind, LinkError>
     requires { own ≡ set_or_none value.now.field }
-    ensures { Links result (words.bad_kind id pulled links (kind_of.Value value.now))
+    ensures { Links result (words.bad_kind common.now pulled (kind_of.Value value.now))
         (words.value_form pulled value.now own) }
 {
+    let id = common.id;
     let Some(leaf) = value_leaf(own.leaves.as_slice()) else {
-        return Err(LinkError::Fault(make_fault(id, 14)));
+        return Err(LinkError::Fault(make_fault(id, Reason::NoValue)));
     };
     if !accepts_diff(pulled, value.diff) {
-        return Err(LinkError::Fault(make_fault(id, 15)));
+        return Err(LinkError::Fault(make_fault(id, Reason::BadDiff)));
     }
-    if pulled && links != 0 {
-        return Err(LinkError::Fault(make_fault(id, 16)));
+    if pulled && !common.links.is_empty() {
+        return Err(LinkError::Fault(make_fault(id, Reason::PulledLinks)));
     }
     if pulled {
         return Ok(LKind::PulledValue {
@@ -108,29 +110,29 @@ fn choose_mode(sampling: SamplingType, trigger: Option<u32>) -> Sampling
     }
 }
 
-// The samples of a metric of this id, or its least reason from 16 on.
+// The samples of a metric, or why it can't have them.
 #[tactic(auto, unfolding(crate::specs::MetricKinds::bad_kind))]
 fn gauge_in(
     scope: &Scope,
-    id: Option<i64>,
+    common: &Common,
     pulled: bool,
-    links: usize,
     own: FieldSet,
     gauge: &GaugeParts,
 ) -> Result<LKind, LinkError>
     requires own { own ≡ set_or_none gauge.now.fields }
     requires few { words.TakesFew (kind_of.Gauge gauge.now) }
-    ensures { Links result (words.bad_kind id pulled links (kind_of.Gauge gauge.now))
+    ensures { Links result (words.bad_kind common.now pulled (kind_of.Gauge gauge.now))
         (words.gauge_form scope.now pulled gauge.now own) }
 {
-    if pulled && links != 0 {
-        return Err(LinkError::Fault(make_fault(id, 16)));
+    let id = common.id;
+    if pulled && !common.links.is_empty() {
+        return Err(LinkError::Fault(make_fault(id, Reason::PulledLinks)));
     }
     if !gauge.include_all && own.leaves.is_empty() {
-        return Err(LinkError::Fault(make_fault(id, 17)));
+        return Err(LinkError::Fault(make_fault(id, Reason::NoFilter)));
     }
     if !accepts_sampling(pulled, gauge.sampling, gauge.trigger) {
-        return Err(LinkError::Fault(make_fault(id, 18)));
+        return Err(LinkError::Fault(make_fault(id, Reason::BadSampling)));
     }
     let fields = if gauge.include_all { None } else { Some(own) };
     let samples = count_samples(gauge) as u32;
@@ -157,29 +159,25 @@ fn duration_in(max_sparse: bool, spec: PredSpec) -> LKind
     }
 }
 
-/// What is linked of a kind of metric, whose own tree has this set, or the least reason from 14 to 18.
+/// What is linked of a metric's kind, whose own tree has this set, or what the kind can't be.
 #[tactic(auto, unfolding(crate::specs::MetricKinds::bad_kind, crate::specs::MetricKinds::linked_kind))]
-pub fn kind_in(
-    scope: &Scope,
-    id: Option<i64>,
-    what: i64,
-    bound: u32,
-    links: usize,
-    own: FieldSet,
-    kind: &Kind,
-) -> Result<LKind, LinkError>
-    requires own { own ≡ set_or_none (own_tree kind.now) }
-    requires few { words.TakesFew kind.now }
+pub fn kind_in(scope: &Scope, metric: &Metric, what: i64, own: FieldSet) -> Result<LKind, LinkError>
+    requires own { own ≡ set_or_none (own_tree metric.now.kind) }
+    requires few { words.TakesFew metric.now.kind }
     ensures { Links result
-        (words.bad_kind id (is_pulled_kind scope.now kind.now what) links kind.now)
-        (words.linked_kind scope.now what bound kind.now) }
+        (words.bad_kind metric.now.common
+        (is_pulled_kind scope.now metric.now.kind what) metric.now.kind)
+        (words.linked_kind scope.now what
+        (bound_or_default metric.now.sliced.bound) metric.now.kind) }
 {
-    match kind {
+    let common = &metric.common;
+    match &metric.kind {
         Kind::Event => Ok(LKind::Event),
         Kind::Count => Ok(LKind::Count),
-        Kind::Value(value) => value_in(id, scope.is_of_pulled_atom(what), links, own, value),
-        Kind::Gauge(gauge) => gauge_in(scope, id, scope.is_of_pulled_atom(what), links, own, gauge),
+        Kind::Value(value) => value_in(common, scope.is_of_pulled_atom(what), own, value),
+        Kind::Gauge(gauge) => gauge_in(scope, common, scope.is_of_pulled_atom(what), own, gauge),
         Kind::Duration { max_sparse } => {
+            let bound = choose_bound(metric.sliced.bound);
             // What a duration times is a simple predicate: that was judged.
             let spec = scope.spec_of(what).unwrap_or(NO_SPEC);
             Ok(duration_in(*max_sparse, PredSpec { bound, ..spec }))

@@ -15,7 +15,7 @@ ghost use Rattle.config_links.specs.Verdict.{verdict, linked_form, entities_link
 use crate::matchers::matchers_in;
 use crate::metrics::metrics_in;
 use crate::predicates::predicates_in;
-use crate::reasons::BAD_TYPE;
+use crate::reasons::{BAD_TYPE, Reason};
 use crate::scope::Scope;
 use crate::states::states_in;
 use crate::{LMatcher, LMetric, LPredicate, LState, Linked};
@@ -55,7 +55,7 @@ fn judge_hidden(known: &Known, no_report: &[i64]) -> Option<LinkFault>
     let value = find_unknown_child(known, no_report)?;
     Some(LinkFault {
         number: BAD_TYPE,
-        reason: 19,
+        reason: Reason::UnknownHidden.number(),
         value,
     })
 }

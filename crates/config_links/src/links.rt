@@ -2,6 +2,7 @@
 ghost use Rattle.std.specs.Prelude.{◌≡◌, map};
 ghost use Rattle.std.specs.List.{list_all};
 ghost use Rattle.link_rules.specs.LinkFaults.{PassesTest};
+ghost use Rattle.config_links.specs.declared.reasons.Reason.TheVariants.{LinkOutside};
 ghost use Rattle.config_links.specs.LinkReasons.{type_fault};
 ghost use Rattle.config_links.specs.MetricLinks.{is_even, is_bound, link_places, linked_link};
 
@@ -33,7 +34,7 @@ fn bound_places(
     id: Option<i64>,
     sets: &LinkSets,
 ) -> Result<Seq<u32>, LinkError>
-    ensures { PassesTest result (is_bound scope.now sets.now) (type_fault id 8)
+    ensures { PassesTest result (is_bound scope.now sets.now) (type_fault id LinkOutside)
         (link_places scope.now sets.now) }
 {
     let table = scope.dims_of(alloc, sets.condition.unwrap_or(0))?;
@@ -47,7 +48,7 @@ fn link_in(
     id: Option<i64>,
     sets: LinkSets,
 ) -> Result<LLink, LinkError>
-    ensures { PassesTest result (is_bound scope.now sets) (type_fault id 8)
+    ensures { PassesTest result (is_bound scope.now sets) (type_fault id LinkOutside)
         (linked_link scope.now sets) }
 {
     let places = bound_places(alloc, scope, id, &sets)?;
@@ -65,7 +66,7 @@ pub fn links_in(
     id: Option<i64>,
     links: Seq<LinkSets>,
 ) -> Result<Seq<LLink>, LinkError>
-    ensures { PassesTest result (list_all (is_bound scope.now) links) (type_fault id 8)
+    ensures { PassesTest result (list_all (is_bound scope.now) links) (type_fault id LinkOutside)
         (map (linked_link scope.now) links) }
 {
     let mut linked = Seq::new(alloc);

@@ -5,7 +5,7 @@ ghost use Rattle.config_links.specs.LinkReasons.{bad_matcher};
 ghost use Rattle.config_links.specs.LinkedForm.{linked_matcher};
 
 use crate::LMatcher;
-use crate::reasons::{is_atom_id, make_fault, operation_in, places_in};
+use crate::reasons::{Reason, is_atom_id, make_fault, operation_in, places_in};
 use config_types::{MatcherBody, MatcherDef, are_askable_tests};
 use link_rules::{Known, LinkError};
 use sd_base::Seq;
@@ -17,7 +17,7 @@ fn matcher_in(alloc: Global, known: &Known, def: MatcherDef) -> Result<LMatcher,
 {
     let id = def.id;
     match def.body {
-        None => Err(LinkError::Fault(make_fault(id, 1))),
+        None => Err(LinkError::Fault(make_fault(id, Reason::NoBody))),
         Some(MatcherBody::Combo(combo)) => {
             let op = operation_in(id, combo.op, combo.children.len())?;
             let children = places_in(alloc, known, combo.children.as_slice())?;
@@ -25,10 +25,10 @@ fn matcher_in(alloc: Global, known: &Known, def: MatcherDef) -> Result<LMatcher,
         }
         Some(MatcherBody::Simple(simple)) => {
             if !is_atom_id(simple.atom_id) {
-                return Err(LinkError::Fault(make_fault(id, 3)));
+                return Err(LinkError::Fault(make_fault(id, Reason::NoAtom)));
             }
             if !are_askable_tests(simple.tests.as_slice()) {
-                return Err(LinkError::Fault(make_fault(id, 4)));
+                return Err(LinkError::Fault(make_fault(id, Reason::BadTest)));
             }
             Ok(LMatcher::Simple(simple))
         }

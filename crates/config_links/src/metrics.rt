@@ -17,7 +17,7 @@ use crate::asked::judge_conditions;
 use crate::kinds::kind_in;
 use crate::links::{are_even, links_in};
 use crate::predicates::choose_bound;
-use crate::reasons::{make_fault, place_of_option};
+use crate::reasons::{Reason, make_fault, place_of_option};
 use crate::scope::Scope;
 use crate::sets::{StateLinkSets, sets_in};
 use crate::slices::{refuse_times, slices_in};
@@ -38,7 +38,7 @@ pub struct MetricParts {
     pub state_links: Seq<StateLinkSets>,
 }
 
-// The sets, links and name of a metric, and the set of its kind, or its least reason from 5 to 9.
+// The sets, links and name of a metric, and the set of its kind, or what its trees and links can't be.
 #[tactic(auto, unfolding(crate::specs::MetricLinks::bad_links))]
 fn parts_in(
     alloc: Global,
@@ -52,14 +52,14 @@ fn parts_in(
     let id = metric.common.id;
     let sets = sets_in(alloc, metric)?;
     if !are_even(sets.links.as_slice()) {
-        return Err(LinkError::Fault(make_fault(id, 6)));
+        return Err(LinkError::Fault(make_fault(id, Reason::UnevenLink)));
     }
     if !judge_conditions(alloc, scope, metric.common.condition, sets.links.as_slice())? {
-        return Err(LinkError::Fault(make_fault(id, 7)));
+        return Err(LinkError::Fault(make_fault(id, Reason::LinkNotAsked)));
     }
     let links = links_in(alloc, scope, id, sets.links)?;
     let Some(what) = metric.common.what else {
-        return Err(LinkError::Fault(make_fault(id, 9)));
+        return Err(LinkError::Fault(make_fault(id, Reason::NoWhat)));
     };
     let parts = MetricParts {
         what,
@@ -110,16 +110,16 @@ fn metric_of(
     no_report: &[i64],
     metric: &Metric,
     parts: MetricParts,
-    slices: Seq<LSlice>,
-    kind: LKind,
+    rest: (Seq<LSlice>, LKind),
 ) -> LMetric
-    requires slices { slices ≡ linked_slices scope.now metric.now.kind
+    requires slices { rest.0 ≡ linked_slices scope.now metric.now.kind
         parts.state_links metric.now.sliced.slices }
-    requires kind { kind ≡ linked_kind scope.now parts.what
+    requires kind { rest.1 ≡ linked_kind scope.now parts.what
         (bound_or_default metric.now.sliced.bound) metric.now.kind }
     ensures { result ≡ words.metric_with scope.now uid no_report.now metric.now parts }
 {
     let id = metric.common.id.unwrap_or(0);
+    let (slices, kind) = rest;
     LMetric {
         id,
         shown: !no_report.contains(&id),
@@ -134,7 +134,7 @@ fn metric_of(
     }
 }
 
-// The slices and the kind of a metric with these parts, or its least reason from 10 on.
+// The slices and the kind of a metric with these parts, or what they can't be.
 #[tactic(auto, unfolding(crate::specs::LinkMetrics::bad_rest))]
 fn rest_of(
     alloc: Global,
@@ -151,26 +151,10 @@ fn rest_of(
           metric.now.kind,
     ) }
 {
-    let id = metric.common.id;
-    let kind = &metric.kind;
-    let what = parts.what;
-    let state_links = parts.state_links.as_slice();
-    refuse_times(
-        alloc,
-        scope,
-        id,
-        kind,
-        what,
-        &parts.dims,
-        parts.links.as_slice(),
-        state_links,
-    )?;
-    let ids = metric.sliced.slices.as_slice();
-    let slices = slices_in(alloc, scope, id, kind, what, ids, state_links)?;
-    let bound = choose_bound(metric.sliced.bound);
-    let count = metric.common.links.as_slice().len();
-    let linked = kind_in(scope, id, what, bound, count, own, kind)?;
-    Ok((slices, linked))
+    refuse_times(alloc, scope, metric, parts)?;
+    let slices = slices_in(alloc, scope, metric, parts)?;
+    let kind = kind_in(scope, metric, parts.what, own)?;
+    Ok((slices, kind))
 }
 
 // A metric, linked, or its least reason.
@@ -187,8 +171,8 @@ fn metric_in(
         (words.linked_metric scope.now uid no_report.now metric.now) }
 {
     let (parts, own) = parts_in(alloc, scope, metric)?;
-    let (slices, kind) = rest_of(alloc, scope, metric, &parts, own)?;
-    Ok(metric_of(scope, uid, no_report, metric, parts, slices, kind))
+    let rest = rest_of(alloc, scope, metric, &parts, own)?;
+    Ok(metric_of(scope, uid, no_report, metric, parts, rest))
 }
 
 /// The metrics of a client, linked, or the first reason.

@@ -5,7 +5,7 @@ ghost use Rattle.link_rules.specs.EntityLimits.{bound_or_default};
 ghost use Rattle.config_links.specs.LinkReasons.{bad_predicate};
 ghost use Rattle.config_links.specs.LinkedForm.{linked_predicate};
 
-use crate::reasons::{make_fault, operation_in, place_of_option, places_in, set_in};
+use crate::reasons::{Reason, make_fault, operation_in, place_of_option, places_in, set_in};
 use crate::{LPredBody, LPredicate};
 use config_types::{PredSpec, PredicateBody, PredicateDef};
 use link_rules::{Known, LinkError};
@@ -37,7 +37,7 @@ fn predicate_in(
 {
     let id = def.id;
     let body = match def.body {
-        None => return Err(LinkError::Fault(make_fault(id, 1))),
+        None => return Err(LinkError::Fault(make_fault(id, Reason::NoBody))),
         Some(PredicateBody::Combo(combo)) => {
             let op = operation_in(id, combo.op, combo.children.len())?;
             let children = places_in(alloc, predicates, combo.children.as_slice())?;

@@ -6,14 +6,15 @@ ghost use Rattle.link_rules.specs.EntityIds.{set_ids};
 ghost use Rattle.config_links.specs.MetricLinks.{are_as_many, are_one_of};
 ghost use Rattle.config_links.specs.MetricSlices as words;
 
-use crate::reasons::make_fault;
+use crate::metrics::MetricParts;
+use crate::reasons::{Reason, make_fault};
 use crate::scope::Scope;
 use crate::sets::StateLinkSets;
 use crate::table::DimsTable;
 use crate::{LLink, LSlice};
 use distinct::first_repeat;
 use field_select::{FieldSet, LeafPath};
-use link_rules::{Kind, LinkError};
+use link_rules::{Kind, LinkError, Metric};
 use sd_base::Seq;
 use std::alloc::{AllocError, Global};
 
@@ -54,38 +55,29 @@ fn cover_state_links(table: &DimsTable, links: &[StateLinkSets]) -> bool
 }
 
 // Whether the fields of a metric are among these dimensions.
-fn cover_all(
-    table: &DimsTable,
-    dims: &FieldSet,
-    links: &[LLink],
-    state_links: &[StateLinkSets],
-) -> bool
-    ensures { result ≡ words.are_among table.now.atom_id table.now.leaves
-        dims.now links.now state_links.now }
+fn cover_all(table: &DimsTable, parts: &MetricParts) -> bool
+    ensures { result ≡ words.are_among table.now.atom_id table.now.leaves parts.now }
 {
-    if !table.covers(dims) {
+    if !table.covers(&parts.dims) {
         return false;
     }
-    cover_links(table, links) && cover_state_links(table, state_links)
+    cover_links(table, parts.links.as_slice())
+        && cover_state_links(table, parts.state_links.as_slice())
 }
 
-// Whether the fields of what a duration times are among that predicate's dimensions.
+// Whether the fields of a duration are among the dimensions of the predicate that it times.
 fn covers_timed(
     alloc: Global,
     scope: &Scope,
     kind: &Kind,
-    what: i64,
-    dims: &FieldSet,
-    links: &[LLink],
-    state_links: &[StateLinkSets],
+    parts: &MetricParts,
 ) -> Result<bool, LinkError>
-    ensures { Links result None
-        (words.is_timed_within scope.now kind.now what dims.now links.now state_links.now) }
+    ensures { Links result None (words.is_timed_within scope.now kind.now parts.now) }
 {
     match kind {
         Kind::Duration { .. } => {
-            let table = scope.dims_of(alloc, what)?;
-            Ok(cover_all(&table, dims, links, state_links))
+            let table = scope.dims_of(alloc, parts.what)?;
+            Ok(cover_all(&table, parts))
         }
         _ => Ok(true),
     }
@@ -225,15 +217,15 @@ fn takes_slices(scope: &Scope, kind: &Kind, what: i64) -> bool
 fn judge_slices(
     alloc: Global,
     scope: &Scope,
-    kind: &Kind,
+    metric: &Metric,
     what: i64,
-    slices: &[i64],
     atoms: &[u32],
 ) -> Result<bool, AllocError>
-    requires { atoms.now ≡ words.sliced_atoms scope.now slices.now }
-    ensures { IfOk result (λ fit. fit ≡ words.fit_slices scope.now kind.now what slices.now) }
+    requires { atoms.now ≡ words.sliced_atoms scope.now metric.now.sliced.slices }
+    ensures { IfOk result (λ fit. fit ≡
+        words.fit_slices scope.now metric.now.kind what metric.now.sliced.slices) }
 {
-    if !slices.is_empty() && !takes_slices(scope, kind, what) {
+    if !metric.sliced.slices.is_empty() && !takes_slices(scope, &metric.kind, what) {
         return Ok(false);
     }
     Ok(first_repeat(alloc, atoms)?.is_none())
@@ -316,52 +308,46 @@ fn kind_slices(
     }
 }
 
-/// Refuses what a duration of this id can't time, by reason 10 or 11.
+/// Refuses a duration that times what it can't.
 #[tactic(auto, unfolding(crate::specs::MetricSlices::bad_times))]
 pub fn refuse_times(
     alloc: Global,
     scope: &Scope,
-    id: Option<i64>,
-    kind: &Kind,
-    what: i64,
-    dims: &FieldSet,
-    links: &[LLink],
-    state_links: &[StateLinkSets],
+    metric: &Metric,
+    parts: &MetricParts,
 ) -> Result<(), LinkError>
-    ensures { Links result (words.bad_times scope.now id kind.now what
-        dims.now links.now state_links.now) tt }
+    ensures { Links result (words.bad_times scope.now metric.now parts.now) tt }
 {
-    if !can_time(scope, kind, what) {
-        return Err(LinkError::Fault(make_fault(id, 10)));
+    if !can_time(scope, &metric.kind, parts.what) {
+        return Err(LinkError::Fault(make_fault(metric.common.id, Reason::NotTimed)));
     }
-    if !covers_timed(alloc, scope, kind, what, dims, links, state_links)? {
-        return Err(LinkError::Fault(make_fault(id, 11)));
+    if !covers_timed(alloc, scope, &metric.kind, parts)? {
+        return Err(LinkError::Fault(make_fault(metric.common.id, Reason::TimedOutside)));
     }
     Ok(())
 }
 
-/// The slices of a metric of this id, or its reason 12 or 13.
+/// The slices of a metric, or what they can't be.
 #[tactic(auto, unfolding(crate::specs::MetricSlices::bad_slices))]
 pub fn slices_in(
     alloc: Global,
     scope: &Scope,
-    id: Option<i64>,
-    kind: &Kind,
-    what: i64,
-    slices: &[i64],
-    state_links: &[StateLinkSets],
+    metric: &Metric,
+    parts: &MetricParts,
 ) -> Result<Seq<LSlice>, LinkError>
-    ensures { Links result
-        (words.bad_slices scope.now id kind.now what slices.now state_links.now)
-        (words.linked_slices scope.now kind.now state_links.now slices.now) }
+    ensures { Links result (words.bad_slices scope.now metric.now parts.now)
+        (words.linked_slices scope.now metric.now.kind
+        parts.now.state_links metric.now.sliced.slices) }
 {
+    let slices = metric.sliced.slices.as_slice();
+    let state_links = parts.state_links.as_slice();
     let atoms = collect_sliced_atoms(alloc, scope, slices)?;
     if !judge_state_links(alloc, atoms.as_slice(), state_links)? {
-        return Err(LinkError::Fault(make_fault(id, 12)));
+        return Err(LinkError::Fault(make_fault(metric.common.id, Reason::BadStateLink)));
     }
-    if !judge_slices(alloc, scope, kind, what, slices, atoms.as_slice())? {
-        return Err(LinkError::Fault(make_fault(id, 13)));
+    if !judge_slices(alloc, scope, metric, parts.what, atoms.as_slice())? {
+        return Err(LinkError::Fault(make_fault(metric.common.id, Reason::BadSlices)));
     }
-    let linked = kind_slices(alloc, scope, kind, state_links, slices)?;
+    let linked = kind_slices(alloc, scope, &metric.kind, state_links, slices)?;
     Ok(linked)
 }

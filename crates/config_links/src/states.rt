@@ -6,7 +6,7 @@ ghost use Rattle.link_rules.specs.LinkFaults.{Links, first_in};
 ghost use Rattle.config_links.specs.LinkReasons.{names_atom, bad_state};
 ghost use Rattle.config_links.specs.LinkedForm.{linked_group, linked_state};
 
-use crate::reasons::make_fault;
+use crate::reasons::{Reason, make_fault};
 use crate::{LGroup, LState};
 use config_types::{GroupDef, StateDef};
 use link_rules::LinkError;
@@ -52,7 +52,7 @@ fn state_in(alloc: Global, def: StateDef) -> Result<LState, LinkError>
     ensures { Links result (bad_state def) (linked_state def) }
 {
     let Some(atom_id) = atom_in(def.atom_id) else {
-        return Err(LinkError::Fault(make_fault(def.id, 3)));
+        return Err(LinkError::Fault(make_fault(def.id, Reason::NoAtom)));
     };
     let map = map_in(alloc, def.map)?;
     Ok(LState { atom_id, map })

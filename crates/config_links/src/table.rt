@@ -1,10 +1,11 @@
 //! The leaves of a set in a hash table, so that each is found in one step.
 ghost use Rattle.std.specs.Prelude.{◌≡◌, map, None};
 ghost use Rattle.link_rules.specs.LinkFaults.{Links, PassesTest};
+ghost use Rattle.config_links.specs.declared.reasons.Reason.TheVariants.{LinkOutside};
 ghost use Rattle.config_links.specs.LinkReasons.{type_fault};
 ghost use Rattle.config_links.specs.MetricLinks.{is_one_of, are_one_of, leaf_place};
 
-use crate::reasons::make_fault;
+use crate::reasons::{Reason, make_fault};
 use distinct::Distinct;
 use field_select::{FieldSet, LeafPath};
 use link_rules::LinkError;
@@ -82,10 +83,10 @@ impl DimsTable {
         set: &FieldSet,
     ) -> Result<Seq<u32>, LinkError>
         ensures { PassesTest result (are_one_of self.now.atom_id self.now.leaves set.now)
-            (type_fault id 8) (map (leaf_place self.now.leaves) set.now.leaves) }
+            (type_fault id LinkOutside) (map (leaf_place self.now.leaves) set.now.leaves) }
     {
         if !self.covers(set) {
-            return Err(LinkError::Fault(make_fault(id, 8)));
+            return Err(LinkError::Fault(make_fault(id, Reason::LinkOutside)));
         }
         self.places(alloc, set.leaves.as_slice())
     }

@@ -1,5 +1,5 @@
 -- Lemmas on the first fault: where there is none, none of the parts has one.
-use Rattle.std.proofs.Common.{◌≡◌, ℕ, Bool, true, false, List, [], ◌∷◌, Option, Some, None, Err, refl}
+use Rattle.std.proofs.Common.{◌≡◌, Bool, true, false, List, [], ◌∷◌, Option, Some, None, Err, refl}
 use Rattle.std.specs.Option.{option_or}
 use Rattle.std.specs.List.{AllByRecursion}
 use Rattle.link_rules.specs.declared.fault.LinkFault.{LinkFault}
@@ -26,7 +26,8 @@ none_of (None ∷ parts) h = (refl, none_of parts h)
 none_of (Some x ∷ parts) h = absurd (cc)
 
 -- no test of a table of reasons holds
-pub no_reason : (rows : List (ℕ × Bool)) → first_reason rows ≡ None → AllByRecursion (λ row. row.1 ≡ false) rows
+pub no_reason : {R : Type 0} (rows : List (R × Bool)) → first_reason rows ≡ None
+    → AllByRecursion (λ row. row.1 ≡ false) rows
 no_reason [] h = tt
 no_reason ((reason, false) ∷ rows) h = (refl, no_reason rows h)
 no_reason ((reason, true) ∷ rows) h = absurd (cc)

@@ -12,17 +12,9 @@ use Rattle.link_rules.specs.declared.entities.GaugeParts.{GaugeParts}
 use Rattle.link_rules.specs.declared.entities.Kind.TheVariants.{Gauge}
 use Rattle.link_rules.specs.declared.entities.Entities.{Entities}
 use Rattle.link_rules.specs.declared.fault.LinkFault.{LinkFault}
+use Rattle.link_rules.specs.declared.limits.Limit.{Limit}
+use Rattle.link_rules.specs.declared.limits.Limit.TheVariants.{Matchers, Predicates, States, Metrics, PredicateBound, MetricBound, Samples, BucketSamples}
 use Rattle.link_rules.specs.LinkFaults.{fault, past_limit, first_of, first_in}
-
--- there are more than so many
-abbrev pub count_limit : ℕ → ℕ → ℕ → Option LinkFault
-count_limit reason most count = if nat_lt most count then Some (fault past_limit reason (pos count)) else None
-
--- a number is set that isn't from 1 to so many
-abbrev pub number_limit : ℕ → ℕ → Option ℤ → Option LinkFault
-number_limit reason most None = None
-number_limit reason most (Some number) =
-    if is_number_to most (Some number) then None else Some (fault past_limit reason number)
 
 -- how many matchers a configuration has
 abbrev pub most_matchers : ℕ
@@ -48,6 +40,46 @@ most_bound = 3000
 abbrev pub most_samples : ℕ
 most_samples = 100
 
+-- the samples that all keys of a bucket keep at most
+abbrev pub most_bucket_samples : ℕ
+most_bucket_samples = 16384
+
+-- the number by which a refusal names a limit; they are judged in this order
+abbrev pub limit_number : Limit → ℕ
+limit_number Matchers = 1
+limit_number Predicates = 2
+limit_number States = 3
+limit_number Metrics = 4
+limit_number PredicateBound = 5
+limit_number MetricBound = 6
+limit_number Samples = 7
+limit_number BucketSamples = 8
+
+-- the greatest number that is within a limit
+abbrev pub most_of : Limit → ℕ
+most_of Matchers = most_matchers
+most_of Predicates = most_predicates
+most_of States = most_states
+most_of Metrics = most_metrics
+most_of PredicateBound = most_bound
+most_of MetricBound = most_bound
+most_of Samples = most_samples
+most_of BucketSamples = most_bucket_samples
+
+-- a number past this limit
+abbrev pub past : Limit → ℤ → LinkFault
+past limit number = fault past_limit (limit_number limit) number
+
+-- there are more than may be
+abbrev pub count_limit : Limit → ℕ → Option LinkFault
+count_limit limit count = if nat_lt (most_of limit) count then Some (past limit (pos count)) else None
+
+-- a number is set that isn't from 1 to the limit
+abbrev pub number_limit : Limit → Option ℤ → Option LinkFault
+number_limit limit None = None
+number_limit limit (Some number) =
+    if is_number_to (most_of limit) (Some number) then None else Some (past limit number)
+
 -- the bound of a predicate or a metric that names none
 abbrev pub absent_bound : ℕ
 absent_bound = 800
@@ -55,10 +87,6 @@ absent_bound = 800
 -- the samples of a gauge that names no number of them
 abbrev pub default_samples : ℕ
 default_samples = 10
-
--- the samples that all keys of a bucket keep at most
-abbrev pub most_bucket_samples : ℕ
-most_bucket_samples = 16384
 
 -- a number that is set, or the one that an absent one stands for
 abbrev pub number_or : ℕ → Option ℤ → ℕ
@@ -73,7 +101,7 @@ bound_or_default bound = number_or absent_bound bound
 abbrev pub predicate_limit : PredicateDef → Option LinkFault
 predicate_limit def = body_limit def.body where
   body_limit : Option PredicateBody → Option LinkFault
-  body_limit (Some (predicate.Simple simple)) = number_limit 5 most_bound simple.bound
+  body_limit (Some (predicate.Simple simple)) = number_limit PredicateBound simple.bound
   body_limit _ = None
 
 -- a gauge that takes one sample keeps one, whatever number it names
@@ -88,23 +116,23 @@ samples_of gauge = samples_by gauge.sampling gauge.max_samples
 -- the samples of a gauge, and then all those of a bucket
 abbrev pub samples_limit : ℕ → Kind → Option LinkFault
 samples_limit bound (Gauge gauge) = first_of
-    (number_limit 7 most_samples gauge.max_samples ∷ count_limit 8 most_bucket_samples (bound * samples_of gauge) ∷ [])
+    (number_limit Samples gauge.max_samples ∷ count_limit BucketSamples (bound * samples_of gauge) ∷ [])
 samples_limit bound _ = None
 
 -- a metric's bound, and then its samples
 abbrev pub metric_limit : Metric → Option LinkFault
 metric_limit metric = first_of
-    (number_limit 6 most_bound metric.sliced.bound
+    (number_limit MetricBound metric.sliced.bound
     ∷ samples_limit (bound_or_default metric.sliced.bound) metric.kind
     ∷ [])
 
 -- number 1, in this order
 abbrev pub limits : Entities → List (Option LinkFault)
 limits entities =
-    count_limit 1 most_matchers (length entities.matchers)
-    ∷ count_limit 2 most_predicates (length entities.predicates)
-    ∷ count_limit 3 most_states (length entities.states)
-    ∷ count_limit 4 most_metrics (length entities.metrics)
+    count_limit Matchers (length entities.matchers)
+    ∷ count_limit Predicates (length entities.predicates)
+    ∷ count_limit States (length entities.states)
+    ∷ count_limit Metrics (length entities.metrics)
     ∷ first_in predicate_limit entities.predicates
     ∷ first_in metric_limit entities.metrics
     ∷ []

@@ -60,8 +60,8 @@ abbrev pub first_in : {A B : Type 0} → (A → Option B) → List A → Option 
 first_in gives [] = None
 first_in gives (x ∷ xs) = option_or (gives x) (first_in gives xs)
 
--- the first number whose test holds
-abbrev pub first_reason : List (ℕ × Bool) → Option ℕ
+-- the first reason whose test holds
+abbrev pub first_reason : {R : Type 0} → List (R × Bool) → Option R
 first_reason [] = None
 first_reason ((reason, true) ∷ others) = Some reason
 first_reason ((reason, false) ∷ others) = first_reason others

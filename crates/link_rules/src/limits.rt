@@ -2,56 +2,96 @@
 ghost use Rattle.std.specs.Prelude.{◌≡◌, ◌<◌, ◌≤◌, ◌≤ℤ◌, ◌^◌, Some, None, pos, length, if◌then◌else◌};
 ghost use Rattle.field_select.specs.WellFormed.{is_number_to};
 ghost use Rattle.link_rules.specs.LinkFaults.{first_in};
-ghost use Rattle.link_rules.specs.EntityLimits.{count_limit, number_limit, number_or, bound_or_default, predicate_limit, samples_of, samples_limit, metric_limit, limit_fault};
+ghost use Rattle.link_rules.specs.EntityLimits.{limit_number, most_of, past, count_limit, number_limit, number_or, bound_or_default, predicate_limit, samples_of, samples_limit, metric_limit, limit_fault};
 
 use crate::entities::{Entities, GaugeParts, Kind, Metric};
 use crate::fault::{LinkFault, PAST_LIMIT};
 use config_types::{PredicateBody, PredicateDef, SamplingType};
 
-const MOST_MATCHERS: usize = 800;
-
 /// The most predicates that a configuration has.
 pub const MOST_PREDICATES: usize = 300;
 
-const MOST_STATES: usize = 16;
-
-const MOST_METRICS: usize = 100;
-
-const MOST_BOUND: i64 = 3000;
-
-const MOST_SAMPLES: i64 = 100;
-
-const MOST_KEPT: usize = 16_384;
-
-/// There are more than so many.
-fn judge_count(reason: u8, most: usize, count: usize) -> Option<LinkFault>
-    requires { count < 2 ^ 63 }
-    ensures { result ≡ count_limit reason most count }
-{
-    if count <= most {
-        return None;
-    }
-    Some(LinkFault {
-        number: PAST_LIMIT,
-        reason,
-        value: count as i64,
-    })
+/// What has a limit: how many entities of a kind there are, and numbers that entities set.
+#[derive(Clone, Copy)]
+pub enum Limit {
+    Matchers,
+    Predicates,
+    States,
+    Metrics,
+    /// The keys of a predicate.
+    PredicateBound,
+    /// The keys of a metric's bucket.
+    MetricBound,
+    /// The samples of a gauge for one key of a bucket.
+    Samples,
+    /// The samples of a gauge for all keys of a bucket.
+    BucketSamples,
 }
 
-/// A number is set that isn't from 1 to so many.
-fn judge_number(reason: u8, most: i64, number: Option<i64>) -> Option<LinkFault>
-    requires { pos 0 ≤ℤ most }
-    ensures { result ≡ number_limit reason (number_or 0 (Some most)) number }
+impl Limit {
+    // The number by which a refusal names it.
+    fn number(self) -> u8
+        ensures { result ≡ limit_number self }
+    {
+        match self {
+            Limit::Matchers => 1,
+            Limit::Predicates => 2,
+            Limit::States => 3,
+            Limit::Metrics => 4,
+            Limit::PredicateBound => 5,
+            Limit::MetricBound => 6,
+            Limit::Samples => 7,
+            Limit::BucketSamples => 8,
+        }
+    }
+
+    // The greatest number within it.
+    fn most(self) -> usize
+        ensures { result ≡ most_of self }
+    {
+        match self {
+            Limit::Matchers => 800,
+            Limit::Predicates => MOST_PREDICATES,
+            Limit::States => 16,
+            Limit::Metrics => 100,
+            Limit::PredicateBound | Limit::MetricBound => 3000,
+            Limit::Samples => 100,
+            Limit::BucketSamples => 16_384,
+        }
+    }
+
+    // A number past it.
+    fn fault(self, value: i64) -> LinkFault
+        ensures { result ≡ past self value }
+    {
+        LinkFault {
+            number: PAST_LIMIT,
+            reason: self.number(),
+            value,
+        }
+    }
+}
+
+/// There are more than may be.
+fn judge_count(limit: Limit, count: usize) -> Option<LinkFault>
+    requires { count < 2 ^ 63 }
+    ensures { result ≡ count_limit limit count }
 {
-    let value = number?;
-    if value > 0 && value <= most {
+    if count <= limit.most() {
         return None;
     }
-    Some(LinkFault {
-        number: PAST_LIMIT,
-        reason,
-        value,
-    })
+    Some(limit.fault(count as i64))
+}
+
+/// A number is set that isn't from 1 to the limit.
+fn judge_number(limit: Limit, number: Option<i64>) -> Option<LinkFault>
+    ensures { result ≡ number_limit limit number }
+{
+    let value = number?;
+    if value > 0 && value <= limit.most() as i64 {
+        return None;
+    }
+    Some(limit.fault(value))
 }
 
 fn wide(number: Option<i32>) -> Option<i64>
@@ -67,7 +107,10 @@ fn judge_predicate(def: &PredicateDef) -> Option<LinkFault>
     ensures { result ≡ predicate_limit def.now }
 {
     match &def.body {
-        Some(PredicateBody::Simple(simple)) => judge_number(5, MOST_BOUND, wide(simple.bound)),
+        Some(PredicateBody::Simple(simple)) => judge_number(
+            Limit::PredicateBound,
+            wide(simple.bound),
+        ),
         _ => None,
     }
 }
@@ -99,16 +142,16 @@ fn judge_samples(bound: usize, kind: &Kind) -> Option<LinkFault>
     let Kind::Gauge(gauge) = kind else {
         return None;
     };
-    if let Some(fault) = judge_number(7, MOST_SAMPLES, gauge.max_samples) {
+    if let Some(fault) = judge_number(Limit::Samples, gauge.max_samples) {
         return Some(fault);
     }
-    judge_count(8, MOST_KEPT, bound * count_samples(gauge))
+    judge_count(Limit::BucketSamples, bound * count_samples(gauge))
 }
 
 fn judge_metric(metric: &Metric) -> Option<LinkFault>
     ensures { result ≡ metric_limit metric.now }
 {
-    if let Some(fault) = judge_number(6, MOST_BOUND, wide(metric.sliced.bound)) {
+    if let Some(fault) = judge_number(Limit::MetricBound, wide(metric.sliced.bound)) {
         return Some(fault);
     }
     judge_samples(choose_number(800, wide(metric.sliced.bound)), &metric.kind)
@@ -141,16 +184,16 @@ fn judge_metrics(metrics: &[Metric]) -> Option<LinkFault>
 pub fn judge_limits(entities: &Entities) -> Option<LinkFault>
     ensures { result ≡ limit_fault entities.now }
 {
-    if let Some(fault) = judge_count(1, MOST_MATCHERS, entities.matchers.as_slice().len()) {
+    if let Some(fault) = judge_count(Limit::Matchers, entities.matchers.as_slice().len()) {
         return Some(fault);
     }
-    if let Some(fault) = judge_count(2, MOST_PREDICATES, entities.predicates.as_slice().len()) {
+    if let Some(fault) = judge_count(Limit::Predicates, entities.predicates.as_slice().len()) {
         return Some(fault);
     }
-    if let Some(fault) = judge_count(3, MOST_STATES, entities.states.as_slice().len()) {
+    if let Some(fault) = judge_count(Limit::States, entities.states.as_slice().len()) {
         return Some(fault);
     }
-    if let Some(fault) = judge_count(4, MOST_METRICS, entities.metrics.as_slice().len()) {
+    if let Some(fault) = judge_count(Limit::Metrics, entities.metrics.as_slice().len()) {
         return Some(fault);
     }
     if let Some(fault) = judge_predicates(entities.predicates.as_slice()) {
