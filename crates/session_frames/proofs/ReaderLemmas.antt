@@ -1,256 +1,261 @@
--- On specs/Reader.antt, for the reader: how far it came with its source, the place after a frame, and a call in its
--- two steps.
-use Rattle.std.proofs.Common.{◌≡◌, ℕ, ◌+◌, ◌-◌, ◌<◌, ◌≤◌, Bool, true, false, IsTrue, List, [], ◌++◌, length, take, drop, Option, Some, None, Result, Ok, Err, IfOk, IfErr, IfNone, nat_lt, refl, sym, ap, ap₂, ◌∙◌, subst, subst₂, arith, inl, inr}
-use Rattle.std.proofs.lemmas.Bool.Decides.{nat_tests}
-use Rattle.std.proofs.lemmas.List.{length-drop, drop-drop, take_rest, take-take, take-append-le, append-nil}
+-- On specs/Reader.antt, for the reader: bytes behind those that are held, how far the taking came, and a frame that was
+-- judged.
+use Rattle.std.proofs.Common.{◌≡◌, ℕ, ◌+◌, ◌-◌, ◌*◌, ◌<◌, ◌≤◌, Bool, false, List, [], ◌++◌, length, take, Option, None, Some, Result, Ok, Err, IfOk, IfErr, sym, ap, ap₂, ◌∙◌, subst, append_assoc, arith}
+use Rattle.std.proofs.lemmas.List.{take-take, take_all, take-append-le, length-append, append-nil}
+use Rattle.std.proofs.Math.Seq.{take-append-add}
 use Rattle.sd_io.specs.States.{Input}
-use Rattle.sd_io.specs.Causes.{IsAtEnd, Takes}
+use Rattle.sd_io.specs.Causes.{Takes}
 use Rattle.sd_io.proofs.CausesLemmas.{Takes-nil, Takes-trans}
 use Rattle.session_frames.specs.declared.frame.Frame.{Frame}
 use Rattle.session_frames.specs.declared.frame.FrameError.{FrameError}
-use Rattle.session_frames.specs.declared.frame.FrameError.TheVariants.{Session, Read, Memory}
-use Rattle.session_frames.specs.declared.frame.SessionFault.TheVariants.{TooManyFrames}
-use Rattle.session_frames.specs.FrameLimits.{most_input}
-use Rattle.session_frames.specs.Frames.{clock_after, size_at, next_frame, Next, Whole, Place, past, BreaksBy}
-use Rattle.session_frames.specs.Reader.{Reading, StaysAtEnd, unread, GivesFrame, Refuses, FitsSession, IsHeld}
-use Rattle.session_frames.specs.Bodies.{Fills, Judges}
-use Rattle.session_frames.proofs.FrameLaws.{StandsWhole-from_next, whole_takes, next_ended}
+use Rattle.session_frames.specs.declared.frame.FrameError.TheVariants as failed
+use Rattle.session_frames.specs.FrameLimits.{most_pending}
+use Rattle.session_frames.specs.Frames.{clock_after, next_frame, needed, Broken, Whole, Place, past}
+use Rattle.session_frames.specs.Reader.{Reading, GivesNext, GivesFrame, Refuses, IsUnfinished, IsAtRest}
+use Rattle.session_frames.specs.Bodies.{FindsNext, IsOutside, Judges, StopsShort, TakesNext, TakesSome}
+use Rattle.session_frames.proofs.FrameLaws.{StandsWhole-from_next, next_ended, cut_is_short, short_is_unfinished, needed_more, needed_most, needed_some}
 
--- so much of a source was read
-pub record IsReadSo (old new : Input) (bytes piece : List ℕ) : Type 0 where
-  pub consumes : Takes old new bytes
-  pub within : length bytes ≤ most_input
+-- room was made behind what is held, a part of it was filled, and the rest was cut off
+pub filled_behind : (held grown buffer over back after : List ℕ) (len count most : ℕ)
+    → take len grown ≡ held
+    → length held ≡ len
+    → count ≤ length buffer
+    → len + count ≤ most
+    → after ≡ take (len + count) (take most ((take len grown ++ (buffer ++ over)) ++ back))
+    → after ≡ held ++ take count buffer
+filled_behind held grown buffer over back after len count most is_held is_len within fits is =
+    let whole : (take len grown ++ (buffer ++ over)) ++ back ≡ held ++ ((buffer ++ over) ++ back) =
+    ap (λ l. (l ++ (buffer ++ over)) ++ back) is_held ∙ append_assoc held (buffer ++ over) back in
+    let front : take (length held + count) (held ++ ((buffer ++ over) ++ back))
+    ≡ held ++ take count ((buffer ++ over) ++ back) = take-append-add held ((buffer ++ over) ++ back) count in
+    let filled : take count ((buffer ++ over) ++ back) ≡ take count buffer =
+    ap (take count) (append_assoc buffer over back) ∙ take-append-le count buffer (over ++ back) within in
+    is
+    ∙ take-take (len + count) most ((take len grown ++ (buffer ++ over)) ++ back) fits
+    ∙ ap (take (len + count)) whole
+    ∙ ap (λ n. take (n + count) (held ++ ((buffer ++ over) ++ back))) (sym is_len)
+    ∙ front
+    ∙ ap (λ l. held ++ l) filled
+
+-- what was held stays in front where room is made
+pub held_in_front : (held room grown : List ℕ) (len more : ℕ)
+    → length held ≡ len
+    → grown ≡ take (len + more) held ++ room
+    → take len grown ≡ held
+held_in_front held room grown len more is_len is =
+    ap (take len) (is ∙ ap (λ l. l ++ room) (take_all (len + more) held (omega (arith, is_len))))
+    ∙ take-append-le len held room (omega (arith, is_len)) ∙ take_all len held (omega (arith, is_len))
+
+-- So much was taken: no more than the judgement asks for.
+pub record IsTakenSo (old new : Input) (place : Place) (held : List ℕ) : Type 0 where
+  pub consumes : Takes old new held
+  pub no_more : length held ≤ needed place held
   pub later : old.faults ≤ new.faults
-  pub room : 0 < length piece
 
--- after what was read so far, the front of a piece was read
-pub Consumes-piece : (old mid new : Input) (bytes more buf behind piece : List ℕ) (len count : ℕ)
-    → Takes old mid bytes
-    → Takes mid new (take count buf)
-    → piece ≡ take len (buf ++ behind)
-    → count ≤ len
-    → count ≤ length buf
-    → more ≡ bytes ++ take count piece
-    → Takes old new more
-Consumes-piece old mid new bytes more buf behind piece len count before now is fits within grown =
-    let front : take count piece ≡ take count buf = ap (take count) is ∙ take-take count len (buf ++ behind) fits
-    ∙ take-append-le count buf behind within in
-    subst (Takes old new) (sym (grown ∙ ap (λ l. bytes ++ l) front))
-    (Takes-trans old mid new bytes (take count buf) before now)
+-- nothing was taken yet
+pub none_taken : (input : Input) (place : Place) (held : List ℕ) → held ≡ [] → IsTakenSo input input place held
+none_taken input place held is = record {
+  consumes = subst (Takes input input) (sym is) (Takes-nil input);
+  no_more = omega (arith, ap length is);
+  later = omega arith;
+}
 
--- the source failed
-pub Refuses-Read : (old new : Input) (taken : List ℕ) → Takes old new taken → Refuses old new unread Read
-Refuses-Read old new taken consumes = record { taken = taken; consumes = consumes; cause = refl }
+module _ (old mid new : Input) (place : Place) (before after : List ℕ) (most count : ℕ)
+    (so : IsTakenSo old mid place before) (some : TakesSome mid new before after most count)
+    (fits : length before + most ≤ needed place before) where
+  grows : length after ≡ length before + count
+  grows = ap length some.grown ∙ length-append before some.more ∙ ap (λ n. length before + n) some.counted
 
--- memory was wanting
-pub Refuses-Memory : (old new : Input) (taken : List ℕ)
-    → Takes old new taken
-    → Refuses old new unread Memory
-Refuses-Memory old new taken consumes = record { taken = taken; consumes = consumes; cause = inr refl }
+  -- more was taken
+  pub more_taken : mid.faults ≤ new.faults → IsTakenSo old new place after
+  more_taken later = record {
+    consumes = subst (Takes old new) (sym some.grown)
+        (Takes-trans old mid new before some.more so.consumes some.consumes);
+    no_more = subst (λ l. length l ≤ needed place l) (sym some.grown)
+        (needed_more place before some.more
+        (subst (λ l. length l ≤ needed place before) some.grown (omega (arith, grows, some.few, fits))));
+    later = omega (arith, so.later, later);
+  }
 
--- too much was read
-pub Refuses-too_much : (old new : Input) (taken : List ℕ)
-    → Takes old new taken
-    → most_input < length taken
-    → Refuses old new unread (Session most_input TooManyFrames)
-Refuses-too_much old new taken consumes more =
-    let too_much : IsTrue (nat_lt most_input (length taken)) = grind (arith, nat_tests) in
-    record {
-      taken = taken;
-      consumes = consumes;
-      cause = inr
-          (record { placed = refl; is = refl; first = refl; too_much = too_much });
-    }
+  -- each turn comes nearer to the most that is asked for
+  pub comes_nearer : 0 < count → most_pending - length after < most_pending - length before
+  comes_nearer none = omega (arith, grows, some.few, fits, needed_most place before)
 
--- what comes after a frame is the end of what was left
-pub after_is_end : (clock : ℕ) (left : List ℕ) (frame : Frame) (rest : List ℕ)
-    → next_frame clock left ≡ Whole frame rest
-    → drop (length left - length rest) left ≡ rest
-after_is_end clock left frame rest e =
-    let h = StandsWhole-from_next clock left frame rest e in
-    let long : 4 ≤ length left = h.long in
-    let here : size_at left ≤ length (drop 4 left) = h.here in
-    let count : length left - length rest ≡ 4 + size_at left = omega
-    (arith, sym (length-drop 4 left), sym (length-drop (size_at left) (drop 4 left)), sym (ap length h.after))
-    in
-    ap (λ n. drop n left) count ∙ sym (drop-drop (size_at left) 4 left) ∙ h.after
+  -- there was no more
+  pub all_taken : mid.faults ≤ new.faults → count ≡ 0 → TakesNext old new place after
+  all_taken later none = record {
+    consumes = (more_taken later).consumes;
+    no_more = (more_taken later).no_more;
+    end = λ short. some.end none;
+  }
 
--- what stands next in a slice from a place on
-pub on_rest : (bytes whole : List ℕ) (at clock : ℕ) (next : Next)
-    → whole ≡ bytes
-    → next_frame clock (take (length whole - at) (drop at whole)) ≡ next
-    → next_frame clock (drop at bytes) ≡ next
-on_rest bytes whole at clock next same e =
-    ap (λ l. next_frame clock (drop at l)) (sym same) ∙ ap (next_frame clock) (sym (take_rest whole at)) ∙ e
+-- there is as much as is asked for
+pub enough_taken : (old new : Input) (place : Place) (held : List ℕ)
+    → IsTakenSo old new place held
+    → needed place held ≤ length held
+    → TakesNext old new place held
+enough_taken old new place held so enough = record {
+  consumes = so.consumes;
+  no_more = so.no_more;
+  end = λ short. absurd (omega (arith, short, enough));
+}
 
-module _ (bytes : List ℕ) (at clock frames len : ℕ) (frame : Frame) (rest : List ℕ) (is_len : len ≡ length bytes)
-    (whole : next_frame clock (drop at bytes) ≡ Whole frame rest) where
-  -- the bytes after a frame are as many as are there at most
-  pub rest_within : length rest ≤ len
-  rest_within = omega (arith, whole_takes clock (drop at bytes) frame rest whole, length-drop at bytes)
+-- the taking broke off
+pub broken_off : (old mid new : Input) (place : Place) (held : List ℕ) (e : FrameError)
+    → IsTakenSo old mid place held
+    → length held < needed place held
+    → Takes mid new []
+    → IsOutside e
+    → StopsShort old new place e
+broken_off old mid new place held e so short nothing outside = record {
+  taken = held;
+  consumes = subst (Takes old new) (append-nil held) (Takes-trans old mid new held [] so.consumes nothing);
+  short = short;
+  outside = outside;
+}
 
-  count : len - length rest ≡ at + (length (drop at bytes) - length rest)
-  count = omega (arith, whole_takes clock (drop at bytes) frame rest whole, length-drop at bytes)
+-- A reader after a frame that was judged.
+module _ (bytes clock frames len now : ℕ) (left : List ℕ) (frame : Frame) (is_len : len ≡ length left)
+    (moved : now ≡ clock_after clock frame) where
+  place_after : let place : Place = record { bytes = bytes + len; clock = now; frames = frames + 1 } in
+      place ≡ past (record { bytes = bytes; clock = clock; frames = frames }) left frame []
+  place_after =
+      let far : bytes + len ≡ bytes + (length left - 0) = omega (arith, is_len) in
+      ap₂ (λ (n m : ℕ). let place : Place = record { bytes = n; clock = m; frames = frames + 1 } in place) far moved
 
-  -- the new place in all the bytes leads to what comes after the frame
-  pub leads_after : rest ≡ drop (len - length rest) bytes
-  leads_after = sym (ap (λ n. drop n bytes) count ∙ sym (drop-drop (length (drop at bytes) - length rest) at bytes)
-      ∙ after_is_end clock (drop at bytes) frame rest whole)
-
-  -- it is the place after the frame
-  place_after : (now : ℕ) → now ≡ clock_after clock frame
-      → let place : Place = record { bytes = len - length rest; clock = now; frames = frames + 1 } in
-      place ≡ past (record { bytes = at; clock = clock; frames = frames }) (drop at bytes) frame rest
-  place_after now moved =
-      ap₂ (λ (n m : ℕ). let p : Place = record { bytes = n; clock = m; frames = frames + 1 } in p) count moved
-
-  -- there is a byte at least before it for each frame
-  pub counted_after : frames ≤ at → frames + 1 ≤ len - length rest
-  counted_after counted = omega (arith, count, whole_takes clock (drop at bytes) frame rest whole)
-
-  -- a reader that goes there answers what stands next
-  pub Judges-frame : (ended : Bool) (now : ℕ) → now ≡ clock_after clock frame → IsTrue ended
-      → let before : Reading = record {
-        pending = drop at bytes;
-        place = record { bytes = at; clock = clock; frames = frames };
+  -- it holds nothing, and stands after the frame
+  pub reading_after : (held : List ℕ) (ended : Bool) → held ≡ [] → ended ≡ false
+      → let after : Reading = record {
+        pending = held;
+        place = record { bytes = bytes + len; clock = now; frames = frames + 1 };
         ended = ended;
       } in
-      let after : Reading = record {
-        pending = drop (len - length rest) bytes;
-        place = record { bytes = len - length rest; clock = now; frames = frames + 1 };
-        ended = ended;
-      } in
-      Judges before (Ok (after, Some frame))
-  Judges-frame ended now moved true_ended = (
-    whole ∙ ap (Whole frame) leads_after,
-    place_after now moved
-        ∙ ap (past (record { bytes = at; clock = clock; frames = frames }) (drop at bytes) frame) leads_after,
-    true_ended,
-  )
-
--- a reader that never saw its source's end holds nothing, so all of the source is what it holds then
-pub Fills-first : (old new : Input) (held bytes : List ℕ) (at clock frames : ℕ) (ended : Bool)
-    → IsHeld held at clock frames ended
-    → ended ≡ false
-    → Takes old new bytes
-    → IsAtEnd new.left
-    → length bytes ≤ most_input
-    → let place : Place = record { bytes = at; clock = clock; frames = frames } in
-    let before : Reading = record { pending = drop at held; place = place; ended = ended } in
-    let after : Reading = record { pending = drop at bytes; place = place; ended = true } in
-    Fills old new before after
-Fills-first old new held bytes at clock frames ended holds unended consumes at_end within =
-    let first = holds.first unended in
-    record {
-      taken = bytes;
-      consumes = consumes;
-      at_end = at_end;
-      pending = subst₂ (λ (h : List ℕ) (n : ℕ). drop n bytes ≡ drop n h ++ bytes) (sym first.0) (sym first.1) refl;
-      place = refl;
-      ended = refl;
-      within = omega (arith, length-drop at bytes, first.1, within);
-    }
-
--- a reader that saw its source's end has all of it
-pub Fills-ended : (input : Input) (held : List ℕ) (at clock frames : ℕ) (ended : Bool)
-    → IsHeld held at clock frames ended
-    → IsTrue ended
-    → IsAtEnd input.left
-    → let reading : Reading = record {
-      pending = drop at held;
-      place = record { bytes = at; clock = clock; frames = frames };
-      ended = ended;
-    } in
-    Fills input input reading reading
-Fills-ended input held at clock frames ended holds true_ended at_end =
-    record {
-      taken = [];
-      consumes = Takes-nil input;
-      at_end = at_end;
-      pending = sym (append-nil (drop at held));
-      place = refl;
-      ended = true_ended;
-      within = omega (arith, length-drop at held, holds.placed, holds.within);
-    }
-
--- A call in its two steps: the source is read, and what stands next is judged.
-module _ (old new : Input) (before filled : Reading) (fills : Fills old new before filled) where
-  within_all : FitsSession before.place (before.pending ++ fills.taken)
-  within_all = subst₂ FitsSession fills.place fills.pending fills.within
-
-  all_next : next_frame filled.place.clock filled.pending ≡ next_frame before.place.clock
-      (before.pending ++ fills.taken)
-  all_next = ap₂ (λ (p : Place) l. next_frame p.clock l) fills.place fills.pending
-
-  GivesFrame-judged : (after : Reading) (frame : Option Frame)
-      → Judges filled (Ok (after, frame))
-      → GivesFrame old new before after frame
-  GivesFrame-judged after None judges =
-      record {
-        taken = fills.taken;
-        consumes = fills.consumes;
-        in_step = λ ended. fills.at_end;
-        within = within_all;
-        next = (sym all_next ∙ judges.0, fills.at_end);
+      after ≡ record {
+        pending = [];
+        place = past (record { bytes = bytes; clock = clock; frames = frames }) left frame [];
+        ended = false;
       }
-  GivesFrame-judged after (Some frame) judges =
-      record {
-        taken = fills.taken;
-        consumes = fills.consumes;
-        in_step = λ ended. fills.at_end;
-        within = within_all;
-        next = (
-          sym all_next ∙ judges.0,
-          judges.1 ∙ ap₂ (λ p l. past p l frame after.pending) fills.place
-              fills.pending,
-        );
-      }
+  reading_after held ended none unended =
+      let made : List ℕ → Bool → Place → Reading = λ l b place. record { pending = l; place = place; ended = b } in
+      ap₂ (λ l b. made l b (record { bytes = bytes + len; clock = now; frames = frames + 1 })) none unended
+      ∙ ap (made [] false) place_after
 
-  Refuses-judged : (e : FrameError) → Judges filled (Err e) → Refuses old new before e
-  Refuses-judged (Session at fault) judges =
-      record {
-        taken = fills.taken;
-        consumes = fills.consumes;
-        cause = inl (record {
-          placed = judges.0 ∙ ap (λ (p : Place). p.bytes) fills.place;
-          broken = subst (λ next. BreaksBy next fault) all_next judges.1;
-          at_end = fills.at_end;
-          within = within_all;
-        });
-      }
-  Refuses-judged Read judges = absurd judges
-  Refuses-judged Memory judges = record { taken = fills.taken; consumes = fills.consumes; cause = inl within_all }
+  -- it is at rest
+  pub rest_after : (held rest : List ℕ) → held ≡ []
+      → bytes ≤ frames * most_pending
+      → length left ≤ needed (record { bytes = bytes; clock = clock; frames = frames }) left
+      → next_frame (record { bytes = bytes; clock = clock; frames = frames }) left ≡ Whole frame rest
+      → IsAtRest held (record { bytes = bytes + len; clock = now; frames = frames + 1 })
+  rest_after held rest none placed few whole = record {
+    none = none;
+    counted = omega (
+      arith,
+      (StandsWhole-from_next (record { bytes = bytes; clock = clock; frames = frames }) left frame rest whole).room,
+    );
+    placed = omega (
+      arith,
+      is_len,
+      few,
+      placed,
+      needed_most (record { bytes = bytes; clock = clock; frames = frames }) left,
+    );
+  }
+
+-- what was found in a slice stands next in the bytes
+pub found_whole : (place : Place) (slice left : List ℕ) (found : Option Frame) (frame : Frame)
+    → slice ≡ left
+    → found ≡ Some frame
+    → FindsNext place (Ok found) (next_frame place slice)
+    → (rest : List ℕ) × (next_frame place left ≡ Whole frame rest)
+found_whole place slice left found frame same is finds =
+    let there : FindsNext place (Ok (Some frame)) (next_frame place slice) =
+    subst (λ f. FindsNext place (Ok f) (next_frame place slice)) is finds in
+    (there.0, ap (next_frame place) (sym same) ∙ there.1)
+
+-- A call in its two steps: as many bytes were taken as the judgement asks for, and these were judged.
+module _ (old new : Input) (held made taken : List ℕ) (place : Place) (ended : Bool) (none : held ≡ [])
+    (takes : TakesNext old new place taken) where
+  left_is : held ++ taken ≡ taken
+  left_is = ap (λ l. l ++ taken) none
+
+  no_more : length (held ++ taken) ≤ needed place (held ++ taken)
+  no_more = subst (λ l. length l ≤ needed place l) (sym left_is) takes.no_more
+
+  given_frame : (after : Reading) (frame : Option Frame)
+      → GivesNext (record { pending = made; place = place; ended = ended }) taken after frame
+      → GivesFrame old new (record { pending = held; place = place; ended = ended }) after frame
+  given_frame after None h = record {
+    taken = taken;
+    consumes = takes.consumes;
+    no_more = no_more;
+    next = (ap (next_frame place) left_is ∙ h.0, h.1);
+    at_end = takes.end (omega (arith, ap length (next_ended place taken h.0), needed_some place taken));
+  }
+  given_frame after (Some frame) h = record {
+    taken = taken;
+    consumes = takes.consumes;
+    no_more = no_more;
+    next = (
+      ap (next_frame place) left_is ∙ h.0,
+      h.1 ∙ ap (λ l. record { pending = []; place = past place l frame []; ended = false }) (sym left_is),
+    );
+    at_end = tt;
+  }
 
   pub gives : (answer : Result (Reading × Option Frame) FrameError)
-      → Judges filled answer
-      → IfOk answer (λ r. GivesFrame old new before r.0 r.1)
-  gives (Ok answer) judges = GivesFrame-judged answer.0 answer.1 judges
+      → Judges (record { pending = made; place = place; ended = ended }) taken answer
+      → IfOk answer
+      (λ r. GivesFrame old new (record { pending = held; place = place; ended = ended }) r.0 r.1)
+  gives (Ok answer) judges = given_frame answer.0 answer.1 judges
   gives (Err e) judges = tt
 
+  refused : (e : FrameError)
+      → Judges (record { pending = made; place = place; ended = ended }) taken (Err e)
+      → Refuses old new (record { pending = held; place = place; ended = ended }) e
+  refused (failed.Session at fault) judges = record {
+    taken = taken;
+    consumes = takes.consumes;
+    no_more = no_more;
+    cause = record {
+      placed = judges.0;
+      broken = ap (next_frame place) left_is ∙ judges.1;
+      at_end = λ cut. takes.end (cut_is_short place taken (judges.1 ∙ ap Broken cut));
+    };
+  }
+  refused failed.Read judges = absurd judges
+  refused failed.Memory judges = record {
+    taken = taken;
+    consumes = takes.consumes;
+    no_more = no_more;
+    cause = tt;
+  }
+
   pub refuses : (answer : Result (Reading × Option Frame) FrameError)
-      → Judges filled answer
-      → IfErr answer (λ e. Refuses old new before e)
+      → Judges (record { pending = made; place = place; ended = ended }) taken answer
+      → IfErr answer (λ e. Refuses old new (record { pending = held; place = place; ended = ended }) e)
   refuses (Ok answer) judges = tt
-  refuses (Err e) judges = Refuses-judged e judges
+  refuses (Err e) judges = refused e judges
 
-found_end : (before filled after : Reading) (frame : Option Frame)
-    → filled.place ≡ before.place
-    → IsTrue filled.ended
-    → Judges filled (Ok (after, frame))
-    → IfNone frame (StaysAtEnd before after)
-found_end before filled after None same ended judges =
+-- A call whose taking broke off.
+pub refuses_before : (old new : Input) (held : List ℕ) (place : Place) (ended : Bool) (e : FrameError)
+    → held ≡ []
+    → StopsShort old new place e
+    → Refuses old new (record { pending = held; place = place; ended = ended }) e
+refuses_before old new held place ended (failed.Session at fault) none breaks = absurd breaks.outside
+refuses_before old new held place ended failed.Read none breaks =
+    let left_is : held ++ breaks.taken ≡ breaks.taken = ap (λ l. l ++ breaks.taken) none in
     record {
-      nothing = ap (λ (r : Reading). r.pending) judges.1 ∙ next_ended filled.place.clock filled.pending judges.0;
-      place = ap (λ (r : Reading). r.place) judges.1 ∙ same;
-      ended = subst (λ (r : Reading). IsTrue r.ended) (sym judges.1) ended;
+      taken = breaks.taken;
+      consumes = breaks.consumes;
+      no_more = subst (λ l. length l ≤ needed place l) (sym left_is) (omega (arith, breaks.short));
+      cause = subst (λ l. IsUnfinished (next_frame place l)) (sym left_is)
+          (short_is_unfinished place breaks.taken breaks.short);
     }
-found_end before filled after (Some frame) same ended judges = tt
-
--- where the end is found, a reader stays
-pub judged_end : (before filled : Reading) (answer : Result (Reading × Option Frame) FrameError)
-    → filled.place ≡ before.place
-    → IsTrue filled.ended
-    → Judges filled answer
-    → IfOk answer (λ r. IfNone r.1 (StaysAtEnd before r.0))
-judged_end before filled (Ok answer) same ended judges = found_end before filled answer.0 answer.1 same ended judges
-judged_end before filled (Err e) same ended judges = tt
+refuses_before old new held place ended failed.Memory none breaks =
+    let left_is : held ++ breaks.taken ≡ breaks.taken = ap (λ l. l ++ breaks.taken) none in
+    record {
+      taken = breaks.taken;
+      consumes = breaks.consumes;
+      no_more = subst (λ l. length l ≤ needed place l) (sym left_is) (omega (arith, breaks.short));
+      cause = tt;
+    }

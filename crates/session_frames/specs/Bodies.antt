@@ -1,5 +1,5 @@
 -- What the inner calls of a reader answer.
-use Rattle.std.specs.Prelude.{◌≡◌, ℕ, IsTrue, List, ◌++◌, Option, Some, None, Result, Ok, Err, MatchOption}
+use Rattle.std.specs.Prelude.{◌≡◌, ℕ, ◌≤◌, ◌<◌, List, ◌++◌, length, Option, Some, None, Result, Ok, Err}
 use Rattle.sd_io.specs.States.{Input}
 use Rattle.sd_io.specs.Causes.{IsAtEnd, Takes}
 use Rattle.session_frames.specs.declared.body.BodyError.{BodyError}
@@ -8,39 +8,54 @@ use Rattle.session_frames.specs.declared.frame.Frame.{Frame}
 use Rattle.session_frames.specs.declared.frame.FrameError.{FrameError}
 use Rattle.session_frames.specs.declared.frame.FrameError.TheVariants as failed
 use Rattle.session_frames.specs.declared.frame.FrameFault.{FrameFault}
-use Rattle.session_frames.specs.Frames.{Next, Ended, Broken, Whole, next_frame, past, BreaksBy}
-use Rattle.session_frames.specs.Reader.{Reading, FitsSession}
+use Rattle.session_frames.specs.declared.place.Place.{Place}
+use Rattle.session_frames.specs.Frames.{Next, Ended, Broken, Whole, next_frame, needed}
+use Rattle.session_frames.specs.Reader.{Reading, GivesNext}
 
 -- the fault that an error names; want of memory names none
 abbrev pub fault_in : BodyError → Option FrameFault
 fault_in (Fault fault) = Some fault
 fault_in Memory = None
 
--- the call answers what stands next in what is left
-abbrev pub FindsNext : {Slice : Type 0}
-    → (Slice → List ℕ) → Result (Option (Frame × Slice)) BodyError → Next → Type 0
-FindsNext bytes (Ok None) next = next ≡ Ended
-FindsNext bytes (Ok (Some found)) next = next ≡ Whole found.0 (bytes found.1)
-FindsNext bytes (Err (Fault fault)) next = next ≡ Broken fault
-FindsNext bytes (Err Memory) next = Unit {0}
+-- the call answers what stands next, and a fault with the place's offset
+abbrev pub FindsNext : Place → Result (Option Frame) FrameError → Next → Type 0
+FindsNext place (Ok None) next = next ≡ Ended
+FindsNext place (Ok (Some frame)) next = (rest : List ℕ) × (next ≡ Whole frame rest)
+FindsNext place (Err (failed.Session at fault)) next = (at ≡ place.bytes) × (next ≡ Broken fault)
+FindsNext place (Err failed.Read) next = ⊥
+FindsNext place (Err failed.Memory) next = Unit {0}
 
--- The whole of a source was read after what a reader had, and it isn't too much.
-pub record Fills (old new : Input) (before after : Reading) : Type 0 where
+-- a reader that stood so judges these bytes, of which there are no more than that asks for
+abbrev pub Judges : Reading → List ℕ → Result (Reading × Option Frame) FrameError → Type 0
+Judges before left (Ok answer) = GivesNext before left answer.0 answer.1
+Judges before left (Err (failed.Session at fault)) =
+    (at ≡ before.place.bytes) × (next_frame before.place left ≡ Broken fault)
+Judges before left (Err failed.Read) = ⊥
+Judges before left (Err failed.Memory) = Unit {0}
+
+-- the cause lies outside of the session
+abbrev pub IsOutside : FrameError → Type 0
+IsOutside (failed.Session at fault) = ⊥
+IsOutside _ = Unit {0}
+
+-- Some bytes were taken after those that were held, as many as told: none only at the end.
+pub record TakesSome (old new : Input) (before after : List ℕ) (most count : ℕ) : Type 0 where
+  pub more : List ℕ
+  pub consumes : Takes old new more
+  pub grown : after ≡ before ++ more
+  pub counted : length more ≡ count
+  pub few : count ≤ most
+  pub end : count ≡ 0 → IsAtEnd new.left
+
+-- As many bytes were taken as the judgement asks for, or all that there are.
+pub record TakesNext (old new : Input) (place : Place) (taken : List ℕ) : Type 0 where
+  pub consumes : Takes old new taken
+  pub no_more : length taken ≤ needed place taken
+  pub end : length taken < needed place taken → IsAtEnd new.left
+
+-- The taking broke off before there were as many.
+pub record StopsShort (old new : Input) (place : Place) (e : FrameError) : Type 0 where
   pub taken : List ℕ
   pub consumes : Takes old new taken
-  pub at_end : IsAtEnd new.left
-  pub pending : after.pending ≡ before.pending ++ taken
-  pub place : after.place ≡ before.place
-  pub ended : IsTrue after.ended
-  pub within : FitsSession after.place after.pending
-
--- what a reader that has the whole of a source gives: it judges what stands next in it
-abbrev pub Judges : Reading → Result (Reading × Option Frame) FrameError → Type 0
-Judges before (Ok answer) = MatchOption answer.1
-    ((next_frame before.place.clock before.pending ≡ Ended) × (answer.0 ≡ before))
-    (λ frame. (next_frame before.place.clock before.pending ≡ Whole frame answer.0.pending)
-    × (answer.0.place ≡ past before.place before.pending frame answer.0.pending) × IsTrue answer.0.ended)
-Judges before (Err (failed.Session at fault)) =
-    (at ≡ before.place.bytes) × BreaksBy (next_frame before.place.clock before.pending) fault
-Judges before (Err failed.Read) = ⊥
-Judges before (Err failed.Memory) = Unit {0}
+  pub short : length taken < needed place taken
+  pub outside : IsOutside e

@@ -5,9 +5,13 @@ use Rattle.std.specs.Prelude.{ℕ, ◌^◌}
 abbrev pub most_body : ℕ
 most_body = 1048576
 
--- the most bytes of a session
-abbrev pub most_input : ℕ
-most_input = 1073741824
+-- the most bytes of a frame with its length
+abbrev pub most_pending : ℕ
+most_pending = 1048580
+
+-- the most frames of a session
+abbrev pub most_session_frames : ℕ
+most_session_frames = 2 ^ 32
 
 -- the first number of nanoseconds that is too late to be a time
 abbrev pub first_late_time : ℕ

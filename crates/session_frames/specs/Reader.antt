@@ -1,14 +1,15 @@
 -- What a contract sees of a reader of frames, and what one of its calls does to it and to its source.
-use Rattle.std.specs.Prelude.{◌⊎◌, ◌≡◌, ℕ, ◌+◌, ◌≤◌, Bool, false, IsTrue, List, [], ◌++◌, length, Option, MatchOption, Result, IsErrOf}
+use Rattle.std.specs.Prelude.{◌≡◌, ℕ, ◌*◌, ◌≤◌, Bool, true, false, List, [], ◌++◌, length, Option, Some, None, Result, IsErrOf}
 use Rattle.sd_io.specs.States.{Input}
 use Rattle.sd_io.specs.Causes.{IsAtEnd, Rose, Takes}
 use Rattle.session_frames.specs.declared.frame.Frame.{Frame}
 use Rattle.session_frames.specs.declared.frame.FrameError.{FrameError}
 use Rattle.session_frames.specs.declared.frame.FrameError.TheVariants.{Session, Read, Memory}
 use Rattle.session_frames.specs.declared.frame.SessionFault.{SessionFault}
-use Rattle.session_frames.specs.declared.frame.SessionFault.TheVariants.{TooManyFrames}
-use Rattle.session_frames.specs.FrameLimits.{most_input}
-use Rattle.session_frames.specs.Frames.{Ended, Whole, next_frame, Place, start, past, BreaksBy, is_too_much}
+use Rattle.session_frames.specs.declared.frame.SessionFault.TheVariants.{Cut}
+use Rattle.session_frames.specs.declared.place.Place.{Place}
+use Rattle.session_frames.specs.FrameLimits.{most_pending, most_session_frames}
+use Rattle.session_frames.specs.Frames.{Next, Ended, Broken, Whole, next_frame, needed, start, past}
 
 -- A reader: what it holds, where it stands, and whether its source ended.
 pub record Reading : Type 0 where
@@ -23,65 +24,50 @@ pub record Reading : Type 0 where
 abbrev pub unread : Reading
 unread = record { pending = []; place = start; ended = false }
 
--- a reader that saw an end saw the end of this source
-abbrev pub IsInStep : Reading → Input → Type 0
-IsInStep reading input = IsTrue reading.ended → IsAtEnd input.left
+-- a reader that stood so gave what stands next in these bytes: a frame, after which it holds none, or the end
+abbrev pub GivesNext : Reading → List ℕ → Reading → Option Frame → Type 0
+GivesNext before left after None =
+    (next_frame before.place left ≡ Ended) × (after ≡ record { pending = []; place = before.place; ended = true })
+GivesNext before left after (Some frame) =
+    (next_frame before.place left ≡ Whole frame [])
+    × (after ≡ record { pending = []; place = past before.place left frame []; ended = false })
 
--- bytes that are left at a place belong to a session that isn't too long
-abbrev pub FitsSession : Place → List ℕ → Type 0
-FitsSession place left = place.bytes + length left ≤ most_input
+-- the end is given only where the source is at its end
+abbrev pub IsEndSeen : Option Frame → Input → Type 0
+IsEndSeen None input = IsAtEnd input.left
+IsEndSeen (Some frame) input = Unit {0}
 
--- what stands next in these bytes was given, where the reader stood so: a frame and the place after it, or the end
-abbrev pub GivesNextOf : Reading → List ℕ → Input → Reading → Option Frame → Type 0
-GivesNextOf before left new after frame =
-    MatchOption frame
-    ((next_frame before.place.clock left ≡ Ended) × IsAtEnd new.left)
-    (λ f. (next_frame before.place.clock left ≡ Whole f after.pending)
-    × (after.place ≡ past before.place left f after.pending))
-
--- A call took bytes from the source, and gave what stands next in those that were left with them: a frame, or the end.
+-- A call took what the judgement asks for and no byte more, and gave what stands next: a frame, or the end.
 pub record GivesFrame (old new : Input) (before after : Reading) (frame : Option Frame) : Type 0 where
   pub taken : List ℕ
   pub consumes : Takes old new taken
-  pub in_step : IsInStep after new
-  pub within : FitsSession before.place (before.pending ++ taken)
-  pub next : GivesNextOf before (before.pending ++ taken) new after frame
+  pub no_more : length (before.pending ++ taken) ≤ needed before.place (before.pending ++ taken)
+  pub next : GivesNext before (before.pending ++ taken) after frame
+  pub at_end : IsEndSeen frame new
 
--- At the end of its source a reader stays where it stood, and nothing is left.
-pub record StaysAtEnd (before after : Reading) : Type 0 where
-  pub nothing : after.pending ≡ []
-  pub place : after.place ≡ before.place
-  pub ended : IsTrue after.ended
-
--- This fault stands next in what is left, and all of the source is in it.
-pub record IsFaultNext
-    (at : ℕ) (fault : SessionFault) (before : Reading) (left : List ℕ) (new : Input) : Type 0 where
+-- This fault stands next in what is left; where that is cut, nothing comes after it.
+pub record IsFaultNext (at : ℕ) (fault : SessionFault) (before : Reading) (left : List ℕ) (new : Input) : Type 0 where
   pub placed : at ≡ before.place.bytes
-  pub broken : BreaksBy (next_frame before.place.clock left) fault
-  pub at_end : IsAtEnd new.left
-  pub within : FitsSession before.place left
+  pub broken : next_frame before.place left ≡ Broken fault
+  pub at_end : fault ≡ Cut → IsAtEnd new.left
 
--- More came than a session may have, before any frame was judged.
-pub record IsTooMuch (at : ℕ) (fault : SessionFault) (before : Reading) (left : List ℕ) : Type 0 where
-  pub placed : at ≡ most_input
-  pub is : fault ≡ TooManyFrames
-  pub first : before ≡ unread
-  pub too_much : IsTrue (is_too_much left)
-
--- a reader that stood so may answer this fault at this offset, where these bytes are left
-abbrev pub HasFault : ℕ → SessionFault → Reading → List ℕ → Input → Type 0
-HasFault at fault before left new = IsFaultNext at fault before left new ⊎ IsTooMuch at fault before left
+-- nothing stands there, or what begins there isn't whole: more bytes may make it a frame
+abbrev pub IsUnfinished : Next → Type 0
+IsUnfinished Ended = Unit {0}
+IsUnfinished (Broken fault) = fault ≡ Cut
+IsUnfinished (Whole frame rest) = ⊥
 
 -- a reader that stood so may give no frame for this reason, where these bytes are left
 abbrev pub IsCause : FrameError → Reading → List ℕ → Input → Type 0
-IsCause (Session at fault) before left new = HasFault at fault before left new
-IsCause Read before left new = before ≡ unread
-IsCause Memory before left new = FitsSession before.place left ⊎ (before ≡ unread)
+IsCause (Session at fault) before left new = IsFaultNext at fault before left new
+IsCause Read before left new = IsUnfinished (next_frame before.place left)
+IsCause Memory before left new = Unit {0}
 
--- A call took bytes from the source, and failed for cause.
+-- A call took what the judgement asks for and no byte more, and failed for cause.
 pub record Refuses (old new : Input) (before : Reading) (e : FrameError) : Type 0 where
   pub taken : List ℕ
   pub consumes : Takes old new taken
+  pub no_more : length (before.pending ++ taken) ≤ needed before.place (before.pending ++ taken)
   pub cause : IsCause e before (before.pending ++ taken) new
 
 -- The source's count of faults never falls, and it rose where the call tells a read fault.
@@ -89,10 +75,8 @@ pub record HasReadCause {T : Type 0} (old new : Input) (result : Result T FrameE
   pub later : old.faults ≤ new.faults
   pub failed : IsErrOf result Read → Rose old.faults new.faults
 
--- what a reader holds always: a place in the bytes that it has, with no more frames than bytes before it, and the
--- beginning before the first call
-pub record IsHeld (bytes : List ℕ) (at clock frames : ℕ) (ended : Bool) : Type 0 where
-  pub placed : at ≤ length bytes
-  pub within : length bytes ≤ most_input
-  pub counted : frames ≤ at
-  pub first : ended ≡ false → (bytes ≡ []) × (at ≡ 0) × (clock ≡ 0)
+-- What holds of a reader between its calls: it holds no byte, and each frame before its place had a length that may be.
+pub record IsAtRest (held : List ℕ) (place : Place) : Type 0 where
+  pub none : held ≡ []
+  pub counted : place.frames ≤ most_session_frames
+  pub placed : place.bytes ≤ place.frames * most_pending

@@ -2,12 +2,10 @@
 use Rattle.session_frames.specs.declared.frame.FrameFault.{FrameFault}
 use Rattle.session_frames.specs.declared.frame.FrameFault.TheVariants as frame
 use Rattle.session_frames.specs.declared.frame.SessionFault.{SessionFault}
-use Rattle.session_frames.specs.declared.frame.SessionFault.TheVariants.{Cut, TooLong, BadLength, UnknownKind, BadBody, BadAtom, TimeBackwards}
+use Rattle.session_frames.specs.declared.frame.SessionFault.TheVariants.{BadLength, UnknownKind, BadBody, BadAtom, TimeBackwards}
 
 -- the fault of a session whose first bad frame has this fault
 abbrev pub session_fault : FrameFault → SessionFault
-session_fault frame.Cut = Cut
-session_fault (frame.TooLong size) = TooLong size
 session_fault frame.BadLength = BadLength
 session_fault (frame.UnknownKind kind) = UnknownKind kind
 session_fault (frame.BadBody reason) = BadBody reason

@@ -41,14 +41,10 @@ pub(crate) const REMOVE: u8 = 17;
 
 pub(crate) const REPORT: u8 = 18;
 
-/// Why a frame can't be read.
+/// Why the bytes that a length counts are no frame.
 #[derive(Clone, Copy)]
 pub enum FrameFault {
-    /// The bytes end inside the frame.
-    Cut,
-    /// The frame's length is above the limit.
-    TooLong(u32),
-    /// The frame's length is 0.
+    /// There are none.
     BadLength,
     /// There is no such kind of frame.
     UnknownKind(u8),
@@ -75,7 +71,7 @@ pub const LATE: u8 = 4;
 /// A recorded pull has more than 200 atoms.
 pub const TOO_MANY_ATOMS: u8 = 5;
 
-/// Why a session can't be read on: a fault of its first bad frame, or its own.
+/// Why a session can't be read on: the fault of what stands next in it.
 #[derive(Clone, Copy, Debug, Error)]
 pub enum SessionFault {
     /// The bytes end inside a frame.
@@ -99,7 +95,7 @@ pub enum SessionFault {
     /// A log time is below the one before: the previous time, and this one, in nanoseconds.
     #[error("time backwards: {1} after {0}")]
     TimeBackwards(u64, u64),
-    /// The session has more than 2^30 bytes.
+    /// There are 2^32 frames before it.
     #[error("too many frames")]
     TooManyFrames,
 }
@@ -112,8 +108,6 @@ impl From<FrameFault> for SessionFault {
 
     fn from(fault: FrameFault) -> SessionFault {
         match fault {
-            FrameFault::Cut => SessionFault::Cut,
-            FrameFault::TooLong(size) => SessionFault::TooLong(size),
             FrameFault::BadLength => SessionFault::BadLength,
             FrameFault::UnknownKind(kind) => SessionFault::UnknownKind(kind),
             FrameFault::BadBody(reason) => SessionFault::BadBody(reason),

@@ -4,6 +4,7 @@
 mod body;
 mod frame;
 mod laws;
+mod place;
 mod reader;
 mod reply;
 mod writing;

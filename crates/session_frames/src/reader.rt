@@ -1,51 +1,46 @@
 //! The reader of frames.
-ghost use Rattle.std.specs.Prelude.{◌≡◌, ◌<◌, ◌≤◌, length, vec_len, IsTrue, IfOk, IfErr, OnOk, IfSome, IfNone};
-ghost use Rattle.sd_io.specs.Causes.{Takes, IsAtEnd};
+ghost use Rattle.std.specs.Prelude.{◌≡◌, ◌<◌, ◌≤◌, [], false, length, vec_len, IsTrue, IfOk, IfErr, OnErr, IfSome, None, Ok};
+ghost use Rattle.sd_io.specs.Causes.{Takes};
 ghost use Rattle.session_frames.specs.Faultless.{IsFaultless, IsInTime};
-ghost use Rattle.session_frames.specs.FrameLimits.{most_input};
+ghost use Rattle.session_frames.specs.FrameLimits.{most_pending};
 ghost use Rattle.session_frames.specs.Frames as frames;
-ghost use Rattle.session_frames.specs.Reader.{unread, IsInStep, GivesFrame, StaysAtEnd, Refuses, HasReadCause};
-ghost use Rattle.session_frames.specs.Bodies.{FindsNext, Fills, Judges};
+ghost use Rattle.session_frames.specs.Reader.{unread, GivesFrame, Refuses, HasReadCause};
+ghost use Rattle.session_frames.specs.Bodies.{FindsNext, IsOutside, Judges, StopsShort, TakesNext, TakesSome};
 
 use crate::body::{BodyError, next_clock, read_frame};
-use crate::{Frame, FrameError, FrameFault, SessionFault};
+use crate::place::Place;
+use crate::{Frame, FrameError, SessionFault};
 use sd_io::Source;
-use std::alloc::{AllocError, Global};
+use std::alloc::Global;
 use std::marker::Model;
+use std::mem;
 
-// The most bytes of a session.
-const MAX_INPUT: usize = 1 << 30;
+// The most frames of a session.
+const MAX_FRAMES: u64 = 1 << 32;
 
 // The most bytes of a frame after its length.
 const MAX_BODY: u32 = 1 << 20;
 
-// How many bytes are asked of a source at once.
+// The most bytes that are asked of a source at once.
 const PIECE: usize = 65_536;
 
-/// Reads the frames of a session. Its first call reads the source to the end; a call that fails takes the reader.
+/// Reads the frames of a session. It takes the bytes of one frame at a time, and a call that fails takes the reader.
 #[derive(Drop)]
 pub struct FrameReader {
     alloc: Global,
-    bytes: Vec<u8>,
-    at: usize,
-    clock: u64,
-    frames: u64,
+    held: Vec<u8>,
+    place: Place,
     ended: bool,
 }
 
 impl Model for FrameReader {
-    ghost use Rattle.std.specs.Prelude.{drop};
-    ghost use Rattle.session_frames.specs.Reader.{Reading, IsHeld};
+    ghost use Rattle.session_frames.specs.Reader.{Reading, IsAtRest};
 
     ghost Value = { Reading };
 
-    ghost view = { λ s. record {
-      pending = drop s.at s.bytes.items;
-      place = record { bytes = s.at; clock = s.clock; frames = s.frames };
-      ended = s.ended;
-    } };
+    ghost view = { λ s. record { pending = s.held.items; place = s.place; ended = s.ended } };
 
-    ghost invariant = { λ s. IsHeld s.bytes.items s.at s.clock s.frames s.ended };
+    ghost invariant = { λ s. IsAtRest s.held.items s.place };
 }
 
 impl FrameReader {
@@ -55,138 +50,185 @@ impl FrameReader {
     {
         FrameReader {
             alloc,
-            bytes: Vec::new(alloc),
-            at: 0,
-            clock: 0,
-            frames: 0,
+            held: Vec::new(alloc),
+            place: Place {
+                bytes: 0,
+                clock: 0,
+                frames: 0,
+            },
             ended: false,
         }
     }
 
+    /// How many bytes it holds that were taken and belong to no frame that it gave. There are none between two calls.
+    pub fn pending(&self) -> usize
+        ensures held { result ≡ length self.now.pending }
+        ensures few { result ≤ most_pending }
+    {
+        self.held.len()
+    }
+
     /// The next frame, or `None` where the source ended at a frame's end. Of what the reader holds, the bytes of
     /// configurations and the texts of atoms are copied.
-    pub fn next<S: Source>(self, src: &mut S) -> Result<(FrameReader, Option<Frame>), FrameError>
-        // What stands next is given.
-        ensures gives { IsInStep self (S.state src.old)
+    pub fn next<S: Source>(
+        mut self,
+        src: &mut S,
+    ) -> Result<(FrameReader, Option<Frame>), FrameError>
+        // What stands next is given, and no byte after it is taken.
+        ensures gives { self.ended ≡ false
             → IfOk result (λ r. GivesFrame (S.state src.old) (S.state src.new) self r.0 r.1) }
         ensures faultless { IfOk result (λ r.
             IfSome r.1 (λ f. IsFaultless f × IsInTime self.place.clock f)) }
-        ensures end { IfOk result (λ r. IfNone r.1 (StaysAtEnd self r.0)) }
 
         // Each error has its cause.
-        ensures refuses { IsInStep self (S.state src.old)
+        ensures refuses { self.ended ≡ false
             → IfErr result (λ e. Refuses (S.state src.old) (S.state src.new) self e) }
         ensures cause { HasReadCause (S.state src.old) (S.state src.new) result }
-    {
-        let filled = self.fill(src)?;
-        filled.judge()
-    }
 
-    // The whole of the source is read, if it wasn't before.
-    fn fill<S: Source>(mut self, src: &mut S) -> Result<FrameReader, FrameError>
-        // The reader has the rest of the source, and stands where it stood.
-        ensures fills { IsInStep self (S.state src.old)
-            → IfOk result (λ r. Fills (S.state src.old) (S.state src.new) self r) }
-        ensures ended { IfOk result (λ r. IsTrue r.ended) }
-        ensures place { IfOk result (λ r. r.place ≡ self.place) }
-
-        // Each error has its cause.
-        ensures refuses { IfErr result (λ e. Refuses (S.state src.old) (S.state src.new) self e) }
-        ensures cause { HasReadCause (S.state src.old) (S.state src.new) result }
+        // The end stays the end, whatever source comes.
+        ensures again { IsTrue self.ended → (result ≡ Ok (self, None)) × (src.new ≡ src.old) }
     {
         if self.ended {
-            return Ok(self);
+            return Ok((self, None));
         }
-        self.bytes = read_all(self.alloc, src)?;
-        self.ended = true;
-        Ok(self)
+        let room = mem::replace(&mut self.held, Vec::new(self.alloc));
+        let held = take_next(room, &self.place, src)?;
+        self.judge(held)
     }
 
-    // What stands next in what is held.
-    fn judge(mut self) -> Result<(FrameReader, Option<Frame>), FrameError>
-        requires { IsTrue self.ended }
-        ensures judges { Judges self result }
+    // What stands next in the bytes that were taken for it, which are let go.
+    fn judge(mut self, mut held: Vec<u8>) -> Result<(FrameReader, Option<Frame>), FrameError>
+        requires whole { length held.items ≤ frames.needed self.place held.items }
+        requires none { self.pending ≡ [] }
+        requires open { self.ended ≡ false }
+        ensures judges { Judges self held.items result }
         ensures sound { IfOk result (λ r.
             IfSome r.1 (λ f. IsFaultless f × IsInTime self.place.clock f)) }
     {
-        match next_in(self.alloc, self.clock, &self.bytes[self.at..]) {
-            Ok(None) => Ok((self, None)),
-            Ok(Some((frame, rest))) => {
-                self.at = self.bytes.len() - rest.len();
-                self.clock = next_clock(self.clock, &frame);
-                self.frames += 1;
-                Ok((self, Some(frame)))
-            }
-            Err(BodyError::Fault(fault)) => Err(FrameError::Session {
-                at: self.at as u64,
-                fault: SessionFault::from(fault),
-            }),
-            Err(BodyError::Memory) => Err(FrameError::Memory),
+        let Some(frame) = next_in(self.alloc, &self.place, &held)? else {
+            self.ended = true;
+            return Ok((self, None));
+        };
+        self.place = Place {
+            bytes: self.place.bytes + held.len() as u64,
+            clock: next_clock(self.place.clock, &frame),
+            frames: self.place.frames + 1,
+        };
+        held.clear();
+        self.held = held;
+        Ok((self, Some(frame)))
+    }
+}
+
+// The bytes of what stands next in a source: as many as the judgement asks for, or all that there are.
+fn take_next<S: Source>(
+    mut held: Vec<u8>,
+    place: &Place,
+    src: &mut S,
+) -> Result<Vec<u8>, FrameError>
+    requires { held.items ≡ [] }
+    ensures takes { IfOk result (λ taken.
+        TakesNext (S.state src.old) (S.state src.new) place.now taken.items) }
+    ensures breaks { IfErr result (λ e. StopsShort (S.state src.old) (S.state src.new) place.now e) }
+    ensures cause { HasReadCause (S.state src.old) (S.state src.new) result }
+{
+    'reads: loop {
+        let goal = needed(place, &held);
+        if held.len() >= goal {
+            return Ok(held);
+        }
+        let most = goal - held.len();
+        let count = take_some(&mut held, most, src)?;
+        if count == 0 {
+            return Ok(held);
         }
     }
 }
 
-// What stands next in what is left: a frame and the bytes after it, or nothing at the end.
+// How many bytes the judgement of what begins so asks for. A length is judged before its bytes are asked for.
+#[tactic(auto, unfolding(crate::specs::Frames::needed))]
+fn needed(place: &Place, held: &[u8]) -> usize
+    ensures { result ≡ frames.needed place.now held.now }
+{
+    if place.frames >= MAX_FRAMES {
+        return 1;
+    }
+    if held.len() < 4 {
+        return 4;
+    }
+    let counted = size_of(held);
+    if counted > MAX_BODY {
+        return 4;
+    }
+    4 + counted as usize
+}
+
+// The length that stands at the front.
+fn size_of(held: &[u8]) -> u32
+    requires { 4 ≤ length held.now }
+    ensures { result ≡ frames.size_at held.now }
+{
+    u32::from_le_bytes([held[0], held[1], held[2], held[3]])
+}
+
+// Takes bytes by one call of the source, at most so many, behind those that are held. The room grows with the bytes that
+// come: a length alone asks for no memory.
+fn take_some<S: Source>(held: &mut Vec<u8>, most: usize, src: &mut S) -> Result<usize, FrameError>
+    requires { 0 < most }
+    ensures takes { IfOk result (λ count.
+        TakesSome (S.state src.old) (S.state src.new) held.old.items held.new.items most count) }
+    ensures nothing { OnErr result (Takes (S.state src.old) (S.state src.new) []) }
+    ensures outside { IfErr result IsOutside }
+    ensures cause { HasReadCause (S.state src.old) (S.state src.new) result }
+{
+    let len = held.len();
+    held.resize(len + most.min(PIECE), 0)?;
+    let count = src.read(&mut held[len..])?;
+    held.truncate(len + count);
+    Ok(count)
+}
+
+// What stands next in what is left: a frame, or nothing at the end.
 #[tactic(auto, unfolding(crate::specs::Frames::next_frame))]
-fn next_in(alloc: Global, clock: u64, left: &[u8]) -> Result<Option<(Frame, &[u8])>, BodyError>
-    ensures exact { FindsNext (λ bytes. bytes.now) result (frames.next_frame clock left.now) }
+fn next_in(alloc: Global, place: &Place, left: &[u8]) -> Result<Option<Frame>, FrameError>
+    ensures finds { FindsNext place.now result (frames.next_frame place.now left.now) }
     ensures sound { IfOk result (λ found.
-        IfSome found (λ x. IsFaultless x.0 × IsInTime clock x.0)) }
+        IfSome found (λ f. IsFaultless f × IsInTime place.now.clock f)) }
 {
     if left.is_empty() {
         return Ok(None);
     }
-    if left.len() < 4 {
-        return Err(BodyError::Fault(FrameFault::Cut));
+    if place.frames >= MAX_FRAMES {
+        return Err(bad(place, SessionFault::TooManyFrames));
     }
-    let (front, after) = left.split_at(4);
-    let size = u32::from_le_bytes([front[0], front[1], front[2], front[3]]);
+    if left.len() < 4 {
+        return Err(bad(place, SessionFault::Cut));
+    }
+    let size = size_of(left);
     if size == 0 {
-        return Err(BodyError::Fault(FrameFault::BadLength));
+        return Err(bad(place, SessionFault::BadLength));
     }
     if size > MAX_BODY {
-        return Err(BodyError::Fault(FrameFault::TooLong(size)));
+        return Err(bad(place, SessionFault::TooLong(size)));
     }
     let size = size as usize;
+    let after = &left[4..];
     if after.len() < size {
-        return Err(BodyError::Fault(FrameFault::Cut));
+        return Err(bad(place, SessionFault::Cut));
     }
-    let (content, rest) = after.split_at(size);
-    let frame = read_frame(alloc, clock, content)?;
-    Ok(Some((frame, rest)))
+    match read_frame(alloc, place.clock, &after[..size]) {
+        Ok(frame) => Ok(Some(frame)),
+        Err(BodyError::Fault(fault)) => Err(bad(place, SessionFault::from(fault))),
+        Err(BodyError::Memory) => Err(FrameError::Memory),
+    }
 }
 
-// Room for what one call of a source gives.
-fn piece(alloc: Global) -> Result<Vec<u8>, AllocError>
-    ensures { IfOk result (λ room. 0 < vec_len room) }
+// The session has this fault, at the first byte of what stands next.
+fn bad(place: &Place, fault: SessionFault) -> FrameError
+    ensures { result ≡ FrameError.Session place.now.bytes fault }
 {
-    vec![in alloc; 0; PIECE]
-}
-
-// The whole of a source, unless it is more than a session may have.
-fn read_all<S: Source>(alloc: Global, src: &mut S) -> Result<Vec<u8>, FrameError>
-    // What is read is all that there is.
-    ensures whole { IfOk result (λ bytes. Takes (S.state src.old) (S.state src.new) bytes.items) }
-    ensures at_end { OnOk result (IsAtEnd (S.state src.new).left) }
-    ensures within { IfOk result (λ bytes. length bytes.items ≤ most_input) }
-
-    // Each error has its cause.
-    ensures refuses { IfErr result (λ e. Refuses (S.state src.old) (S.state src.new) unread e) }
-    ensures cause { HasReadCause (S.state src.old) (S.state src.new) result }
-{
-    let mut piece = piece(alloc)?;
-    let mut bytes = Vec::new(alloc);
-    'reads: loop {
-        let count = src.read(&mut piece)?;
-        if count == 0 {
-            return Ok(bytes);
-        }
-        bytes.extend_from_slice(&piece[..count])?;
-        if bytes.len() > MAX_INPUT {
-            return Err(FrameError::Session {
-                at: MAX_INPUT as u64,
-                fault: SessionFault::TooManyFrames,
-            });
-        }
+    FrameError::Session {
+        at: place.bytes,
+        fault,
     }
 }

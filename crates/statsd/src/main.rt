@@ -5,61 +5,83 @@ ghost use Rattle.std.specs.Prelude.{◌≡◌, ◌↔◌, [], map, drop, IfOk, I
 ghost use Rattle.std.specs.Process.{exit_status};
 ghost use Rattle.std.specs.Vec.Iter.{into_iter_items};
 ghost use Rattle.std.specs.IoError.{error_kind};
+ghost use Rattle.sd_io.specs.States.{input_with};
 ghost use Rattle.statsd_cli.specs.declared.command.Command.TheVariants as commands;
 ghost use Rattle.statsd_cli.specs.Commands.{command_of};
 ghost use Rattle.statsd_cli.specs.Streams.{streams};
-ghost use Rattle.statsd_cli.specs.Does.{Does};
-ghost use Rattle.statsd.specs.Program.{EndsOn, IsWithoutWords};
+ghost use Rattle.statsd.specs.Program.{Ends, EndsOn, IsWithoutMemory};
 
 use atom_record::Bytes;
-use sd_io::{Sink, Source, StdSink, StdSource};
-use statsd_cli::{STATUS_NO_MEMORY, statsd_top};
+use sd_io::{Sink, StdSink, StdSource};
+use statsd_cli::{Command, STATUS_NO_MEMORY, statsd_top};
 use std::alloc::{AllocError, Global};
 use std::env::{self, Args};
-use std::io::{self, ErrorKind};
+use std::io::{self, BufReader, ErrorKind, Read};
 use std::process::ExitCode;
 
 fn main(rt: HostRuntime) -> ExitCode {
     run(
         rt.alloc(),
         env::args(&rt),
-        &mut StdSource::new(rt.stdin()),
+        rt.stdin(),
         &mut StdSink::new(rt.stdout()),
         &mut StdSink::new(rt.stderr()),
     )
 }
 
 /// Runs the engine on the arguments, and ends with its status, or with that of want of memory where the list of words
-/// finds none.
-fn run<S: Source, K: Sink, E: Sink>(
+/// finds none, or the buffer of the input.
+fn run<R: Read + Drop, K: Sink, E: Sink>(
     alloc: Global,
     args: io::Result<Args>,
-    input: &mut S,
+    input: R,
     out: &mut K,
     notes: &mut E,
 ) -> ExitCode
     // All words go in but the program's name.
     ensures words { IfOk args (λ args.
         EndsOn (command_of (map string_bytes (drop 1 (into_iter_items args)))) (exit_status result)
-        (streams (S.state input.old) (K.state out.old) (E.state notes.old))
-        (streams (S.state input.new) (K.state out.new) (E.state notes.new))) }
+        (streams (input_with (R.remaining input) 0) (K.state out.old) (E.state notes.old))
+        (K.state out.new) (E.state notes.new)) }
 
     // An argument that isn't text is no word of the engine's.
     ensures no_text { IfErr args (λ error. error_kind error ≡ ErrorKind.InvalidData
-        → Does commands.Unknown (exit_status result)
-        (streams (S.state input.old) (K.state out.old) (E.state notes.old))
-        (streams (S.state input.new) (K.state out.new) (E.state notes.new))) }
+        → Ends commands.Unknown (exit_status result)
+        (streams (input_with (R.remaining input) 0) (K.state out.old) (E.state notes.old))
+        (K.state out.new) (E.state notes.new)) }
 
     // Where the arguments can't be had for another reason, memory was wanting.
     ensures no_words { IfErr args (λ error. (error_kind error ≡ ErrorKind.InvalidData → ⊥)
-        → IsWithoutWords (exit_status result)
-        (streams (S.state input.old) (K.state out.old) (E.state notes.old))
-        (streams (S.state input.new) (K.state out.new) (E.state notes.new))) }
+        → IsWithoutMemory (exit_status result) (K.state out.old) (E.state notes.old)
+        (K.state out.new) (E.state notes.new)) }
 {
     let Ok(words) = words(alloc, args) else {
         return ExitCode::from(STATUS_NO_MEMORY);
     };
-    ExitCode::from(statsd_top(alloc, words.as_slice(), input, out, notes))
+    let words = words.as_slice();
+    if !Command::of(words).reads_input() {
+        return answer(alloc, words, input, out, notes);
+    }
+    let Ok(buffered) = BufReader::new(alloc, input) else {
+        return ExitCode::from(STATUS_NO_MEMORY);
+    };
+    answer(alloc, words, buffered, out, notes)
+}
+
+/// Does what the words ask for, on a reader.
+fn answer<R: Read + Drop, K: Sink, E: Sink>(
+    alloc: Global,
+    words: &[Bytes],
+    input: R,
+    out: &mut K,
+    notes: &mut E,
+) -> ExitCode
+    ensures { Ends (command_of words.now) (exit_status result)
+        (streams (input_with (R.remaining input) 0) (K.state out.old) (E.state notes.old))
+        (K.state out.new) (E.state notes.new) }
+{
+    let mut source = StdSource::new(input);
+    ExitCode::from(statsd_top(alloc, words, &mut source, out, notes))
 }
 
 /// The words of the command line. There are none where an argument isn't text, since the engine takes no such word.

@@ -1,10 +1,8 @@
 -- The run of a session: from frame to frame, and how it ends.
-use Rattle.std.proofs.Common.{◌≡◌, ℕ, ◌+◌, ◌-◌, ◌≤◌, ◌<◌, Bool, true, false, List, [], ◌∷◌, ◌++◌, length, Option, Some, None, Ok, Err, IsTrue, fold, MatchBool, refl, sym, ap, subst, ◌∙◌, append_assoc, arith, inl, inr, ⊎_elim}
+use Rattle.std.proofs.Common.{◌≡◌, ℕ, ◌+◌, ◌-◌, ◌≤◌, ◌<◌, false, List, [], ◌∷◌, ◌++◌, Option, Some, None, Ok, Err, fold, refl, sym, ap, subst, ◌∙◌, append_assoc, arith, inl, inr, ⊎_elim}
 use Rattle.std.specs.Prelude.{◌⊎◌, option_to_list, IfSome}
 use Rattle.std.specs.List.{flat_map}
-use Rattle.std.proofs.lemmas.Bool.{false≢true, cases_Bool}
-use Rattle.std.proofs.lemmas.Bool.Decides.{nat_tests}
-use Rattle.std.proofs.lemmas.List.{append-nil, length-append, nil_from_length}
+use Rattle.std.proofs.lemmas.List.{append-nil}
 use Rattle.sd_io.specs.States.{Input, Output, Ports, ports, input_with}
 use Rattle.sd_io.specs.Causes.{Rose, Gains, GainsFront, Takes}
 use Rattle.sd_io.proofs.CausesLemmas.{Gains-nil, Gains-trans, Takes-nil, Takes-trans, front_after, front_before}
@@ -12,10 +10,10 @@ use Rattle.session_frames.specs.declared.frame.Frame.{Frame}
 use Rattle.session_frames.specs.declared.frame.FrameError.{FrameError}
 use Rattle.session_frames.specs.declared.frame.FrameError.TheVariants as errors
 use Rattle.session_frames.specs.declared.frame.SessionFault.{SessionFault}
-use Rattle.session_frames.specs.declared.frame.SessionFault.TheVariants.{TooManyFrames}
-use Rattle.session_frames.specs.Frames.{most_input, clock_after, Place, start, End, Clean, Bad, Reads, Begins, is_too_much, frames_of}
-use Rattle.session_frames.specs.Reader.{Reading, unread, IsInStep, FitsSession, GivesFrame, IsFaultNext, IsTooMuch, Refuses}
-use Rattle.session_frames.proofs.FrameLaws.{whole_takes, Begins-more, Begins-push, Reads-from_Begins, Begins_clock, Begins_bytes, some_reading, some_frames, one_frames, frames_of-Reads, frames_of-too_much, Begins-from_Reads, session_fault-other}
+use Rattle.session_frames.specs.declared.frame.SessionFault.TheVariants.{Cut, TooLong, BadLength, UnknownKind, BadBody, BadAtom, TimeBackwards, TooManyFrames}
+use Rattle.session_frames.specs.Frames.{most_session_frames, clock_after, Next, Ended, Broken, Whole, next_frame, start, End, Clean, Bad, Reads, Begins, frames_of}
+use Rattle.session_frames.specs.Reader.{Reading, unread, GivesFrame, IsUnfinished, Refuses}
+use Rattle.session_frames.proofs.FrameLaws.{StandsWhole-from_next, Begins-more, Begins-push, Reads-from_Begins, Begins_clock, some_reading, one_frames, Reads-more}
 use Rattle.session_frames.specs.declared.reply.Reply.{Reply}
 use Rattle.session_frames.specs.Replies.{reply_bytes}
 use Rattle.hub_meaning.specs.SessionLog.{clock_from, clock_of}
@@ -30,7 +28,7 @@ use Rattle.hub_core.specs.HubStands.{HubStandsFor}
 use Rattle.statsd_cli.specs.Endings.{status_of}
 use Rattle.statsd_cli.specs.declared.command.Command.{Command}
 use Rattle.statsd_cli.specs.declared.command.Command.TheVariants.{Replay, Check, Load, Unknown}
-use Rattle.statsd_cli.specs.Run.{IsBadSession, IsRun, reply_text, IsServed, ending_by}
+use Rattle.statsd_cli.specs.Run.{IsBadSession, IsUnfinishedEnd, IsRun, reply_text, IsServed, ending_by}
 use Rattle.statsd_cli.specs.Does.{Did, IsUndisturbed}
 
 -- A run under way: these frames were served, of the bytes taken.
@@ -40,7 +38,7 @@ pub record IsAlong (left_old left_new : Input) (old new : Output) (reader : Read
     pub taken : List ℕ
     pub consumes : Takes left_old left_new taken
     pub begins : Begins start taken frames reader.place reader.pending
-    pub in_step : IsInStep reader left_new
+    pub unended : reader.ended ≡ false
     pub stands : HubStandsFor matcher_holds hub frames
     pub written : Gains old new (text matcher_holds frames)
     pub reads : left_old.faults ≤ left_new.faults
@@ -60,8 +58,7 @@ begins_along left old reader hub is stands = record {
   taken = [];
   consumes = Takes-nil left;
   begins = (ap (λ (r : Reading). r.pending) (sym is), ap (λ (r : Reading). r.place) (sym is));
-  in_step = λ ended. let unended : reader.ended ≡ false = ap (λ (r : Reading). r.ended) is in
-      absurd (false≢true (sym unended ∙ ended));
+  unended = ap (λ (r : Reading). r.ended) is;
   stands = stands;
   written = Gains-nil old;
   reads = omega arith;
@@ -80,27 +77,16 @@ text_after frames (frame ∷ others) =
           ∙ append_assoc (text matcher_holds frames) (reply_text frames frame) rest.0,
     )
 
-no_text : text matcher_holds [] ≡ []
-unfolding text
-no_text = refl
+-- where more bytes may be a frame, no frame stands there yet
+unfinished_end : (reader : Reading) (left : List ℕ) (next : Next) → next_frame reader.place left ≡ next
+    → IsUnfinished next
+    → (end : End) × Reads reader.place left [] end × IsUnfinishedEnd end
+unfinished_end reader left Ended is unfinished = (Clean, is, tt)
+unfinished_end reader left (Broken fault) is unfinished = (Bad reader.place.bytes fault, (refl, is), unfinished)
+unfinished_end reader left (Whole frame rest) is unfinished = absurd unfinished
 
 module _ (lo ln : Input) (o n : Output) (reader : Reading) (hub : Hub FieldJudge) (a : IsAlong lo ln o n reader hub)
   where
-    -- all the bytes taken, with more
-    all_with : List ℕ → List ℕ
-    all_with more = a.taken ++ more
-
-    within_all : (more : List ℕ) → FitsSession reader.place (reader.pending ++ more)
-        → length (a.taken ++ more) ≤ most_input
-    within_all more within =
-        omega (
-          arith,
-          within,
-          Begins_bytes start a.taken a.frames reader.place reader.pending a.begins,
-          length-append a.taken more,
-          length-append reader.pending more,
-        )
-
     further : (more : List ℕ) → Begins start (a.taken ++ more) a.frames reader.place (reader.pending ++ more)
     further more = Begins-more start a.taken a.frames reader.place reader.pending more a.begins
 
@@ -108,19 +94,13 @@ module _ (lo ln : Input) (o n : Output) (reader : Reading) (hub : Hub FieldJudge
     pub clock_along : reader.place.clock ≡ clock_of a.frames
     clock_along = Begins_clock start a.taken a.frames reader.place reader.pending a.begins ∙ clock_is 0 a.frames
 
-    -- a reader that has read nothing gave no frame
-    none_yet : reader ≡ unread → (a.frames ≡ []) × (a.taken ≡ [])
-    none_yet is =
-        let bytes = Begins_bytes start a.taken a.frames reader.place reader.pending a.begins in
-        let at : reader.place.bytes ≡ 0 = ap (λ (r : Reading). r.place.bytes) is in
-        let pending : length reader.pending ≡ 0 = ap (λ (r : Reading). length r.pending) is in
-        let len : length a.taken ≡ 0 = omega (arith, bytes, at, pending) in
-        let none : a.taken ≡ [] = nil_from_length a.taken len in
-        (no_frames a.frames a.taken reader.place reader.pending a.begins len, none) where
-          no_frames : (frames : List Frame) (taken : List ℕ) (place : Place) (rest : List ℕ)
-              → Begins start taken frames place rest → length taken ≡ 0 → frames ≡ []
-          no_frames [] taken place rest h len = refl
-          no_frames (frame ∷ frames) taken place rest h len = absurd (omega (arith, whole_takes 0 taken frame h.0 h.1))
+    -- the frames so far, where no frame stands next
+    ends_at : (more : List ℕ) (end : End) → Reads reader.place (reader.pending ++ more) [] end
+        → frames_of (a.taken ++ more) a.frames end
+    ends_at more end reads =
+        subst (λ all. Reads start (a.taken ++ more) all end) (append-nil a.frames)
+        (Reads-from_Begins start (a.taken ++ more) a.frames reader.place (reader.pending ++ more) [] end (further more)
+        reads)
 
     -- the source ended
     pub ends_done : (lm : Input) (after : Reading) → GivesFrame ln lm reader after None → IsRun (ports lo o) (ports lm n) Done
@@ -129,128 +109,72 @@ module _ (lo ln : Input) (o n : Output) (reader : Reading) (hub : Hub FieldJudge
       consumes = Takes-trans lo ln lm a.taken g.taken a.consumes g.consumes;
       outcome = record {
         frames = a.frames;
-        session = frames_of-Reads (a.taken ++ g.taken) a.frames Clean (within_all g.taken g.within)
-            (subst (λ all. Reads start (a.taken ++ g.taken) all Clean) (append-nil a.frames)
-            (Reads-from_Begins start (a.taken ++ g.taken) a.frames reader.place (reader.pending ++ g.taken) [] Clean
-            (further g.taken) g.next.0));
-        at_end = g.next.1;
+        session = ends_at g.taken Clean g.next.0;
+        at_end = g.at_end;
         written = a.written;
       };
     }
-
-    -- the session has a fault
-    bad : (lm : Input) (at : ℕ) (fault : SessionFault) (taken : List ℕ) → Takes ln lm taken
-        → IsFaultNext at fault reader (reader.pending ++ taken) lm
-        → IsRun (ports lo o) (ports lm n) (BadSession at fault)
-    bad lm at fault taken consumes h = record {
-      taken = a.taken ++ taken;
-      consumes = Takes-trans lo ln lm a.taken taken a.consumes consumes;
-      outcome = record {
-        frames = a.frames;
-        session = frames_of-Reads (a.taken ++ taken) a.frames (Bad at fault) (within_all taken h.within)
-            (subst (λ all. Reads start (a.taken ++ taken) all (Bad at fault)) (append-nil a.frames)
-            (Reads-from_Begins start (a.taken ++ taken) a.frames reader.place (reader.pending ++ taken) []
-            (Bad at fault) (further taken) (h.placed, h.broken)));
-        whole = inr h.at_end;
-        written = a.written;
-      };
-    }
-
-    -- the session is too long
-    too_long : (lm : Input) (at : ℕ) (fault : SessionFault) (taken : List ℕ) → Takes ln lm taken
-        → IsTooMuch at fault reader (reader.pending ++ taken)
-        → IsRun (ports lo o) (ports lm n) (BadSession at fault)
-    too_long lm at fault taken consumes h =
-        let none = none_yet h.first in
-        let pending : reader.pending ≡ [] = ap (λ (r : Reading). r.pending) h.first in
-        let same : reader.pending ++ taken ≡ a.taken ++ taken = ap (λ l. l ++ taken) (pending ∙ sym none.1) in
-        let much : IsTrue (is_too_much (a.taken ++ taken)) = subst (λ l. IsTrue (is_too_much l)) same h.too_much in
-        let at_most : frames_of (a.taken ++ taken) [] (Bad at TooManyFrames) =
-        subst (λ place. frames_of (a.taken ++ taken) [] (Bad place TooManyFrames)) (sym h.placed)
-        (frames_of-too_much (a.taken ++ taken) much) in
-        record {
-          taken = a.taken ++ taken;
-          consumes = Takes-trans lo ln lm a.taken taken a.consumes consumes;
-          outcome = record {
-            frames = [];
-            session = subst (λ told. frames_of (a.taken ++ taken) [] (Bad at told)) (sym h.is) at_most;
-            whole = inl h.is;
-            written = subst (λ all. Gains o n (text matcher_holds all)) none.0 a.written;
-          };
-        }
-
-    -- memory was wanting, where the bytes are a session's, or before any frame
-    short_within : (lm : Input) (taken : List ℕ) → Takes ln lm taken
-        → FitsSession reader.place (reader.pending ++ taken) → IsRun (ports lo o) (ports lm n) NoMemory
-    short_within lm taken consumes within =
-        let others = some_reading reader.place (reader.pending ++ taken) in
-        record {
-          taken = a.taken ++ taken;
-          consumes = Takes-trans lo ln lm a.taken taken a.consumes consumes;
-          outcome = record {
-            answered = a.frames;
-            others = others.0;
-            end = others.1;
-            session = frames_of-Reads (a.taken ++ taken) (a.frames ++ others.0) others.1 (within_all taken within)
-                (Reads-from_Begins start (a.taken ++ taken) a.frames reader.place (reader.pending ++ taken) others.0
-                others.1 (further taken) others.2);
-            written = a.written;
-          };
-        }
-
-    short_before : (lm : Input) (taken : List ℕ) → Takes ln lm taken → reader ≡ unread
-        → IsRun (ports lo o) (ports lm n) NoMemory
-    short_before lm taken consumes is =
-        let all = some_frames (a.taken ++ taken) in
-        record {
-          taken = a.taken ++ taken;
-          consumes = Takes-trans lo ln lm a.taken taken a.consumes consumes;
-          outcome = record {
-            answered = [];
-            others = all.0;
-            end = all.1;
-            session = all.2;
-            written =
-                subst (λ frames. Gains o n (text matcher_holds frames)) (none_yet is).0 a.written;
-          };
-        }
 
     -- the reader gave no frame
     pub ends_refused : (lm : Input) (e : FrameError) → Refuses ln lm reader e → ln.faults ≤ lm.faults
         → (e ≡ errors.Read → Rose ln.faults lm.faults) → IsRun (ports lo o) (ports lm n) (ending_by e)
-    ends_refused lm (errors.Session at fault) r later rose =
-        ⊎_elim (bad lm at fault r.taken r.consumes) (too_long lm at fault r.taken r.consumes) r.cause
-    ends_refused lm errors.Read r later rose = record {
+    ends_refused lm (errors.Session at fault) r later rose = record {
       taken = a.taken ++ r.taken;
       consumes = Takes-trans lo ln lm a.taken r.taken a.consumes r.consumes;
       outcome = record {
-        rose = let own = rose refl in omega (arith, a.reads, later, own);
-        written = subst (Gains o n) no_text (subst (λ frames. Gains o n (text matcher_holds frames))
-            (none_yet r.cause).0 a.written);
+        frames = a.frames;
+        session = ends_at r.taken (Bad at fault) (r.cause.placed, r.cause.broken);
+        at_end = r.cause.at_end;
+        written = a.written;
       };
     }
-    ends_refused lm errors.Memory r later rose = ⊎_elim (short_within lm r.taken r.consumes) (short_before lm r.taken r.consumes)
-        r.cause
+    ends_refused lm errors.Read r later rose =
+        let open_end = unfinished_end reader (reader.pending ++ r.taken)
+        (next_frame reader.place (reader.pending ++ r.taken)) refl r.cause in
+        record {
+          taken = a.taken ++ r.taken;
+          consumes = Takes-trans lo ln lm a.taken r.taken a.consumes r.consumes;
+          outcome = record {
+            frames = a.frames;
+            end = open_end.0;
+            session = ends_at r.taken open_end.0 open_end.1;
+            unfinished = open_end.2;
+            rose = let own = rose refl in omega (arith, a.reads, later, own);
+            written = a.written;
+          };
+        }
+    ends_refused lm errors.Memory r later rose =
+        let others = some_reading reader.place (reader.pending ++ r.taken) in
+        record {
+          taken = a.taken ++ r.taken;
+          consumes = Takes-trans lo ln lm a.taken r.taken a.consumes r.consumes;
+          outcome = record {
+            answered = a.frames;
+            others = others.0;
+            end = others.1;
+            session = Reads-from_Begins start (a.taken ++ r.taken) a.frames reader.place (reader.pending ++ r.taken)
+                others.0 others.1 (further r.taken) others.2;
+            written = a.written;
+          };
+        }
 
     module _ (lm : Input) (after : Reading) (frame : Frame) (g : GivesFrame ln lm reader after (Some frame))
         (m : Output) where
       one_more : Begins start (a.taken ++ g.taken) (a.frames ++ frame ∷ []) after.place after.pending
       one_more =
-          subst (λ place. Begins start (a.taken ++ g.taken) (a.frames ++ frame ∷ []) place after.pending) (sym g.next.1)
-          (Begins-push start (a.taken ++ g.taken) a.frames reader.place (reader.pending ++ g.taken) frame after.pending
+          subst (λ (r : Reading). Begins start (a.taken ++ g.taken) (a.frames ++ frame ∷ []) r.place r.pending)
+          (sym g.next.1)
+          (Begins-push start (a.taken ++ g.taken) a.frames reader.place (reader.pending ++ g.taken) frame []
           (further g.taken) g.next.0)
 
-      -- the place is further on, and within what a session may have
-      pub comes_nearer : (most_input + 1) - after.place.bytes < (most_input + 1) - reader.place.bytes
+      -- one frame more was read, and a session has so many at most
+      pub comes_nearer : most_session_frames - after.place.frames < most_session_frames - reader.place.frames
       comes_nearer =
-          let place : after.place.bytes ≡ reader.place.bytes
-          + (length (reader.pending ++ g.taken) - length after.pending) = ap (λ (p : Place). p.bytes) g.next.1 in
+          let frames : after.place.frames ≡ reader.place.frames + 1 = ap (λ (r : Reading). r.place.frames) g.next.1 in
           omega (
             arith,
-            place,
-            g.within,
-            whole_takes reader.place.clock (reader.pending ++ g.taken) frame after.pending
-                g.next.0,
+            frames,
+            (StandsWhole-from_next reader.place (reader.pending ++ g.taken) frame [] g.next.0).room,
           )
 
       -- the frame was served
@@ -261,7 +185,7 @@ module _ (lo ln : Input) (o n : Output) (reader : Reading) (hub : Hub FieldJudge
         taken = a.taken ++ g.taken;
         consumes = Takes-trans lo ln lm a.taken g.taken a.consumes g.consumes;
         begins = one_more;
-        in_step = g.in_step;
+        unended = ap (λ (r : Reading). r.ended) g.next.1;
         stands = served.0;
         written = subst (Gains o m) (sym (text-push matcher_holds a.frames frame))
             (Gains-trans o n m (text matcher_holds a.frames) (reply_text a.frames frame) a.written served.1);
@@ -272,9 +196,8 @@ module _ (lo ln : Input) (o n : Output) (reader : Reading) (hub : Hub FieldJudge
       whole_session : (others : List Frame) (end : End) → Reads after.place after.pending others end
           → frames_of (a.taken ++ g.taken) ((a.frames ++ frame ∷ []) ++ others) end
       whole_session others end reads =
-          frames_of-Reads (a.taken ++ g.taken) ((a.frames ++ frame ∷ []) ++ others) end (within_all g.taken g.within)
-          (Reads-from_Begins start (a.taken ++ g.taken) (a.frames ++ frame ∷ []) after.place after.pending others end
-          one_more reads)
+          Reads-from_Begins start (a.taken ++ g.taken) (a.frames ++ frame ∷ []) after.place after.pending others end
+          one_more reads
 
       -- the frame wasn't served
       pub ends_in_serve : (ending : Ending) → IsServed n m a.frames frame (Err ending) → IsRun (ports lo o) (ports lm m) ending
@@ -318,21 +241,15 @@ module _ (lo ln : Input) (o n : Output) (reader : Reading) (hub : Hub FieldJudge
           }
 
 -- A session that is good to its end has no fault.
-much_more : (taken rest : List ℕ) → is_too_much taken ≡ true → is_too_much (taken ++ rest) ≡ true
-much_more taken rest h = let len = length-append taken rest in grind (arith, nat_tests, len)
-
-clean_within : (too_much : Bool) (bytes : List ℕ) (frames : List Frame) → too_much ≡ true
-    → MatchBool too_much ((frames ≡ []) × (Clean ≡ Bad most_input TooManyFrames)) (Reads start bytes frames Clean) → ⊥
-clean_within true bytes frames e h = cc
-clean_within false bytes frames e h = absurd (cc)
-
-never_too_many : (too_much : Bool) (taken : List ℕ) (frames : List Frame) (at : ℕ) → too_much ≡ false
-    → MatchBool too_much ((frames ≡ []) × (Bad at TooManyFrames ≡ Bad most_input TooManyFrames))
-    (Reads start taken frames (Bad at TooManyFrames)) → ⊥
-never_too_many true taken frames at e h = absurd (cc)
-never_too_many false taken frames at e h =
-    let last = Begins-from_Reads start taken frames (Bad at TooManyFrames) h in
-    session_fault-other last.3.1.0 (sym last.3.1.2)
+is_cut : (fault : SessionFault) → (fault ≡ Cut) ⊎ (fault ≡ Cut → ⊥)
+is_cut Cut = inl refl
+is_cut (TooLong size) = inr (λ e. cc)
+is_cut BadLength = inr (λ e. cc)
+is_cut (UnknownKind kind) = inr (λ e. cc)
+is_cut (BadBody reason) = inr (λ e. cc)
+is_cut (BadAtom reason) = inr (λ e. cc)
+is_cut (TimeBackwards last now) = inr (λ e. cc)
+is_cut TooManyFrames = inr (λ e. cc)
 
 same_end : (bytes : List ℕ) (frames others : List Frame) (at : ℕ) (fault : SessionFault) → frames_of bytes frames Clean
     → frames_of bytes others (Bad at fault) → ⊥
@@ -344,16 +261,13 @@ not_bad : (bytes rest taken : List ℕ) (old : Ports) (read_now : ℕ) (n : Outp
     → IsBadSession at fault taken old (ports (input_with (Some rest) read_now) n) → frames_of bytes frames Clean → ⊥
 not_bad bytes rest taken old read_now n at fault frames is h good =
     ⊎_elim
-    (λ (own : fault ≡ TooManyFrames). ⊎_elim
-    (λ (much : is_too_much taken ≡ true). clean_within (is_too_much bytes) bytes frames
-    (ap is_too_much is ∙ much_more taken rest much) good)
-    (λ (few : is_too_much taken ≡ false). never_too_many (is_too_much taken) taken h.frames at few
-    (subst (λ told. frames_of taken h.frames (Bad at told)) own h.session))
-    (cases_Bool (is_too_much taken)))
-    (λ (ended : rest ≡ []). same_end bytes frames h.frames at fault good
-    (subst (λ l. frames_of l h.frames (Bad at fault)) (sym (is ∙ ap (λ r. taken ++ r) ended ∙ append-nil taken))
-    h.session))
-    h.whole
+    (λ (cut : fault ≡ Cut). same_end bytes frames h.frames at fault good
+    (subst (λ l. frames_of l h.frames (Bad at fault))
+    (sym (is ∙ ap (λ r. taken ++ r) (h.at_end cut) ∙ append-nil taken)) h.session))
+    (λ (other : fault ≡ Cut → ⊥). same_end bytes frames h.frames at fault good
+    (subst (λ l. frames_of l h.frames (Bad at fault)) (sym is)
+    (Reads-more start taken rest h.frames at fault h.session other)))
+    (is_cut fault)
 
 good_isnt_bad : (bytes : List ℕ) (read_old : ℕ) (left : Option (List ℕ)) (read_now : ℕ) (o n : Output) (at : ℕ)
     (fault : SessionFault) (frames : List Frame)

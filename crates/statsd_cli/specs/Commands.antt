@@ -1,5 +1,5 @@
 -- What the words of a command line ask for.
-use Rattle.std.specs.Prelude.{ℕ, ◌+◌, ◌-◌, ◌*◌, ◌^◌, ◌≤◌, Bool, ◌&&◌, List, [], ◌∷◌, length, Option, Some, None, nat_lt, nat_le, codes, bytes_eq, if◌then◌else◌}
+use Rattle.std.specs.Prelude.{ℕ, ◌+◌, ◌-◌, ◌*◌, ◌^◌, ◌≤◌, Bool, true, false, ◌&&◌, List, [], ◌∷◌, length, Option, Some, None, nat_lt, nat_le, codes, bytes_eq, if◌then◌else◌}
 use Rattle.std.specs.List.{list_all}
 use Rattle.load_session.specs.Frames.{most_frames}
 use Rattle.statsd_cli.specs.declared.command.Command.{Command}
@@ -61,6 +61,13 @@ abbrev pub command_of : List (List ℕ) → Command
 command_of (word ∷ []) = command_named word
 command_of (word ∷ seed ∷ frames ∷ []) = command_with word seed frames
 command_of _ = Unknown
+
+-- the command reads the input
+abbrev pub reads_input : Command → Bool
+reads_input Replay = true
+reads_input Check = true
+reads_input (Load seed frames) = false
+reads_input Unknown = false
 
 -- a session that is asked for has no more than the most frames
 abbrev pub HasFewFrames : Command → Type 0

@@ -1,13 +1,13 @@
 -- The run of a session: how it ended, what it took of its input, and what it wrote.
-use Rattle.std.specs.Prelude.{◌≡◌, ℕ, ◌⊎◌, List, [], ◌∷◌, ◌++◌, Result, Ok, Err, option_to_list}
+use Rattle.std.specs.Prelude.{◌≡◌, ℕ, List, [], ◌∷◌, ◌++◌, Result, Ok, Err, option_to_list}
 use Rattle.std.specs.List.{flat_map}
-use Rattle.sd_io.specs.States.{Input, Output, Ports}
+use Rattle.sd_io.specs.States.{Output, Ports}
 use Rattle.sd_io.specs.Causes.{Gains, GainsFront, IsAtEnd, Rose, Takes}
 use Rattle.session_frames.specs.declared.frame.Frame.{Frame}
 use Rattle.session_frames.specs.declared.frame.FrameError.{FrameError}
 use Rattle.session_frames.specs.declared.frame.FrameError.TheVariants.{Session, Read, Memory}
 use Rattle.session_frames.specs.declared.frame.SessionFault.{SessionFault}
-use Rattle.session_frames.specs.declared.frame.SessionFault.TheVariants.{TooManyFrames}
+use Rattle.session_frames.specs.declared.frame.SessionFault.TheVariants.{Cut}
 use Rattle.session_frames.specs.Frames.{End, Clean, Bad, frames_of}
 use Rattle.session_frames.specs.Replies.{reply_bytes}
 use Rattle.matcher_eval.specs.declared.field_judge.FieldJudge.{FieldJudge}
@@ -18,10 +18,6 @@ use Rattle.statsd_cli.specs.declared.ending.Ending.{Ending}
 use Rattle.statsd_cli.specs.declared.ending.Ending.TheVariants.{Done, Refused, Usage, BadSession, ReadFault, WriteFault, NoMemory}
 use Rattle.hub_core.specs.HubStands.{HubStandsFor}
 
--- a session is known to be bad by its bytes to the end; one that is too long, before that
-abbrev pub IsWhole : SessionFault → Input → Type 0
-IsWhole fault input = (fault ≡ TooManyFrames) ⊎ IsAtEnd input.left
-
 -- The input ended at a frame's end, and every command was answered.
 pub record IsDone (taken : List ℕ) (old new : Ports) : Type 0 where
   pub frames : List Frame
@@ -29,17 +25,28 @@ pub record IsDone (taken : List ℕ) (old new : Ports) : Type 0 where
   pub at_end : IsAtEnd new.input.left
   pub written : Gains old.output new.output (text matcher_holds frames)
 
--- The session has the fault after its good frames, and every command in these was answered.
+-- The session has the fault after its good frames, and every command in these was answered. It is cut only where the
+-- input ended.
 pub record IsBadSession (at : ℕ) (fault : SessionFault) (taken : List ℕ) (old new : Ports) : Type 0 where
   pub frames : List Frame
   pub session : frames_of taken frames (Bad at fault)
-  pub whole : IsWhole fault new.input
+  pub at_end : fault ≡ Cut → IsAtEnd new.input.left
   pub written : Gains old.output new.output (text matcher_holds frames)
 
--- A read failed and was counted, and nothing was written.
-pub record IsUnread (old new : Ports) : Type 0 where
+-- the bytes end at a frame's end or inside a frame, and more of them may be frames
+abbrev pub IsUnfinishedEnd : End → Type 0
+IsUnfinishedEnd Clean = Unit {0}
+IsUnfinishedEnd (Bad at fault) = fault ≡ Cut
+
+-- A read failed and was counted. No frame was bad that had come till then, and every command in the whole ones was
+-- answered.
+pub record IsUnread (taken : List ℕ) (old new : Ports) : Type 0 where
+  pub frames : List Frame
+  pub end : End
+  pub session : frames_of taken frames end
+  pub unfinished : IsUnfinishedEnd end
   pub rose : Rose old.input.faults new.input.faults
-  pub written : Gains old.output new.output []
+  pub written : Gains old.output new.output (text matcher_holds frames)
 
 -- A write failed and was counted: a front of the replies to the good frames of the bytes taken was written.
 pub record IsCutShort (taken : List ℕ) (old new : Ports) : Type 0 where
@@ -63,7 +70,7 @@ Outcome taken old new Done = IsDone taken old new
 Outcome taken old new Refused = ⊥
 Outcome taken old new Usage = ⊥
 Outcome taken old new (BadSession at fault) = IsBadSession at fault taken old new
-Outcome taken old new ReadFault = IsUnread old new
+Outcome taken old new ReadFault = IsUnread taken old new
 Outcome taken old new WriteFault = IsCutShort taken old new
 Outcome taken old new NoMemory = IsShort taken old new
 

@@ -1,7 +1,7 @@
 //! What the words of a command line ask for.
 ghost use Rattle.std.specs.Prelude.{◌≡◌, ◌+◌, ◌-◌, ◌*◌, ◌<◌, ◌≤◌, ◌^◌, ◌&&◌, Some, None, nat_le, if◌then◌else◌, IfSome};
 ghost use Rattle.load_session.specs.Frames.{most_frames};
-ghost use Rattle.statsd_cli.specs.Commands.{command_named, command_of, command_with, is_digit, frames_digits, most_seed, number_of, number_within, seed_digits, HasFewFrames};
+ghost use Rattle.statsd_cli.specs.Commands.{command_named, command_of, command_with, is_digit, frames_digits, most_seed, number_of, number_within, reads_input, seed_digits, HasFewFrames};
 
 use atom_record::Bytes;
 use load_session::MOST_FRAMES;
@@ -32,6 +32,13 @@ impl Command {
             }
             _ => Command::Unknown,
         }
+    }
+
+    /// Whether it reads the input.
+    pub fn reads_input(&self) -> bool
+        ensures { result ≡ reads_input self.now }
+    {
+        matches!(self, Command::Replay | Command::Check)
     }
 
     /// The command of one word.

@@ -12,20 +12,20 @@ returns-in-Err g c =
     let along = c.frames.invariant in
     let cause = c.in-Err.ensures.cause in
     rw c.ending_of.ensures (ends_refused _ _ _ _ c.frames.reader c.frames.hub along (g.S.Source.state c.next.new.src)
-    c.in-Err.e (c.in-Err.ensures.refuses along.in_step) cause.later
+    c.in-Err.e (c.in-Err.ensures.refuses along.unended) cause.later
     (λ is. cause.failed (ap Err is)))
 
 pub returns-in_default : goal.returns-in_default
 returns-in_default g c =
     let along = c.frames.invariant in
     ends_done _ _ _ _ c.frames.reader c.frames.hub along (g.S.Source.state c.next.new.src) c.in-Ok.given.0
-    (rw c.in_default.is at (c.in-Ok.ensures.gives along.in_step))
+    (rw c.in_default.is at (c.in-Ok.ensures.gives along.unended))
 
 pub frames-smaller : goal.frames-smaller
 frames-smaller g c =
     let along = c.frames.invariant in
     comes_nearer _ _ _ _ c.frames.reader c.frames.hub along _ c.in-Ok.given.0 c.in-Some.frame
-    (rw c.in-Some.is at (c.in-Ok.ensures.gives along.in_step)) (g.K.Sink.state c.serve.new.out)
+    (rw c.in-Some.is at (c.in-Ok.ensures.gives along.unended)) (g.K.Sink.state c.serve.new.out)
 
 pub frames-preserved : goal.frames-preserved
 frames-preserved g c =
@@ -34,7 +34,7 @@ frames-preserved g c =
     let in_time = subst (λ n. IsInTime n c.in-Some.frame) (clock_along _ _ _ _ c.frames.reader c.frames.hub along)
     good.1 in
     goes_on _ _ _ _ c.frames.reader c.frames.hub along _ c.in-Ok.given.0 c.in-Some.frame
-    (rw c.in-Some.is at (c.in-Ok.ensures.gives along.in_step)) _ c.in-Ok-serve.served
+    (rw c.in-Some.is at (c.in-Ok.ensures.gives along.unended)) _ c.in-Ok-serve.served
     (c.in-Ok-serve.ensures.serves along.frames along.stands in_time) c.in-Ok.ensures.cause.later
     c.in-Ok-serve.ensures.later
 
@@ -45,5 +45,5 @@ returns-in-Err-serve g c =
     let in_time = subst (λ n. IsInTime n c.in-Some.frame) (clock_along _ _ _ _ c.frames.reader c.frames.hub along)
     good.1 in
     ends_in_serve _ _ _ _ c.frames.reader c.frames.hub along _ c.in-Ok.given.0 c.in-Some.frame
-    (rw c.in-Some.is at (c.in-Ok.ensures.gives along.in_step)) _ c.in-Err-serve.ending
+    (rw c.in-Some.is at (c.in-Ok.ensures.gives along.unended)) _ c.in-Err-serve.ending
     (c.in-Err-serve.ensures.serves along.frames along.stands in_time)

@@ -1,6 +1,7 @@
--- The run under way: what was taken is the frames so far and what the reader holds, and the hub stands for them.
-use Rattle.std.proofs.Common.{◌+◌, ◌-◌}
-use Rattle.session_frames.specs.Frames.{most_input}
+-- The run under way: what was taken is the frames so far and what the reader holds, and the hub stands for them. A
+-- session has 2^32 frames at most.
+use Rattle.std.proofs.Common.{◌-◌}
+use Rattle.session_frames.specs.Frames.{most_session_frames}
 use Rattle.statsd_cli.proofs.RunLemmas.{IsAlong}
 use Rattle.statsd_cli.proofs.top.replay.Given as goal
 
@@ -10,4 +11,4 @@ invariant-frames g l =
     l.reader l.hub
 
 abbrev pub decreases-frames : goal.decreases-frames
-decreases-frames g l = (most_input + 1) - l.reader.place.bytes
+decreases-frames g l = most_session_frames - l.reader.place.frames
