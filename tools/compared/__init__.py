@@ -1,1 +1,2 @@
-"""A second reading of the rules of counts with conditions, and random sessions to try it on."""
+"""A second reading of the rules: of configurations, sessions, metrics of every kind and reports; and what is drawn at
+random to try it on."""

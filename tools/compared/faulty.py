@@ -1,7 +1,6 @@
 """Random configurations for `check`: first without a fault, and then changed at a few places."""
 from copy import deepcopy
 
-from compared.trees import encoded
 from compared.verdict import (
     ALL,
     CHANGE_TO_TRUE,
@@ -14,7 +13,6 @@ from compared.verdict import (
     RANDOM_ONE,
     TESTS,
     leaves,
-    line_of,
 )
 
 PULLED_IDS = (10_001, 150_000)
@@ -279,10 +277,3 @@ def draw_tree(random):
         number = random.choice([most - 1, most])
         tree[name] = (tree[name] * number)[:number] or [{}] * number
     return tree
-
-
-def draw_check(random):
-    """The bytes of a configuration, the line that `check` writes of it, and the status."""
-    tree = draw_tree(random)
-    line = line_of(tree)
-    return encoded("config", tree), line.encode(), 0 if line.startswith("ok ") else 1

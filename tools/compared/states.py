@@ -1,5 +1,4 @@
 """What atoms told of states, from the first frame of a session on: the rules read once more, the plain way."""
-
 from compared.atoms import RESET
 
 MOST_IDS, MOST_KEYS = 256, 3000
@@ -35,3 +34,13 @@ class States:
     def state(self, atom_id, key):
         """The state of a key."""
         return self.told.get(atom_id, {}).get(key, NOT_TOLD)
+
+
+def shown_state(state, told):
+    """A state as a metric is sliced by it: the first group that lists it, or the state itself."""
+    if "map" not in state:
+        return state["atom_id"], None, told
+    for group in state["map"].get("groups", []):
+        if told in group.get("numbers", []):
+            return state["atom_id"], group.get("group", 0), None
+    return state["atom_id"], None, NOT_TOLD

@@ -1,11 +1,13 @@
 """What `check` finds of a configuration, by a second reading of the rules: the first fault of its references."""
+from compared.atoms import PULLED
+from compared.trees import ONEOFS
+
 MATCHER, PREDICATE, STATE, METRIC = range(1, 5)
 
 LIMITS = {MATCHER: 800, PREDICATE: 300, STATE: 16, METRIC: 100}
 MOST_KEYS, DEFAULT_BOUND = 3_000, 800
 MOST_SAMPLES, DEFAULT_SAMPLES, MOST_ROWS = 100, 10, 16_384
 MOST_ATOM_ID, MOST_FIELD = 2**31 - 1, 127
-PULLED = (range(10_000, 100_000), range(150_000, 200_000))
 
 NOT = 3
 FIRST, LAST, ANY, ALL = range(1, 5)
@@ -13,7 +15,7 @@ RANDOM_ONE, CHANGE_TO_TRUE, FIRST_N = 1, 3, 4
 MAX_SPARSE = 2
 
 EVENT, COUNT, VALUE, GAUGE, DURATION = "event", "count", "value", "gauge", "duration"
-TESTS = ("eq_bool", "eq_int", "lt_int", "tuple", "eq_any_string")
+TESTS = ONEOFS["test"]
 
 
 def within(value, most):
@@ -26,8 +28,8 @@ def leaves(fields):
     found = []
     for child in (fields or {}).get("children", []):
         inner = child.get("children", [])
-        position = child.get("position")
-        found += [(child.get("field"), position, one.get("field")) for one in inner] or [(child.get("field"), position, 0)]
+        place = child.get("field"), child.get("position")
+        found += [(*place, one.get("field")) for one in inner] or [(*place, 0)]
     return found
 
 
@@ -73,13 +75,17 @@ class Checked:
 
     def __init__(self, tree):
         self.tree = tree
-        metrics = [(kind, metric) for kind in (EVENT, COUNT, VALUE, GAUGE, DURATION) for metric in tree.get(kind + "s", [])]
+        kinds = (EVENT, COUNT, VALUE, GAUGE, DURATION)
+        metrics = [(kind, metric) for kind in kinds for metric in tree.get(kind + "s", [])]
         self.kinds = {
             MATCHER: [("matcher", it) for it in tree.get("matchers", [])],
             PREDICATE: [("predicate", it) for it in tree.get("predicates", [])],
             STATE: [("state", it) for it in tree.get("states", [])],
             METRIC: metrics,
         }
+        self.by_id = {kind: {} for kind in self.kinds}
+        for kind, _, entity in self.entities():
+            self.by_id[kind].setdefault(entity.get("id"), entity)
 
     def entities(self):
         """All entities in the order in which they are judged: the kind, what it is called, and the entity."""
@@ -87,8 +93,7 @@ class Checked:
 
     def named(self, kind, wanted):
         """The entity of this id."""
-        found = [entity for _, entity in self.kinds[kind] if entity.get("id") == wanted]
-        return found[0] if found else None
+        return self.by_id[kind].get(wanted)
 
     def limits(self):
         """1: numbers past their limits."""

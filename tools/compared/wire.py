@@ -18,8 +18,13 @@ def number(field, value):
 
 
 def message(field, content):
-    """A field with a message."""
+    """A field with a message or other bytes."""
     return varint(field << 3 | 2) + varint(len(content)) + content
+
+
+def fixed(field, value):
+    """A field with four bytes, low byte first."""
+    return varint(field << 3 | 5) + struct.pack("<I", value)
 
 
 def framed(body):
