@@ -1,4 +1,4 @@
-//! Which trees may be written, as a test that the calls in tests need.
+//! Which trees may be written, as a test before a tree is written.
 ghost use Rattle.std.specs.Prelude.{◌≡◌, ◌↔◌, ◌≤◌, ◌<◌, All, IsTrue};
 ghost use Rattle.report_writer.specs.Writable.{IsFieldNumber, AreNumbered, IsWritableAtom, IsWritableBucket, IsWritableRow, IsWritableEvent, IsWritableMetric};
 
@@ -78,12 +78,4 @@ pub fn bytes_of(alloc: Global, tree: &ReportTree) -> Result<Option<Vec<u8>>, All
         return Ok(None);
     }
     Ok(Some(write(alloc, tree)?))
-}
-
-/// Whether a tree is written as these bytes.
-pub fn is_written_as(alloc: Global, tree: &ReportTree, want: &[u8]) -> Result<bool, AllocError> {
-    match bytes_of(alloc, tree)? {
-        Some(bytes) => Ok(bytes.as_slice() == want),
-        None => Ok(false),
-    }
 }
