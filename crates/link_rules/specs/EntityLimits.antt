@@ -67,18 +67,18 @@ most_of Samples = most_samples
 most_of BucketSamples = most_bucket_samples
 
 -- a number past this limit
-abbrev pub past : Limit → ℤ → LinkFault
-past limit number = fault past_limit (limit_number limit) number
+abbrev pub number_past : Limit → ℤ → LinkFault
+number_past limit number = fault past_limit (limit_number limit) number
 
 -- there are more than may be
 abbrev pub count_limit : Limit → ℕ → Option LinkFault
-count_limit limit count = if nat_lt (most_of limit) count then Some (past limit (pos count)) else None
+count_limit limit count = if nat_lt (most_of limit) count then Some (number_past limit (pos count)) else None
 
 -- a number is set that isn't from 1 to the limit
 abbrev pub number_limit : Limit → Option ℤ → Option LinkFault
 number_limit limit None = None
 number_limit limit (Some number) =
-    if is_number_to (most_of limit) (Some number) then None else Some (past limit number)
+    if is_number_to (most_of limit) (Some number) then None else Some (number_past limit number)
 
 -- the bound of a predicate or a metric that names none
 abbrev pub absent_bound : ℕ

@@ -2,7 +2,7 @@
 ghost use Rattle.std.specs.Prelude.{◌≡◌, ◌<◌, ◌≤◌, ◌≤ℤ◌, ◌^◌, Some, None, pos, length, if◌then◌else◌};
 ghost use Rattle.field_select.specs.WellFormed.{is_number_to};
 ghost use Rattle.link_rules.specs.LinkFaults.{first_in};
-ghost use Rattle.link_rules.specs.EntityLimits.{limit_number, most_of, past, count_limit, number_limit, number_or, bound_or_default, predicate_limit, samples_of, samples_limit, metric_limit, limit_fault};
+ghost use Rattle.link_rules.specs.EntityLimits.{limit_number, most_of, number_past, count_limit, number_limit, number_or, bound_or_default, predicate_limit, samples_of, samples_limit, metric_limit, limit_fault};
 
 use crate::entities::{Entities, GaugeParts, Kind, Metric};
 use crate::fault::{LinkFault, PAST_LIMIT};
@@ -62,7 +62,7 @@ impl Limit {
 
     // A number past it.
     fn fault(self, value: i64) -> LinkFault
-        ensures { result ≡ past self value }
+        ensures { result ≡ number_past self value }
     {
         LinkFault {
             number: PAST_LIMIT,
