@@ -1,5 +1,5 @@
 -- A producer of counts holds its books through every call.
-use Rattle.std.proofs.Common.{◌≡◌, ℕ, zero, suc, ◌+◌, ◌*◌, ◌^◌, ◌<◌, List, [], ◌∷◌, ◌++◌, map, refl, sym, ap, subst, ◌∙◌, arith, append_assoc, append-nil}
+use Rattle.std.proofs.Common.{◌≡◌, ℕ, zero, suc, ◌+◌, ◌*◌, ◌^◌, ◌<◌, List, [], ◌∷◌, ◌++◌, map, take, refl, sym, ap, subst, ◌∙◌, arith, append_assoc, append-nil}
 use Rattle.std.specs.List.{flat_map}
 use Rattle.std.proofs.lemmas.List.{map-append}
 use Rattle.std.proofs.lemmas.Grind.{flat_map-append}
@@ -55,7 +55,10 @@ closes old new end start table adds params books has =
     ap (λ s. map (tally_row s end) old.table.rows) has.start
     ∙ ap (map (tally_row books.start end)) (has.table.rows ∙ ap (λ n. tally n books.came) has.bound)
     ∙ sym (rows_by_tally bound books.start end books.came
-    (admitted is_same_key bound (map arrival_key books.came))) in
+    (admitted is_same_key bound (map arrival_key books.came)))
+    ∙ sym (append-nil (flat_map
+    (row_of count_kind bound (record { start = books.start; end = end; came = books.came }))
+    (admitted is_same_key bound (map arrival_key books.came)))) in
     record {
       bound = ap (λ (t : Table MetricKey ℕ). t.bound) table ∙ has.bound;
       start = start;
@@ -124,7 +127,8 @@ took old new start table kept = moves count_collecting HasBooks old new Took
 no_rows : (bound start end : ℕ)
     → rows_of count_kind bound (record { start = start; end = end; came = [] }) ≡ []
 no_rows bound start end =
-    ap (flat_map (row_of count_kind bound (record { start = start; end = end; came = [] }))) (take-nil bound)
+    append-nil (flat_map (row_of count_kind bound (record { start = start; end = end; came = [] })) (take bound []))
+    ∙ ap (flat_map (row_of count_kind bound (record { start = start; end = end; came = [] }))) (take-nil bound)
 
 -- an empty part is closed
 closes_empty : (it : CountProducer) (params : CountParams) (books : Books (MetricKey × ℕ)) (end : ℕ)

@@ -6,7 +6,7 @@ use Rattle.atom_record.specs.declared.log.LogFrame.{LogFrame}
 use Rattle.atom_record.specs.declared.log.LogFrame.TheVariants.{Tick}
 use Rattle.bucket_meaning.specs.Marks.{Mark, Came, Ends, Asked, Edges}
 use Rattle.bucket_meaning.specs.Guard.{arrival_key}
-use Rattle.bucket_meaning.specs.Rows.{Kind}
+use Rattle.bucket_meaning.specs.Rows.{Kind, not_shown}
 use Rattle.metric_producer.specs.Calls.{Learned, Crossed, CutAt, Took, Demands}
 use Rattle.metric_producer.specs.LaneCalls.{run_asks, run_demands}
 use Rattle.metric_producer.specs.Collecting.{Collecting}
@@ -138,6 +138,7 @@ one_key = record {
   keys = λ came. map arrival_key (map (λ (truth : Bool). (0, truth)) came);
   keys_are = λ came end. refl;
   row = λ start end key truths. end ∷ [];
+  others = not_shown;
   weight = λ row. 1;
 }
 

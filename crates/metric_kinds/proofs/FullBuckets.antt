@@ -12,7 +12,7 @@ use Rattle.bucket_meaning.specs.Rows.{drops, row_of, rows_of}
 use Rattle.bucket_meaning.proofs.GuardLemmas.{is_among-push, none_dropped_all}
 use Rattle.metric_producer.specs.declared.row.Row.{Row}
 use Rattle.metric_kinds.specs.Keys.{is_same_key}
-use Rattle.metric_kinds.specs.Runs.{Active, newly, runs}
+use Rattle.metric_kinds.specs.Runs.{Active, newly, runs, run_keys}
 use Rattle.metric_kinds.specs.Durations.{sum_kind, active_edges, duration_row}
 use Rattle.metric_kinds.proofs.RunsLemmas.{sum_of_runs}
 
@@ -168,7 +168,9 @@ module _ (bound : ℕ) (keys : List MetricKey) (few : length keys ≤ bound) whe
     -- each active key has its row, in their order
     pub full_rows : rows_of sum_kind bound the_part ≡ map (full_row start size) keys
     full_rows =
-        ap (λ ks. flat_map (row_of sum_kind bound the_part) (admitted is_same_key bound ks))
+        append-nil (flat_map (row_of sum_kind bound the_part)
+        (admitted is_same_key bound (run_keys is_same_key (active_from keys start ∷ []))))
+        ∙ ap (λ ks. flat_map (row_of sum_kind bound the_part) (admitted is_same_key bound ks))
         (append-nil (newly is_same_key [] keys) ∙ all_new keys)
         ∙ ap (flat_map (row_of sum_kind bound the_part))
         (all_admitted ∙ distinct_firsts [] keys distinct (none_seen keys))

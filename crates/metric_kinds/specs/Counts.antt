@@ -4,7 +4,7 @@ use Rattle.std.proofs.Common.{refl}
 use Rattle.atom_record.specs.declared.value.MetricKey.{MetricKey}
 use Rattle.bucket_meaning.specs.Guard.{arrival_key}
 use Rattle.bucket_meaning.specs.Kept.{count_in_u64}
-use Rattle.bucket_meaning.specs.Rows.{Kind}
+use Rattle.bucket_meaning.specs.Rows.{Kind, not_shown}
 use Rattle.metric_producer.specs.declared.row.Row.{Row}
 use Rattle.metric_kinds.specs.Keys.{is_same_key}
 
@@ -20,5 +20,6 @@ count_kind = record {
   keys = λ came. map arrival_key came;
   keys_are = λ came end. refl;
   row = λ start end key ones. record { key = key; start = start; end = end; value = count_in_u64 (length ones) } ∷ [];
+  others = not_shown;
   weight = row_weight;
 }

@@ -6,7 +6,7 @@ use Rattle.std.proofs.Common.{refl}
 use Rattle.atom_record.specs.declared.value.MetricKey.{MetricKey}
 use Rattle.bucket_meaning.specs.Guard.{arrival_key}
 use Rattle.bucket_meaning.specs.Marks.{Mark, Came, Edges}
-use Rattle.bucket_meaning.specs.Rows.{Kind}
+use Rattle.bucket_meaning.specs.Rows.{Kind, not_shown}
 use Rattle.metric_producer.specs.declared.row.Row.{Row}
 use Rattle.metric_kinds.specs.Keys.{is_same_key}
 use Rattle.metric_kinds.specs.Counts.{row_weight}
@@ -26,6 +26,7 @@ sum_kind = record {
   keys = run_keys is_same_key;
   keys_are = run_keys-are is_same_key;
   row = λ start end key lengths. duration_row start end key (sum lengths);
+  others = not_shown;
   weight = row_weight;
 }
 
@@ -54,6 +55,7 @@ longest_kind = record {
   keys = λ came. map arrival_key came;
   keys_are = λ came end. refl;
   row = λ start end key times. duration_row start end key (longest times);
+  others = not_shown;
   weight = row_weight;
 }
 

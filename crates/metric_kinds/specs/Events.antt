@@ -4,7 +4,7 @@ use Rattle.std.proofs.Common.{refl}
 use Rattle.atom_record.specs.declared.atom.Atom.{Atom}
 use Rattle.atom_record.specs.declared.value.MetricKey.{MetricKey}
 use Rattle.bucket_meaning.specs.Guard.{arrival_key}
-use Rattle.bucket_meaning.specs.Rows.{Kind}
+use Rattle.bucket_meaning.specs.Rows.{Kind, not_shown}
 use Rattle.metric_producer.specs.declared.row.Row.{Row}
 use Rattle.metric_kinds.specs.Keys.{is_same_key}
 
@@ -30,5 +30,6 @@ event_kind = record {
   keys = λ came. map arrival_key came;
   keys_are = λ came end. refl;
   row = λ start end key events. map event_row events;
+  others = not_shown;
   weight = λ row. 1;
 }

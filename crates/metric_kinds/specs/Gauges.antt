@@ -4,7 +4,7 @@ use Rattle.std.proofs.Common.{refl}
 use Rattle.atom_record.specs.declared.atom.Atom.{Atom}
 use Rattle.atom_record.specs.declared.value.MetricKey.{MetricKey}
 use Rattle.bucket_meaning.specs.Guard.{arrival_key}
-use Rattle.bucket_meaning.specs.Rows.{Kind}
+use Rattle.bucket_meaning.specs.Rows.{Kind, not_shown}
 use Rattle.metric_producer.specs.declared.row.Row.{Row}
 use Rattle.metric_kinds.specs.Keys.{is_same_key}
 
@@ -21,5 +21,6 @@ gauge_kind samples = record {
   keys = λ came. map arrival_key came;
   keys_are = λ came end. refl;
   row = λ start end key atoms. record { key = key; start = start; end = end; value = take samples atoms } ∷ [];
+  others = not_shown;
   weight = samples_weight;
 }

@@ -11,7 +11,7 @@ use Rattle.atom_record.specs.declared.value.Leaf.{Leaf}
 use Rattle.atom_record.specs.declared.value.Leaf.TheVariants.{One}
 use Rattle.atom_record.specs.declared.value.MetricKey.{MetricKey}
 use Rattle.bucket_meaning.specs.Guard.{arrival_key}
-use Rattle.bucket_meaning.specs.Rows.{Kind}
+use Rattle.bucket_meaning.specs.Rows.{Kind, not_shown}
 use Rattle.config_types.specs.declared.metric.Aggregation.{Aggregation}
 use Rattle.config_types.specs.declared.metric.Aggregation.TheVariants.{Sum, Min, Max}
 use Rattle.metric_producer.specs.declared.row.Row.{Row}
@@ -57,5 +57,6 @@ value_kind aggregation hides_zeros = record {
   keys = λ came. map arrival_key came;
   keys_are = λ came end. refl;
   row = λ start end key integers. unless_hidden hides_zeros (value_row aggregation start end key integers);
+  others = not_shown;
   weight = λ row. 1;
 }
