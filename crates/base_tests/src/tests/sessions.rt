@@ -102,18 +102,28 @@ fn read_failing(alloc: Global, call: u64) -> Result<Session, AllocError> {
     read(alloc, &mut source)
 }
 
-// Whether such a source gives no frame, and tells the fault of the source.
-fn fails_at(alloc: Global, call: u64) -> Result<bool, AllocError> {
+// Whether such a source gives so many frames, and then tells its own fault.
+fn fails_after(alloc: Global, call: u64, frames: usize) -> Result<bool, AllocError> {
     let session = read_failing(alloc, call)?;
-    Ok(session.frames.is_empty() && session.end.as_str() == "the source failed")
+    Ok(session.frames.len() == frames && session.end.as_str() == "the source failed")
 }
 
 #[test]
-fn gives_no_frame_of_a_source_that_fails(rt: HostRuntime) {
-    // The first call, one in mid-stream, and the one that would tell the end.
-    for call in 0..4 {
-        assert_found(&rt, fails_at(rt.alloc(), call), &call);
+fn gives_the_frames_before_a_read_that_fails(rt: HostRuntime) {
+    // A frame takes two reads: its length, and what this counts. The last of nine tells the end.
+    for &(call, frames) in &[
+        (0, 0),
+        (1, 0),
+        (2, 1),
+        (3, 1),
+        (4, 2),
+        (5, 2),
+        (6, 3),
+        (7, 3),
+        (8, 4),
+    ] {
+        assert_found(&rt, fails_after(rt.alloc(), call, frames), &call);
     }
     // The source isn't asked again after its end.
-    assert!(rt; fails_at(rt.alloc(), 4) == Ok(false));
+    assert!(rt; fails_after(rt.alloc(), 9, 4) == Ok(false));
 }
