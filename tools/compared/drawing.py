@@ -4,8 +4,21 @@ import struct
 from session_text.layout import ATOM, BITS, BOOL, INSTALL, INT, LONG, PULL, RAW, REMOVE, REPORT, STR, TICK
 
 from compared.atoms import EXCLUSIVE, PRIMARY, RESET, Atom, Entry, Value
-from compared.drawn_config import ATOM_IDS, FIELDS, INNER, KINDS, NUMBERS, PULLED_IDS, REPEATED, STATES, draw_config
+from compared.drawn_config import (
+    ATOM_IDS,
+    FIELDS,
+    FIRST_N,
+    INNER,
+    KINDS,
+    NUMBERS,
+    PULLED_IDS,
+    REPEATED,
+    SECONDS,
+    STATES,
+    draw_config,
+)
 from compared.faulty import draw_tree
+from compared.history import MOST_WEIGHT
 from compared.pulls import MOST_IDS as MOST_PULLED
 from compared.sessions import CLEAN, Session, checked_line, next_frame, replies
 from compared.states import MOST_IDS, MOST_KEYS
@@ -55,6 +68,13 @@ def draw_atom(random, atom_id):
         subs = random.choice([[0], [0], [INNER], [0, INNER, INNER + 1]])
         entries += [Entry(REPEATED, index, sub, 0, draw_value(random)) for sub in subs]
     return Atom(atom_id, entries)
+
+
+def pull_body(atom_id, atoms):
+    """The body of a pull of these atoms."""
+    payloads = [atom.payload() for atom in atoms]
+    counted = b"".join(struct.pack("<H", len(payload)) + payload for payload in payloads)
+    return struct.pack("<IBH", atom_id, 0, len(payloads)) + counted
 
 
 class Drawn:
@@ -123,9 +143,8 @@ class Drawn:
         atom_id = self.random.choice([*PULLED_IDS, *PULLED_IDS, ATOM_IDS[0]])
         if self.random.random() < 0.12:
             return struct.pack("<IB", atom_id, 1)
-        payloads = [draw_atom(self.random, atom_id).payload() for _ in range(self.random.choice([0, 1, 1, 2, 3, 5]))]
-        atoms = b"".join(struct.pack("<H", len(payload)) + payload for payload in payloads)
-        return struct.pack("<IBH", atom_id, 0, len(payloads)) + atoms
+        count = self.random.choice([0, 1, 1, 2, 3, 5])
+        return pull_body(atom_id, [draw_atom(self.random, atom_id) for _ in range(count)])
 
     def jump(self):
         """Time passes for about as many seconds as a report has rows, or for many more."""
@@ -141,6 +160,19 @@ class Drawn:
         """Failed pulls of about as many ids as are kept."""
         for atom_id in range(20_000, 20_000 + MOST_PULLED + self.random.randint(-3, 1)):
             self.logged(PULL, struct.pack("<IB", atom_id, 1))
+
+    def many_samples(self):
+        """A gauge with samples of a few keys in each second, over as many seconds as a report has about room for."""
+        client, count = (20, 2), self.random.randint(2, 6)
+        gauge = {"id": 1, "what": 1, "dimensions": {"field": PULLED_IDS[0], "children": [{"field": FIELDS[0]}]}}
+        gauge.update(filter={"include_all": True}, bucket=SECONDS, sampling=FIRST_N, samples=self.random.randint(1, 4))
+        matcher = {"id": 1, "simple": {"atom_id": PULLED_IDS[0]}}
+        self.command(INSTALL, client, encoded("config", {"gauges": [gauge], "matchers": [matcher]}))
+        atoms = [draw_atom(self.random, PULLED_IDS[0]) for _ in range(count)]
+        self.logged(PULL, pull_body(PULLED_IDS[0], atoms))
+        self.now += (MOST_WEIGHT // count + self.random.randint(-3, 3_000)) * SECOND
+        self.logged(TICK, b"")
+        self.report(client, self.random.random() < 0.5)
 
     def many_keys(self):
         """State atoms of one id with about as many keys as are kept, and a reset among the last of them."""
@@ -167,6 +199,8 @@ class Drawn:
             self.many_pulls()
         elif drawn < 0.12085:
             self.many_keys()
+        elif drawn < 0.1211:
+            self.many_samples()
         else:
             self.log()
 
