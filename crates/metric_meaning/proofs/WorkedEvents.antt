@@ -1,7 +1,6 @@
 -- Worked histories of metrics of events, and what reports show of them, by computing.
 use Rattle.std.proofs.Common.{◌≡◌, ℕ, pos, true, false, List, [], ◌∷◌, map, refl}
 use Rattle.std.specs.List.{range_with_len}
-use Rattle.atom_record.specs.declared.atom.Atom.{Atom}
 use Rattle.atom_record.specs.declared.log.PullOutcome.TheVariants.{Atoms}
 use Rattle.atom_record.specs.declared.log.LogFrame.TheVariants as frames
 use Rattle.atom_record.specs.declared.value.Value.TheVariants.{Int, Str}
