@@ -14,37 +14,10 @@ use Rattle.dim_table.proofs.KeyLemmas.{Contains-from_place, is_among-from_Contai
 use Rattle.atom_record.specs.declared.value.Slice.{Slice}
 use Rattle.report_writer.specs.declared.tree.LeafTree.{LeafTree}
 use Rattle.metric_producer.specs.declared.row.Row.{Row}
+use Rattle.metric_producer.proofs.KeysLemmas.{other_way, differs_from_all, differs_from_one}
 use Rattle.metric_kinds.specs.Keys.{is_same_key}
 use Rattle.metric_meaning.specs.KeyTrees.{group_of, groups_of}
 use Rattle.client_engine.specs.Groups.{key_in, buckets_of, entry_in, keys_in_order, grouped, group_tree, AddsRow}
-
--- a key that differs from another, the other way round
-other_way : (one other : MetricKey) → is_same_key one other ≡ false → is_same_key other one ≡ false
-other_way one other differ = ⊎_elim
-    (λ (alike : is_same_key other one ≡ true).
-    let self : is_same_key one other ≡ true =
-    (metric_key_exact one other).1 (sym ((metric_key_exact other one).0 alike)) in cc)
-    (λ (differs : is_same_key other one ≡ false). differs)
-    (cases_Bool (is_same_key other one))
-
--- a key that differs from all of these isn't among them
-differs_from_all : (key : MetricKey) (ks : List MetricKey)
-    → AllByRecursion (λ other. is_same_key key other ≡ false) ks
-    → is_among is_same_key key ks ≡ false
-differs_from_all key [] all = refl
-differs_from_all key (first ∷ ks) all =
-    let here = other_way key first all.0 in
-    let later = differs_from_all key ks all.1 in
-    grind (arith, here, later)
-
--- and not from one of them
-differs_from_one : (key found : MetricKey) (ks : List MetricKey) (place : ℕ)
-    → AllByRecursion (λ other. is_same_key key other ≡ false) ks → slice_get ks place ≡ Some found
-    → is_same_key key found ≡ false
-differs_from_one key found [] place all at = absurd (cc)
-differs_from_one key found (first ∷ ks) zero all at =
-    let is : first ≡ found = cc in subst (λ k. is_same_key key k ≡ false) is all.0
-differs_from_one key found (first ∷ ks) (suc place) all at = differs_from_one key found ks place all.1 at
 
 module _ {V : Type 0} where
   -- the rows of one key, with one more row
@@ -111,7 +84,7 @@ module _ {V B : Type 0} (bucket : Row V → B) where
       ap (λ l. (other, map bucket l))
       (rows-push other rows row
       ∙ ap (λ b. filter (λ (r : Row V). is_same_key r.key other) rows ++ (if b then row ∷ [] else []))
-      (other_way other row.key differ)
+      (other_way is_same_key metric_key_exact other row.key differ)
       ∙ append-nil (filter (λ (r : Row V). is_same_key r.key other) rows))
 
   -- the row's own key has a bucket more
@@ -154,14 +127,14 @@ module _ {V B : Type 0} (bucket : Row V → B) where
       let is : first ≡ row.key = cc in
       let absent : is_among is_same_key row.key ks ≡ false =
       subst (λ k. is_among is_same_key k ks ≡ false) is
-      (differs_from_all first ks (IsDistinct-head is_same_key first ks distinct)) in
+      (differs_from_all is_same_key metric_key_exact first ks (IsDistinct-head is_same_key first ks distinct)) in
       ap (λ k. (k, buckets_of bucket rows row.key ++ bucket row ∷ []) ∷ map (entry_in bucket rows) ks) is
       ∙ ap (λ entry. entry ∷ map (entry_in bucket rows) ks) (sym (entry_own rows row))
       ∙ ap (λ k. entry_in bucket (rows ++ row ∷ []) k ∷ map (entry_in bucket rows) ks) (sym is)
       ∙ ap (λ entries. entry_in bucket (rows ++ row ∷ []) first ∷ entries) (sym (entries_other rows row ks absent))
   added_there rows row (first ∷ ks) (suc place) distinct at =
       let differ : is_same_key first row.key ≡ false =
-      differs_from_one first row.key ks place (IsDistinct-head is_same_key first ks distinct) at in
+      differs_from_one is_same_key first row.key ks place (IsDistinct-head is_same_key first ks distinct) at in
       ap (λ entry. entry ∷ set_value_at (map (entry_in bucket rows) ks) place
       (buckets_of bucket rows row.key ++ bucket row ∷ [])) (sym (entry_other rows row first differ))
       ∙ ap (λ entries. entry_in bucket (rows ++ row ∷ []) first ∷ entries)
