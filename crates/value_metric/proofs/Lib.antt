@@ -1,0 +1,5 @@
+mod PushedWorked
+mod Widths
+pub mod TotalsLemmas
+pub mod BooksLemmas
+pub mod PushedLemmas

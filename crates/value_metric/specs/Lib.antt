@@ -1,0 +1,4 @@
+pub mod Totals
+pub mod ValueBooksStand
+pub mod PushedValues
+pub mod PushedStands
