@@ -1,0 +1,5 @@
+pub mod ClosedRowsLemmas
+pub mod EventLemmas
+pub mod SampledLemmas
+pub mod GaugeLemmas
+pub mod ItemsLemmas
