@@ -11,6 +11,9 @@ ghost use Rattle.statsd_cli.specs.Commands.{command_of};
 ghost use Rattle.statsd_cli.specs.Streams.{streams};
 ghost use Rattle.statsd.specs.Program.{Ends, EndsOn, IsWithoutMemory};
 
+mod input;
+
+use crate::input::Input;
 use atom_record::Bytes;
 use sd_io::{Sink, StdSink, StdSource};
 use statsd_cli::{Command, STATUS_NO_MEMORY, statsd_top};
@@ -60,12 +63,12 @@ fn run<R: Read + Drop, K: Sink, E: Sink>(
     };
     let words = words.as_slice();
     if !Command::of(words).reads_input() {
-        return answer(alloc, words, input, out, notes);
+        return answer(alloc, words, Input::AsItCame(input), out, notes);
     }
     let Ok(buffered) = BufReader::new(alloc, input) else {
         return ExitCode::from(STATUS_NO_MEMORY);
     };
-    answer(alloc, words, buffered, out, notes)
+    answer(alloc, words, Input::ReadAhead(buffered), out, notes)
 }
 
 /// Does what the words ask for, on a reader.
