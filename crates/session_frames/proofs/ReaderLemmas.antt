@@ -1,50 +1,45 @@
 -- On specs/Reader.antt, for the reader: bytes behind those that are held, how far the taking came, and a frame that was
 -- judged.
-use Rattle.std.proofs.Common.{◌≡◌, ℕ, ◌+◌, ◌-◌, ◌*◌, ◌<◌, ◌≤◌, Bool, false, List, [], ◌++◌, length, take, Option, None, Some, Result, Ok, Err, IfOk, IfErr, sym, ap, ap₂, ◌∙◌, subst, append_assoc, arith}
-use Rattle.std.proofs.lemmas.List.{take-take, take_all, take-append-le, length-append, append-nil}
+use Rattle.std.proofs.Common.{◌≡◌, ℕ, ◌+◌, ◌-◌, ◌*◌, ◌<◌, ◌≤◌, Bool, true, false, List, [], ◌++◌, length, take, Option, None, Some, Result, Ok, Err, refl, sym, ap, ap₂, ◌∙◌, subst, append_assoc, arith}
+use Rattle.std.proofs.lemmas.List.{take-take, take-append-le, length-append, length-take, length-take-le, append-nil}
 use Rattle.std.proofs.Math.Seq.{take-append-add}
 use Rattle.sd_io.specs.States.{Input}
-use Rattle.sd_io.specs.Causes.{Takes}
+use Rattle.sd_io.specs.Causes.{IsFrontOf, Takes}
 use Rattle.sd_io.proofs.CausesLemmas.{Takes-nil, Takes-trans}
 use Rattle.session_frames.specs.declared.frame.Frame.{Frame}
 use Rattle.session_frames.specs.declared.frame.FrameError.{FrameError}
 use Rattle.session_frames.specs.declared.frame.FrameError.TheVariants as failed
 use Rattle.session_frames.specs.FrameLimits.{most_pending}
-use Rattle.session_frames.specs.Frames.{clock_after, next_frame, needed, Broken, Whole, Place, past}
-use Rattle.session_frames.specs.Reader.{Reading, GivesNext, GivesFrame, Refuses, IsUnfinished, IsAtRest}
-use Rattle.session_frames.specs.Bodies.{FindsNext, IsOutside, Judges, StopsShort, TakesNext, TakesSome}
-use Rattle.session_frames.proofs.FrameLaws.{StandsWhole-from_next, next_ended, cut_is_short, short_is_unfinished, needed_more, needed_most, needed_some}
+use Rattle.session_frames.specs.Frames.{Ended, Broken, Whole, clock_after, next_frame, needed, Place, past}
+use Rattle.session_frames.specs.Reader.{Reading, GivesFrame, Refuses, IsAtRest}
+use Rattle.session_frames.specs.Bodies.{FindsNext, IsOutside, StopsShort, TakesNext, TakesSome}
+use Rattle.session_frames.proofs.FrameLaws.{StandsWhole-from_next, next_ended, cut_is_short, short_is_unfinished, whole_is_all, needed_more, needed_most, needed_some}
 
--- room was made behind what is held, a part of it was filled, and the rest was cut off
-pub filled_behind : (held grown buffer over back after : List ℕ) (len count most : ℕ)
-    → take len grown ≡ held
+-- a part of the room behind what is held was filled
+pub filled_behind : (front held buffer over back : List ℕ) (len count size : ℕ)
+    → front ≡ held
     → length held ≡ len
     → count ≤ length buffer
-    → len + count ≤ most
-    → after ≡ take (len + count) (take most ((take len grown ++ (buffer ++ over)) ++ back))
-    → after ≡ held ++ take count buffer
-filled_behind held grown buffer over back after len count most is_held is_len within fits is =
-    let whole : (take len grown ++ (buffer ++ over)) ++ back ≡ held ++ ((buffer ++ over) ++ back) =
-    ap (λ l. (l ++ (buffer ++ over)) ++ back) is_held ∙ append_assoc held (buffer ++ over) back in
-    let front : take (length held + count) (held ++ ((buffer ++ over) ++ back))
-    ≡ held ++ take count ((buffer ++ over) ++ back) = take-append-add held ((buffer ++ over) ++ back) count in
-    let filled : take count ((buffer ++ over) ++ back) ≡ take count buffer =
-    ap (take count) (append_assoc buffer over back) ∙ take-append-le count buffer (over ++ back) within in
-    is
-    ∙ take-take (len + count) most ((take len grown ++ (buffer ++ over)) ++ back) fits
+    → len + count ≤ size
+    → take (len + count) (take size ((front ++ (buffer ++ over)) ++ back)) ≡ held ++ take count buffer
+filled_behind front held buffer over back len count size is is_len within fits =
+    let whole : (front ++ (buffer ++ over)) ++ back ≡ held ++ (buffer ++ (over ++ back)) =
+    ap (λ l. (l ++ (buffer ++ over)) ++ back) is
+    ∙ append_assoc held (buffer ++ over) back
+    ∙ ap (λ l. held ++ l) (append_assoc buffer over back) in
+    take-take (len + count) size ((front ++ (buffer ++ over)) ++ back) fits
     ∙ ap (take (len + count)) whole
-    ∙ ap (λ n. take (n + count) (held ++ ((buffer ++ over) ++ back))) (sym is_len)
-    ∙ front
-    ∙ ap (λ l. held ++ l) filled
+    ∙ ap (λ n. take (n + count) (held ++ (buffer ++ (over ++ back)))) (sym is_len)
+    ∙ take-append-add held (buffer ++ (over ++ back)) count
+    ∙ ap (λ l. held ++ l) (take-append-le count buffer (over ++ back) within)
 
--- what was held stays in front where room is made
-pub held_in_front : (held room grown : List ℕ) (len more : ℕ)
-    → length held ≡ len
-    → grown ≡ take (len + more) held ++ room
-    → take len grown ≡ held
-held_in_front held room grown len more is_len is =
-    ap (take len) (is ∙ ap (λ l. l ++ room) (take_all (len + more) held (omega (arith, is_len))))
-    ∙ take-append-le len held room (omega (arith, is_len)) ∙ take_all len held (omega (arith, is_len))
+-- what was held stays in front where there is more room
+pub held_in_front : (room grown : List ℕ) (held : ℕ)
+    → IsFrontOf room grown
+    → held ≤ length room
+    → take held grown ≡ take held room
+held_in_front room grown held front within =
+    ap (take held) front.1 ∙ take-append-le held room front.0 within
 
 -- So much was taken: no more than the judgement asks for.
 pub record IsTakenSo (old new : Input) (place : Place) (held : List ℕ) : Type 0 where
@@ -76,10 +71,6 @@ module _ (old mid new : Input) (place : Place) (before after : List ℕ) (most c
         (subst (λ l. length l ≤ needed place before) some.grown (omega (arith, grows, some.few, fits))));
     later = omega (arith, so.later, later);
   }
-
-  -- each turn comes nearer to the most that is asked for
-  pub comes_nearer : 0 < count → most_pending - length after < most_pending - length before
-  comes_nearer none = omega (arith, grows, some.few, fits, needed_most place before)
 
   -- there was no more
   pub all_taken : mid.faults ≤ new.faults → count ≡ 0 → TakesNext old new place after
@@ -114,6 +105,52 @@ broken_off old mid new place held e so short nothing outside = record {
   outside = outside;
 }
 
+-- So many bytes stand in front of the room, and were taken: no more than the judgement asks for.
+pub record IsHeldSo (old new : Input) (place : Place) (room : List ℕ) (held : ℕ) : Type 0 where
+  pub taken : IsTakenSo old new place (take held room)
+  pub within : held ≤ length room
+
+-- none is held yet
+pub none_held : (input : Input) (place : Place) (room : List ℕ) → IsHeldSo input input place room 0
+none_held input place room = record {
+  taken = none_taken input place (take 0 room) refl;
+  within = omega arith;
+}
+
+module _ (old mid new : Input) (place : Place) (room grown : List ℕ) (held goal count : ℕ)
+    (so : IsHeldSo old mid place room held)
+    (some : TakesSome mid new (take held room) (take (held + count) grown) (goal - held) count)
+    (is_goal : goal ≡ needed place (take held room)) (short : held < goal) where
+  held_long : length (take held room) ≡ held
+  held_long = length-take-le held room so.within
+
+  fits : length (take held room) + (goal - held) ≤ needed place (take held room)
+  fits = omega (arith, held_long, is_goal, short)
+
+  -- more is held
+  pub more_held : mid.faults ≤ new.faults → IsHeldSo old new place grown (held + count)
+  more_held later = record {
+    taken = more_taken old mid new place (take held room) (take (held + count) grown) (goal - held) count so.taken some
+        fits later;
+    within = omega (
+      arith,
+      held_long,
+      length-take (held + count) grown,
+      ap length some.grown ∙ length-append (take held room) some.more,
+      some.counted,
+    );
+  }
+
+  -- each turn comes nearer to the most that is asked for
+  pub held_nearer : 0 < count → most_pending - (held + count) < most_pending - held
+  held_nearer none = omega (arith, is_goal, short, none, needed_most place (take held room))
+
+  -- there was no more
+  pub all_held : mid.faults ≤ new.faults → count ≡ 0 → TakesNext old new place (take held grown)
+  all_held later none = subst (λ n. TakesNext old new place (take n grown)) (omega (arith, none))
+      (all_taken old mid new place (take held room) (take (held + count) grown) (goal - held) count so.taken some fits
+      later none)
+
 -- A reader after a frame that was judged.
 module _ (bytes clock frames len now : ℕ) (left : List ℕ) (frame : Frame) (is_len : len ≡ length left)
     (moved : now ≡ clock_after clock frame) where
@@ -123,10 +160,10 @@ module _ (bytes clock frames len now : ℕ) (left : List ℕ) (frame : Frame) (i
       let far : bytes + len ≡ bytes + (length left - 0) = omega (arith, is_len) in
       ap₂ (λ (n m : ℕ). let place : Place = record { bytes = n; clock = m; frames = frames + 1 } in place) far moved
 
-  -- it holds nothing, and stands after the frame
-  pub reading_after : (held : List ℕ) (ended : Bool) → held ≡ [] → ended ≡ false
+  -- it stands after the frame
+  pub reading_after : (ended : Bool) → ended ≡ false
       → let after : Reading = record {
-        pending = held;
+        pending = [];
         place = record { bytes = bytes + len; clock = now; frames = frames + 1 };
         ended = ended;
       } in
@@ -135,19 +172,18 @@ module _ (bytes clock frames len now : ℕ) (left : List ℕ) (frame : Frame) (i
         place = past (record { bytes = bytes; clock = clock; frames = frames }) left frame [];
         ended = false;
       }
-  reading_after held ended none unended =
-      let made : List ℕ → Bool → Place → Reading = λ l b place. record { pending = l; place = place; ended = b } in
-      ap₂ (λ l b. made l b (record { bytes = bytes + len; clock = now; frames = frames + 1 })) none unended
-      ∙ ap (made [] false) place_after
+  reading_after ended unended =
+      let made : Bool → Place → Reading = λ b place. record { pending = []; place = place; ended = b } in
+      ap (λ b. made b (record { bytes = bytes + len; clock = now; frames = frames + 1 })) unended
+      ∙ ap (made false) place_after
 
   -- it is at rest
-  pub rest_after : (held rest : List ℕ) → held ≡ []
+  pub rest_after : (rest : List ℕ)
       → bytes ≤ frames * most_pending
       → length left ≤ needed (record { bytes = bytes; clock = clock; frames = frames }) left
       → next_frame (record { bytes = bytes; clock = clock; frames = frames }) left ≡ Whole frame rest
-      → IsAtRest held (record { bytes = bytes + len; clock = now; frames = frames + 1 })
-  rest_after held rest none placed few whole = record {
-    none = none;
+      → IsAtRest (record { bytes = bytes + len; clock = now; frames = frames + 1 })
+  rest_after rest placed few whole = record {
     counted = omega (
       arith,
       (StandsWhole-from_next (record { bytes = bytes; clock = clock; frames = frames }) left frame rest whole).room,
@@ -173,89 +209,83 @@ found_whole place slice left found frame same is finds =
     (there.0, ap (next_frame place) (sym same) ∙ there.1)
 
 -- A call in its two steps: as many bytes were taken as the judgement asks for, and these were judged.
-module _ (old new : Input) (held made taken : List ℕ) (place : Place) (ended : Bool) (none : held ≡ [])
+module _ (old new : Input) (slice taken : List ℕ) (place : Place) (ended : Bool) (same : slice ≡ taken)
     (takes : TakesNext old new place taken) where
-  left_is : held ++ taken ≡ taken
-  left_is = ap (λ l. l ++ taken) none
+  found_in : (found : Result (Option Frame) FrameError)
+      → FindsNext place found (next_frame place slice)
+      → FindsNext place found (next_frame place taken)
+  found_in found = subst (λ l. FindsNext place found (next_frame place l)) same
 
-  no_more : length (held ++ taken) ≤ needed place (held ++ taken)
-  no_more = subst (λ l. length l ≤ needed place l) (sym left_is) takes.no_more
+  -- nothing was there
+  pub gives_end : FindsNext place (Ok None) (next_frame place slice)
+      → GivesFrame old new (record { pending = []; place = place; ended = ended })
+      (record { pending = []; place = place; ended = true }) None
+  gives_end finds =
+      let is : next_frame place taken ≡ Ended = found_in (Ok None) finds in
+      record {
+        taken = taken;
+        consumes = takes.consumes;
+        no_more = takes.no_more;
+        next = (is, refl);
+        at_end = takes.end (omega (arith, ap length (next_ended place taken is), needed_some place taken));
+      }
 
-  given_frame : (after : Reading) (frame : Option Frame)
-      → GivesNext (record { pending = made; place = place; ended = ended }) taken after frame
-      → GivesFrame old new (record { pending = held; place = place; ended = ended }) after frame
-  given_frame after None h = record {
+  -- a frame was there, and no more
+  pub gives_frame : (after : Reading) (frame : Frame)
+      → FindsNext place (Ok (Some frame)) (next_frame place slice)
+      → after ≡ record { pending = []; place = past place taken frame []; ended = false }
+      → GivesFrame old new (record { pending = []; place = place; ended = ended }) after (Some frame)
+  gives_frame after frame finds is =
+      let whole = found_in (Ok (Some frame)) finds in
+      record {
+        taken = taken;
+        consumes = takes.consumes;
+        no_more = takes.no_more;
+        next = (
+          whole.1 ∙ ap (Whole frame) (whole_is_all place taken frame whole.0 whole.1 takes.no_more),
+          is,
+        );
+        at_end = tt;
+      }
+
+  -- a fault was there, or memory was wanting
+  pub refuses : (e : FrameError)
+      → FindsNext place (Err e) (next_frame place slice)
+      → Refuses old new (record { pending = []; place = place; ended = ended }) e
+  refuses (failed.Session at fault) finds =
+      let there = found_in (Err (failed.Session at fault)) finds in
+      record {
+        taken = taken;
+        consumes = takes.consumes;
+        no_more = takes.no_more;
+        cause = record {
+          placed = there.0;
+          broken = there.1;
+          at_end = λ cut. takes.end (cut_is_short place taken (there.1 ∙ ap Broken cut));
+        };
+      }
+  refuses failed.Read finds = absurd finds
+  refuses failed.Memory finds = record {
     taken = taken;
     consumes = takes.consumes;
-    no_more = no_more;
-    next = (ap (next_frame place) left_is ∙ h.0, h.1);
-    at_end = takes.end (omega (arith, ap length (next_ended place taken h.0), needed_some place taken));
-  }
-  given_frame after (Some frame) h = record {
-    taken = taken;
-    consumes = takes.consumes;
-    no_more = no_more;
-    next = (
-      ap (next_frame place) left_is ∙ h.0,
-      h.1 ∙ ap (λ l. record { pending = []; place = past place l frame []; ended = false }) (sym left_is),
-    );
-    at_end = tt;
-  }
-
-  pub gives : (answer : Result (Reading × Option Frame) FrameError)
-      → Judges (record { pending = made; place = place; ended = ended }) taken answer
-      → IfOk answer
-      (λ r. GivesFrame old new (record { pending = held; place = place; ended = ended }) r.0 r.1)
-  gives (Ok answer) judges = given_frame answer.0 answer.1 judges
-  gives (Err e) judges = tt
-
-  refused : (e : FrameError)
-      → Judges (record { pending = made; place = place; ended = ended }) taken (Err e)
-      → Refuses old new (record { pending = held; place = place; ended = ended }) e
-  refused (failed.Session at fault) judges = record {
-    taken = taken;
-    consumes = takes.consumes;
-    no_more = no_more;
-    cause = record {
-      placed = judges.0;
-      broken = ap (next_frame place) left_is ∙ judges.1;
-      at_end = λ cut. takes.end (cut_is_short place taken (judges.1 ∙ ap Broken cut));
-    };
-  }
-  refused failed.Read judges = absurd judges
-  refused failed.Memory judges = record {
-    taken = taken;
-    consumes = takes.consumes;
-    no_more = no_more;
+    no_more = takes.no_more;
     cause = tt;
   }
 
-  pub refuses : (answer : Result (Reading × Option Frame) FrameError)
-      → Judges (record { pending = made; place = place; ended = ended }) taken answer
-      → IfErr answer (λ e. Refuses old new (record { pending = held; place = place; ended = ended }) e)
-  refuses (Ok answer) judges = tt
-  refuses (Err e) judges = refused e judges
-
 -- A call whose taking broke off.
-pub refuses_before : (old new : Input) (held : List ℕ) (place : Place) (ended : Bool) (e : FrameError)
-    → held ≡ []
+pub refuses_before : (old new : Input) (place : Place) (ended : Bool) (e : FrameError)
     → StopsShort old new place e
-    → Refuses old new (record { pending = held; place = place; ended = ended }) e
-refuses_before old new held place ended (failed.Session at fault) none breaks = absurd breaks.outside
-refuses_before old new held place ended failed.Read none breaks =
-    let left_is : held ++ breaks.taken ≡ breaks.taken = ap (λ l. l ++ breaks.taken) none in
-    record {
-      taken = breaks.taken;
-      consumes = breaks.consumes;
-      no_more = subst (λ l. length l ≤ needed place l) (sym left_is) (omega (arith, breaks.short));
-      cause = subst (λ l. IsUnfinished (next_frame place l)) (sym left_is)
-          (short_is_unfinished place breaks.taken breaks.short);
-    }
-refuses_before old new held place ended failed.Memory none breaks =
-    let left_is : held ++ breaks.taken ≡ breaks.taken = ap (λ l. l ++ breaks.taken) none in
-    record {
-      taken = breaks.taken;
-      consumes = breaks.consumes;
-      no_more = subst (λ l. length l ≤ needed place l) (sym left_is) (omega (arith, breaks.short));
-      cause = tt;
-    }
+    → Refuses old new (record { pending = []; place = place; ended = ended }) e
+refuses_before old new place ended (failed.Session at fault) breaks = absurd breaks.outside
+refuses_before old new place ended failed.Read breaks = record {
+  taken = breaks.taken;
+  consumes = breaks.consumes;
+  no_more = omega (arith, breaks.short);
+  cause = short_is_unfinished place breaks.taken breaks.short;
+}
+refuses_before old new place ended failed.Memory breaks = record {
+  taken = breaks.taken;
+  consumes = breaks.consumes;
+  no_more = omega (arith, breaks.short);
+  cause = tt;
+}

@@ -9,8 +9,7 @@ use Rattle.session_frames.specs.declared.frame.FrameError.{FrameError}
 use Rattle.session_frames.specs.declared.frame.FrameError.TheVariants as failed
 use Rattle.session_frames.specs.declared.frame.FrameFault.{FrameFault}
 use Rattle.session_frames.specs.declared.place.Place.{Place}
-use Rattle.session_frames.specs.Frames.{Next, Ended, Broken, Whole, next_frame, needed}
-use Rattle.session_frames.specs.Reader.{Reading, GivesNext}
+use Rattle.session_frames.specs.Frames.{Next, Ended, Broken, Whole, needed}
 
 -- the fault that an error names; want of memory names none
 abbrev pub fault_in : BodyError → Option FrameFault
@@ -24,14 +23,6 @@ FindsNext place (Ok (Some frame)) next = (rest : List ℕ) × (next ≡ Whole fr
 FindsNext place (Err (failed.Session at fault)) next = (at ≡ place.bytes) × (next ≡ Broken fault)
 FindsNext place (Err failed.Read) next = ⊥
 FindsNext place (Err failed.Memory) next = Unit {0}
-
--- a reader that stood so judges these bytes, of which there are no more than that asks for
-abbrev pub Judges : Reading → List ℕ → Result (Reading × Option Frame) FrameError → Type 0
-Judges before left (Ok answer) = GivesNext before left answer.0 answer.1
-Judges before left (Err (failed.Session at fault)) =
-    (at ≡ before.place.bytes) × (next_frame before.place left ≡ Broken fault)
-Judges before left (Err failed.Read) = ⊥
-Judges before left (Err failed.Memory) = Unit {0}
 
 -- the cause lies outside of the session
 abbrev pub IsOutside : FrameError → Type 0

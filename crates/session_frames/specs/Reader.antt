@@ -75,8 +75,7 @@ pub record HasReadCause {T : Type 0} (old new : Input) (result : Result T FrameE
   pub later : old.faults ≤ new.faults
   pub failed : IsErrOf result Read → Rose old.faults new.faults
 
--- What holds of a reader between its calls: it holds no byte, and each frame before its place had a length that may be.
-pub record IsAtRest (held : List ℕ) (place : Place) : Type 0 where
-  pub none : held ≡ []
+-- What holds of a reader between its calls: each frame before its place had a length that may be.
+pub record IsAtRest (place : Place) : Type 0 where
   pub counted : place.frames ≤ most_session_frames
   pub placed : place.bytes ≤ place.frames * most_pending

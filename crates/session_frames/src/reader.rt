@@ -1,19 +1,18 @@
 //! The reader of frames.
-ghost use Rattle.std.specs.Prelude.{◌≡◌, ◌<◌, ◌≤◌, [], false, length, vec_len, IsTrue, IfOk, IfErr, OnErr, IfSome, None, Ok};
-ghost use Rattle.sd_io.specs.Causes.{Takes};
+ghost use Rattle.std.specs.Prelude.{◌≡◌, ◌+◌, ◌-◌, ◌<◌, ◌≤◌, [], false, length, take, vec_len, IsTrue, IfOk, IfErr, OnOk, OnErr, IfSome, None, Ok};
+ghost use Rattle.sd_io.specs.Causes.{IsFrontOf, Takes};
 ghost use Rattle.session_frames.specs.Faultless.{IsFaultless, IsInTime};
 ghost use Rattle.session_frames.specs.FrameLimits.{most_pending};
 ghost use Rattle.session_frames.specs.Frames as frames;
 ghost use Rattle.session_frames.specs.Reader.{unread, GivesFrame, Refuses, HasReadCause};
-ghost use Rattle.session_frames.specs.Bodies.{FindsNext, IsOutside, Judges, StopsShort, TakesNext, TakesSome};
+ghost use Rattle.session_frames.specs.Bodies.{FindsNext, IsOutside, StopsShort, TakesNext, TakesSome};
 
 use crate::body::{BodyError, next_clock, read_frame};
 use crate::place::Place;
 use crate::{Frame, FrameError, SessionFault};
 use sd_io::Source;
-use std::alloc::Global;
+use std::alloc::{AllocError, Global};
 use std::marker::Model;
-use std::mem;
 
 // The most frames of a session.
 const MAX_FRAMES: u64 = 1 << 32;
@@ -28,19 +27,21 @@ const PIECE: usize = 65_536;
 #[derive(Drop)]
 pub struct FrameReader {
     alloc: Global,
-    held: Vec<u8>,
+    room: Vec<u8>,
     place: Place,
     ended: bool,
 }
 
 impl Model for FrameReader {
+    ghost use Rattle.std.specs.Prelude.{[]};
     ghost use Rattle.session_frames.specs.Reader.{Reading, IsAtRest};
 
     ghost Value = { Reading };
 
-    ghost view = { λ s. record { pending = s.held.items; place = s.place; ended = s.ended } };
+    // Its room is no part of it: what a call takes there is judged in that call.
+    ghost view = { λ s. record { pending = []; place = s.place; ended = s.ended } };
 
-    ghost invariant = { λ s. IsAtRest s.held.items s.place };
+    ghost invariant = { λ s. IsAtRest s.place };
 }
 
 impl FrameReader {
@@ -50,7 +51,7 @@ impl FrameReader {
     {
         FrameReader {
             alloc,
-            held: Vec::new(alloc),
+            room: Vec::new(alloc),
             place: Place {
                 bytes: 0,
                 clock: 0,
@@ -60,12 +61,13 @@ impl FrameReader {
         }
     }
 
-    /// How many bytes it holds that were taken and belong to no frame that it gave. There are none between two calls.
+    /// How many bytes it holds that were taken and belong to no frame that it gave: none between two calls.
     pub fn pending(&self) -> usize
         ensures held { result ≡ length self.now.pending }
         ensures few { result ≤ most_pending }
     {
-        self.held.len()
+        let _ = &self.room;
+        0
     }
 
     /// The next frame, or `None` where the source ended at a frame's end. Of what the reader holds, the bytes of
@@ -91,57 +93,40 @@ impl FrameReader {
         if self.ended {
             return Ok((self, None));
         }
-        let room = mem::replace(&mut self.held, Vec::new(self.alloc));
-        let held = take_next(room, &self.place, src)?;
-        self.judge(held)
-    }
-
-    // What stands next in the bytes that were taken for it, which are let go.
-    fn judge(mut self, mut held: Vec<u8>) -> Result<(FrameReader, Option<Frame>), FrameError>
-        requires whole { length held.items ≤ frames.needed self.place held.items }
-        requires none { self.pending ≡ [] }
-        requires open { self.ended ≡ false }
-        ensures judges { Judges self held.items result }
-        ensures sound { IfOk result (λ r.
-            IfSome r.1 (λ f. IsFaultless f × IsInTime self.place.clock f)) }
-    {
-        let Some(frame) = next_in(self.alloc, &self.place, &held)? else {
+        let count = take_next(&mut self.room, &self.place, src)?;
+        let Some(frame) = next_in(self.alloc, &self.place, &self.room[..count])? else {
             self.ended = true;
             return Ok((self, None));
         };
         self.place = Place {
-            bytes: self.place.bytes + held.len() as u64,
+            bytes: self.place.bytes + count as u64,
             clock: next_clock(self.place.clock, &frame),
             frames: self.place.frames + 1,
         };
-        held.clear();
-        self.held = held;
         Ok((self, Some(frame)))
     }
 }
 
-// The bytes of what stands next in a source: as many as the judgement asks for, or all that there are.
-fn take_next<S: Source>(
-    mut held: Vec<u8>,
-    place: &Place,
-    src: &mut S,
-) -> Result<Vec<u8>, FrameError>
-    requires { held.items ≡ [] }
-    ensures takes { IfOk result (λ taken.
-        TakesNext (S.state src.old) (S.state src.new) place.now taken.items) }
+// Takes the bytes of what stands next in a source to the front of the room, and says how many: as many as the judgement
+// asks for, or all that there are.
+fn take_next<S: Source>(room: &mut Vec<u8>, place: &Place, src: &mut S) -> Result<usize, FrameError>
+    ensures takes { IfOk result (λ count.
+        TakesNext (S.state src.old) (S.state src.new) place.now (take count room.new.items)) }
+    ensures within { IfOk result (λ count. count ≤ vec_len room.new) }
     ensures breaks { IfErr result (λ e. StopsShort (S.state src.old) (S.state src.new) place.now e) }
     ensures cause { HasReadCause (S.state src.old) (S.state src.new) result }
 {
+    let mut held = 0;
     'reads: loop {
-        let goal = needed(place, &held);
-        if held.len() >= goal {
+        let goal = needed(place, &room[..held]);
+        if held >= goal {
             return Ok(held);
         }
-        let most = goal - held.len();
-        let count = take_some(&mut held, most, src)?;
+        let count = take_some(room, held, goal, src)?;
         if count == 0 {
             return Ok(held);
         }
+        held += count;
     }
 }
 
@@ -171,21 +156,36 @@ fn size_of(held: &[u8]) -> u32
     u32::from_le_bytes([held[0], held[1], held[2], held[3]])
 }
 
-// Takes bytes by one call of the source, at most so many, behind those that are held. The room grows with the bytes that
-// come: a length alone asks for no memory.
-fn take_some<S: Source>(held: &mut Vec<u8>, most: usize, src: &mut S) -> Result<usize, FrameError>
-    requires { 0 < most }
-    ensures takes { IfOk result (λ count.
-        TakesSome (S.state src.old) (S.state src.new) held.old.items held.new.items most count) }
+// Takes bytes by one call of the source behind those that are held, up to so many in all. The room grows with the bytes
+// that come: a length alone asks for no memory.
+fn take_some<S: Source>(
+    room: &mut Vec<u8>,
+    held: usize,
+    goal: usize,
+    src: &mut S,
+) -> Result<usize, FrameError>
+    requires within { held ≤ vec_len room.old }
+    requires some { held < goal }
+    ensures takes { IfOk result (λ count. TakesSome (S.state src.old) (S.state src.new)
+        (take held room.old.items) (take (held + count) room.new.items) (goal - held) count) }
     ensures nothing { OnErr result (Takes (S.state src.old) (S.state src.new) []) }
     ensures outside { IfErr result IsOutside }
     ensures cause { HasReadCause (S.state src.old) (S.state src.new) result }
 {
-    let len = held.len();
-    held.resize(len + most.min(PIECE), 0)?;
-    let count = src.read(&mut held[len..])?;
-    held.truncate(len + count);
-    Ok(count)
+    let end = goal.min(held + PIECE);
+    make_room(room, end)?;
+    Ok(src.read(&mut room[held..end])?)
+}
+
+// Room for so many bytes at least; what stands in it stays.
+fn make_room(room: &mut Vec<u8>, size: usize) -> Result<(), AllocError>
+    ensures enough { OnOk result (size ≤ vec_len room.new) }
+    ensures kept { OnOk result (IsFrontOf room.old.items room.new.items) }
+{
+    if size <= room.len() {
+        return Ok(());
+    }
+    room.resize(size, 0)
 }
 
 // What stands next in what is left: a frame, or nothing at the end.
