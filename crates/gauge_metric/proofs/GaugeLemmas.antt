@@ -36,8 +36,18 @@ rows_by_samples samples bound start end came (key ∷ ks) =
     ap (λ rows. sample_row start end (key, key_samples samples came key) ∷ rows)
     (rows_by_samples samples bound start end came ks)
 
+-- so are those of a part, by what came in it
+pub rows_of_part : (samples bound start end : ℕ) (came : List (MetricKey × Atom))
+    → map (sample_row start end) (sampled samples bound came)
+    ≡ rows_of (gauge_kind samples) bound (record { start = start; end = end; came = came })
+rows_of_part samples bound start end came =
+    let part : Part (MetricKey × Atom) = record { start = start; end = end; came = came } in
+    let ks = admitted is_same_key bound (map arrival_key came) in
+    sym (rows_by_samples samples bound start end came ks)
+    ∙ sym (append-nil (flat_map (row_of (gauge_kind samples) bound part) ks))
+
 -- an empty table has the samples of an empty part
-sampled_empty : (samples bound : ℕ) → sampled samples bound [] ≡ []
+pub sampled_empty : (samples bound : ℕ) → sampled samples bound [] ≡ []
 sampled_empty samples bound = ap (map (λ key. (key, key_samples samples [] key))) (take-nil bound)
 
 -- the open part is closed: its rows are kept or counted, and an empty part begins
@@ -57,9 +67,7 @@ closes_gauge old new end start samples table adds params books has =
     let rows : map (sample_row old.start end) old.table.rows ≡ rows_of kind bound part =
     ap (λ s. map (sample_row s end) old.table.rows) has.start
     ∙ ap (map (sample_row books.start end)) rows_are
-    ∙ sym (rows_by_samples params.samples bound books.start end books.came
-    (admitted is_same_key bound (map arrival_key books.came)))
-    ∙ sym (append-nil (flat_map (row_of kind bound part) (admitted is_same_key bound (map arrival_key books.came)))) in
+    ∙ rows_of_part params.samples bound books.start end books.came in
     record {
       bound = ap (λ (t : Table MetricKey (List Atom)). t.bound) table ∙ has.bound;
       samples = samples ∙ has.samples;

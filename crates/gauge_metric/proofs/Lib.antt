@@ -2,4 +2,10 @@ pub mod ClosedRowsLemmas
 pub mod EventLemmas
 pub mod SampledLemmas
 pub mod GaugeLemmas
+pub mod MomentLemmas
+pub mod RepeatedLemmas
+pub mod PulledLemmas
+pub mod PulledCallsLemmas
 pub mod ItemsLemmas
+pub mod PulledMomentsLemmas
+pub mod PulledItemsLemmas

@@ -1,9 +1,8 @@
 -- The samples of a part, one more at a time.
-use Rattle.std.proofs.Common.{◌≡◌, ℕ, zero, suc, ◌+◌, ◌<◌, ◌≤◌, Bool, true, false, ◌||◌, nat_lt, if◌then◌else◌, List, [], ◌∷◌, ◌++◌, map, take, length, slice_get, Some, refl, sym, ap, ◌∙◌, arith, ⊎_elim}
-use Rattle.std.specs.List.{AllByRecursion}
+use Rattle.std.proofs.Common.{◌≡◌, ℕ, zero, suc, ◌<◌, ◌≤◌, true, false, ◌||◌, nat_lt, if◌then◌else◌, List, [], ◌∷◌, ◌++◌, map, take, length, slice_get, Some, refl, sym, ap, ◌∙◌, arith, ⊎_elim}
 use Rattle.std.specs.Map.{values_of}
 use Rattle.std.proofs.lemmas.Bool.{cases_Bool, cases_lt, lt-ltb, le-ltb, false≢true}
-use Rattle.std.proofs.lemmas.List.{length-take, length-append, take_all}
+use Rattle.std.proofs.lemmas.List.{length-take, take_all}
 use Rattle.std.proofs.Math.Seq.{take-nil}
 use Rattle.atom_record.specs.declared.atom.Atom.{Atom}
 use Rattle.atom_record.specs.declared.value.MetricKey.{MetricKey}

@@ -4,3 +4,7 @@ pub mod EventItems
 pub mod Sampling
 pub mod GaugeStands
 pub mod GaugeItems
+pub mod PulledSampling
+pub mod PulledStands
+pub mod PulledMoments
+pub mod PulledItems

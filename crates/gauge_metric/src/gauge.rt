@@ -75,7 +75,7 @@ impl PushedGauge {
 }
 
 // Keeps a row for each key and its samples, in order, or counts it.
-fn keep_all(
+pub(crate) fn keep_all(
     kept: &mut KeptRows<Row<Seq<Atom>>>,
     start: u64,
     end: u64,
@@ -98,7 +98,7 @@ fn keep_all(
 }
 
 // What a row of these samples weighs.
-fn weight_of(atoms: &Seq<Atom>) -> u64
+pub(crate) fn weight_of(atoms: &Seq<Atom>) -> u64
     ensures least { 1 ≤ result }
     ensures value { 1 ≤ length atoms.now → result ≡ length atoms.now }
 {

@@ -5,7 +5,13 @@ mod events;
 mod flat;
 mod gauge;
 mod memory;
+mod pulled;
+mod pulled_flat;
+mod repeated;
+mod snapshot;
 
 pub use events::EventProducer;
 pub use gauge::{KeyedAtom, PushedGauge};
 pub use metric_producer::{Closed, Producer, Row};
+pub use pulled::{PulledGauge, SampleSpec};
+pub use snapshot::SnapAtoms;

@@ -3,6 +3,7 @@
 
 mod calls;
 mod producers;
+mod pulled;
 mod shown;
 
 use producers::Producers;

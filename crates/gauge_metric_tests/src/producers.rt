@@ -1,9 +1,12 @@
 //! The rows: a producer, its calls, and what it hands out.
 use super::calls::{Call, act, call_of};
+use super::pulled::{give_pulled, mode_of};
 use super::shown::{atom_of, closed_text, key_of};
 use atom_record::Atom;
 use flat_form::{FlatError, rebuild};
-use gauge_metric::{Closed, EventProducer, KeyedAtom, Producer, PushedGauge};
+use gauge_metric::{
+    Closed, EventProducer, KeyedAtom, Producer, PulledGauge, PushedGauge, SampleSpec,
+};
 use sd_base::Seq;
 use std::alloc::{AllocError, Global};
 use test_tools::{Row, Table, Tester, unsigned};
@@ -18,6 +21,8 @@ enum Made {
     Events(EventProducer),
     /// Of samples that are pushed.
     Pushed(PushedGauge),
+    /// Of samples of snapshots.
+    Pulled(PulledGauge),
 }
 
 impl Table for Producers {
@@ -38,13 +43,14 @@ impl Table for Producers {
 }
 
 /// The producer whose time begins at 0: `events`, or a gauge with buckets of a size, with so many keys and so many
-/// samples of each, as `10 2 3`.
+/// samples of each, as `10 2 3`, or with its mode, where it is pulled, as `10 2 3 start`.
 fn producer_of(alloc: Global, text: &str) -> Option<Made> {
     if text == "events" {
         return Some(Made::Events(EventProducer::new(alloc)));
     }
     let (first, rest) = text.split_once(' ')?;
-    let (second, third) = rest.split_once(' ')?;
+    let (second, last) = rest.split_once(' ')?;
+    let (third, mode) = last.split_once(' ').unwrap_or((last, ""));
     let size = unsigned(first)?;
     let bound = second.parse::<usize>().ok()?;
     let samples = third.parse::<usize>().ok()?;
@@ -54,7 +60,14 @@ fn producer_of(alloc: Global, text: &str) -> Option<Made> {
     if samples < 1 || samples > 100 || bound * samples > 16_384 {
         return None;
     }
-    Some(Made::Pushed(PushedGauge::new(alloc, 0, size, bound, samples)))
+    if mode == "" {
+        return Some(Made::Pushed(PushedGauge::new(alloc, 0, size, bound, samples)));
+    }
+    let spec = SampleSpec {
+        samples,
+        mode: mode_of(mode)?,
+    };
+    Some(Made::Pulled(PulledGauge::new(alloc, 0, size, bound, spec)))
 }
 
 /// Runs steps, which stand between semicolons.
@@ -83,6 +96,7 @@ fn built_again(alloc: Global, made: &Made) -> Result<Made, FlatError> {
     match made {
         Made::Events(events) => Ok(Made::Events(rebuild(alloc, events)?)),
         Made::Pushed(gauge) => Ok(Made::Pushed(rebuild(alloc, gauge)?)),
+        Made::Pulled(gauge) => Ok(Made::Pulled(rebuild(alloc, gauge)?)),
     }
 }
 
@@ -108,16 +122,29 @@ fn run_step(
         let found = format!(in alloc; "{rows} {others}")?;
         return tester.same_text("sizes", wanted, found.as_str());
     }
-    match call_of(step) {
-        Some(call) => give(alloc, producer, call),
-        None => tester.differs("a step that isn't known", step),
+    if give_step(alloc, producer, step)? {
+        return Ok(());
     }
+    tester.differs("a step that isn't known", step)
+}
+
+/// Gives a producer the call of a step. Answers whether there is one.
+fn give_step(alloc: Global, producer: &mut Made, step: &str) -> Result<bool, AllocError> {
+    if let Made::Pulled(gauge) = producer {
+        return give_pulled(alloc, gauge, step);
+    }
+    let Some(call) = call_of(step) else {
+        return Ok(false);
+    };
+    give(alloc, producer, call)?;
+    Ok(true)
 }
 
 fn taken(made: &mut Made) -> Closed<Seq<Atom>> {
     match made {
         Made::Events(events) => events.take(),
         Made::Pushed(gauge) => gauge.take(),
+        Made::Pulled(gauge) => gauge.take(),
     }
 }
 
@@ -134,5 +161,6 @@ fn give(alloc: Global, made: &mut Made, call: Call) -> Result<(), AllocError> {
             let key = key_of(alloc, key)?;
             act(gauge, call, KeyedAtom { key, atom })
         }
+        Made::Pulled(_) => Ok(()),
     }
 }
