@@ -1,0 +1,17 @@
+pub mod InnerLemmas
+pub mod KnownLemmas
+pub mod ActiveLemmas
+pub mod SpanLemmas
+pub mod BeginLemmas
+pub mod StepLemmas
+pub mod SumLemmas
+mod SumWorked
+pub mod SparseKnownLemmas
+pub mod SparseRowLemmas
+pub mod SparseStepLemmas
+pub mod SparseEventLemmas
+pub mod SparseToldLemmas
+pub mod SparseTimesLemmas
+pub mod SparseBooksLemmas
+pub mod SparseLemmas
+pub mod SparseTurnLemmas

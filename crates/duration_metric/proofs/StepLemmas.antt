@@ -1,0 +1,248 @@
+-- One step of each loop of a producer of sums.
+use Rattle.std.proofs.Common.{◌≡◌, ◌⊎◌, ℕ, zero, suc, ◌+◌, ◌*◌, ◌-◌, ◌^◌, ◌<◌, ◌≤◌, Bool, true, false, not, ◌||◌, if◌then◌else◌, List, [], ◌∷◌, ◌++◌, map, take, length, get_or, slice_get, Option, Some, None, refl, sym, ap, subst, ◌∙◌, arith, ⊎_elim, append-nil, append_assoc}
+use Rattle.std.specs.List.{flat_map, list_any}
+use Rattle.std.specs.Map.{values_of}
+use Rattle.std.proofs.lemmas.Bool.{cases_Bool, true≢false}
+use Rattle.std.proofs.lemmas.List.{map-append, length-append, length-map, take_more, take_all}
+use Rattle.std.proofs.Math.Nat.{mul-le-mul_right}
+use Rattle.std.proofs.lemmas.Grind.{flat_map-append}
+use Rattle.std.proofs.lemmas.Option.{none-some, same_Some, slice_get_within, get_or_from_slice_get}
+use Rattle.atom_record.specs.Equal.{metric_key_exact}
+use Rattle.atom_record.specs.declared.value.MetricKey.{MetricKey}
+use Rattle.bucket_meaning.specs.Guard.{is_among, with_key, firsts}
+use Rattle.bucket_meaning.specs.Kept.{count_in_u64}
+use Rattle.dim_table.specs.Table.{Table, with_value_at, set_value_at}
+use Rattle.kept_rows.specs.KeptRows.{Keeping, IsKept, AddsRows}
+use Rattle.metric_producer.specs.declared.row.Row.{Row}
+use Rattle.metric_producer.proofs.KeysLemmas.{other_way}
+use Rattle.metric_kinds.specs.Keys.{is_same_key}
+use Rattle.metric_kinds.specs.Counts.{row_weight}
+use Rattle.predicate_state.specs.PredicateTable.{LeafKey}
+use Rattle.duration_metric.specs.declared.inner.Inner.{Inner}
+use Rattle.duration_metric.specs.declared.sum.Span.{Span}
+use Rattle.duration_metric.specs.SumStands.{span_at, span_row, whole_row, whole_rows}
+use Rattle.duration_metric.specs.SumSteps.{row_out, active_in, row_at, StepsOne}
+use Rattle.duration_metric.proofs.ActiveLemmas.{walk_more}
+
+-- a key is among some by either order of the test
+pub among_is : (key : MetricKey) (ks : List MetricKey) → list_any (is_same_key key) ks ≡ is_among is_same_key key ks
+among_is key [] = refl
+among_is key (other ∷ ks) = ⊎_elim
+    (λ (alike : is_same_key key other ≡ true).
+    let back : is_same_key other key ≡ true =
+    (metric_key_exact other key).1 (sym ((metric_key_exact key other).0 alike)) in
+    ap (λ b. b || list_any (is_same_key key) ks) alike ∙ sym (ap (λ b. b || is_among is_same_key key ks) back))
+    (λ (differs : is_same_key key other ≡ false).
+    ap (λ b. b || list_any (is_same_key key) ks) differs ∙ among_is key ks
+    ∙ sym (ap (λ b. b || is_among is_same_key key ks) (other_way is_same_key metric_key_exact key other differs)))
+    (cases_Bool (is_same_key key other))
+
+-- the list with one element more
+pub next_taken : {X : Type 0} (xs : List X) (i : ℕ) (x : X) → i < length xs → x ≡ get_or xs i x
+    → take (i + 1) xs ≡ take i xs ++ x ∷ []
+next_taken xs i x within is = take_more xs i x within ∙ ap (λ y. take i xs ++ y ∷ []) (sym is)
+
+pub next_got : {X : Type 0} (xs : List X) (i : ℕ) (x : X) → slice_get xs i ≡ Some x
+    → take (i + 1) xs ≡ take i xs ++ x ∷ []
+next_got xs i x at =
+    take_more xs i x (slice_get_within xs i x at) ∙ ap (λ y. take i xs ++ y ∷ []) (get_or_from_slice_get xs i x x at)
+
+pub past_all : {X : Type 0} (xs : List X) (i : ℕ) → slice_get xs i ≡ None → length xs ≤ i
+past_all [] i none = omega arith
+past_all (x ∷ xs) zero none = absurd (none-some x (sym none))
+past_all (x ∷ xs) (suc i) none = omega (arith, past_all xs i none)
+
+-- the first so many rows were taken to a time
+abbrev pub steps_to : (MetricKey × Span → Span) → ℕ → List (MetricKey × Span) → List (MetricKey × Span)
+steps_to next zero rows = rows
+steps_to next (suc n) [] = []
+steps_to next (suc n) (row ∷ rows) = (row.0, next row) ∷ steps_to next n rows
+
+steps_set : (next : MetricKey × Span → Span) (n : ℕ) (rows : List (MetricKey × Span)) (row : MetricKey × Span)
+    → slice_get (steps_to next n rows) n ≡ Some row
+    → set_value_at (steps_to next n rows) n (next row) ≡ steps_to next (suc n) rows
+steps_set next zero [] row at = refl
+steps_set next zero (first ∷ rows) row at =
+    ap (λ (r : MetricKey × Span). (first.0, next r) ∷ rows) (sym (same_Some first row at))
+steps_set next (suc n) [] row at = refl
+steps_set next (suc n) (first ∷ rows) row at = ap (λ l. (first.0, next first) ∷ l) (steps_set next n rows row at)
+
+steps_past : (next : MetricKey × Span → Span) (n : ℕ) (rows : List (MetricKey × Span))
+    → slice_get (steps_to next n rows) n ≡ None → steps_to next n rows ≡ steps_to next (suc n) rows
+steps_past next zero [] none = refl
+steps_past next zero (row ∷ rows) none = absurd (none-some row (sym none))
+steps_past next (suc n) [] none = refl
+steps_past next (suc n) (row ∷ rows) none = ap (λ l. (row.0, next row) ∷ l) (steps_past next n rows none)
+
+pub steps_whole : (next : MetricKey × Span → Span) (n : ℕ) (rows : List (MetricKey × Span)) → length rows ≤ n
+    → steps_to next n rows ≡ map (λ (row : MetricKey × Span). (row.0, next row)) rows
+steps_whole next zero [] all = refl
+steps_whole next zero (row ∷ rows) all = absurd (omega (arith, all))
+steps_whole next (suc n) [] all = refl
+steps_whole next (suc n) (row ∷ rows) all =
+    ap (λ l. (row.0, next row) ∷ l) (steps_whole next n rows (omega (arith, all)))
+
+-- the span of a row that is taken to a time
+abbrev pub next_span : List MetricKey → ℕ → MetricKey × Span → Span
+next_span active at row = (row_at active at row).1
+
+-- one row more
+pub steps_next : (first old new : Table MetricKey Span) (active : List MetricKey) (place at : ℕ)
+    → old ≡ record first { rows = steps_to (next_span active at) place first.rows }
+    → StepsOne old new active place at
+    → new ≡ record first { rows = steps_to (next_span active at) (place + 1) first.rows }
+steps_next first old new active place at is one = by (slice_get old.rows place) refl where
+  rows_at : ℕ → Table MetricKey Span
+  rows_at n = record first { rows = steps_to (next_span active at) n first.rows }
+
+  one_on : suc place ≡ place + 1
+  one_on = omega arith
+
+  by : (found : Option (MetricKey × Span)) → slice_get old.rows place ≡ found → new ≡ rows_at (place + 1)
+  by None none = one.nowhere none ∙ is
+      ∙ ap (λ rows. record first { rows = rows }) (steps_past (next_span active at) place first.rows
+      (sym (ap (λ (t : Table MetricKey Span). slice_get t.rows place) is) ∙ none))
+      ∙ ap rows_at one_on
+  by (Some row) found = one.there row found
+      ∙ ap (λ (t : Table MetricKey Span). with_value_at t place (next_span active at row)) is
+      ∙ ap (λ rows. record first { rows = rows }) (steps_set (next_span active at) place first.rows row
+      (sym (ap (λ (t : Table MetricKey Span). slice_get t.rows place) is) ∙ found))
+      ∙ ap rows_at one_on
+
+value_there : (rows : List (MetricKey × Span)) (place : ℕ) (row : MetricKey × Span) → slice_get rows place ≡ Some row
+    → slice_get (values_of rows) place ≡ Some row.1
+value_there [] place row at = absurd (none-some row at)
+value_there (first ∷ rows) zero row at = ap (λ (r : MetricKey × Span). Some r.1) (same_Some first row at)
+value_there (first ∷ rows) (suc place) row at = value_there rows place row at
+
+-- the row at a place was taken to a time
+pub steps_one : (old : Table MetricKey Span) (active : List MetricKey) (place at : ℕ) (row : MetricKey × Span)
+    (span result : Span) (is_active : Bool) → slice_get old.rows place ≡ Some row
+    → slice_get (values_of old.rows) place ≡ Some span → is_active ≡ list_any (is_same_key row.0) active
+    → result ≡ span_at at is_active span → StepsOne old (with_value_at old place result) active place at
+steps_one old active place at row span result is_active found value active_is is = record {
+  there = λ other there. ap (with_value_at old place)
+      (is ∙ ap (λ b. span_at at b span) (active_is ∙ among_is row.0 active)
+      ∙ ap (span_at at (is_among is_same_key row.0 active))
+      (sym (same_Some row.1 span (sym (value_there old.rows place row found) ∙ value)))
+      ∙ ap (next_span active at) (same_Some row other (sym found ∙ there)));
+  nowhere = λ none. absurd (none-some row (sym none ∙ found));
+}
+
+-- a walk over the inner keys, one more
+pub gathers : (rows : List (LeafKey × Inner)) (place : ℕ) (row : LeafKey × Inner) (old new : List MetricKey)
+    → slice_get rows place ≡ Some row → old ≡ active_in (take place rows)
+    → new ≡ firsts is_same_key old (row_out row) → new ≡ active_in (take (place + 1) rows)
+gathers rows place row old new at so_far more =
+    more ∙ ap (λ l. firsts is_same_key l (row_out row)) so_far ∙ walk_more (take place rows) row
+    ∙ ap active_in (sym (next_got rows place row at))
+
+-- nothing is added
+pub adds_none : (it : Keeping (Row ℕ)) → AddsRows row_weight it it []
+adds_none it all is = subst (λ rows. IsKept row_weight rows it) (sym (append-nil all)) is
+
+-- some rows, and then others
+pub adds_more : (old mid new : Keeping (Row ℕ)) (some more : List (Row ℕ)) → AddsRows row_weight old mid some
+    → AddsRows row_weight mid new more → AddsRows row_weight old new (some ++ more)
+adds_more old mid new some more first later all is =
+    subst (λ rows. IsKept row_weight rows new) (append_assoc all some more) (later (all ++ some) (first all is))
+
+-- the rows of one span more
+pub adds_span : (start end : ℕ) (old mid new : Keeping (Row ℕ)) (done : List (MetricKey × Span))
+    (entry : MetricKey × Span) → AddsRows row_weight old mid (flat_map (span_row start end) done)
+    → AddsRows row_weight mid new (span_row start end entry)
+    → AddsRows row_weight old new (flat_map (span_row start end) (done ++ entry ∷ []))
+adds_span start end old mid new done entry first later =
+    subst (AddsRows row_weight old new)
+    (sym (flat_map-append (span_row start end) done (entry ∷ [])
+    ∙ ap (λ l. flat_map (span_row start end) done ++ l) (append-nil (span_row start end entry))))
+    (adds_more old mid new (flat_map (span_row start end) done) (span_row start end entry) first later)
+
+-- the row of one key more, of a full bucket
+pub adds_whole : (start size : ℕ) (keys : List MetricKey) (i : ℕ) (key : MetricKey) (row : Row ℕ)
+    (old mid new : Keeping (Row ℕ)) → i < length keys → key ≡ get_or keys i key → row ≡ whole_row start size key
+    → AddsRows row_weight old mid (map (whole_row start size) (take i keys))
+    → AddsRows row_weight mid new (row ∷ [])
+    → AddsRows row_weight old new (map (whole_row start size) (take (i + 1) keys))
+adds_whole start size keys i key row old mid new within is row_is first later =
+    subst (AddsRows row_weight old new)
+    (sym (ap (map (whole_row start size)) (next_taken keys i key within is)
+    ∙ map-append (whole_row start size) (take i keys) (key ∷ [])))
+    (adds_more old mid new (map (whole_row start size) (take i keys)) (whole_row start size key ∷ []) first
+    (subst (λ (r : Row ℕ). AddsRows row_weight mid new (r ∷ [])) row_is later))
+
+-- so many full buckets, and then others
+pub whole_rows-split : (start size i n : ℕ) (keys : List MetricKey)
+    → whole_rows start size (i + n) keys
+    ≡ whole_rows start size i keys ++ whole_rows (start + i * size) size n keys
+whole_rows-split start size zero n keys =
+    let none : 0 + n ≡ n = omega arith in
+    let stays : start ≡ start + 0 * size = omega arith in
+    ap (λ m. whole_rows start size m keys) none ∙ ap (λ s. whole_rows s size n keys) stays
+whole_rows-split start size (suc i) n keys =
+    let more : suc i + n ≡ suc (i + n) = omega arith in
+    let next : (start + size) + i * size ≡ start + suc i * size = omega arith in
+    ap (λ m. whole_rows start size m keys) more
+    ∙ ap (λ l. map (whole_row start size) keys ++ l) (whole_rows-split (start + size) size i n keys)
+    ∙ sym (append_assoc (map (whole_row start size) keys) (whole_rows (start + size) size i keys)
+    (whole_rows ((start + size) + i * size) size n keys))
+    ∙ ap (λ s. whole_rows start size (suc i) keys ++ whole_rows s size n keys) next
+
+pub whole_rows-length : (start size n : ℕ) (keys : List MetricKey)
+    → length (whole_rows start size n keys) ≡ n * length keys
+whole_rows-length start size zero keys = omega arith
+whole_rows-length start size (suc n) keys =
+    let later = whole_rows-length (start + size) size n keys in
+    length-append (map (whole_row start size) keys) (whole_rows (start + size) size n keys)
+    ∙ omega (arith, later, length-map keys (whole_row start size))
+
+-- where no key is active, full buckets have no rows
+pub whole_rows-none : (start size n : ℕ) → whole_rows start size n [] ≡ []
+whole_rows-none start size zero = refl
+whole_rows-none start size (suc n) = whole_rows-none (start + size) size n
+
+-- one full bucket more
+pub adds_bucket : (first size turn start : ℕ) (keys : List MetricKey) (old mid new : Keeping (Row ℕ))
+    → start ≡ first + turn * size → AddsRows row_weight old mid (whole_rows first size turn keys)
+    → AddsRows row_weight mid new (map (whole_row start size) keys)
+    → AddsRows row_weight old new (whole_rows first size (turn + 1) keys)
+adds_bucket first size turn start keys old mid new at so_far later =
+    subst (AddsRows row_weight old new)
+    (ap (λ l. whole_rows first size turn keys ++ l)
+    (ap (λ s. map (whole_row s size) keys) at
+    ∙ sym (append-nil (map (whole_row (first + turn * size) size) keys)))
+    ∙ sym (whole_rows-split first size turn 1 keys))
+    (adds_more old mid new (whole_rows first size turn keys) (map (whole_row start size) keys) so_far later)
+
+-- all others are counted
+pub adds_rest : (first size turn full number : ℕ) (keys : List MetricKey) (old mid new : Keeping (Row ℕ))
+    → turn ≤ full → number ≡ count_in_u64 ((full - turn) * length keys)
+    → AddsRows row_weight old mid (whole_rows first size turn keys)
+    → ((more : List (Row ℕ)) → count_in_u64 (length more) ≡ number → AddsRows row_weight mid new more)
+    → AddsRows row_weight old new (whole_rows first size full keys)
+adds_rest first size turn full number keys old mid new within is so_far later =
+    let rest = whole_rows (first + turn * size) size (full - turn) keys in
+    let all : turn + (full - turn) ≡ full = omega (arith, within) in
+    subst (λ n. AddsRows row_weight old new (whole_rows first size n keys)) all
+    (subst (AddsRows row_weight old new) (sym (whole_rows-split first size turn (full - turn) keys))
+    (adds_more old mid new (whole_rows first size turn keys) rest so_far
+    (later rest (ap count_in_u64 (whole_rows-length (first + turn * size) size (full - turn) keys) ∙ sym is))))
+
+no_items : {X : Type 0} (xs : List X) → length xs ≡ 0 → xs ≡ []
+no_items [] none = refl
+no_items (x ∷ xs) none = absurd (omega (arith, none))
+
+-- without keys nothing is added
+pub adds_no_key : (first size n : ℕ) (keys : List MetricKey) (it : Keeping (Row ℕ)) → length keys ≡ 0
+    → AddsRows row_weight it it (whole_rows first size n keys)
+adds_no_key first size n keys it none =
+    subst (AddsRows row_weight it it)
+    (sym (ap (whole_rows first size n) (no_items keys none) ∙ whole_rows-none first size n)) (adds_none it)
+
+-- a bucket of a crossing ends before the last one does
+pub bucket_fits : (first size turn full : ℕ) → turn < full → first + full * size < 2 ^ 63
+    → (first + turn * size + size < 2 ^ 63) × (first + (turn + 1) * size ≡ first + turn * size + size)
+bucket_fits first size turn full more fits =
+    let within : (turn + 1) * size ≤ full * size = mul-le-mul_right size (omega (arith, more)) in
+    let one : (turn + 1) * size ≡ turn * size + size = omega arith in
+    (omega (arith, within, one, fits), omega (arith, one))

@@ -1,0 +1,7 @@
+-- An event that acted is one of the calls.
+use Rattle.std.proofs.lemmas.Result.{on_ok_weaker}
+use Rattle.duration_metric.proofs.KnownLemmas.{takes_event}
+use Rattle.duration_metric.proofs.inner.InnerTable.act.Goals as goal
+
+pub returns : goal.returns
+returns c = on_ok_weaker c.apply.result (takes_event c.args.self.now c.apply.new.self c.args.ev) c.apply.ensures

@@ -1,0 +1,8 @@
+-- A new key is listed last, or counted.
+use Rattle.std.proofs.Common.{refl}
+use Rattle.duration_metric.proofs.InnerLemmas.{lists_key}
+use Rattle.duration_metric.proofs.inner.InnerTable.append.Goals as goal
+
+pub returns : goal.returns
+returns c = lists_key c.args.self.now _ c.admit.new.self c.args.key c.args.count c.in_ok-admit.field-0
+    c.requires.absent c.in_ok-admit.ensures.answer refl

@@ -1,0 +1,11 @@
+-- A key is stopped, and what that brings is put down.
+use Rattle.std.proofs.lemmas.Result.{on_ok_weaker}
+use Rattle.predicate_state.specs.declared.event.PredEvent.TheVariants.{Stop}
+use Rattle.duration_metric.proofs.SparseLemmas.{came}
+use Rattle.duration_metric.proofs.sparse.MaxProducer.stop.Goals as goal
+
+pub returns : goal.returns
+returns c = on_ok_weaker c.note.result
+    (came c.args.self.now (record { keys = c.stop.new.self; books = c.note.new.self }) c.args.at
+    (record { event = Stop; key = c.args.key }) _ c.in_ok-turn.ensures)
+    c.note.ensures

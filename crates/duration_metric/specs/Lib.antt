@@ -1,0 +1,10 @@
+pub mod InnerKeys
+pub mod InnerStands
+pub mod SumCalls
+pub mod SumStands
+pub mod SumSteps
+pub mod SparseCalls
+pub mod SparseTimes
+pub mod SparseBooksStand
+pub mod SparseEntries
+pub mod SparseStands

@@ -1,0 +1,118 @@
+-- What the inner keys of a longest duration stand for, and what an event makes of them.
+use Rattle.std.specs.Prelude.{◌≡◌, ℕ, ◌+◌, ◌-◌, ◌<◌, ◌≤◌, nat_lt, Bool, false, List, [], ◌∷◌, ◌++◌, map, Option, Some, None, if◌then◌else◌}
+use Rattle.std.specs.List.{AllByRecursion, IsDistinct}
+use Rattle.std.specs.Map.{keys_of}
+use Rattle.atom_record.specs.declared.value.MetricKey.{MetricKey}
+use Rattle.bucket_meaning.specs.Guard.{is_among}
+use Rattle.bucket_meaning.specs.Kept.{count_in_u64}
+use Rattle.bucket_meaning.specs.Marks.{Mark, Came, Lost}
+use Rattle.config_types.specs.declared.parameters.PredSpec.{PredSpec}
+use Rattle.dim_table.specs.Table.{keys}
+use Rattle.predicate_state.specs.PredicateStates.{PredicateState, count_after_start, with_new_key, state_after}
+use Rattle.predicate_state.specs.declared.event.PredEvent.{PredEvent}
+use Rattle.predicate_state.specs.PredicateTable.{LeafKey, same_leaves}
+use Rattle.metric_producer.specs.Calls.{Got, Learned}
+use Rattle.duration_metric.specs.declared.change.InnerEvent.{InnerEvent}
+use Rattle.duration_metric.specs.declared.change.InnerDelta.{InnerDelta}
+use Rattle.duration_metric.specs.declared.inner.Known.{Known}
+use Rattle.duration_metric.specs.declared.sparse_keys.SparseEntry.{SparseEntry}
+use Rattle.duration_metric.specs.declared.sparse_keys.SparseKeys.{SparseKeys}
+use Rattle.duration_metric.specs.declared.sparse_keys.Turn.{Turn}
+use Rattle.duration_metric.specs.declared.sparse_keys.Turn.TheVariants as turns
+use Rattle.duration_metric.specs.InnerKeys.{DurationCall, inner_state, inner_keys, last_known}
+use Rattle.duration_metric.specs.SparseCalls.{is_timed, arrival_for, is_on, time_on, sparse_comes}
+
+-- the time of an entry up to an end
+abbrev pub entry_time : SparseEntry → ℕ → ℕ
+entry_time entry end = entry.time + (if is_timed entry.known then end - entry.since else 0)
+
+-- a row as its key and its count
+abbrev pub count_of : LeafKey × SparseEntry → LeafKey × ℕ
+count_of row = (row.0, row.1.count)
+
+-- what is known of these keys, as of those of a predicate
+abbrev pub state_of : SparseKeys → PredicateState LeafKey
+state_of it = record { unknown = it.unknown; counts = map count_of it.table.rows; dropped = it.table.dropped }
+
+-- An entry is that of a key after these calls, none of which came after a time: it has what was told last of the key
+-- and, while the key is on, its time.
+pub record EntryStands (spec : PredSpec) (calls : List DurationCall) (last : ℕ) (key : LeafKey) (entry : SparseEntry)
+    : Type 0 where
+  pub known_is : entry.known ≡ last_known spec calls key
+  pub since_within : entry.since ≤ last
+  pub time_within : entry.time ≤ entry.since
+  pub time_is : 0 < entry.count → (end : ℕ) → last ≤ end → time_on spec calls end key ≡ entry_time entry end
+
+-- a row has the entry of its key
+abbrev pub RowStands : PredSpec → List DurationCall → ℕ → LeafKey × SparseEntry → Type 0
+RowStands spec calls last row = EntryStands spec calls last row.0 row.1
+
+-- nothing is known of keys that aren't listed, and keys that aren't on have no time
+pub record OthersStand (spec : PredSpec) (calls : List DurationCall) : Type 0 where
+  pub unlisted : (key : LeafKey) → is_among same_leaves key (inner_keys spec calls) ≡ false
+      → last_known spec calls key ≡ None
+  pub off : (key : LeafKey) → is_on spec calls key ≡ false → (end : ℕ) → time_on spec calls end key ≡ 0
+
+-- The keys are kept as the spec says, and are the inner keys after these calls, each with its entry.
+pub record KeysStand (it : SparseKeys) (spec : PredSpec) (calls : List DurationCall) (last : ℕ) : Type 0 where
+  pub spec_is : it.spec ≡ spec
+  pub bound_is : it.table.bound ≡ spec.bound
+  pub state_is : state_of it ≡ inner_state spec calls
+  pub distinct : IsDistinct same_leaves (keys it.table)
+  pub rows_are : AllByRecursion (RowStands spec calls last) it.table.rows
+  pub others_are : OthersStand spec calls
+
+-- an entry's time up to an end, in a number of 64 bits
+abbrev pub saved_time : SparseEntry → ℕ → ℕ
+saved_time entry end = count_in_u64 (entry_time entry end)
+
+-- what a row brings whose key goes off at a time
+abbrev pub entry_marks : ℕ → SparseEntry → List (Mark (MetricKey × ℕ))
+entry_marks at entry = if nat_lt 0 entry.count then arrival_for entry.known (saved_time entry at) else []
+
+abbrev pub row_marks : ℕ → LeafKey × SparseEntry → List (Mark (MetricKey × ℕ))
+row_marks at row = entry_marks at row.1
+
+-- what a turn brings
+abbrev pub turn_marks : Turn → List (Mark (MetricKey × ℕ))
+turn_marks turns.Stays = []
+turn_marks turns.Lost = Lost ∷ []
+turn_marks (turns.Off key time) = Came (key, time) ∷ []
+
+-- an entry with another count; one that goes on begins anew
+abbrev pub started_entry : Bool → ℕ → SparseEntry → SparseEntry
+started_entry nesting at entry =
+    if nat_lt 0 entry.count
+    then record entry { count = count_after_start nesting entry.count }
+    else record entry { count = count_after_start nesting entry.count; time = 0; since = at }
+
+-- an entry of which something is told; how its condition was before counts up to then
+abbrev pub told_entry : ℕ → Known → SparseEntry → SparseEntry
+told_entry at known entry = record entry { known = Some known; time = saved_time entry at; since = at }
+
+-- a new entry
+abbrev pub fresh_entry : ℕ → ℕ → SparseEntry
+fresh_entry count at = record { count = count; known = None; time = 0; since = at }
+
+-- before any call, whenever that is
+abbrev pub IsOfNoCalls : SparseKeys → PredSpec → Type 0
+IsOfNoCalls it spec = (last : ℕ) → KeysStand it spec [] last
+
+-- whatever calls the old one stood for, at a later time the new one stands for an event more, which brings these marks
+abbrev pub TakesKeyEvent : SparseKeys → SparseKeys → ℕ → InnerEvent → List (Mark (MetricKey × ℕ)) → Type 0
+TakesKeyEvent old new at event marks =
+    (spec : PredSpec) (calls : List DurationCall) (last : ℕ) → KeysStand old spec calls last → last ≤ at
+    → KeysStand new spec (calls ++ Got at event ∷ []) at × (sparse_comes spec calls at event ≡ marks)
+
+-- a new key is listed with a count, or finds no room: by any event that does so
+abbrev pub ListsKey : SparseKeys → SparseKeys → ℕ → LeafKey → ℕ → List (Mark (MetricKey × ℕ)) → Type 0
+ListsKey old new at key count marks =
+    (event : PredEvent)
+    → state_after same_leaves old.spec (state_of old) event key ≡ with_new_key old.spec.bound (state_of old) key count
+    → TakesKeyEvent old new at (record { event = event; key = key }) marks
+
+-- whatever calls the old one stood for, at a later time the new one stands for a condition more
+abbrev pub LearnsDelta : SparseKeys → SparseKeys → ℕ → InnerDelta → Type 0
+LearnsDelta old new at delta =
+    (spec : PredSpec) (calls : List DurationCall) (last : ℕ) → KeysStand old spec calls last → last ≤ at
+    → KeysStand new spec (calls ++ Learned at delta ∷ []) at

@@ -1,0 +1,237 @@
+//! The inner keys of a metric of durations: which are listed, how often each was started, and what was told of each.
+ghost use Rattle.std.specs.Prelude.{◌≡◌, ◌<◌, ◌≤◌, ◌++◌, List, [], length, position, slice_get, OnOk, Contains, None, IfSome};
+ghost use Rattle.std.specs.Map.{keys_of, lookup};
+ghost use Rattle.std.specs.Option.{option_map, option_copied, option_and_then};
+ghost use Rattle.bucket_meaning.specs.Limits.{most_keys};
+ghost use Rattle.config_types.specs.declared.parameters.PredSpec.{PredSpec};
+ghost use Rattle.dim_table.specs.Table.{keys};
+ghost use Rattle.predicate_state.specs.declared.event.PredEvent.TheVariants.{Start, Stop, StopAll};
+ghost use Rattle.predicate_state.specs.PredicateStates.{count_after_start, count_after_stop, without_key, state_after_stop_all};
+ghost use Rattle.predicate_state.specs.PredicateTable.{LeafKey, same_leaves};
+ghost use Rattle.duration_metric.specs.InnerKeys.{DurationCall, inner_keys, last_truth};
+ghost use Rattle.duration_metric.specs.InnerStands.{state_in, InnersStandFor, ChangesTo, ActsOn, SetsCount, ListsKey, TakesEvent, TakesDelta, TellsOne, TellsAll};
+
+use crate::{InnerChange, InnerDelta, InnerEvent};
+use atom_record::{DimKey, MetricKey};
+use config_types::PredSpec;
+use dim_table::Guarded;
+use predicate_state::{PredEvent, Truth};
+use sd_base::Seq;
+use std::alloc::{AllocError, Global};
+
+/// What was told last of an inner key.
+#[derive(Drop)]
+pub(crate) struct Known {
+    pub(crate) truth: Truth,
+    pub(crate) out: MetricKey,
+}
+
+/// An inner key that is listed.
+#[derive(Drop)]
+pub(crate) struct Inner {
+    /// The number of starts that no stop has met.
+    pub(crate) count: u64,
+    pub(crate) known: Option<Known>,
+}
+
+/// The inner keys in order, up to a bound.
+#[derive(Drop)]
+pub(crate) struct InnerTable {
+    pub(crate) spec: PredSpec,
+    pub(crate) unknown: bool,
+    pub(crate) keys: Guarded<DimKey, Inner>,
+}
+
+impl InnerTable {
+    /// Of no calls.
+    pub(crate) fn new(alloc: Global, spec: PredSpec) -> InnerTable
+        requires least { 1 ≤ spec.bound }
+        requires most { spec.bound ≤ most_keys }
+        ensures { InnersStandFor result spec [] }
+    {
+        InnerTable {
+            spec,
+            unknown: spec.unknown,
+            keys: Guarded::new(alloc, spec.bound as usize),
+        }
+    }
+
+    /// Lets an event act on its key.
+    pub(crate) fn act(&mut self, ev: InnerEvent) -> Result<(), AllocError>
+        ensures { OnOk result (TakesEvent self.old self.new ev) }
+    {
+        let InnerEvent { event, key } = ev;
+        self.apply(event, key)
+    }
+
+    // Lets an event act on a key.
+    fn apply(&mut self, event: PredEvent, key: DimKey) -> Result<(), AllocError>
+        ensures { OnOk result (ActsOn self.old self.new event key) }
+    {
+        match event {
+            PredEvent::Start => self.start(key),
+            PredEvent::Stop => self.stop(key),
+            PredEvent::StopAll => {
+                self.stop_all();
+                Ok(())
+            }
+        }
+    }
+
+    // No key is listed any more, and none is unknown.
+    fn stop_all(&mut self)
+        ensures { ChangesTo self.old self.new (state_after_stop_all (state_in self.old)) }
+    {
+        self.unknown = false;
+        self.keys.clear();
+    }
+
+    // Counts a start of a key.
+    fn start(&mut self, key: DimKey) -> Result<(), AllocError>
+        ensures { OnOk result (ActsOn self.old self.new Start key) }
+    {
+        match self.row_of(&key) {
+            Some((place, count)) => {
+                let more = add_start(self.spec.nesting, count);
+                self.set_count(place, more);
+                Ok(())
+            }
+            None => self.append(key, 1),
+        }
+    }
+
+    // Counts a stop of a key.
+    fn stop(&mut self, key: DimKey) -> Result<(), AllocError>
+        ensures { OnOk result (ActsOn self.old self.new Stop key) }
+    {
+        match self.row_of(&key) {
+            Some((place, count)) => {
+                let less = add_stop(self.spec.nesting, count);
+                if less == 0 && !self.unknown {
+                    self.remove(&key);
+                    return Ok(());
+                }
+                self.set_count(place, less);
+                Ok(())
+            }
+            None => {
+                if !self.unknown {
+                    return Ok(());
+                }
+                self.append(key, 0)
+            }
+        }
+    }
+
+    // Takes a key out; those after it move up.
+    fn remove(&mut self, key: &DimKey)
+        ensures { ChangesTo self.old self.new (without_key same_leaves (state_in self.old) key.now) }
+    {
+        self.keys.remove(key);
+    }
+
+    // The place of a listed key, and its count.
+    fn row_of(&self, key: &DimKey) -> Option<(usize, u64)>
+        ensures count { option_map (λ row. row.1) result
+            ≡ lookup (same_leaves key.now) (state_in self.now).counts }
+        ensures place { IfSome result
+            (λ row. position (same_leaves key.now) (keys_of (state_in self.now).counts) ≡ Some row.0) }
+        ensures absent { result ≡ None → ¬ Contains (keys self.now.keys) key.now }
+    {
+        let place = self.keys.place_of(key)?;
+        let (_key, inner) = self.keys.pair(place)?;
+        Some((place, inner.count))
+    }
+
+    // Gives the key at a place another count.
+    fn set_count(&mut self, place: usize, count: u64)
+        requires { place < length (state_in self.old).counts }
+        ensures { SetsCount self.old self.new place count }
+    {
+        let Some(inner) = self.keys.value_at(place) else {
+            return;
+        };
+        inner.count = count;
+    }
+
+    // Lists a new key, or counts that it finds no room.
+    fn append(&mut self, key: DimKey, count: u64) -> Result<(), AllocError>
+        requires absent { ¬ Contains (keys self.old.keys) key }
+        ensures { OnOk result (ListsKey self.old self.new key count) }
+    {
+        self.keys.admit(key, Inner { count, known: None })?;
+        Ok(())
+    }
+
+    /// Learns what changed.
+    pub(crate) fn tell(&mut self, delta: InnerDelta)
+        ensures { TakesDelta self.old self.new delta }
+    {
+        self.tell_all(delta.changes);
+    }
+
+    // Learns all changes, one after the other.
+    fn tell_all(&mut self, changes: Seq<InnerChange>)
+        ensures { TellsAll self.old self.new changes }
+    {
+        // The keys are distinct, so that each change tells of one.
+        let _len = self.keys.len();
+        for change in changes.into_vec() {
+            self.tell_one(change);
+        }
+    }
+
+    // Learns one change.
+    fn tell_one(&mut self, change: InnerChange)
+        ensures { TellsOne self.old self.new change }
+    {
+        let InnerChange { place, truth, out } = change;
+        let Some(inner) = self.keys.value_at(place as usize) else {
+            return;
+        };
+        inner.known = Some(Known { truth, out });
+    }
+
+    /// The number of inner keys.
+    pub(crate) fn len(&self) -> usize
+        ensures { (spec : PredSpec) (calls : List DurationCall) → InnersStandFor self.now spec calls
+            → result ≡ length (inner_keys spec calls) }
+    {
+        self.keys.len()
+    }
+
+    /// The inner key at a place.
+    pub(crate) fn key(&self, place: usize) -> Option<&DimKey>
+        ensures { (spec : PredSpec) (calls : List DurationCall) → InnersStandFor self.now spec calls
+            → option_copied result ≡ slice_get (inner_keys spec calls) place }
+    {
+        let (key, _inner) = self.keys.pair(place)?;
+        Some(key)
+    }
+
+    /// The truth that was told last of the inner key at a place.
+    pub(crate) fn truth(&self, place: usize) -> Option<Truth>
+        ensures { (spec : PredSpec) (calls : List DurationCall) → InnersStandFor self.now spec calls
+            → result ≡ last_truth spec calls place }
+    {
+        let (_key, inner) = self.keys.pair(place)?;
+        let Some(known) = &inner.known else {
+            return None;
+        };
+        Some(known.truth)
+    }
+}
+
+// A key's count after one more start.
+fn add_start(nesting: bool, count: u64) -> u64
+    ensures { result ≡ count_after_start nesting count }
+{
+    if nesting { count.saturating_add(1) } else { 1 }
+}
+
+// A key's count after one more stop.
+fn add_stop(nesting: bool, count: u64) -> u64
+    ensures { result ≡ count_after_stop nesting count }
+{
+    if nesting { count.saturating_sub(1) } else { 0 }
+}

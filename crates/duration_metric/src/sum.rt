@@ -1,0 +1,427 @@
+//! Sums of durations, by key.
+ghost use Rattle.std.specs.Prelude.{◌≡◌, ℕ, ◌+◌, ◌*◌, ◌^◌, ◌<◌, ◌≤◌, List, [], map, length, slice_get, IfOk, OnOk};
+ghost use Rattle.std.specs.List.{flat_map};
+ghost use Rattle.std.specs.Option.{option_copied};
+ghost use Rattle.atom_record.specs.declared.value.MetricKey.{MetricKey};
+ghost use Rattle.bucket_clock.specs.Clock.{last_end};
+ghost use Rattle.bucket_meaning.specs.Limits.{longest_bucket, time_limit, most_keys};
+ghost use Rattle.config_types.specs.declared.parameters.PredSpec.{PredSpec};
+ghost use Rattle.kept_rows.specs.KeptRows.{AddsRows};
+ghost use Rattle.bucket_meaning.specs.Guard.{with_key, firsts};
+ghost use Rattle.metric_kinds.specs.Keys.{is_same_key};
+ghost use Rattle.metric_kinds.specs.Counts.{row_weight};
+ghost use Rattle.duration_metric.specs.SumCalls.{while_true, known_out};
+ghost use Rattle.duration_metric.specs.InnerKeys.{DurationParams, DurationCall, inner_keys, last_truth};
+ghost use Rattle.duration_metric.specs.SumStands.{span_at, span_time, span_row, whole_row, whole_rows, SumStandsFor};
+ghost use Rattle.duration_metric.specs.SumSteps.{active_in, StepsAll, StepsOne, Begins, BeginsAll, ClosesRows, Opens, out_for};
+
+use crate::inner::{Inner, InnerTable, Known};
+use crate::{Closed, InnerDelta, InnerEvent, Producer, Row};
+use atom_record::{DimKey, MetricKey};
+use bucket_clock::Crossings;
+use config_types::PredSpec;
+use dim_table::Guarded;
+use distinct::Distinct;
+use indexmap::map::IntoIter;
+use kept_rows::KeptRows;
+use predicate_state::Truth;
+use std::alloc::{AllocError, Global};
+
+/// For how long a key was active in the open part up to where it last ended, and since when it is active again.
+#[derive(Clone, Copy)]
+pub(crate) struct Span {
+    pub(crate) sum: u64,
+    pub(crate) since: Option<u64>,
+}
+
+/// Sums of the times for which keys are active, by part.
+#[derive(Drop)]
+pub struct SumProducer {
+    pub(crate) start: u64,
+    pub(crate) inner: InnerTable,
+    /// The active keys since the last condition, in inner order.
+    pub(crate) active: Distinct<MetricKey>,
+    pub(crate) table: Guarded<MetricKey, Span>,
+    pub(crate) kept: KeptRows<Row<u64>>,
+    /// How many inner keys had found no room at the last report.
+    pub(crate) reported: u64,
+    pub(crate) alloc: Global,
+}
+
+impl SumProducer {
+    /// Of no calls. Time begins at `base`, and a full bucket is `size` long. A part admits as many keys as the inner
+    /// keys are bound to.
+    pub fn new(alloc: Global, base: u64, size: u64, spec: PredSpec) -> SumProducer
+        requires base_fits { base < time_limit }
+        requires least_size { 1 ≤ size }
+        requires most_size { size ≤ longest_bucket }
+        requires least_bound { 1 ≤ spec.bound }
+        requires most_bound { spec.bound ≤ most_keys }
+        ensures { SumStandsFor result (record { base = base; size = size; spec = spec }) [] }
+    {
+        let _size = size;
+        SumProducer {
+            start: base,
+            inner: InnerTable::new(alloc, spec),
+            active: Distinct::new(alloc),
+            table: Guarded::new(alloc, spec.bound as usize),
+            kept: KeptRows::new(alloc),
+            reported: 0,
+            alloc,
+        }
+    }
+
+    /// The number of inner keys.
+    pub fn inner_len(&self) -> usize
+        ensures { (params : DurationParams) (calls : List DurationCall) → SumStandsFor self.now params calls
+            → result ≡ length (inner_keys params.spec calls) }
+    {
+        self.inner.len()
+    }
+
+    /// The inner key at a place, from 0, or none past the end.
+    pub fn inner_key(&self, place: usize) -> Option<&DimKey>
+        ensures { (params : DurationParams) (calls : List DurationCall) → SumStandsFor self.now params calls
+            → option_copied result ≡ slice_get (inner_keys params.spec calls) place }
+    {
+        self.inner.key(place)
+    }
+
+    /// The truth that was told last of the inner key at a place; none past the end, and where none was told of the key.
+    pub fn inner_truth(&self, place: usize) -> Option<Truth>
+        ensures { (params : DurationParams) (calls : List DurationCall) → SumStandsFor self.now params calls
+            → result ≡ last_truth params.spec calls place }
+    {
+        self.inner.truth(place)
+    }
+
+    // Closes the open part at a time: its rows are kept or counted, and its table is empty.
+    fn close(&mut self, end: u64) -> Result<(), AllocError>
+        ensures { OnOk result (ClosesRows self.old self.new end) }
+    {
+        let start = self.start;
+        self.start = end;
+        keep_all(&mut self.kept, start, end, self.table.move_out())
+    }
+
+    // Begins a part in which the active keys are active from its start on.
+    fn open(&mut self) -> Result<(), AllocError>
+        ensures { OnOk result (Opens self.old self.new) }
+    {
+        let none = Distinct::new(self.alloc);
+        begin_all(&mut self.table, &none, &self.active, self.start, self.alloc)
+    }
+}
+
+// The span from a time on, at which its key is active or not.
+fn step(at: u64, is_active: bool, span: Span) -> Span
+    ensures { result ≡ span_at at is_active span }
+{
+    match (is_active, span.since) {
+        (true, None) => Span {
+            sum: span.sum,
+            since: Some(at),
+        },
+        (false, Some(since)) => Span {
+            sum: span.sum.saturating_add(at.saturating_sub(since)),
+            since: None,
+        },
+        _ => span,
+    }
+}
+
+// Takes the span of the key at a place to a time.
+fn step_at(
+    table: &mut Guarded<MetricKey, Span>,
+    active: &Distinct<MetricKey>,
+    place: usize,
+    at: u64,
+)
+    ensures { StepsOne table.old table.new active.now place at }
+{
+    let Some((key, _span)) = table.pair(place) else {
+        return;
+    };
+    let is_active = active.contains(key);
+    let Some(span) = table.value_at(place) else {
+        return;
+    };
+    *span = step(at, is_active, *span);
+}
+
+// Takes all spans to a time, from which on these keys are active.
+fn step_all(table: &mut Guarded<MetricKey, Span>, active: &Distinct<MetricKey>, at: u64)
+    ensures { StepsAll table.old table.new active.now at }
+{
+    let count = table.len();
+    for place in 0..count {
+        step_at(table, active, place, at);
+    }
+}
+
+// Admits a key whose run begins, unless it was active before.
+fn begin(
+    table: &mut Guarded<MetricKey, Span>,
+    before: &Distinct<MetricKey>,
+    key: &MetricKey,
+    at: u64,
+    alloc: Global,
+) -> Result<(), AllocError>
+    ensures { OnOk result (Begins table.old table.new before.now key.now at) }
+{
+    if before.contains(key) {
+        return Ok(());
+    }
+    let span = Span {
+        sum: 0,
+        since: Some(at),
+    };
+    table.admit(key.clone_key(alloc)?, span)?;
+    Ok(())
+}
+
+// Admits the keys that weren't active before, in order.
+fn begin_all(
+    table: &mut Guarded<MetricKey, Span>,
+    before: &Distinct<MetricKey>,
+    now: &Distinct<MetricKey>,
+    at: u64,
+    alloc: Global,
+) -> Result<(), AllocError>
+    ensures { OnOk result (BeginsAll table.old table.new before.now now.now at) }
+{
+    for key in now.as_slice() {
+        begin(table, before, key, at, alloc)?;
+    }
+    Ok(())
+}
+
+// Lists a key, unless it is there.
+fn list_key(
+    active: &mut Distinct<MetricKey>,
+    key: &MetricKey,
+    alloc: Global,
+) -> Result<(), AllocError>
+    ensures { OnOk result (active.new ≡ with_key is_same_key active.old key.now) }
+{
+    if active.contains(key) {
+        return Ok(());
+    }
+    active.add(key.clone_key(alloc)?)?;
+    Ok(())
+}
+
+// Lists the output key of an inner key while its condition is true.
+fn list_while(
+    active: &mut Distinct<MetricKey>,
+    known: &Known,
+    alloc: Global,
+) -> Result<(), AllocError>
+    ensures { OnOk result
+        (active.new ≡ firsts is_same_key active.old (while_true known.now.truth known.now.out)) }
+{
+    match known.truth {
+        Truth::True => list_key(active, &known.out, alloc),
+        Truth::Unknown | Truth::False => Ok(()),
+    }
+}
+
+// Lists the output key that was told of an inner key.
+fn list_known(
+    active: &mut Distinct<MetricKey>,
+    known: &Option<Known>,
+    alloc: Global,
+) -> Result<(), AllocError>
+    ensures { OnOk result (active.new ≡ firsts is_same_key active.old (known_out known.now)) }
+{
+    match known {
+        Some(known) => list_while(active, known, alloc),
+        None => Ok(()),
+    }
+}
+
+// Lists the output key of an inner key that counts.
+fn list_out(active: &mut Distinct<MetricKey>, row: &Inner, alloc: Global) -> Result<(), AllocError>
+    ensures { OnOk result
+        (active.new ≡ firsts is_same_key active.old (out_for row.now.count row.now.known)) }
+{
+    if row.count == 0 {
+        return Ok(());
+    }
+    list_known(active, &row.known, alloc)
+}
+
+// The active keys, each once, in inner order.
+fn gather(inner: &InnerTable, alloc: Global) -> Result<Distinct<MetricKey>, AllocError>
+    ensures keys { IfOk result (λ active. active ≡ active_in inner.now.keys.rows) }
+    ensures few { length inner.now.keys.rows ≤ inner.now.keys.bound }
+{
+    let mut active = Distinct::new(alloc);
+    for place in 0..inner.keys.len() {
+        let Some((_key, row)) = inner.keys.pair(place) else {
+            return Ok(active);
+        };
+        list_out(&mut active, row, alloc)?;
+    }
+    Ok(active)
+}
+
+// Keeps the row of a span, or counts it; no time has none.
+fn keep(
+    kept: &mut KeptRows<Row<u64>>,
+    start: u64,
+    end: u64,
+    key: MetricKey,
+    span: Span,
+) -> Result<(), AllocError>
+    ensures { OnOk result (AddsRows row_weight kept.old kept.new (span_row start end (key, span))) }
+{
+    let value = step(end, false, span).sum;
+    if value == 0 {
+        return Ok(());
+    }
+    kept.put(
+        Row {
+            key,
+            start,
+            end,
+            value,
+        },
+        1,
+    )
+}
+
+// Keeps the rows of all spans, in order, or counts them.
+fn keep_all(
+    kept: &mut KeptRows<Row<u64>>,
+    start: u64,
+    end: u64,
+    spans: IntoIter<MetricKey, Span>,
+) -> Result<(), AllocError>
+    ensures { OnOk result
+        (AddsRows row_weight kept.old kept.new (flat_map (span_row start end) spans)) }
+{
+    for (key, span) in spans {
+        keep(kept, start, end, key, span)?;
+    }
+    Ok(())
+}
+
+// Keeps the rows of a full bucket in all of which these keys are active, or counts them.
+fn keep_bucket(
+    kept: &mut KeptRows<Row<u64>>,
+    keys: &[MetricKey],
+    start: u64,
+    size: u64,
+    alloc: Global,
+) -> Result<(), AllocError>
+    ensures { OnOk result (start + size < 2 ^ 63
+        → AddsRows row_weight kept.old kept.new (map (whole_row start size) keys.now)) }
+{
+    let end = start.saturating_add(size);
+    for key in keys {
+        let row = Row {
+            key: key.clone_key(alloc)?,
+            start,
+            end,
+            value: size,
+        };
+        kept.put(row, 1)?;
+    }
+    Ok(())
+}
+
+// Keeps the rows of the full buckets of a crossing. Where none fits any more the others are counted at once.
+fn keep_full(
+    kept: &mut KeptRows<Row<u64>>,
+    keys: &[MetricKey],
+    crossings: &Crossings,
+    alloc: Global,
+) -> Result<(), AllocError>
+    ensures { OnOk result (last_end crossings.now < 2 ^ 63 → AddsRows row_weight kept.old kept.new
+        (whole_rows crossings.now.first_end crossings.now.size crossings.now.full_buckets keys.now)) }
+{
+    if keys.is_empty() {
+        return Ok(());
+    }
+    let full = crossings.full_buckets;
+    let mut start = crossings.first_end;
+    for turn in 0..full {
+        if kept.is_full() {
+            kept.pass((full - turn).saturating_mul(keys.len() as u64));
+            return Ok(());
+        }
+        keep_bucket(kept, keys, start, crossings.size, alloc)?;
+        start = start.saturating_add(crossings.size);
+    }
+    Ok(())
+}
+
+impl Producer for SumProducer {
+    ghost use Rattle.std.specs.Prelude.{ℕ};
+    ghost use Rattle.atom_record.specs.declared.value.MetricKey.{MetricKey};
+    ghost use Rattle.metric_kinds.specs.Runs.{Active};
+    ghost use Rattle.duration_metric.specs.InnerKeys.{DurationParams};
+    ghost use Rattle.duration_metric.specs.SumStands.{sum_law};
+
+    type Event = InnerEvent;
+
+    type After = InnerDelta;
+
+    type Value = u64;
+
+    ghost Params = { DurationParams };
+
+    ghost What = { Active MetricKey };
+
+    ghost Key = { MetricKey };
+
+    ghost Share = { ℕ };
+
+    ghost law = { sum_law };
+
+    fn event(&mut self, at: u64, ev: InnerEvent) -> Result<(), AllocError> {
+        let _at = at;
+        self.inner.act(ev)
+    }
+
+    fn condition(&mut self, at: u64, now: InnerDelta) -> Result<(), AllocError> {
+        self.inner.tell(now);
+        let active = gather(&self.inner, self.alloc)?;
+        step_all(&mut self.table, &active, at);
+        begin_all(&mut self.table, &self.active, &active, at, self.alloc)?;
+        self.active = active;
+        Ok(())
+    }
+
+    fn cross(&mut self, crossings: Crossings) -> Result<(), AllocError> {
+        self.close(crossings.first_end)?;
+        keep_full(
+            &mut self.kept,
+            self.active.as_slice(),
+            &crossings,
+            self.alloc,
+        )?;
+        let full = crossings.full_buckets.saturating_mul(crossings.size);
+        self.start = crossings.first_end.saturating_add(full);
+        self.open()
+    }
+
+    fn cut(&mut self, at: u64) -> Result<(), AllocError> {
+        self.close(at)?;
+        self.open()
+    }
+
+    fn take(&mut self) -> Closed<u64> {
+        let (rows, not_kept) = self.kept.take();
+        let lost = self.inner.keys.dropped();
+        let since = lost.saturating_sub(self.reported);
+        self.reported = lost;
+        Closed {
+            rows,
+            not_kept,
+            dropped: self.table.take_dropped().saturating_add(since),
+            missing: 0,
+        }
+    }
+}

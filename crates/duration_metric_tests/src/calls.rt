@@ -1,0 +1,187 @@
+//! Calls as words: `3:start=7`, `3:stop=7` and `3:stop_all` are what an atom does to an inner key at a time,
+//! `3:tell=0T9,1F8` the changes of places, each with a truth (T, U or F) and an output key, `cross:10+2` the crossing of a
+//! full end and of so many full buckets after it, `cut:5` a cut, `take` a report, and `inner` shows the inner keys.
+use super::shown::{push_closed, push_key};
+use atom_record::{DimKey, Leaf, MetricKey, Value};
+use bucket_clock::Crossings;
+use duration_metric::{InnerChange, InnerDelta, InnerEvent, Producer, SumProducer};
+use predicate_state::{PredEvent, Truth};
+use sd_base::Seq;
+use std::alloc::{AllocError, Global};
+use test_tools::unsigned;
+
+/// A producer of durations, which tells of its inner keys.
+pub trait Timed: Producer<Event = InnerEvent, After = InnerDelta, Value = u64> {
+    fn len(&self) -> usize;
+
+    fn key(&self, place: usize) -> Option<&DimKey>;
+
+    fn truth(&self, place: usize) -> Option<Truth>;
+}
+
+impl Timed for SumProducer {
+    fn len(&self) -> usize {
+        self.inner_len()
+    }
+
+    fn key(&self, place: usize) -> Option<&DimKey> {
+        self.inner_key(place)
+    }
+
+    fn truth(&self, place: usize) -> Option<Truth> {
+        self.inner_truth(place)
+    }
+}
+
+/// One call.
+#[derive(Clone, Copy)]
+enum Do<'a> {
+    /// Something happens to an inner key at a time.
+    Event(u64, PredEvent, i32),
+    /// The changes are told at a time.
+    Tell(u64, &'a str),
+    /// A frame crosses a full end, and so many full buckets after it.
+    Cross(u64, u64),
+    /// A report cuts the open part.
+    Cut(u64),
+    /// A report is made.
+    Take,
+    /// The inner keys are shown.
+    Inner,
+}
+
+/// The call of a word.
+fn call_of(word: &str) -> Option<Do<'_>> {
+    match word {
+        "take" => return Some(Do::Take),
+        "inner" => return Some(Do::Inner),
+        _ => (),
+    }
+    let (before, after) = word.split_once(':')?;
+    match before {
+        "cut" => Some(Do::Cut(unsigned(after)?)),
+        "cross" => crossing_of(after),
+        _ => step_of(unsigned(before)?, after),
+    }
+}
+
+/// The crossing of an end, as `10` or as `10+2`.
+fn crossing_of(text: &str) -> Option<Do<'_>> {
+    let (end, full) = text.split_once('+').unwrap_or((text, "0"));
+    Some(Do::Cross(unsigned(end)?, unsigned(full)?))
+}
+
+/// What happens at a time, as `start=7`.
+fn step_of(at: u64, text: &str) -> Option<Do<'_>> {
+    let (name, after) = text.split_once('=').unwrap_or((text, "0"));
+    let event = match name {
+        "start" => PredEvent::Start,
+        "stop" => PredEvent::Stop,
+        "stop_all" => PredEvent::StopAll,
+        "tell" => return Some(Do::Tell(at, after)),
+        _ => return None,
+    };
+    Some(Do::Event(at, event, after.parse::<i32>().ok()?))
+}
+
+/// The key with one leaf.
+fn key_of(alloc: Global, number: i32) -> Result<DimKey, AllocError> {
+    let mut dims = Seq::new(alloc);
+    dims.push(Leaf::One(Value::Int(number)))?;
+    Ok(dims)
+}
+
+/// One change, as `0T9`.
+fn change_of(text: &str) -> Option<(u32, Truth, i32)> {
+    if let Some((place, out)) = text.split_once('T') {
+        return numbers_of(place, Truth::True, out);
+    }
+    if let Some((place, out)) = text.split_once('U') {
+        return numbers_of(place, Truth::Unknown, out);
+    }
+    let (place, out) = text.split_once('F')?;
+    numbers_of(place, Truth::False, out)
+}
+
+fn numbers_of(place: &str, truth: Truth, out: &str) -> Option<(u32, Truth, i32)> {
+    Some((place.parse::<u32>().ok()?, truth, out.parse::<i32>().ok()?))
+}
+
+/// The delta of some changes; none is the empty text. A change that isn't one is left out, which its row shows.
+fn delta_of(alloc: Global, text: &str) -> Result<InnerDelta, AllocError> {
+    let mut changes = Seq::new(alloc);
+    for word in text.split(',') {
+        if let Some((place, truth, number)) = change_of(word) {
+            let out = MetricKey {
+                dims: key_of(alloc, number)?,
+                slices: Seq::new(alloc),
+            };
+            changes.push(InnerChange { place, truth, out })?;
+        }
+    }
+    Ok(InnerDelta { changes })
+}
+
+/// What the reports of these calls show, one after the other. Full buckets have a size.
+pub fn played<P: Timed>(
+    alloc: Global,
+    producer: &mut P,
+    size: u64,
+    text: &str,
+) -> Result<String, AllocError> {
+    let mut shown = String::new(alloc);
+    for word in text.split_whitespace() {
+        match call_of(word) {
+            Some(Do::Take) => push_closed(&mut shown, &producer.take())?,
+            Some(Do::Inner) => push_inner(&mut shown, producer)?,
+            Some(call) => act(alloc, producer, size, call)?,
+            None => write!(shown, "no call {word} ")?,
+        }
+    }
+    Ok(shown)
+}
+
+/// The inner keys, each with the truth that was told of it.
+fn push_inner<P: Timed>(shown: &mut String, producer: &P) -> Result<(), AllocError> {
+    for place in 0..producer.len() {
+        let Some(key) = producer.key(place) else {
+            return shown.push_str("no key ");
+        };
+        push_key(shown, key.as_slice())?;
+        shown.push_str(letter_of(producer.truth(place)))?;
+    }
+    shown.push_str("; ")
+}
+
+fn letter_of(truth: Option<Truth>) -> &'static str {
+    match truth {
+        Some(Truth::True) => "T ",
+        Some(Truth::Unknown) => "U ",
+        Some(Truth::False) => "F ",
+        None => "- ",
+    }
+}
+
+/// One call, through the bound that all kinds of metric meet.
+fn act<P: Timed>(
+    alloc: Global,
+    producer: &mut P,
+    size: u64,
+    call: Do<'_>,
+) -> Result<(), AllocError> {
+    match call {
+        Do::Event(at, event, number) => {
+            let key = key_of(alloc, number)?;
+            producer.event(at, InnerEvent { event, key })
+        }
+        Do::Tell(at, changes) => producer.condition(at, delta_of(alloc, changes)?),
+        Do::Cross(first_end, full_buckets) => producer.cross(Crossings {
+            start: 0,
+            first_end,
+            full_buckets,
+            size,
+        }),
+        Do::Cut(at) => producer.cut(at),
+        Do::Take | Do::Inner => Ok(()),
+    }
+}

@@ -1,0 +1,44 @@
+//! What a report shows, as words: `7:0-10=5` is the row of a key from a start to an end.
+use atom_record::{Leaf, Value};
+use duration_metric::{Closed, Row};
+use std::alloc::AllocError;
+
+/// What one report shows, with a `;` after it.
+pub fn push_closed(text: &mut String, closed: &Closed<u64>) -> Result<(), AllocError> {
+    for row in closed.rows.as_slice() {
+        push_row(text, row)?;
+    }
+    push_count(text, "others", closed.not_kept)?;
+    push_count(text, "dropped", closed.dropped)?;
+    push_count(text, "missing", closed.missing)?;
+    text.push_str("; ")
+}
+
+fn push_row(text: &mut String, row: &Row<u64>) -> Result<(), AllocError> {
+    push_key(text, row.key.dims.as_slice())?;
+    let (start, end, value) = (row.start, row.end, row.value);
+    write!(text, ":{start}-{end}={value} ")
+}
+
+/// The numbers that a key is made of.
+pub fn push_key(text: &mut String, leaves: &[Leaf]) -> Result<(), AllocError> {
+    for leaf in leaves {
+        push_leaf(text, leaf)?;
+    }
+    Ok(())
+}
+
+fn push_leaf(text: &mut String, leaf: &Leaf) -> Result<(), AllocError> {
+    match leaf {
+        Leaf::One(Value::Int(number)) => write!(text, "{number}"),
+        _ => text.push_str("?"),
+    }
+}
+
+/// A count that isn't 0, with its name.
+fn push_count(text: &mut String, name: &str, count: u64) -> Result<(), AllocError> {
+    if count == 0 {
+        return Ok(());
+    }
+    write!(text, "{name} {count} ")
+}
