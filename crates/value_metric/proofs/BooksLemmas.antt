@@ -1,10 +1,11 @@
 -- The books of a metric of values through each mark.
-use Rattle.std.proofs.Common.{◌≡◌, ℕ, ℤ, ◌+◌, Bool, List, [], ◌∷◌, ◌++◌, map, take, Option, refl, sym, ap, subst, ◌∙◌, append_assoc, append-nil}
+use Rattle.std.proofs.Common.{◌≡◌, ℕ, ℤ, ◌+◌, Bool, List, [], ◌∷◌, ◌++◌, map, take, Option, refl, sym, ap, subst, ◌∙◌, arith, append_assoc, append-nil}
 use Rattle.std.specs.List.{flat_map}
 use Rattle.std.proofs.lemmas.Grind.{flat_map-append}
 use Rattle.std.proofs.Math.Seq.{take-nil}
 use Rattle.atom_record.specs.declared.value.MetricKey.{MetricKey}
-use Rattle.bucket_meaning.specs.Marks.{Ends, Came, Asked, Part}
+use Rattle.bucket_meaning.specs.Kept.{count_in_u64}
+use Rattle.bucket_meaning.specs.Marks.{Ends, Came, Missed, Asked, Part}
 use Rattle.bucket_meaning.specs.Guard.{admitted, arrival_key}
 use Rattle.bucket_meaning.specs.Rows.{drops, row_of, rows_of, closed_rows}
 use Rattle.config_types.specs.declared.metric.Aggregation.{Aggregation}
@@ -17,7 +18,7 @@ use Rattle.value_metric.specs.Totals.{total_of, totals, total_rows, row_weighs, 
 use Rattle.value_metric.specs.ValueBooksStand.{ValueForm, form_kind, HoldsBooks, TakesMark}
 
 -- the rows of a part are those of its totals
-rows_by_totals : (form : ValueForm) (part : Part (MetricKey × ℤ)) (ks : List MetricKey)
+pub rows_by_totals : (form : ValueForm) (part : Part (MetricKey × ℤ)) (ks : List MetricKey)
     → flat_map (row_of (form_kind form) form.bound part) ks
     ≡ flat_map (total_rows form.hides_zeros part.start part.end) (map (total_of form.aggregation part.came) ks)
 rows_by_totals form part [] = refl
@@ -48,11 +49,12 @@ no_rows form start end =
     (take-nil form.bound)
 
 -- an empty object holds books whose time has just begun
-pub opens : (it : ValueBooks) (form : ValueForm) (start : ℕ) → it.table ≡ record { rows = []; bound = form.bound; dropped = 0 }
+pub opens : (it : ValueBooks) (form : ValueForm) (start : ℕ)
+    → it.table ≡ record { rows = []; bound = form.bound; dropped = 0 }
     → it.aggregation ≡ form.aggregation → it.hides_zeros ≡ form.hides_zeros → it.start ≡ start
-    → IsKept row_weighs [] it.kept
+    → IsKept row_weighs [] it.kept → it.missing ≡ 0
     → HoldsBooks it form (record { start = start; came = []; closed = []; dropped = 0; missing = 0 })
-opens it form start table aggregation hides_zeros starts kept = record {
+opens it form start table aggregation hides_zeros starts kept missing = record {
   bound = ap (λ (t : Table MetricKey (Option ℤ)). t.bound) table;
   aggregation = aggregation;
   hides_zeros = hides_zeros;
@@ -62,6 +64,7 @@ opens it form start table aggregation hides_zeros starts kept = record {
     dropped_are = ap (λ (t : Table MetricKey (Option ℤ)). t.dropped) table;
   };
   kept = kept;
+  missing = missing;
 }
 
 -- an integer came
@@ -80,15 +83,29 @@ comes old table key integer takes form books has =
           (books.dropped + drops (form_kind form) n books.came (key, integer))) has.bound
           (own.totals_are form.hides_zeros books.came books.dropped has.table);
       kept = has.kept;
+      missing = has.missing;
     }
+
+-- a snapshot was missed
+pub misses : (old : ValueBooks) (missing : ℕ) → missing ≡ count_in_u64 (old.missing + 1)
+    → TakesMark old (record old { missing = missing }) Missed
+misses old missing rises form books has = record {
+  bound = has.bound;
+  aggregation = has.aggregation;
+  hides_zeros = has.hides_zeros;
+  start = has.start;
+  table = has.table;
+  kept = has.kept;
+  missing = rises ∙ omega (arith, has.missing);
+}
 
 -- the open part is closed: its rows are kept or counted, and an empty part begins
 pub closes : (old new : ValueBooks) (end : ℕ) → new.start ≡ end → new.aggregation ≡ old.aggregation
     → new.hides_zeros ≡ old.hides_zeros → new.table ≡ record old.table { rows = [] }
     → AddsRows row_weighs old.kept new.kept
     (flat_map (total_rows old.hides_zeros old.start end) old.table.rows)
-    → TakesMark old new (Ends end)
-closes old new end start aggregation hides_zeros table adds form books has =
+    → new.missing ≡ old.missing → TakesMark old new (Ends end)
+closes old new end start aggregation hides_zeros table adds missing form books has =
     let bound = form.bound in
     let part : Part (MetricKey × ℤ) = record { start = books.start; end = end; came = books.came } in
     let rows : flat_map (total_rows old.hides_zeros old.start end) old.table.rows ≡ rows_of (form_kind form) bound part =
@@ -112,14 +129,15 @@ closes old new end start aggregation hides_zeros table adds form books has =
       kept = subst (λ all. IsKept row_weighs all new.kept) (sym (closed_rows-push form books.closed part))
           (subst (λ more. IsKept row_weighs (closed_rows (form_kind form) bound books ++ more) new.kept) rows
           (adds (closed_rows (form_kind form) bound books) has.kept));
+      missing = missing ∙ has.missing;
     }
 
 -- what was kept is handed out
 pub hands_out : (old new : ValueBooks) → new.start ≡ old.start → new.aggregation ≡ old.aggregation
     → new.hides_zeros ≡ old.hides_zeros → new.table ≡ record old.table { dropped = 0 }
-    → ((weigh : Row ℤ → ℕ) → IsKept weigh [] new.kept)
+    → ((weigh : Row ℤ → ℕ) → IsKept weigh [] new.kept) → new.missing ≡ 0
     → TakesMark old new Asked
-hands_out old new start aggregation hides_zeros table kept form books has = record {
+hands_out old new start aggregation hides_zeros table kept missing form books has = record {
   bound = ap (λ (t : Table MetricKey (Option ℤ)). t.bound) table ∙ has.bound;
   aggregation = aggregation ∙ has.aggregation;
   hides_zeros = hides_zeros ∙ has.hides_zeros;
@@ -131,6 +149,7 @@ hands_out old new start aggregation hides_zeros table kept form books has = reco
     dropped_are = ap (λ (t : Table MetricKey (Option ℤ)). t.dropped) table;
   };
   kept = kept row_weighs;
+  missing = missing;
 }
 
 -- one more row was added, or hidden, of those that were to come

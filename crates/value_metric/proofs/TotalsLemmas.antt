@@ -24,7 +24,7 @@ abbrev with_integer : List (MetricKey × ℤ) → MetricKey → ℤ → List (Me
 with_integer came key integer = came ++ (key, integer) ∷ []
 
 -- one integer more is joined to those before it
-total-push : (aggregation : Aggregation) (integers : List ℤ) (next : ℤ)
+pub total-push : (aggregation : Aggregation) (integers : List ℤ) (next : ℤ)
     → reduce (joined aggregation) (integers ++ next ∷ [])
     ≡ Some (joined_to aggregation (reduce (joined aggregation) integers) next)
 total-push aggregation [] next = refl

@@ -2,3 +2,10 @@ pub mod Totals
 pub mod ValueBooksStand
 pub mod PushedValues
 pub mod PushedStands
+pub mod Sums
+pub mod PulledValues
+pub mod CallIntervals
+pub mod ReadAhead
+pub mod PulledCollecting
+pub mod PulledStands
+pub mod PulledSteps

@@ -1,5 +1,5 @@
 -- What a producer of pushed values stands for.
-use Rattle.std.specs.Prelude.{◌≡◌, ℤ, false, List}
+use Rattle.std.specs.Prelude.{ℤ, false, List}
 use Rattle.atom_record.specs.declared.value.MetricKey.{MetricKey}
 use Rattle.bucket_meaning.specs.Marks.{Books}
 use Rattle.bucket_meaning.specs.Meaning.{books_by}
@@ -14,18 +14,13 @@ use Rattle.value_metric.specs.declared.pushed_value.PushedValue.{PushedValue}
 abbrev pub pushed_form : PushedParams → ValueForm
 pushed_form params = record { bound = params.bound; aggregation = params.aggregation; hides_zeros = false }
 
--- the producer holds these books, of which no snapshot is missing
-pub record HasPushed (it : PushedValue) (params : PushedParams) (books : Books (MetricKey × ℤ)) : Type 0 where
-  pub held : HoldsBooks it.books (pushed_form params) books
-  pub missing : books.missing ≡ 0
-
 -- what calls mean for pushed values
 abbrev pub pushed_mean : PushedParams → List PushedCall → Books (MetricKey × ℤ)
 pushed_mean = books_by (calls_mean pushed_collecting)
 
 -- the producer was made with these, and has got these calls
 abbrev pub PushedStandsFor : PushedValue → PushedParams → List PushedCall → Type 0
-PushedStandsFor it params calls = HasPushed it params (pushed_mean params calls)
+PushedStandsFor it params calls = HoldsBooks it.books (pushed_form params) (pushed_mean params calls)
 
 -- the law of pushed values
 abbrev pub pushed_law : Law PushedValue PushedParams KeyedInt (Unit {0}) (MetricKey × ℤ) MetricKey ℤ (Row ℤ)

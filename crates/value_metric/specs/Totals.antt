@@ -1,7 +1,7 @@
 -- What a table has of the integers that came in a part: for each admitted key what its integers give.
-use Rattle.std.specs.Prelude.{◌≡◌, ℕ, ℤ, pos, ◌+◌, Bool, List, [], ◌∷◌, ◌++◌, map, Option, Some, None}
+use Rattle.std.specs.Prelude.{◌≡◌, ℕ, ℤ, zero, suc, pos, ◌+◌, Bool, List, [], ◌∷◌, ◌++◌, map, length, Option, Some, None}
 use Rattle.std.specs.Int.{w64, saturate_signed}
-use Rattle.std.specs.List.{reduce}
+use Rattle.std.specs.List.{reduce, flat_map}
 use Rattle.std.specs.Option.{unwrap_or}
 use Rattle.atom_record.specs.declared.value.MetricKey.{MetricKey}
 use Rattle.bucket_meaning.specs.Guard.{admitted, of_key, arrival_key}
@@ -9,6 +9,7 @@ use Rattle.bucket_meaning.specs.Kept.{count_in_u64}
 use Rattle.bucket_meaning.specs.Rows.{drops}
 use Rattle.config_types.specs.declared.metric.Aggregation.{Aggregation}
 use Rattle.dim_table.specs.Table.{Table}
+use Rattle.kept_rows.specs.KeptRows.{Keeping, AddsRows}
 use Rattle.metric_kinds.specs.Keys.{is_same_key}
 use Rattle.metric_kinds.specs.Values.{joined, unless_hidden, value_kind}
 use Rattle.metric_producer.specs.declared.row.Row.{Row}
@@ -50,6 +51,17 @@ abbrev pub total_rows : Bool → ℕ → ℕ → MetricKey × Option ℤ → Lis
 total_rows hides_zeros start end entry =
     unless_hidden hides_zeros (record { key = entry.0; start = start; end = end; value = shown_total entry.1 })
 
+-- the rows of the same totals in so many full buckets, one after the other
+abbrev pub bucket_rows : Bool → List (MetricKey × Option ℤ) → ℕ → ℕ → ℕ → List (Row ℤ)
+bucket_rows hides_zeros totals size start zero = []
+bucket_rows hides_zeros totals size start (suc n) =
+    flat_map (total_rows hides_zeros start (start + size)) totals
+    ++ bucket_rows hides_zeros totals size (start + size) n
+
 -- each row weighs the same
 abbrev pub row_weighs : Row ℤ → ℕ
 row_weighs row = 1
+
+-- whatever rows the old one was of, the new one is of those and these, which are so many
+abbrev pub AddsCounted : Keeping (Row ℤ) → Keeping (Row ℤ) → ℕ → List (Row ℤ) → Type 0
+AddsCounted old new count rows = AddsRows row_weighs old new rows × (count ≡ length rows)

@@ -1,7 +1,8 @@
 -- Which books a metric of values holds, and what a mark makes of them.
-use Rattle.std.specs.Prelude.{◌≡◌, ℕ, ℤ, Bool, []}
+use Rattle.std.specs.Prelude.{◌≡◌, ℕ, ℤ, zero, suc, ◌+◌, ◌*◌, ◌<◌, Bool, List, [], ◌∷◌, ◌++◌}
 use Rattle.atom_record.specs.declared.value.MetricKey.{MetricKey}
-use Rattle.bucket_meaning.specs.Marks.{Mark, Books, after}
+use Rattle.bucket_meaning.specs.Limits.{time_limit}
+use Rattle.bucket_meaning.specs.Marks.{Mark, Part, Books, after, books_from}
 use Rattle.bucket_meaning.specs.Kept.{count_in_u64, taken_of}
 use Rattle.bucket_meaning.specs.Rows.{Kind, drops, closed_rows}
 use Rattle.config_types.specs.declared.metric.Aggregation.{Aggregation}
@@ -11,6 +12,7 @@ use Rattle.metric_producer.specs.Collecting.{closed_of}
 use Rattle.metric_producer.specs.declared.row.Row.{Row}
 use Rattle.metric_producer.specs.declared.row.Closed.{Closed}
 use Rattle.value_metric.specs.Totals.{HasTotals, row_weighs}
+use Rattle.value_metric.specs.declared.value_books.Counts.{Counts}
 use Rattle.value_metric.specs.declared.value_books.ValueBooks.{ValueBooks}
 
 -- How a metric of values makes its rows: how many keys a part admits, what the integers of a key give, and whether rows
@@ -24,7 +26,7 @@ pub record ValueForm : Type 0 where
 abbrev pub form_kind : ValueForm → Kind (MetricKey × ℤ) MetricKey ℤ (Row ℤ)
 form_kind form = value_kind form.aggregation form.hides_zeros
 
--- the object holds these books of a metric of this form; missing snapshots are counted elsewhere
+-- the object holds these books of a metric of this form
 pub record HoldsBooks (it : ValueBooks) (form : ValueForm) (books : Books (MetricKey × ℤ)) : Type 0 where
   pub bound : it.table.bound ≡ form.bound
   pub aggregation : it.aggregation ≡ form.aggregation
@@ -32,6 +34,7 @@ pub record HoldsBooks (it : ValueBooks) (form : ValueForm) (books : Books (Metri
   pub start : it.start ≡ books.start
   pub table : HasTotals form.aggregation it.table books.came books.dropped
   pub kept : IsKept row_weighs (closed_rows (form_kind form) form.bound books) it.kept
+  pub missing : it.missing ≡ count_in_u64 books.missing
 
 -- the object holds the books of a metric of this form whose time has just begun
 abbrev pub IsOpened : ValueBooks → ℕ → ValueForm → Type 0
@@ -48,9 +51,41 @@ TakesMark old new mark =
     (form : ValueForm) (books : Books (MetricKey × ℤ)) → HoldsBooks old form books
     → HoldsBooks new form (with_mark form books mark)
 
--- whatever books the object holds, of which so many snapshots are missing, what is handed out is what a report shows of
--- them
-abbrev pub ShowsBooks : ValueBooks → ℕ → Closed ℤ → Type 0
-ShowsBooks it missing closed =
-    (form : ValueForm) (books : Books (MetricKey × ℤ)) → HoldsBooks it form books → missing ≡ count_in_u64 books.missing
-    → closed ≡ closed_of (taken_of row_weighs (closed_rows (form_kind form) form.bound books) books.dropped books.missing)
+-- whatever books the old object holds, the new one holds them after these marks
+abbrev pub TakesMarks : ValueBooks → ValueBooks → List (Mark (MetricKey × ℤ)) → Type 0
+TakesMarks old new marks =
+    (form : ValueForm) (books : Books (MetricKey × ℤ)) → HoldsBooks old form books
+    → HoldsBooks new form (books_from (drops (form_kind form) form.bound) books marks)
+
+-- whatever books the object holds, what is handed out is what a report shows of them
+abbrev pub ShowsBooks : ValueBooks → Closed ℤ → Type 0
+ShowsBooks it closed =
+    (form : ValueForm) (books : Books (MetricKey × ℤ)) → HoldsBooks it form books
+    → closed
+    ≡ closed_of (taken_of row_weighs (closed_rows (form_kind form) form.bound books) books.dropped books.missing)
+
+-- so many parts of one length, one after the other, in each of which the same came
+abbrev pub same_parts : ℕ → List (MetricKey × ℤ) → ℕ → ℕ → List (Part (MetricKey × ℤ))
+same_parts size came start zero = []
+same_parts size came start (suc n) =
+    record { start = start; end = start + size; came = came } ∷ same_parts size came (start + size) n
+
+-- What came, was dropped and was missed in a part so far, where the counts were these at its beginning.
+pub record Since (counts : Counts) (dropped missing : ℕ) : Type 0 where
+  pub dropped_are : counts.dropped ≡ count_in_u64 dropped
+  pub missing_are : counts.missing ≡ count_in_u64 missing
+
+-- Whatever came in the open part, and however many were dropped and missed in it since the counts were these: the new
+-- object holds the books in which so many full buckets were closed with the same, of which the open part was the first.
+abbrev pub ClosesAgain : ValueBooks → ValueBooks → Counts → ℕ → ℕ → Type 0
+ClosesAgain old new since size number =
+    (form : ValueForm) (books : Books (MetricKey × ℤ)) (lost missed : ℕ) → Since since books.dropped books.missing
+    → books.start + number * size < time_limit
+    → HoldsBooks old form (record books { dropped = books.dropped + lost; missing = books.missing + missed })
+    → HoldsBooks new form (record {
+      start = books.start + number * size;
+      came = [];
+      closed = books.closed ++ same_parts size books.came books.start number;
+      dropped = books.dropped + number * lost;
+      missing = books.missing + number * missed;
+    })

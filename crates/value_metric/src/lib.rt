@@ -1,10 +1,15 @@
 //! What a metric of values keeps of its integers between two reports.
 #![tactic(auto)]
 
+mod key_sums;
 mod keyed_int;
+mod pulled_value;
 mod pushed_value;
+mod read_ahead;
 mod value_books;
 
-pub use keyed_int::KeyedInt;
+pub use keyed_int::{KeyedInt, SnapInts};
 pub use metric_producer::{Closed, Producer, Row};
+pub use pulled_value::PulledValue;
 pub use pushed_value::PushedValue;
+pub use read_ahead::intervals_are_read_ahead;

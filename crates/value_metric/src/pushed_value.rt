@@ -85,6 +85,6 @@ impl Producer for PushedValue {
     }
 
     fn take(&mut self) -> Closed<i64> {
-        self.books.take(0)
+        self.books.take()
     }
 }

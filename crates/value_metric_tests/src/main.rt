@@ -2,6 +2,8 @@
 #![tactic(auto)]
 
 mod calls;
+mod pulled;
+mod pushed;
 mod rows;
 mod shown;
 

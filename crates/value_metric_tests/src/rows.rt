@@ -1,22 +1,22 @@
 //! The rows: what a producer is made with, its calls, and what its reports show.
-use super::calls::played;
-use config_types::Aggregation;
+use super::{pulled, pushed};
+use config_types::{Aggregation, DiffSpec, Direction};
 use std::alloc::{AllocError, Global};
 use test_tools::{Row, Table, Tester, unsigned};
-use value_metric::PushedValue;
+use value_metric::{PulledValue, PushedValue};
 
 /// The table of producers of values.
 pub struct Values;
 
 impl Table for Values {
     fn marks(&self) -> &'static str {
-        "pushed calls shows"
+        "pushed pulled calls shows"
     }
 
     fn run(&self, alloc: Global, tester: &mut Tester, row: &Row<'_>) -> Result<(), AllocError> {
-        match made_of(row.word("pushed")) {
-            Some(made) => run_pushed(alloc, tester, row, made),
-            None => tester.differs("no producer", row.word("pushed")),
+        match made_by(row) {
+            Some(made) => run_row(alloc, tester, row, made),
+            None => tester.differs("no producer", row.block()),
         }
     }
 }
@@ -28,6 +28,16 @@ struct Made {
     base: u64,
     size: u64,
     bound: u64,
+    /// How differences are taken, of pulled values.
+    spec: Option<DiffSpec>,
+}
+
+/// What the producer of a row is made with.
+fn made_by(row: &Row<'_>) -> Option<Made> {
+    if row.has("pulled") {
+        return pulled_of(row.word("pulled"));
+    }
+    made_of(row.word("pushed"))
 }
 
 /// What a producer is made with, as `sum 0 10 2`.
@@ -40,7 +50,43 @@ fn made_of(text: &str) -> Option<Made> {
         base: unsigned(base)?,
         size: unsigned(size)?,
         bound: unsigned(bound)?,
+        spec: None,
     })
+}
+
+/// What a producer of pulled values is made with, as `up reset+skip sum 0 10 2`: the way in which values go, and what
+/// is asked for (`plain`, where nothing is).
+fn pulled_of(text: &str) -> Option<Made> {
+    let (direction, rest) = text.split_once(' ')?;
+    let (flags, rest) = rest.split_once(' ')?;
+    let made = made_of(rest)?;
+    let spec = DiffSpec {
+        agg: made.aggregation,
+        direction: direction_of(direction)?,
+        abs_reset: has_flag(flags, "reset"),
+        skip_zero: has_flag(flags, "skip"),
+        zero_base: has_flag(flags, "zero"),
+    };
+    Some(Made {
+        aggregation: made.aggregation,
+        base: made.base,
+        size: made.size,
+        bound: made.bound,
+        spec: Some(spec),
+    })
+}
+
+fn has_flag(flags: &str, name: &str) -> bool {
+    flags.split('+').any(|flag| flag == name)
+}
+
+fn direction_of(word: &str) -> Option<Direction> {
+    match word {
+        "up" => Some(Direction::Increasing),
+        "down" => Some(Direction::Decreasing),
+        "any" => Some(Direction::Any),
+        _ => None,
+    }
 }
 
 fn aggregation_of(word: &str) -> Option<Aggregation> {
@@ -52,7 +98,7 @@ fn aggregation_of(word: &str) -> Option<Aggregation> {
     }
 }
 
-fn run_pushed(
+fn run_row(
     alloc: Global,
     tester: &mut Tester,
     row: &Row<'_>,
@@ -82,6 +128,14 @@ fn played_by(alloc: Global, made: Made, calls: &str) -> Result<Option<String>, A
         return Ok(None);
     }
     let bound = made.bound as usize;
-    let mut values = PushedValue::new(alloc, made.base, made.size, bound, made.aggregation);
-    Ok(Some(played(alloc, &mut values, made.size, calls)?))
+    match made.spec {
+        None => {
+            let mut values = PushedValue::new(alloc, made.base, made.size, bound, made.aggregation);
+            Ok(Some(pushed::played(alloc, &mut values, made.size, calls)?))
+        }
+        Some(spec) => {
+            let mut values = PulledValue::new(alloc, made.base, made.size, bound, spec);
+            Ok(Some(pulled::played(alloc, &mut values, made.size, calls)?))
+        }
+    }
 }

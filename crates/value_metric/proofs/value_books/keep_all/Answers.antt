@@ -15,4 +15,4 @@ loop-key-preserved c =
     (c.in-Some.key, c.in-Some.total) c.loop-key.invariant.1 c.loop-key.invariant.2 c.in-Some.ensures.steps
     (subst (λ n. AddsRows row_weighs c.loop-key.kept c.keep.new.kept (unless_hidden c.args.hides_zeros
     (record { key = c.in-Some.key; start = c.args.start; end = c.args.end; value = n })))
-    (to_z-of_z w64 c.shown.result fits ∙ c.shown.ensures) c.in_ok-keep.ensures)
+    (to_z-of_z w64 c.shown.result fits ∙ c.shown.ensures) c.in_ok-keep.ensures.0)

@@ -12,5 +12,5 @@ returns c = on_ok_weaker c.keep_all.result
     (λ adds. closes c.args.self.now _ c.args.end refl refl refl c.move_out.ensures.left
     (subst (λ rows. AddsRows row_weighs c.args.self.now.kept c.keep_all.new.kept
     (flat_map (total_rows c.args.self.now.hides_zeros c.args.self.now.start c.args.end) rows)) c.move_out.ensures.rows
-    adds))
+    adds) refl)
     c.keep_all.ensures

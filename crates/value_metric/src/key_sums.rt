@@ -1,0 +1,79 @@
+//! The sums of a snapshot's integers, by key.
+ghost use Rattle.std.specs.Prelude.{◌≡◌, IfOk, OnOk, length, slice_get};
+ghost use Rattle.std.specs.Option.{option_map};
+ghost use Rattle.std.specs.Map.{lookup};
+ghost use Rattle.metric_kinds.specs.Diffs.{key_sums};
+ghost use Rattle.metric_kinds.specs.Keys.{is_same_key};
+ghost use Rattle.value_metric.specs.PulledValues.{keyed_ints};
+ghost use Rattle.value_metric.specs.Sums.{with_sum};
+
+use crate::KeyedInt;
+use atom_record::MetricKey;
+use indexmap::IndexMap;
+use sd_base::Seq;
+use std::alloc::{AllocError, Global};
+use std::marker::Model;
+
+/// Each key of a snapshot, where it first comes, with the sum of its integers.
+#[derive(Drop)]
+pub struct KeySums {
+    rows: IndexMap<MetricKey, i128>,
+}
+
+impl Model for KeySums {
+    ghost use Rattle.std.specs.Prelude.{ℤ, List};
+    ghost use Rattle.atom_record.specs.declared.value.MetricKey.{MetricKey};
+
+    ghost Value = { List (MetricKey × ℤ) };
+
+    ghost view = { λ s. s.rows.entries };
+}
+
+impl KeySums {
+    /// Of these integers.
+    pub(crate) fn of(alloc: Global, integers: Seq<KeyedInt>) -> Result<KeySums, AllocError>
+        ensures { IfOk result (λ sums. sums ≡ key_sums (keyed_ints integers)) }
+    {
+        let mut sums = KeySums {
+            rows: IndexMap::new(alloc),
+        };
+        for integer in integers.into_vec() {
+            sums.add(integer.key, integer.value as i128)?;
+        }
+        Ok(sums)
+    }
+
+    // One more integer of a key.
+    fn add(&mut self, key: MetricKey, integer: i128) -> Result<(), AllocError>
+        ensures { OnOk result (self.new ≡ with_sum self.old key integer) }
+    {
+        let sum = match self.sum_of(&key) {
+            Some(sum) => sum.saturating_add(integer),
+            None => integer,
+        };
+        self.rows.insert(key, sum)?;
+        Ok(())
+    }
+
+    /// The sum of a key's integers, or none where the key isn't there.
+    pub(crate) fn sum_of(&self, key: &MetricKey) -> Option<i128>
+        ensures { result ≡ lookup (is_same_key key.now) self.now }
+    {
+        self.rows.get(key).copied()
+    }
+
+    /// The key at a place with its sum, or none past the end.
+    pub(crate) fn at(&self, place: usize) -> Option<(&MetricKey, i128)>
+        ensures { option_map (λ found. (found.0.now, found.1)) result ≡ slice_get self.now place }
+    {
+        let (key, sum) = self.rows.get_index(place)?;
+        Some((key, *sum))
+    }
+
+    /// The number of keys.
+    pub(crate) fn len(&self) -> usize
+        ensures { result ≡ length self.now }
+    {
+        self.rows.len()
+    }
+}
