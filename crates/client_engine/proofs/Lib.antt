@@ -6,8 +6,12 @@ pub mod ShownLemmas
 pub mod SliceLemmas
 pub mod StateDropsLemmas
 pub mod AlongLemmas
+pub mod ArrivingLemmas
 pub mod CountsLemmas
-pub mod TrackLemmas
+pub mod ValuesLemmas
+pub mod MessagesLemmas
+pub mod GaugesLemmas
+pub mod EventsLemmas
 pub mod TracksLemmas
 pub mod InsidePartsLemmas
 pub mod AskedLemmas

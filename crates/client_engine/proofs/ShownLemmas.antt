@@ -9,7 +9,7 @@ use Rattle.metric_meaning.specs.Histories.{Step, moment_of}
 use Rattle.metric_meaning.specs.ShownFrames.{shown_as}
 use Rattle.metric_meaning.specs.PredicateSteps.{tables_after}
 use Rattle.metric_meaning.specs.Scenes.{Scene}
-use Rattle.metric_meaning.specs.CountSteps.{arrival_by}
+use Rattle.metric_meaning.specs.Arrivals.{arriving_by}
 use Rattle.metric_meaning.proofs.PredicateStepsLemmas.{tables_after-idle}
 use Rattle.client_engine.specs.NextSteps.{logged_step, with_logged}
 
@@ -26,13 +26,13 @@ shown_moment log (Tick at) = refl
 shown_moment log (AtomAt at atom) = refl
 shown_moment log (Pull at id outcome) = refl
 
--- they bring the same to a metric of counts
-pub shown_arrival : (scene : Scene) (metric : LMetric) (log : List LogFrame) (frame : LogFrame) (truths : List Bool)
-    → arrival_by scene metric (logged_step (shown_as log frame) truths)
-    ≡ arrival_by scene metric (logged_step frame truths)
-shown_arrival scene metric log (Tick at) truths = refl
-shown_arrival scene metric log (AtomAt at atom) truths = refl
-shown_arrival scene metric log (Pull at id outcome) truths = refl
+-- the same atom arrives with both
+pub shown_arriving : (scene : Scene) (metric : LMetric) (log : List LogFrame) (frame : LogFrame) (truths : List Bool)
+    → arriving_by scene metric (logged_step (shown_as log frame) truths)
+    ≡ arriving_by scene metric (logged_step frame truths)
+shown_arriving scene metric log (Tick at) truths = refl
+shown_arriving scene metric log (AtomAt at atom) truths = refl
+shown_arriving scene metric log (Pull at id outcome) truths = refl
 
 -- they make the same of predicates
 pub shown_tables : (predicates : List LPredicate) (steps : List Step) (log : List LogFrame) (frame : LogFrame)

@@ -4,8 +4,13 @@ pub mod Known
 pub mod Handed
 pub mod KeptPredicates
 pub mod NextSteps
+pub mod Bringing
 pub mod Along
 pub mod CountsAlong
+pub mod ValuesAlong
+pub mod Messages
+pub mod GaugesAlong
+pub mod EventsAlong
 pub mod TrackStands
 pub mod Tracks
 pub mod Running

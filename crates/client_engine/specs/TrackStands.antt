@@ -4,13 +4,19 @@ use Rattle.std.specs.Prelude.{List}
 use Rattle.config_links.specs.declared.linked.LMetric.{LMetric}
 use Rattle.metric_meaning.specs.Histories.{Step, Installation}
 use Rattle.client_engine.specs.CountsAlong.{CountsAlong}
+use Rattle.client_engine.specs.ValuesAlong.{ValuesAlong}
+use Rattle.client_engine.specs.GaugesAlong.{GaugesAlong}
+use Rattle.client_engine.specs.EventsAlong.{EventsAlong}
 use Rattle.client_engine.specs.declared.track.MetricLane.{MetricLane}
-use Rattle.client_engine.specs.declared.track.MetricLane.TheVariants.{Counts}
+use Rattle.client_engine.specs.declared.track.MetricLane.TheVariants.{Counts, Values, Gauges, Events}
 use Rattle.client_engine.specs.declared.track.Track.{Track}
 
 -- a lane collects for its metric, as the metric's kind has it
 abbrev pub LaneAlong : LMetric → Installation → List Step → MetricLane → Type 0
 LaneAlong metric installed steps (Counts lane) = CountsAlong metric installed steps lane
+LaneAlong metric installed steps (Values lane) = ValuesAlong metric installed steps lane
+LaneAlong metric installed steps (Gauges lane) = GaugesAlong metric installed steps lane
+LaneAlong metric installed steps (Events lane) = EventsAlong metric installed steps lane
 
 -- a metric with its lane is what these steps make of it
 abbrev pub TrackStandsFor : Installation → List Step → Track → Type 0

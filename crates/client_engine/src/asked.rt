@@ -1,8 +1,8 @@
 //! What a metric asks of predicates.
-ghost use Rattle.std.specs.Prelude.{◌≡◌, [], map, replicate, OnOk};
+ghost use Rattle.std.specs.Prelude.{◌≡◌, [], map, replicate, Some, OnOk, IfOk};
 ghost use Rattle.std.specs.List.{range_with_len};
-ghost use Rattle.metric_meaning.specs.Readings.{atom_reading};
-ghost use Rattle.metric_meaning.specs.MetricConditions.{binds_at};
+ghost use Rattle.metric_meaning.specs.Readings.{LeafReading, atom_reading};
+ghost use Rattle.metric_meaning.specs.MetricConditions.{link_binds, binds_at};
 
 use atom_record::Atom;
 use condition_links::bind_atom;
@@ -11,16 +11,34 @@ use predicate_state::BindList;
 use sd_base::Seq;
 use std::alloc::{AllocError, Global};
 
-/// What a metric's links ask of each of so many predicates, for an atom. The room of the list is used again.
-pub fn ask_all(
+/// What links read the values from that they ask for.
+pub trait Asked {
+    /// The values at the fields of any set.
+    ghost reading: { Self → LeafReading };
+
+    /// What a link asks of its predicate.
+    fn bind(&self, alloc: Global, link: &LLink) -> Result<BindList, AllocError>
+        ensures { IfOk result (λ binds. binds ≡ link_binds (reading self.now) (Some link.now)) };
+}
+
+impl Asked for Atom {
+    ghost reading = { atom_reading };
+
+    fn bind(&self, alloc: Global, link: &LLink) -> Result<BindList, AllocError> {
+        bind_atom(alloc, link, self)
+    }
+}
+
+/// What a metric's links ask of each of so many predicates, by what they read. The room of the list is used again.
+pub fn ask_all<A: Asked>(
     alloc: Global,
     links: &[LLink],
-    atom: &Atom,
+    asked: &A,
     predicates: usize,
     binds: &mut Vec<BindList>,
 ) -> Result<(), AllocError>
-    ensures { OnOk result
-        (binds.new.items ≡ map (binds_at links.now (atom_reading atom.now)) (range_with_len 0 predicates)) }
+    ensures { OnOk result (binds.new.items
+        ≡ map (binds_at links.now (A.reading asked.now)) (range_with_len 0 predicates)) }
 {
     ask_nothing(alloc, predicates, binds)?;
     // from the last on, since of two links to a predicate the first one counts
@@ -28,7 +46,7 @@ pub fn ask_all(
         let link = &links[at];
         let place = link.predicate as usize;
         if place < predicates {
-            binds[place] = bind_atom(alloc, link, atom)?;
+            binds[place] = asked.bind(alloc, link)?;
         }
     }
     Ok(())

@@ -2,15 +2,14 @@
 ghost use Rattle.std.specs.Prelude.{◌≡◌, [], length, OnOk, IfOk};
 ghost use Rattle.config_links.specs.SoundConfig.{MayBeWithin};
 ghost use Rattle.condition_links.specs.ThreeValues.{is_true};
-ghost use Rattle.metric_meaning.specs.Readings.{atom_reading};
 ghost use Rattle.metric_meaning.specs.MetricConditions.{is_condition_true};
 ghost use Rattle.client_engine.specs.NextSteps.{logged_step};
 ghost use Rattle.client_engine.specs.Known.{KnowsAfter, KnowsStep, drops_in};
 ghost use Rattle.client_engine.specs.KeptPredicates.{CanBeKept};
 
-use crate::asked::ask_all;
+use crate::asked::{Asked, ask_all};
 use crate::tables::{act_on_all, drops_of, new_tables};
-use atom_record::{Atom, LogFrame};
+use atom_record::LogFrame;
 use condition_links::query;
 use config_links::{CondTree, LMetric, LPredicate};
 use predicate_state::{BindList, PredTable, Truth};
@@ -77,23 +76,23 @@ impl Conditions {
         }
     }
 
-    /// Whether a metric's condition is true for an atom, by what predicates know now.
-    pub fn holds(
+    /// Whether a metric's condition is true for what its links read, by what predicates know now.
+    pub fn holds<A: Asked>(
         &mut self,
         alloc: Global,
         metric: &LMetric,
-        atom: &Atom,
+        asked: &A,
     ) -> Result<bool, AllocError>
         requires within { MayBeWithin (length self.old.predicates) metric.now.condition }
         ensures truth { IfOk result (λ truth. truth
-            ≡ is_condition_true self.old.predicates self.old.tables metric.now (atom_reading atom.now)) }
+            ≡ is_condition_true self.old.predicates self.old.tables metric.now (A.reading asked.now)) }
         ensures known { self.new ≡ self.old }
     {
         if metric.condition.is_none() {
             return Ok(true);
         }
         let links = metric.links.as_slice();
-        ask_all(alloc, links, atom, self.tree.nodes.len(), &mut self.binds)?;
+        ask_all(alloc, links, asked, self.tree.nodes.len(), &mut self.binds)?;
         self.tree.root = metric.condition;
         let truth = query(&self.tree, self.tables.as_slice(), self.binds.as_slice());
         Ok(is_for_sure(truth))

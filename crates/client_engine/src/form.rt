@@ -5,8 +5,8 @@ ghost use Rattle.metric_meaning.specs.Forms.{is_built, is_built_metric};
 
 use config_links::{LKind, LMetric, Linked};
 
-/// Whether a configuration is acted on: any matchers, predicates and states; metrics that count, under any condition
-/// and sliced by any states.
+/// Whether a configuration is acted on: any matchers, predicates and states; metrics of events, those that count, and
+/// those of pushed values and pushed samples, under any condition and sliced by any states.
 pub fn built(linked: &Linked) -> bool
     ensures { result ≡ is_built linked.now }
 {
@@ -24,5 +24,8 @@ fn are_acted_on(metrics: &[LMetric]) -> bool
 fn is_acted_on(metric: &LMetric) -> bool
     ensures { result ≡ is_built_metric metric.now }
 {
-    matches!(metric.kind, LKind::Count)
+    matches!(
+        metric.kind,
+        LKind::Event | LKind::Count | LKind::PushedValue { .. } | LKind::PushedGauge { .. }
+    )
 }

@@ -6,11 +6,12 @@ ghost use Rattle.config_links.specs.SoundConfig.{IsSoundConfig};
 ghost use Rattle.report_writer.specs.Writable.{IsWritableReport};
 ghost use Rattle.metric_meaning.specs.Forms.{is_built};
 ghost use Rattle.client_engine.specs.Known.{drops_in};
-ghost use Rattle.client_engine.specs.Handed.{handed};
+ghost use Rattle.client_engine.specs.Bringing.{handed_with};
 ghost use Rattle.client_engine.specs.Tracks.{CanBeTracked, AllAskWithin, AreNew, AllStep, AllReport};
 ghost use Rattle.client_engine.specs.Running.{AreAsked};
 ghost use Rattle.client_engine.specs.InsideParts.{tree_with, IsFreshInside, InsideLogs, InsideReports, AreStateDrops};
 
+use crate::brought::Brought;
 use crate::conditions::Conditions;
 use crate::instance::LogView;
 use crate::request::ReportRequest;
@@ -104,15 +105,14 @@ impl Inside {
         ensures { OnOk result
             (InsideLogs frame.now view.now.matched.now view.now.states.now self.old self.new) }
     {
-        let Inside {
-            alloc,
-            conditions,
-            states,
-            tracks,
-            ..
-        } = self;
-        conditions.log(*alloc, frame, view.matched)?;
-        log_all(*alloc, conditions, states.as_slice(), tracks, frame, view)
+        self.conditions.log(self.alloc, frame, view.matched)?;
+        let brought = Brought {
+            frame,
+            matched: view.matched,
+            states: self.states.as_slice(),
+            book: view.states,
+        };
+        log_all(self.alloc, &mut self.conditions, &mut self.tracks, &brought)
     }
 
     /// A report of the configuration.
@@ -164,19 +164,16 @@ fn tracks_of(alloc: Global, base: u64, metrics: Seq<LMetric>) -> Result<Vec<Trac
 fn log_all(
     alloc: Global,
     conditions: &mut Conditions,
-    states: &[LState],
     tracks: &mut Vec<Track>,
-    frame: &LogFrame,
-    view: &LogView<'_>,
+    brought: &Brought<'_>,
 ) -> Result<(), AllocError>
     requires within { AllAskWithin conditions.old tracks.old.items }
-    ensures logs { OnOk result
-        (AllStep (handed conditions.old states.now view.now.states.now) frame.now view.now.matched.now
-        tracks.old.items tracks.new.items) }
+    ensures logs { OnOk result (AllStep (handed_with conditions.old brought.now)
+        brought.now.frame.now brought.now.matched.now tracks.old.items tracks.new.items) }
     ensures known { conditions.new ≡ conditions.old }
 {
     for track in tracks.iter_mut() {
-        track.log(alloc, frame, view, states, conditions)?;
+        track.log(alloc, brought, conditions)?;
     }
     Ok(())
 }

@@ -1,3 +1,6 @@
 //! What each kind of metric has of its own: its lane, what comes to it with a frame, and what a report shows of it.
 
 pub mod counts;
+pub mod events;
+pub mod gauges;
+pub mod values;

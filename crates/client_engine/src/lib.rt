@@ -1,18 +1,23 @@
 //! One installed configuration: what it makes of the log, and what its reports show.
 #![tactic(auto)]
 
+mod arriving;
 mod asked;
+mod brought;
 mod conditions;
 mod form;
 mod groups;
 mod inside;
 mod instance;
+mod integers;
 mod kinds;
 mod leaves;
 mod live_id;
 mod matched;
+mod messages;
 mod moments;
 mod request;
+mod samples;
 mod slices;
 mod state_drops;
 mod tables;

@@ -4,27 +4,34 @@ ghost use Rattle.bucket_meaning.specs.Limits.{time_limit};
 ghost use Rattle.config_links.specs.SoundConfig.{MayBeWithin};
 ghost use Rattle.metric_meaning.specs.Histories.{Installation};
 ghost use Rattle.report_writer.specs.Writable.{IsWritableMetric};
-ghost use Rattle.client_engine.specs.Handed.{handed};
-ghost use Rattle.client_engine.specs.NextSteps.{TakesFrame, TakesReport};
+ghost use Rattle.client_engine.specs.NextSteps.{TakesReport};
+ghost use Rattle.client_engine.specs.Bringing.{TakesBrought};
 ghost use Rattle.client_engine.specs.TrackStands.{LaneAlong, TrackStandsFor};
 ghost use Rattle.client_engine.specs.Tracks.{CanBeTracked};
 
+use crate::brought::Brought;
 use crate::conditions::Conditions;
-use crate::instance::LogView;
-use crate::kinds::counts;
+use crate::kinds::{counts, events, gauges, values};
 use crate::request::ReportRequest;
-use atom_record::LogFrame;
-use config_links::{LKind, LMetric, LState};
+use config_links::{LKind, LMetric};
 use count_metric::CountProducer;
+use gauge_metric::{EventProducer, PushedGauge};
 use metric_lane::Lane;
 use report_writer::MetricTree;
 use std::alloc::{AllocError, Global};
+use value_metric::PushedValue;
 
 /// The lane of a metric, by its kind.
 #[derive(Drop)]
 pub enum MetricLane {
     /// Of a metric that counts.
     Counts(Lane<CountProducer>),
+    /// Of a metric of pushed values.
+    Values(Lane<PushedValue>),
+    /// Of a pushed gauge.
+    Gauges(Lane<PushedGauge>),
+    /// Of a metric of events.
+    Events(Lane<EventProducer>),
 }
 
 /// A metric and its lane.
@@ -47,27 +54,25 @@ impl Track {
         Track { metric, lane }
     }
 
-    /// A frame of the log comes, with the truth of each matcher for an atom. Predicates know of it already.
+    /// A frame of the log comes.
     pub fn log(
         &mut self,
         alloc: Global,
-        frame: &LogFrame,
-        view: &LogView<'_>,
-        states: &[LState],
+        brought: &Brought<'_>,
         conditions: &mut Conditions,
     ) -> Result<(), AllocError>
         requires within { MayBeWithin (length conditions.old.predicates) self.old.metric.condition }
         ensures metric { OnOk result (self.new.metric ≡ self.old.metric) }
-        ensures logs { OnOk result (TakesFrame TrackStandsFor
-            (handed conditions.old states.now view.now.states.now) frame.now view.now.matched.now
-            self.old self.new) }
+        ensures logs { OnOk result (TakesBrought TrackStandsFor
+            conditions.old brought.now self.old self.new) }
         ensures known { conditions.new ≡ conditions.old }
     {
         let Track { metric, lane } = self;
         match lane {
-            MetricLane::Counts(lane) => {
-                counts::log(lane, alloc, metric, frame, view, states, conditions)
-            }
+            MetricLane::Counts(lane) => counts::log(lane, alloc, metric, brought, conditions),
+            MetricLane::Values(lane) => values::log(lane, alloc, metric, brought, conditions),
+            MetricLane::Gauges(lane) => gauges::log(lane, alloc, metric, brought, conditions),
+            MetricLane::Events(lane) => events::log(lane, alloc, metric, brought, conditions),
         }
     }
 
@@ -85,7 +90,10 @@ impl Track {
     {
         let Track { metric, lane } = self;
         match lane {
-            MetricLane::Counts(lane) => { counts::report(lane, alloc, metric, base, request) }
+            MetricLane::Counts(lane) => counts::report(lane, alloc, metric, base, request),
+            MetricLane::Values(lane) => values::report(lane, alloc, metric, base, request),
+            MetricLane::Gauges(lane) => gauges::report(lane, alloc, metric, base, request),
+            MetricLane::Events(lane) => events::report(lane, alloc, metric, base, request),
         }
     }
 }
@@ -99,6 +107,13 @@ fn lane_of(alloc: Global, base: u64, metric: &LMetric) -> MetricLane
 {
     match &metric.kind {
         LKind::Count => MetricLane::Counts(counts::begin(alloc, base, metric)),
+        LKind::PushedValue { agg, .. } => {
+            MetricLane::Values(values::begin(alloc, base, metric, *agg))
+        }
+        LKind::PushedGauge { samples, .. } => {
+            MetricLane::Gauges(gauges::begin(alloc, base, metric, *samples))
+        }
+        LKind::Event => MetricLane::Events(events::begin(alloc, base, metric)),
         _ => unreachable!(),
     }
 }

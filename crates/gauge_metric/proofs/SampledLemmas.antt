@@ -1,5 +1,5 @@
 -- The samples of a part, one more at a time.
-use Rattle.std.proofs.Common.{◌≡◌, ℕ, zero, suc, ◌<◌, ◌≤◌, true, false, ◌||◌, nat_lt, if◌then◌else◌, List, [], ◌∷◌, ◌++◌, map, take, length, slice_get, Some, refl, sym, ap, ◌∙◌, arith, ⊎_elim}
+use Rattle.std.proofs.Common.{◌≡◌, ℕ, zero, suc, ◌<◌, ◌≤◌, true, false, ◌||◌, nat_lt, if◌then◌else◌, List, [], ◌∷◌, ◌++◌, map, take, length, slice_get, Some, refl, sym, ap, ◌∙◌, arith, inl, ⊎_elim}
 use Rattle.std.specs.Map.{values_of}
 use Rattle.std.proofs.lemmas.Bool.{cases_Bool, cases_lt, lt-ltb, le-ltb, false≢true}
 use Rattle.std.proofs.lemmas.List.{length-take, take_all}
@@ -10,7 +10,7 @@ use Rattle.atom_record.specs.Equal.{metric_key_exact}
 use Rattle.bucket_meaning.specs.Guard.{is_among, firsts, admitted, of_key, arrival_key}
 use Rattle.bucket_meaning.proofs.GuardLemmas.{is_among-firsts}
 use Rattle.dim_table.specs.declared.answer.Admit.TheVariants.{At}
-use Rattle.dim_table.specs.Table.{Table, Admits, IsTurnedAway, with_value_at}
+use Rattle.dim_table.specs.Table.{Table, keys, Admits, IsTurnedAway, set_value_at, with_value_at}
 use Rattle.metric_producer.proofs.KeysLemmas.{of_other, of_own}
 use Rattle.metric_producer.proofs.TableLemmas.{IsTabled, admits_bound, tabled_at, tabled_away}
 use Rattle.metric_kinds.specs.Keys.{is_same_key}
@@ -79,6 +79,26 @@ sampled_at samples old mid event place new admits bound added = record {
       (samples_none samples came event.key) in
       record { rows = it.rows; dropped_are = it.dropped_are };
 }
+
+-- a row with the value that it has
+same_there : (rows : List (MetricKey × List Atom)) (place : ℕ) (was : List Atom)
+    → slice_get (values_of rows) place ≡ Some was → rows ≡ set_value_at rows place was
+same_there [] place was is = absurd (cc)
+same_there (row ∷ rows) zero was is =
+    let value : row.1 ≡ was = cc in ap (λ v. (row.0, v) ∷ rows) value
+same_there (row ∷ rows) (suc place) was is = ap (λ l. row ∷ l) (same_there rows place was is)
+
+-- a key at a place, which has all its samples
+pub sampled_full : (samples : ℕ) (table : Table MetricKey (List Atom)) (event : KeyedAtom) (place : ℕ)
+    → slice_get (keys table) place ≡ Some event.key
+    → ((was : List Atom) → slice_get (values_of table.rows) place ≡ Some was → samples ≤ length was)
+    → TakesSample samples table table event
+sampled_full samples table event place there full =
+    sampled_at samples table table event place table (inl (record { at = there; same = refl })) refl
+    (λ was is.
+    ap (λ rows. record table { rows = rows }) (same_there table.rows place was is)
+    ∙ ap (λ b. with_value_at table place (if b then was ++ event.atom ∷ [] else was))
+    (sym (le-ltb (length was) samples (full was is))))
 
 -- a new key for which there is no room
 pub sampled_none : (samples : ℕ) (old new : Table MetricKey (List Atom)) (event : KeyedAtom)

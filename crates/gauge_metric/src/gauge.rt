@@ -1,14 +1,16 @@
 //! The first samples of logged atoms, by key.
-ghost use Rattle.std.specs.Prelude.{◌≡◌, ℕ, ◌*◌, ◌<◌, ◌≤◌, List, [], map, Some, slice_get, length, OnOk, OnErr};
+ghost use Rattle.std.specs.Prelude.{◌≡◌, ℕ, ◌*◌, ◌<◌, ◌≤◌, List, [], map, Some, slice_get, length, OnOk, OnErr, IsTrue};
 ghost use Rattle.std.specs.Map.{values_of};
 ghost use Rattle.atom_record.specs.declared.atom.Atom.{Atom};
 ghost use Rattle.bucket_meaning.specs.Limits.{longest_bucket, time_limit, most_keys};
 ghost use Rattle.bucket_meaning.specs.Kept.{most_weight};
 ghost use Rattle.dim_table.specs.Table.{with_value_at};
 ghost use Rattle.kept_rows.specs.KeptRows.{AddsRows};
+ghost use Rattle.metric_producer.specs.Calls.{Got};
+ghost use Rattle.metric_producer.specs.Moves.{Moves};
 ghost use Rattle.metric_kinds.specs.Gauges.{samples_weight};
 ghost use Rattle.gauge_metric.specs.Sampling.{most_key_samples};
-ghost use Rattle.gauge_metric.specs.GaugeStands.{with_sample, sample_row, HaveSamples, TakesSample, GaugeStandsFor, ClosesGauge};
+ghost use Rattle.gauge_metric.specs.GaugeStands.{with_sample, sample_row, HaveSamples, TakesSample, GaugeStandsFor, gauge_law, ClosesGauge};
 
 use crate::memory::Memory;
 use crate::{Closed, Producer, Row};
@@ -61,6 +63,30 @@ impl PushedGauge {
             table: Guarded::new(alloc, bound),
             kept: KeptRows::new(alloc),
             memory: Memory::new(alloc),
+        }
+    }
+
+    /// Whether a sample with this key is let go: it would be one past the first of its key in the open part, so that
+    /// whatever the gauge stood for, it stands for that and the sample, as it is.
+    pub fn lets_go(&self, key: &MetricKey) -> bool
+        ensures { IsTrue result → (at : ℕ) (atom : Atom)
+            → Moves gauge_law self.now self.now (Got at (record { key = key.now; atom = atom })) }
+    {
+        match self.table.place_of(key) {
+            Some(place) => self.has_all(place),
+            None => false,
+        }
+    }
+
+    // Whether there is a row at a place, and it takes no more samples.
+    fn has_all(&self, place: usize) -> bool
+        ensures { IsTrue result → (was : List Atom)
+            → slice_get (values_of self.now.table.rows) place ≡ Some was
+            → self.now.samples ≤ length was }
+    {
+        match self.table.pair(place) {
+            Some((_, atoms)) => atoms.len() as u64 >= self.samples,
+            None => false,
         }
     }
 

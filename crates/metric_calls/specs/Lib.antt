@@ -2,3 +2,6 @@ pub mod LaneSteps
 pub mod Askings
 pub mod Memories
 pub mod CountCalls
+pub mod ValueCalls
+pub mod PushedGaugeCalls
+pub mod EventCalls

@@ -74,6 +74,13 @@ impl<P: Producer> Lane<P> {
         self.producer.condition(at, now)
     }
 
+    /// What collects for the metric, to be asked.
+    pub fn producer(&self) -> &P
+        ensures { result.now ≡ self.now.producer }
+    {
+        &self.producer
+    }
+
     /// A frame of the log, with the event that it brings to a metric of events alone.
     pub fn log(&mut self, at: u64, is_pull: bool, event: Option<P::Event>) -> Result<(), AllocError>
         ensures { OnOk result (LogsEvent P.law self.old self.new

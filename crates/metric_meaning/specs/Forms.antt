@@ -4,16 +4,19 @@ use Rattle.std.specs.List.{list_all}
 use Rattle.config_links.specs.declared.linked.Linked.{Linked}
 use Rattle.config_links.specs.declared.linked.LMetric.{LMetric}
 use Rattle.config_links.specs.declared.linked.LKind.{LKind}
-use Rattle.config_links.specs.declared.linked.LKind.TheVariants.{Count}
+use Rattle.config_links.specs.declared.linked.LKind.TheVariants.{Event, Count, PushedValue, PushedGauge}
 
--- whether a metric counts
-abbrev pub is_count : LKind → Bool
-is_count Count = true
-is_count _ = false
+-- whether metrics of a kind are acted on: events, those that count, and those of pushed values and pushed samples
+abbrev pub is_built_kind : LKind → Bool
+is_built_kind Event = true
+is_built_kind Count = true
+is_built_kind (PushedValue atom_id leaf aggregation) = true
+is_built_kind (PushedGauge fields samples) = true
+is_built_kind _ = false
 
--- whether a metric is acted on: it counts, under any condition, and sliced by any states
+-- whether a metric is acted on: its kind is, under any condition, and sliced by any states
 abbrev pub is_built_metric : LMetric → Bool
-is_built_metric metric = is_count metric.kind
+is_built_metric metric = is_built_kind metric.kind
 
 -- whether a configuration is acted on: any matchers, predicates and states, and such metrics
 abbrev pub is_built : Linked → Bool

@@ -1,5 +1,5 @@
 -- An atom as the message that a report shows.
-use Rattle.std.specs.Prelude.{ℕ, ◌≤◌, min, Bool, false, ◌&&◌, ◌==◌, nat_lt, List, [], ◌∷◌, ◌++◌, Option, None, Some, if◌then◌else◌}
+use Rattle.std.specs.Prelude.{ℕ, ◌≤◌, min, max, Bool, false, ◌&&◌, ◌==◌, nat_lt, List, [], ◌∷◌, ◌++◌, Option, None, Some, if◌then◌else◌}
 use Rattle.std.specs.List.{flat_map, take_while, AllPairs}
 use Rattle.std.specs.Int.{w64, cast_unsigned}
 use Rattle.atom_record.specs.declared.atom.Atom.{Atom}
@@ -43,10 +43,15 @@ fields_beside entry after = flat_map sub_field (take_while (is_beside entry) aft
 abbrev pub subs_message : AtomField → List AtomField → List ℕ
 subs_message entry after = sub_field entry ++ fields_beside entry after
 
+-- a number as the number of a field: at least 1, and at most the greatest; the fields of an atom that has no fault have
+-- numbers from 1 to 127, and keep them
+abbrev pub as_field_number : ℕ → ℕ
+as_field_number number = max 1 (min number greatest_field_number)
+
 -- the field that begins with this entry, before these: the entry alone, or a message of its neighbours
 abbrev pub part_at : AtomField → List AtomField → Part
 part_at entry after = record {
-  number = entry.field;
+  number = as_field_number entry.field;
   body = if nat_lt 0 entry.sub then Chunk (subs_message entry after) else part_body entry.value;
 }
 
@@ -57,9 +62,10 @@ parts_after before (entry ∷ after) =
     if goes_on before entry then parts_after (Some entry) after
     else part_at entry after ∷ parts_after (Some entry) after
 
--- the message of an atom: an id above every field number is shown as the greatest
+-- the message of an atom: an id above every field number is shown as the greatest; no atom that has no fault has one
+-- below 1
 unfoldable pub message_of : Atom → AtomMsg
-message_of atom = record { id = min atom.id greatest_field_number; parts = parts_after None atom.fields }
+message_of atom = record { id = as_field_number atom.id; parts = parts_after None atom.fields }
 
 -- the numbers never fall
 abbrev pub NeverFall : List Part → Type 0

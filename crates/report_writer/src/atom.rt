@@ -75,11 +75,18 @@ fn write_subs(alloc: Global, entry: &AtomField, after: &[AtomField]) -> Result<V
     Ok(message.into_bytes())
 }
 
+// A number as the number of a field. That of an atom that has no fault is from 1 on.
+fn as_field_number(number: u32) -> u32
+    ensures { result ≡ shown.as_field_number number }
+{
+    number.min(GREATEST_FIELD_NUMBER).max(1)
+}
+
 // The field that begins with an entry, before these.
 fn make_part(alloc: Global, entry: &AtomField, after: &[AtomField]) -> Result<Part, AllocError>
     ensures { IfOk result (λ part. part ≡ shown.part_at entry.now after.now) }
 {
-    let number = u32::from(entry.field);
+    let number = as_field_number(u32::from(entry.field));
     if entry.sub > 0 {
         let message = write_subs(alloc, entry, after)?;
         let body = PartBody::Chunk(Seq::from_vec(message));
@@ -116,17 +123,16 @@ fn parts_of(alloc: Global, entries: &[AtomField]) -> Result<Vec<Part>, AllocErro
     Ok(parts)
 }
 
-/// The message of an atom that has no fault. Its fields have numbers that a field may have, and these never fall.
+/// The message of an atom, which can be written. The numbers of its fields never fall, where the atom has no fault.
 #[tactic(auto, unfolding(crate::specs::AtomMessage::message_of))]
 pub fn atom_msg(alloc: Global, atom: &Atom) -> Result<AtomMsg, AllocError>
-    requires { HasNoFault atom.now }
     ensures message { IfOk result (λ message. message ≡ shown.message_of atom.now) }
     ensures writable { IfOk result (λ message. IsWritableAtom message) }
-    ensures order { IfOk result (λ message. NeverFall message.parts) }
+    ensures order { HasNoFault atom.now → IfOk result (λ message. NeverFall message.parts) }
 {
     let parts = parts_of(alloc, atom.fields.as_slice())?;
     Ok(AtomMsg {
-        id: atom.id.min(GREATEST_FIELD_NUMBER),
+        id: as_field_number(atom.id),
         parts: Seq::from_vec(parts),
     })
 }

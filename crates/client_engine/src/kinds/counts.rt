@@ -7,21 +7,20 @@ ghost use Rattle.metric_meaning.specs.Histories.{Installation};
 ghost use Rattle.metric_meaning.specs.Scenes.{Scene};
 ghost use Rattle.metric_meaning.specs.CountSteps.{arrival_by};
 ghost use Rattle.report_writer.specs.Writable.{IsWritableMetric};
-ghost use Rattle.client_engine.specs.Handed.{handed, IsOfScene};
-ghost use Rattle.client_engine.specs.NextSteps.{logged_step, TakesFrame, TakesReport};
+ghost use Rattle.client_engine.specs.Handed.{IsOfScene};
+ghost use Rattle.client_engine.specs.NextSteps.{TakesReport};
+ghost use Rattle.client_engine.specs.Bringing.{handed_with, brought_step, TakesBrought};
 ghost use Rattle.client_engine.specs.CountsAlong.{CountsAlong, counts_shown_by, shown_count, count_entry};
 
+use crate::arriving::{arriving, key_in};
+use crate::brought::Brought;
 use crate::conditions::Conditions;
 use crate::groups::{RowShape, groups_of};
-use crate::instance::LogView;
-use crate::matched::is_true_at;
 use crate::moments::comes_by_pull;
 use crate::request::ReportRequest;
-use crate::slices::slices_of;
-use atom_record::{LogFrame, MetricKey, Slice};
-use config_links::{LMetric, LState};
+use atom_record::{MetricKey, Slice};
+use config_links::LMetric;
 use count_metric::CountProducer;
-use field_select::key_of;
 use metric_lane::Lane;
 use metric_producer::Closed;
 use report_writer::{LeafTree, MetricBody, MetricTree, NumBucket, NumTree};
@@ -79,24 +78,21 @@ pub fn begin(alloc: Global, base: u64, metric: &LMetric) -> Lane<CountProducer>
     Lane::new(base, metric.size, producer)
 }
 
-/// A frame of the log comes, with the truth of each matcher for an atom. Predicates know of it already.
+/// A frame of the log comes.
 pub fn log(
     lane: &mut Lane<CountProducer>,
     alloc: Global,
     metric: &LMetric,
-    frame: &LogFrame,
-    view: &LogView<'_>,
-    states: &[LState],
+    brought: &Brought<'_>,
     conditions: &mut Conditions,
 ) -> Result<(), AllocError>
     requires within { MayBeWithin (length conditions.old.predicates) metric.now.condition }
-    ensures logs { OnOk result (TakesFrame (CountsAlong metric.now)
-        (handed conditions.old states.now view.now.states.now) frame.now view.now.matched.now
-        lane.old lane.new) }
+    ensures logs { OnOk result (TakesBrought (CountsAlong metric.now)
+        conditions.old brought.now lane.old lane.new) }
     ensures known { conditions.new ≡ conditions.old }
 {
-    let key = arrival(alloc, metric, frame, view, states, conditions)?;
-    lane.log(time_of(frame), comes_by_pull(frame), key)
+    let key = arrival(alloc, metric, brought, conditions)?;
+    lane.log(time_of(brought.frame), comes_by_pull(brought.frame), key)
 }
 
 /// A report, and what it shows of the metric.
@@ -136,33 +132,20 @@ fn counts_tree(
     })
 }
 
-// The key that arrives with a frame, if one does. The condition is asked last.
+// The key that arrives with a frame, if an atom does.
 fn arrival(
     alloc: Global,
     metric: &LMetric,
-    frame: &LogFrame,
-    view: &LogView<'_>,
-    states: &[LState],
+    brought: &Brought<'_>,
     conditions: &mut Conditions,
 ) -> Result<Option<MetricKey>, AllocError>
     requires within { MayBeWithin (length conditions.old.predicates) metric.now.condition }
-    ensures key { (scene : Scene)
-        → IsOfScene (handed conditions.old states.now view.now.states.now) scene
-        → IfOk result (λ key. key ≡ arrival_by scene metric.now
-        (logged_step frame.now view.now.matched.now)) }
+    ensures key { (scene : Scene) → IsOfScene (handed_with conditions.old brought.now) scene
+        → IfOk result (λ key. key ≡ arrival_by scene metric.now (brought_step brought.now)) }
     ensures known { conditions.new ≡ conditions.old }
 {
-    let LogFrame::AtomAt { atom, .. } = frame else {
+    let Some(atom) = arriving(alloc, metric, brought, conditions)? else {
         return Ok(None);
     };
-    if !is_true_at(view.matched, metric.what) {
-        return Ok(None);
-    }
-    if !conditions.holds(alloc, metric, atom)? {
-        return Ok(None);
-    }
-    let dims = key_of(alloc, &metric.dims, atom)?;
-    let by = metric.slices.as_slice();
-    let slices = slices_of(alloc, states, by, atom, view.states)?;
-    Ok(Some(MetricKey { dims, slices }))
+    Ok(Some(key_in(alloc, metric, brought, atom)?))
 }

@@ -1,5 +1,5 @@
 use Rattle.std.proofs.Common.{◌≡◌, ◌∙◌, length, map, All, sym, ap, subst, arith}
-use Rattle.client_engine.specs.Handed.{handed}
+use Rattle.client_engine.specs.Bringing.{handed_with}
 use Rattle.client_engine.specs.Tracks.{metric_in, AsksWithin, AllStep}
 use Rattle.client_engine.proofs.TracksLemmas.{one_stepped, all_stepped, asks_here, whole}
 use Rattle.client_engine.proofs.inside.log_all.Goals as goal
@@ -18,12 +18,12 @@ log-requires c =
 -- one more track took the frame
 pub loop-track-preserved : goal.loop-track-preserved
 loop-track-preserved c = (
-  one_stepped (handed c.args.conditions.now c.args.states.now c.args.view.now.states.now) c.args.frame.now
-      c.args.view.now.matched.now c.deref_mut-track-items.result.now
+  one_stepped (handed_with c.args.conditions.now c.args.brought.now) c.args.brought.now.frame.now
+      c.args.brought.now.matched.now c.deref_mut-track-items.result.now
       c.loop-track.track-items c.loop-track.track-index c.log.new.self _ (omega arith) c.loop-track.invariant.0
       c.in_ok-log.ensures.metric
-      (handed c.loop-track.conditions c.args.states.now c.args.view.now.states.now)
-      (ap (λ known. handed known c.args.states.now c.args.view.now.states.now) c.loop-track.invariant.1)
+      (handed_with c.loop-track.conditions c.args.brought.now)
+      (ap (λ known. handed_with known c.args.brought.now) c.loop-track.invariant.1)
       c.in_ok-log.ensures.logs,
   c.in_ok-log.ensures.known ∙ c.loop-track.invariant.1,
 )
@@ -31,9 +31,9 @@ loop-track-preserved c = (
 -- all did
 pub returns-clause-logs : goal.returns-clause-logs
 returns-clause-logs c =
-    let known = handed c.args.conditions.now c.args.states.now c.args.view.now.states.now in
-    let frame = c.args.frame.now in
-    let truths = c.args.view.now.matched.now in
+    let known = handed_with c.args.conditions.now c.args.brought.now in
+    let frame = c.args.brought.now.frame.now in
+    let truths = c.args.brought.now.matched.now in
     let items = c.loop-track.track-items in
     let size = c.loop-track.invariant.0.len in
     let value = c.deref_mut-track-items.ensures.value in

@@ -1,0 +1,32 @@
+-- The crossing, and then the sample, if an atom arrives.
+use Rattle.std.proofs.lemmas.Result.{on_ok_weaker}
+use Rattle.session_frames.specs.FrameReading.{log_time}
+use Rattle.client_engine.specs.Bringing.{handed_with, brought_step}
+use Rattle.client_engine.proofs.GaugesLemmas.{gauges_log, none_sampled, one_sampled}
+use Rattle.client_engine.proofs.kinds.gauges.log.Goals as goal
+
+-- the atom that arrives is sampled
+pub returns-in-Some-clause-logs : goal.returns-in-Some-clause-logs
+returns-in-Some-clause-logs c =
+    let brought = c.args.brought.now in
+    let metric = c.args.metric.now in
+    let crosses = rw (c.comes_by_pull.ensures, c.time_of.ensures) at c.in_ok-cross.ensures in
+    on_ok_weaker c.sample.result
+    (λ gets. gauges_log (handed_with c.args.conditions.now brought) metric brought.frame.now brought.matched.now
+    c.args.lane.now c.cross.new.self c.sample.new.lane crosses
+    (λ scene found fields samples gauge. one_sampled c.cross.new.self c.sample.new.lane (log_time brought.frame.now)
+    scene metric fields (brought_step brought) c.in-Some.atom.now
+    (rw (c.in-Some.is) at (c.in_ok-atom.ensures.atom scene found))
+    (gets c.args.conditions.now scene fields samples found gauge)))
+    c.sample.ensures
+
+-- no atom arrives
+pub returns-in-None-clause-logs : goal.returns-in-None-clause-logs
+returns-in-None-clause-logs c =
+    let brought = c.args.brought.now in
+    let metric = c.args.metric.now in
+    let crosses = rw (c.comes_by_pull.ensures, c.time_of.ensures) at c.in_ok-cross.ensures in
+    gauges_log (handed_with c.args.conditions.now brought) metric brought.frame.now brought.matched.now
+    c.args.lane.now c.cross.new.self c.cross.new.self crosses
+    (λ scene found fields samples gauge. none_sampled c.cross.new.self (log_time brought.frame.now)
+    scene metric fields (brought_step brought) (rw (c.in-None.is) at (c.in_ok-atom.ensures.atom scene found)))

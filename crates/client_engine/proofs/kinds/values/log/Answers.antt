@@ -1,0 +1,13 @@
+-- The crossing, and then the key with its integer.
+use Rattle.std.proofs.lemmas.Result.{on_ok_weaker}
+use Rattle.client_engine.specs.Bringing.{handed_with}
+use Rattle.client_engine.proofs.ValuesLemmas.{values_log}
+use Rattle.client_engine.proofs.kinds.values.log.Goals as goal
+
+pub returns-clause-logs : goal.returns-clause-logs
+returns-clause-logs c =
+    let brought = c.args.brought.now in
+    let logs = rw (c.comes_by_pull.ensures, c.time_of.ensures) at c.log.ensures in
+    on_ok_weaker c.log.result
+    (values_log (handed_with c.args.conditions.now brought) c.args.metric.now brought.frame.now brought.matched.now
+    c.args.lane.now c.log.new.self c.in_ok-keyed.keyed c.in_ok-keyed.ensures.keyed) logs

@@ -1,0 +1,21 @@
+-- What a frame of the log brings to each metric, and a metric that takes it.
+use Rattle.std.specs.Prelude.{List}
+use Rattle.metric_meaning.specs.Histories.{Step, Installation}
+use Rattle.client_engine.specs.Handed.{Handed, handed}
+use Rattle.client_engine.specs.Known.{Known}
+use Rattle.client_engine.specs.NextSteps.{logged_step, TakesFrame}
+use Rattle.client_engine.specs.declared.brought.Brought.{Brought}
+
+-- what is handed to a metric, where predicates know this
+abbrev pub handed_with : Known → Brought → Handed
+handed_with known brought = handed known brought.states.now brought.book.now
+
+-- the step of what is brought
+abbrev pub brought_step : Brought → Step
+brought_step brought = logged_step brought.frame.now brought.matched.now
+
+-- whatever steps the old one stood for, the new one stands for those and the frame that is brought, where predicates
+-- know this
+abbrev pub TakesBrought : {A : Type 0} → (Installation → List Step → A → Type 0) → Known → Brought → A → A → Type 0
+TakesBrought stands known brought old new =
+    TakesFrame stands (handed_with known brought) brought.frame.now brought.matched.now old new

@@ -1,0 +1,59 @@
+//! The atom that arrives at a metric with a frame of the log, and its key.
+ghost use Rattle.std.specs.Prelude.{◌≡◌, length, OnOk, IfOk};
+ghost use Rattle.std.specs.Option.{option_copied};
+ghost use Rattle.config_links.specs.SoundConfig.{MayBeWithin};
+ghost use Rattle.metric_meaning.specs.Arrivals.{arriving_by, atom_key};
+ghost use Rattle.metric_meaning.specs.Scenes.{Scene};
+ghost use Rattle.client_engine.specs.Handed.{IsOfScene};
+ghost use Rattle.client_engine.specs.Known.{Known};
+ghost use Rattle.client_engine.specs.Bringing.{handed_with, brought_step};
+
+use crate::brought::Brought;
+use crate::conditions::Conditions;
+use crate::matched::is_true_at;
+use crate::slices::slices_of;
+use atom_record::{Atom, LogFrame, MetricKey};
+use config_links::LMetric;
+use field_select::key_of;
+use std::alloc::{AllocError, Global};
+
+/// The atom that arrives at a metric, if one does, whatever the metric makes of it. The condition is asked last.
+pub fn arriving<'a>(
+    alloc: Global,
+    metric: &LMetric,
+    brought: &Brought<'a>,
+    conditions: &mut Conditions,
+) -> Result<Option<&'a Atom>, AllocError>
+    requires within { MayBeWithin (length conditions.old.predicates) metric.now.condition }
+    ensures atom { (scene : Scene) → IsOfScene (handed_with conditions.old brought.now) scene
+        → IfOk result (λ found. option_copied found
+        ≡ arriving_by scene metric.now (brought_step brought.now)) }
+    ensures known { conditions.new ≡ conditions.old }
+{
+    let LogFrame::AtomAt { atom, .. } = brought.frame else {
+        return Ok(None);
+    };
+    if !is_true_at(brought.matched, metric.what) {
+        return Ok(None);
+    }
+    if !conditions.holds(alloc, metric, atom)? {
+        return Ok(None);
+    }
+    Ok(Some(atom))
+}
+
+/// A metric's key of an atom that arrives.
+pub fn key_in(
+    alloc: Global,
+    metric: &LMetric,
+    brought: &Brought<'_>,
+    atom: &Atom,
+) -> Result<MetricKey, AllocError>
+    ensures { (known : Known) (scene : Scene) → IsOfScene (handed_with known brought.now) scene
+        → IfOk result (λ key. key ≡ atom_key scene metric.now atom.now) }
+{
+    let dims = key_of(alloc, &metric.dims, atom)?;
+    let by = metric.slices.as_slice();
+    let slices = slices_of(alloc, brought.states, by, atom, brought.book)?;
+    Ok(MetricKey { dims, slices })
+}

@@ -1,0 +1,151 @@
+//! Metrics of events.
+ghost use Rattle.std.specs.Prelude.{◌≡◌, ◌<◌, ◌++◌, [], length, map, OnOk, IfOk};
+ghost use Rattle.std.specs.List.{flat_map};
+ghost use Rattle.bucket_meaning.specs.Limits.{time_limit};
+ghost use Rattle.config_links.specs.SoundConfig.{MayBeWithin};
+ghost use Rattle.config_links.specs.declared.linked.LKind.TheVariants.{Event};
+ghost use Rattle.metric_meaning.specs.Histories.{Installation};
+ghost use Rattle.metric_meaning.specs.Scenes.{Scene};
+ghost use Rattle.metric_meaning.specs.Arrivals.{arriving_by};
+ghost use Rattle.metric_meaning.specs.EventTrees.{events_body};
+ghost use Rattle.report_writer.specs.Writable.{AreWritableRows, IsWritableMetric};
+ghost use Rattle.client_engine.specs.Handed.{IsOfScene};
+ghost use Rattle.client_engine.specs.NextSteps.{TakesReport};
+ghost use Rattle.client_engine.specs.Bringing.{handed_with, brought_step, TakesBrought};
+ghost use Rattle.client_engine.specs.EventsAlong.{EventsAlong, event_at, events_in, events_shown_by};
+
+use crate::arriving::arriving;
+use crate::brought::Brought;
+use crate::conditions::Conditions;
+use crate::messages::message_rows;
+use crate::moments::comes_by_pull;
+use crate::request::ReportRequest;
+use atom_record::Atom;
+use config_links::LMetric;
+use gauge_metric::EventProducer;
+use metric_lane::Lane;
+use metric_producer::{Closed, Row};
+use report_writer::{AtomMsg, EventTree, MetricBody, MetricTree};
+use sd_base::Seq;
+use session_frames::time_of;
+use std::alloc::{AllocError, Global};
+
+/// The lane of a metric of events, which begins at `base`. It has no buckets.
+pub fn begin(alloc: Global, base: u64, metric: &LMetric) -> Lane<EventProducer>
+    requires fits { base < time_limit }
+    requires events { metric.now.kind ≡ Event }
+    ensures { (installed : Installation) → installed.base ≡ base
+        → EventsAlong metric.now installed [] result }
+{
+    let _metric = metric;
+    let producer = EventProducer::new(alloc);
+    Lane::new(base, 0, producer)
+}
+
+/// A frame of the log comes.
+pub fn log(
+    lane: &mut Lane<EventProducer>,
+    alloc: Global,
+    metric: &LMetric,
+    brought: &Brought<'_>,
+    conditions: &mut Conditions,
+) -> Result<(), AllocError>
+    requires within { MayBeWithin (length conditions.old.predicates) metric.now.condition }
+    ensures logs { OnOk result (TakesBrought (EventsAlong metric.now)
+        conditions.old brought.now lane.old lane.new) }
+    ensures known { conditions.new ≡ conditions.old }
+{
+    let atom = arrival(alloc, metric, brought, conditions)?;
+    lane.log(time_of(brought.frame), comes_by_pull(brought.frame), atom)
+}
+
+/// A report, and what it shows of the metric.
+pub fn report(
+    lane: &mut Lane<EventProducer>,
+    alloc: Global,
+    metric: &LMetric,
+    base: u64,
+    request: ReportRequest,
+) -> Result<MetricTree, AllocError>
+    ensures reports { IfOk result (TakesReport (EventsAlong metric.now)
+        metric.now base request lane.old lane.new) }
+    ensures writable { IfOk result IsWritableMetric }
+{
+    let closed = lane.report(request.at, request.include_current)?;
+    events_tree(alloc, base, metric, closed)
+}
+
+// A metric of events, with what a report shows of it.
+fn events_tree(
+    alloc: Global,
+    base: u64,
+    metric: &LMetric,
+    closed: Closed<Seq<Atom>>,
+) -> Result<MetricTree, AllocError>
+    ensures shown { IfOk result (λ tree. tree ≡ events_shown_by base metric.now closed) }
+    ensures writable { IfOk result IsWritableMetric }
+{
+    let body = events_body(alloc, closed.rows)?;
+    Ok(MetricTree {
+        id: metric.id,
+        base,
+        size: metric.size,
+        dropped: closed.dropped,
+        not_kept: closed.not_kept,
+        missing: closed.missing,
+        body,
+    })
+}
+
+// The rows of events, one by one, with the messages of their atoms.
+fn events_body(alloc: Global, rows: Seq<Row<Seq<Atom>>>) -> Result<MetricBody, AllocError>
+    ensures shown { IfOk result (λ body. body ≡ events_body rows) }
+    ensures writable { IfOk result AreWritableRows }
+{
+    let rows = message_rows(alloc, rows)?;
+    Ok(MetricBody::Events(events_of(alloc, rows)?))
+}
+
+// The messages of these rows, one by one, each with the time of its row.
+fn events_of(alloc: Global, rows: Seq<Row<Seq<AtomMsg>>>) -> Result<Seq<EventTree>, AllocError>
+    ensures { IfOk result (λ events. events ≡ flat_map events_in rows) }
+{
+    let mut events = Seq::new(alloc);
+    for row in rows.into_vec() {
+        let Row { start, value, .. } = row;
+        add_events(&mut events, start, value)?;
+    }
+    Ok(events)
+}
+
+// Adds the messages of one row.
+fn add_events(
+    events: &mut Seq<EventTree>,
+    at: u64,
+    messages: Seq<AtomMsg>,
+) -> Result<(), AllocError>
+    ensures { OnOk result (events.new ≡ events.old ++ map (event_at at) messages) }
+{
+    for atom in messages.into_vec() {
+        events.push(EventTree { at, atom })?;
+    }
+    Ok(())
+}
+
+// A copy of the atom that arrives with a frame, if one does.
+fn arrival(
+    alloc: Global,
+    metric: &LMetric,
+    brought: &Brought<'_>,
+    conditions: &mut Conditions,
+) -> Result<Option<Atom>, AllocError>
+    requires within { MayBeWithin (length conditions.old.predicates) metric.now.condition }
+    ensures atom { (scene : Scene) → IsOfScene (handed_with conditions.old brought.now) scene
+        → IfOk result (λ atom. atom ≡ arriving_by scene metric.now (brought_step brought.now)) }
+    ensures known { conditions.new ≡ conditions.old }
+{
+    let Some(atom) = arriving(alloc, metric, brought, conditions)? else {
+        return Ok(None);
+    };
+    Ok(Some(atom.clone_atom(alloc)?))
+}

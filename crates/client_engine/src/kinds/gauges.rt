@@ -1,0 +1,174 @@
+//! Pushed gauges.
+ghost use Rattle.std.specs.Prelude.{◌≡◌, ◌<◌, [], length, Option, OnOk, IfOk};
+ghost use Rattle.bucket_meaning.specs.Limits.{time_limit};
+ghost use Rattle.field_select.specs.declared.leaf.FieldSet.{FieldSet};
+ghost use Rattle.config_links.specs.SoundConfig.{IsSize, IsBound, AreSamples, MayBeWithin};
+ghost use Rattle.config_links.specs.declared.linked.LKind.TheVariants as kinds;
+ghost use Rattle.metric_meaning.specs.Histories.{Installation};
+ghost use Rattle.metric_meaning.specs.GaugeTrees.{gauge_body};
+ghost use Rattle.report_writer.specs.Writable.{AreWritableRows, IsWritableMetric};
+ghost use Rattle.client_engine.specs.NextSteps.{TakesReport};
+ghost use Rattle.client_engine.specs.Bringing.{TakesBrought};
+ghost use Rattle.client_engine.specs.GaugesAlong.{GaugesAlong, GetsSampleOf, sample_bucket, gauge_entry, gauges_shown_by};
+
+use crate::arriving::{arriving, key_in};
+use crate::brought::Brought;
+use crate::conditions::Conditions;
+use crate::groups::{RowShape, groups_of};
+use crate::messages::message_rows;
+use crate::moments::comes_by_pull;
+use crate::request::ReportRequest;
+use crate::samples::sample_of;
+use atom_record::{Atom, Slice};
+use config_links::{LKind, LMetric};
+use gauge_metric::{KeyedAtom, PushedGauge};
+use metric_lane::Lane;
+use metric_producer::{Closed, Row};
+use report_writer::{AtomBucket, AtomMsg, GaugeTree, LeafTree, MetricBody, MetricTree};
+use sd_base::Seq;
+use session_frames::time_of;
+use std::alloc::{AllocError, Global};
+
+/// Samples, as a report shows them.
+struct SampleRows;
+
+impl RowShape for SampleRows {
+    type Value = Seq<AtomMsg>;
+
+    type Bucket = AtomBucket;
+
+    type Tree = GaugeTree;
+
+    ghost bucket = { sample_bucket };
+
+    ghost tree = { gauge_entry };
+
+    fn bucket(
+        _alloc: Global,
+        start: u64,
+        end: u64,
+        value: Seq<AtomMsg>,
+    ) -> Result<AtomBucket, AllocError> {
+        Ok(AtomBucket {
+            start,
+            end,
+            atoms: value,
+        })
+    }
+
+    fn tree(leaves: Seq<LeafTree>, slices: Seq<Slice>, buckets: Seq<AtomBucket>) -> GaugeTree
+        ensures { result ≡ gauge_entry leaves slices buckets }
+    {
+        GaugeTree {
+            leaves,
+            slices,
+            buckets,
+        }
+    }
+}
+
+/// The lane of a pushed gauge, which begins at `base` and keeps so many samples of a key in a part.
+pub fn begin(alloc: Global, base: u64, metric: &LMetric, samples: u32) -> Lane<PushedGauge>
+    requires fits { base < time_limit }
+    requires sized { IsSize metric.now.size }
+    requires bound { IsBound metric.now.bound }
+    requires sampled { AreSamples metric.now.bound samples }
+    ensures { (installed : Installation) (fields : Option FieldSet) → installed.base ≡ base
+        → metric.now.kind ≡ kinds.PushedGauge fields samples
+        → GaugesAlong metric.now installed [] result }
+{
+    let bound = metric.bound as usize;
+    let producer = PushedGauge::new(alloc, base, metric.size, bound, samples as usize);
+    Lane::new(base, metric.size, producer)
+}
+
+/// A frame of the log comes.
+pub fn log(
+    lane: &mut Lane<PushedGauge>,
+    alloc: Global,
+    metric: &LMetric,
+    brought: &Brought<'_>,
+    conditions: &mut Conditions,
+) -> Result<(), AllocError>
+    requires within { MayBeWithin (length conditions.old.predicates) metric.now.condition }
+    ensures logs { OnOk result (TakesBrought (GaugesAlong metric.now)
+        conditions.old brought.now lane.old lane.new) }
+    ensures known { conditions.new ≡ conditions.old }
+{
+    // The ends come first, since a key that has all its samples in the part before has none in the next.
+    lane.cross(time_of(brought.frame), comes_by_pull(brought.frame))?;
+    match arriving(alloc, metric, brought, conditions)? {
+        Some(atom) => sample(lane, alloc, metric, brought, atom),
+        None => Ok(()),
+    }
+}
+
+// The atom that arrives is sampled. It isn't copied where its key has all samples.
+fn sample(
+    lane: &mut Lane<PushedGauge>,
+    alloc: Global,
+    metric: &LMetric,
+    brought: &Brought<'_>,
+    atom: &Atom,
+) -> Result<(), AllocError>
+    ensures { OnOk result
+        (GetsSampleOf metric.now brought.now atom.now lane.old lane.new) }
+{
+    let LKind::PushedGauge { fields, .. } = &metric.kind else {
+        return Ok(());
+    };
+    let key = key_in(alloc, metric, brought, atom)?;
+    if lane.producer().lets_go(&key) {
+        return Ok(());
+    }
+    let atom = sample_of(alloc, fields, atom)?;
+    lane.event(time_of(brought.frame), KeyedAtom { key, atom })
+}
+
+/// A report, and what it shows of the metric.
+pub fn report(
+    lane: &mut Lane<PushedGauge>,
+    alloc: Global,
+    metric: &LMetric,
+    base: u64,
+    request: ReportRequest,
+) -> Result<MetricTree, AllocError>
+    ensures reports { IfOk result (TakesReport (GaugesAlong metric.now)
+        metric.now base request lane.old lane.new) }
+    ensures writable { IfOk result IsWritableMetric }
+{
+    let closed = lane.report(request.at, request.include_current)?;
+    gauges_tree(alloc, base, metric, closed)
+}
+
+// A pushed gauge, with what a report shows of it.
+fn gauges_tree(
+    alloc: Global,
+    base: u64,
+    metric: &LMetric,
+    closed: Closed<Seq<Atom>>,
+) -> Result<MetricTree, AllocError>
+    ensures shown { IfOk result (λ tree. tree ≡ gauges_shown_by base metric.now closed) }
+    ensures writable { IfOk result IsWritableMetric }
+{
+    let body = gauges_body(alloc, closed.rows)?;
+    Ok(MetricTree {
+        id: metric.id,
+        base,
+        size: metric.size,
+        dropped: closed.dropped,
+        not_kept: closed.not_kept,
+        missing: closed.missing,
+        body,
+    })
+}
+
+// The rows of a gauge, by their keys, with the messages of their atoms.
+fn gauges_body(alloc: Global, rows: Seq<Row<Seq<Atom>>>) -> Result<MetricBody, AllocError>
+    ensures shown { IfOk result (λ body. body ≡ gauge_body rows) }
+    ensures writable { IfOk result AreWritableRows }
+{
+    let rows = message_rows(alloc, rows)?;
+    let groups = groups_of::<SampleRows>(alloc, rows)?;
+    Ok(MetricBody::Gauges(groups))
+}

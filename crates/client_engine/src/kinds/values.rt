@@ -1,0 +1,163 @@
+//! Metrics of pushed values.
+ghost use Rattle.std.specs.Prelude.{◌≡◌, ◌<◌, [], length, OnOk, IfOk};
+ghost use Rattle.std.specs.Option.{option_map};
+ghost use Rattle.bucket_meaning.specs.Limits.{time_limit};
+ghost use Rattle.config_links.specs.SoundConfig.{IsSize, IsBound, MayBeWithin};
+ghost use Rattle.metric_meaning.specs.Histories.{Installation};
+ghost use Rattle.metric_meaning.specs.Scenes.{Scene};
+ghost use Rattle.metric_meaning.specs.ValueLeaves.{ValueLeaf};
+ghost use Rattle.metric_meaning.specs.PushedValueSteps.{value_arrival_by};
+ghost use Rattle.metric_calls.specs.ValueCalls.{keyed_int};
+ghost use Rattle.report_writer.specs.Writable.{IsWritableMetric};
+ghost use Rattle.client_engine.specs.Handed.{IsOfScene};
+ghost use Rattle.client_engine.specs.NextSteps.{TakesReport};
+ghost use Rattle.client_engine.specs.Bringing.{handed_with, brought_step, TakesBrought};
+ghost use Rattle.client_engine.specs.ValuesAlong.{value_kind_at, ValuesAlong, values_shown_by, shown_value, value_entry};
+
+use crate::arriving::{arriving, key_in};
+use crate::brought::Brought;
+use crate::conditions::Conditions;
+use crate::groups::{RowShape, groups_of};
+use crate::integers::read_integer;
+use crate::moments::comes_by_pull;
+use crate::request::ReportRequest;
+use atom_record::Slice;
+use config_links::{LKind, LMetric};
+use config_types::Aggregation;
+use metric_lane::Lane;
+use metric_producer::Closed;
+use report_writer::{LeafTree, MetricBody, MetricTree, NumBucket, NumTree};
+use sd_base::Seq;
+use session_frames::time_of;
+use std::alloc::{AllocError, Global};
+use value_metric::{KeyedInt, PushedValue};
+
+/// Values, as a report shows them.
+struct ValueRows;
+
+impl RowShape for ValueRows {
+    type Value = i64;
+
+    type Bucket = NumBucket;
+
+    type Tree = NumTree;
+
+    ghost bucket = { shown_value };
+
+    ghost tree = { value_entry };
+
+    fn bucket(_alloc: Global, start: u64, end: u64, value: i64) -> Result<NumBucket, AllocError> {
+        Ok(NumBucket { start, end, value })
+    }
+
+    fn tree(leaves: Seq<LeafTree>, slices: Seq<Slice>, buckets: Seq<NumBucket>) -> NumTree
+        ensures { result ≡ value_entry leaves slices buckets }
+    {
+        NumTree {
+            leaves,
+            slices,
+            buckets,
+        }
+    }
+}
+
+/// The lane of a metric of pushed values that come to one so, which begins at `base`.
+pub fn begin(
+    alloc: Global,
+    base: u64,
+    metric: &LMetric,
+    aggregation: Aggregation,
+) -> Lane<PushedValue>
+    requires fits { base < time_limit }
+    requires sized { IsSize metric.now.size }
+    requires bound { IsBound metric.now.bound }
+    ensures { (installed : Installation) (source : ValueLeaf) → installed.base ≡ base
+        → metric.now.kind ≡ value_kind_at source aggregation
+        → ValuesAlong metric.now installed [] result }
+{
+    let bound = metric.bound as usize;
+    let producer = PushedValue::new(alloc, base, metric.size, bound, aggregation);
+    Lane::new(base, metric.size, producer)
+}
+
+/// A frame of the log comes.
+pub fn log(
+    lane: &mut Lane<PushedValue>,
+    alloc: Global,
+    metric: &LMetric,
+    brought: &Brought<'_>,
+    conditions: &mut Conditions,
+) -> Result<(), AllocError>
+    requires within { MayBeWithin (length conditions.old.predicates) metric.now.condition }
+    ensures logs { OnOk result (TakesBrought (ValuesAlong metric.now)
+        conditions.old brought.now lane.old lane.new) }
+    ensures known { conditions.new ≡ conditions.old }
+{
+    let keyed = arrival(alloc, metric, brought, conditions)?;
+    lane.log(time_of(brought.frame), comes_by_pull(brought.frame), keyed)
+}
+
+/// A report, and what it shows of the metric.
+pub fn report(
+    lane: &mut Lane<PushedValue>,
+    alloc: Global,
+    metric: &LMetric,
+    base: u64,
+    request: ReportRequest,
+) -> Result<MetricTree, AllocError>
+    ensures reports { IfOk result (TakesReport (ValuesAlong metric.now)
+        metric.now base request lane.old lane.new) }
+    ensures writable { IfOk result IsWritableMetric }
+{
+    let closed = lane.report(request.at, request.include_current)?;
+    values_tree(alloc, base, metric, closed)
+}
+
+// A metric of values, with what a report shows of it.
+fn values_tree(
+    alloc: Global,
+    base: u64,
+    metric: &LMetric,
+    closed: Closed<i64>,
+) -> Result<MetricTree, AllocError>
+    ensures { IfOk result (λ tree. tree ≡ values_shown_by base metric.now closed) }
+{
+    let groups = groups_of::<ValueRows>(alloc, closed.rows)?;
+    Ok(MetricTree {
+        id: metric.id,
+        base,
+        size: metric.size,
+        dropped: closed.dropped,
+        not_kept: closed.not_kept,
+        missing: closed.missing,
+        body: MetricBody::Values(groups),
+    })
+}
+
+// The key and the integer that arrive with a frame, if an atom does that has one. The key is made last.
+fn arrival(
+    alloc: Global,
+    metric: &LMetric,
+    brought: &Brought<'_>,
+    conditions: &mut Conditions,
+) -> Result<Option<KeyedInt>, AllocError>
+    requires within { MayBeWithin (length conditions.old.predicates) metric.now.condition }
+    ensures keyed { (scene : Scene) → IsOfScene (handed_with conditions.old brought.now) scene
+        → (source : ValueLeaf) (aggregation : Aggregation)
+        → metric.now.kind ≡ value_kind_at source aggregation
+        → IfOk result (λ keyed. keyed
+        ≡ option_map keyed_int (value_arrival_by scene metric.now source (brought_step brought.now))) }
+    ensures known { conditions.new ≡ conditions.old }
+{
+    let LKind::PushedValue { atom_id, leaf, .. } = &metric.kind else {
+        return Ok(None);
+    };
+    let Some(atom) = arriving(alloc, metric, brought, conditions)? else {
+        return Ok(None);
+    };
+    let Some(value) = read_integer(*atom_id, *leaf, atom) else {
+        return Ok(None);
+    };
+    let key = key_in(alloc, metric, brought, atom)?;
+    Ok(Some(KeyedInt { key, value }))
+}
