@@ -6,7 +6,7 @@ use Rattle.sd_base.proofs.OutputsLemmas.{outputs-push}
 use Rattle.atom_record.specs.declared.log.LogFrame.{LogFrame}
 use Rattle.bucket_meaning.specs.Ends.{Moment}
 use Rattle.bucket_meaning.specs.Limits.{time_limit}
-use Rattle.metric_producer.specs.LaneCalls.{LaneStep, AreTimely}
+use Rattle.metric_producer.specs.LaneCalls.{LaneStep, IsTimelyStep, AreTimely, last_at}
 use Rattle.metric_producer.specs.OpeningCalls.{AskWell}
 use Rattle.metric_producer.specs.declared.row.Row.{Row}
 use Rattle.metric_producer.specs.declared.row.Closed.{Closed}
@@ -22,16 +22,16 @@ use Rattle.metric_calls.specs.Askings.{Asking, own_demands, steps_seen, AsksWell
 use Rattle.metric_calls.proofs.StepLemmas.{lane_step_after}
 use Rattle.metric_calls.proofs.AskingsLemmas.{asks_well, calls_mean_steps}
 use Rattle.client_engine.specs.Along.{Along}
-use Rattle.client_engine.specs.NextSteps.{logged_step, reported_step, with_logged, with_reported, ComesInTime, ComeInTime}
+use Rattle.client_engine.specs.NextSteps.{logged_step, reported_step, with_logged, with_reported, bare_step, ComeInTime}
 use Rattle.client_engine.specs.declared.request.ReportRequest.{ReportRequest}
 
 -- a step that comes in time is timely for a lane, before others that are
 timely_step : {News : Type 0} (news : Step → News) (last at : ℕ) (what : What) (truths : List Bool)
     (others : List (LaneStep News)) → let step : Step = record { at = at; what = what; truths = truths } in
-    ComesInTime last step → AreTimely at others → AreTimely last (lane_step news step ∷ others)
+    IsTimelyStep last (bare_step step) → AreTimely (last_at last (bare_step step)) others
+    → AreTimely last (lane_step news step ∷ others)
 timely_step news last at (Logged frame) truths others in_time rest = (in_time, rest)
-timely_step news last at (Reported include_current) truths others in_time rest =
-    (in_time, subst (λ time. AreTimely time others) in_time rest)
+timely_step news last at (Reported include_current) truths others in_time rest = (in_time, rest)
 
 -- steps that come in time are timely for a lane, where others came before
 timely_after : {News : Type 0} (news : List Step → Step → News) (last : ℕ) (before steps : List Step)
@@ -40,7 +40,7 @@ timely_after news last before [] in_time = tt
 timely_after news last before (step ∷ steps) in_time =
     timely_step (news before) last step.at step.what step.truths
     (outputs_after (lane_step_after news) (before ++ step ∷ []) steps) in_time.0
-    (timely_after news step.at (before ++ step ∷ []) steps in_time.1)
+    (timely_after news (last_at last (bare_step step)) (before ++ step ∷ []) steps in_time.1)
 
 -- steps that come in time are timely for a lane
 timely_from : {News : Type 0} (news : List Step → Step → News) (last : ℕ) (steps : List Step) → ComeInTime last steps

@@ -43,28 +43,19 @@ pub knows_atom : (predicates : List LPredicate) (old new : List PredicateTable) 
     (truths : List Bool) → new ≡ tables_with truths atom predicates old
     → KnowsStep (logged_step (AtomAt at atom) truths) (record { predicates = predicates; tables = old })
     (record { predicates = predicates; tables = new })
-knows_atom predicates old new at atom truths is = record {
-  predicates = refl;
-  tables = λ steps knows.
-      is ∙ ap (tables_with truths atom predicates) knows ∙ acts_after predicates steps at atom truths;
-}
+knows_atom predicates old new at atom truths is = λ steps knows.
+    is ∙ ap (tables_with truths atom predicates) knows ∙ acts_after predicates steps at atom truths
 
 -- a tick does nothing to predicates
 pub knows_tick : (known : Known) (at : ℕ) (truths : List Bool) → KnowsStep (logged_step (Tick at) truths) known known
-knows_tick known at truths = record {
-  predicates = refl;
-  tables = λ steps knows. knows
-      ∙ sym (tables_after-idle known.predicates steps (logged_step (Tick at) truths) (λ predicate. refl));
-}
+knows_tick known at truths = λ steps knows.
+    knows ∙ sym (tables_after-idle known.predicates steps (logged_step (Tick at) truths) (λ predicate. refl))
 
 -- and a pull doesn't
 pub knows_pull : (known : Known) (at id : ℕ) (outcome : PullOutcome) (truths : List Bool)
     → KnowsStep (logged_step (Pull at id outcome) truths) known known
-knows_pull known at id outcome truths = record {
-  predicates = refl;
-  tables = λ steps knows. knows
-      ∙ sym (tables_after-idle known.predicates steps (logged_step (Pull at id outcome) truths) (λ predicate. refl));
-}
+knows_pull known at id outcome truths = λ steps knows.
+    knows ∙ sym (tables_after-idle known.predicates steps (logged_step (Pull at id outcome) truths) (λ predicate. refl))
 
 -- there is one table for each predicate
 pub as_many : (predicates : List LPredicate) (tables : List PredicateTable) → HaveTheirSpecs predicates tables

@@ -13,5 +13,5 @@ pub mod MessagesLemmas
 pub mod GaugesLemmas
 pub mod EventsLemmas
 pub mod TracksLemmas
-pub mod InsidePartsLemmas
+pub mod InstanceLemmas
 pub mod AskedLemmas

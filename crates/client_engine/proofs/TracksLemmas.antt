@@ -12,7 +12,7 @@ use Rattle.client_engine.specs.NextSteps.{MayLog, MayReport, with_logged, with_r
 use Rattle.client_engine.specs.TrackStands.{TrackStandsFor}
 use Rattle.client_engine.specs.Known.{Known}
 use Rattle.client_engine.specs.Handed.{Handed}
-use Rattle.client_engine.specs.Tracks.{metric_in, AsksWithin, AreNew, AllStandFor, AllStep, AllReport}
+use Rattle.client_engine.specs.Tracks.{metric_in, AsksWithin, AreNew, AllStandFor, AllReport}
 use Rattle.client_engine.specs.declared.track.Track.{Track}
 use Rattle.client_engine.specs.declared.request.ReportRequest.{ReportRequest}
 
@@ -93,13 +93,10 @@ module _ (given : Handed) (shown : LogFrame) (truths : List Bool) where
 
   -- all took it
   pub all_stepped : (old now : List Track) (index : ℕ) → length now ≡ index
-      → AreStepped given shown truths old now index → AllStep given shown truths old now
-  all_stepped old now index ends are = record {
-    metrics = are.metrics;
-    stand = λ installed steps frame all may.
-        subst (AllStandFor installed (with_logged steps frame truths))
-        (take_all index now (omega (arith, ends))) (are.stand installed steps frame all may);
-  }
+      → AreStepped given shown truths old now index → TakesFrame AllStandFor given shown truths old now
+  all_stepped old now index ends are = λ installed steps frame all may.
+      subst (AllStandFor installed (with_logged steps frame truths))
+      (take_all index now (omega (arith, ends))) (are.stand installed steps frame all may)
 
 -- what each metric asks of predicates stays where the metrics and the predicates do
 pub asks_here : (now_known known : Known) (old now : List Track) (index : ℕ) (none : Track) → now_known ≡ known
@@ -120,6 +117,16 @@ pub whole : {X : Type 0} (items old : List X) (len : ℕ) → length items ≡ l
 whole items old len same is =
     ap (λ l. take len (items ++ l)) (drop_all (length items) old (omega (arith, same)))
     ∙ ap (take len) (append-nil items) ∙ take_all len items (omega (arith, same, is))
+
+-- where one of the tracks has changed and its metric hasn't, all metrics stay
+pub metrics_stay : (old given now : List Track) (len index : ℕ) (track none : Track) → given ≡ old
+    → len ≡ length old → index < length now → length now ≡ length given
+    → map metric_in now ≡ map metric_in given → track.metric ≡ (get_or now index none).metric
+    → map metric_in (take len (set now index track ++ drop (length (set now index track)) old)) ≡ map metric_in old
+metrics_stay old given now len index track none value size within same metrics metric =
+    ap (map metric_in)
+    (whole (set now index track) old len (length-set now index track ∙ same ∙ ap length value) size)
+    ∙ map-set_same metric_in now index track none within metric ∙ metrics ∙ ap (map metric_in) value
 
 -- So many of the tracks were reported: they took the step, and their trees are there.
 pub record AreReported (base : ℕ) (request : ReportRequest) (old now : List Track) (index : ℕ)
@@ -229,7 +236,6 @@ pub all_reported : (base : ℕ) (request : ReportRequest) (old now : List Track)
     (trees : List MetricTree) → length now ≡ index → AreReported base request old now index trees
     → AllReport base request old now trees
 all_reported base request old now index trees ends are = record {
-  metrics = are.metrics;
   stand = λ installed steps all may.
       subst (AllStandFor installed (with_reported steps request))
       (take_all index now (omega (arith, ends))) (are.stand installed steps all may);

@@ -15,10 +15,9 @@ pub record Known : Type 0 where
 abbrev pub KnowsAfter : List Step → Known → Type 0
 KnowsAfter steps known = known.tables ≡ tables_after known.predicates steps
 
--- the predicates stay, and whatever steps the old knew, the new knows those and this one
-pub record KnowsStep (step : Step) (old new : Known) : Type 0 where
-  pub predicates : new.predicates ≡ old.predicates
-  pub tables : (steps : List Step) → KnowsAfter steps old → KnowsAfter (steps ++ step ∷ []) new
+-- whatever steps the old knew, the new knows those and this one
+abbrev pub KnowsStep : Step → Known → Known → Type 0
+KnowsStep step old new = (steps : List Step) → KnowsAfter steps old → KnowsAfter (steps ++ step ∷ []) new
 
 -- how often a key found no room, for each predicate where that is so
 abbrev pub drops_in : List LPredicate → List PredicateTable → List Drop64

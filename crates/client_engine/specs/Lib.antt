@@ -14,5 +14,5 @@ pub mod EventsAlong
 pub mod TrackStands
 pub mod Tracks
 pub mod Running
-pub mod InsideParts
+pub mod InstanceParts
 pub mod InstanceStands

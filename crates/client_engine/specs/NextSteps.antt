@@ -1,10 +1,11 @@
 -- The steps that may come next after others: a frame of the log, with what is handed with it, or a report.
-use Rattle.std.specs.Prelude.{◌≡◌, ℕ, ◌<◌, ◌≤◌, Bool, List, [], ◌∷◌, ◌++◌}
+use Rattle.std.specs.Prelude.{◌≡◌, ℕ, Bool, List, [], ◌∷◌, ◌++◌, map}
 use Rattle.atom_record.specs.declared.log.LogFrame.{LogFrame}
-use Rattle.bucket_meaning.specs.Limits.{time_limit}
 use Rattle.config_links.specs.declared.linked.LMetric.{LMetric}
 use Rattle.session_frames.specs.FrameReading.{log_time}
-use Rattle.metric_meaning.specs.Histories.{What, Logged, Reported, Step, Installation, log_after}
+use Rattle.metric_producer.specs.LaneCalls.{LaneStep, AreTimely, last_of}
+use Rattle.metric_calls.specs.LaneSteps.{lane_step}
+use Rattle.metric_meaning.specs.Histories.{Logged, Reported, Step, Installation, log_after}
 use Rattle.metric_meaning.specs.ShownFrames.{shown_as}
 use Rattle.metric_meaning.specs.Scenes.{scene_after}
 use Rattle.metric_meaning.specs.Reports.{metric_tree}
@@ -28,22 +29,17 @@ with_logged steps frame truths = steps ++ logged_step frame truths ∷ []
 abbrev pub with_reported : List Step → ReportRequest → List Step
 with_reported steps request = steps ++ reported_step request ∷ []
 
--- a step may come after a time: frames' times don't fall, and a report is made at the time of the last step
-abbrev pub ComesInTime : ℕ → Step → Type 0
-ComesInTime last step = by_what step.what where
-  by_what : What → Type 0
-  by_what (Logged frame) = (last ≤ step.at) × (step.at < time_limit)
-  by_what (Reported include_current) = step.at ≡ last
+-- a step as a lane sees it to which no step brings anything
+abbrev pub bare_step : Step → LaneStep (Unit {0})
+bare_step step = lane_step (λ step. tt) step
 
--- the time of the last of these steps, or the time before them
-abbrev pub last_from : ℕ → List Step → ℕ
-last_from time [] = time
-last_from time (step ∷ steps) = last_from step.at steps
-
--- each of these steps comes in time
+-- each of these steps comes in time, as for a lane
 abbrev pub ComeInTime : ℕ → List Step → Type 0
-ComeInTime last [] = Unit {0}
-ComeInTime last (step ∷ steps) = ComesInTime last step × ComeInTime step.at steps
+ComeInTime last steps = AreTimely last (map bare_step steps)
+
+-- the time of the last frame among these steps, or the time before them
+abbrev pub last_from : ℕ → List Step → ℕ
+last_from time steps = last_of time (map bare_step steps)
 
 -- what a report that is asked for after these steps shows of a metric
 abbrev pub requested_tree : Installation → List Step → ReportRequest → LMetric → MetricTree

@@ -4,7 +4,7 @@ use Rattle.config_links.specs.declared.linked.Linked.{Linked}
 use Rattle.config_links.specs.declared.linked.LMatcher.{LMatcher}
 use Rattle.config_links.specs.declared.linked.LState.{LState}
 use Rattle.client_engine.specs.Known.{Known}
-use Rattle.client_engine.specs.Tracks.{metric_in, AllAskWithin}
+use Rattle.client_engine.specs.Tracks.{metric_in}
 use Rattle.client_engine.specs.declared.track.Track.{Track}
 
 -- Its matchers, its predicates with what they know, its states, its metrics with their lanes, and the clock at its
@@ -25,7 +25,3 @@ linked_of it = record {
   states = it.states;
   metrics = map metric_in it.tracks;
 }
-
--- each metric's condition is one of the predicates
-abbrev pub AreAsked : Running → Type 0
-AreAsked it = AllAskWithin it.known it.tracks

@@ -1,6 +1,5 @@
 -- The metrics of a configuration with their lanes, all together.
-use Rattle.std.specs.Prelude.{◌≡◌, ℕ, true, Bool, List, [], length, map, filter, All}
-use Rattle.atom_record.specs.declared.log.LogFrame.{LogFrame}
+use Rattle.std.specs.Prelude.{◌≡◌, ℕ, true, List, [], length, map, filter, All}
 use Rattle.config_links.specs.SoundConfig.{IsSoundMetric, MayBeWithin}
 use Rattle.config_links.specs.declared.linked.Linked.{Linked}
 use Rattle.config_links.specs.declared.linked.LMetric.{LMetric}
@@ -8,10 +7,9 @@ use Rattle.metric_meaning.specs.Histories.{Step, Installation}
 use Rattle.metric_meaning.specs.Forms.{is_built_metric}
 use Rattle.report_writer.specs.Writable.{IsWritableMetric}
 use Rattle.report_writer.specs.declared.tree.MetricTree.{MetricTree}
-use Rattle.client_engine.specs.NextSteps.{MayReport, with_reported, requested_tree, TakesFrame}
+use Rattle.client_engine.specs.NextSteps.{MayReport, with_reported, requested_tree}
 use Rattle.client_engine.specs.TrackStands.{TrackStandsFor}
 use Rattle.client_engine.specs.Known.{Known}
-use Rattle.client_engine.specs.Handed.{Handed}
 use Rattle.client_engine.specs.declared.track.Track.{Track}
 use Rattle.client_engine.specs.declared.request.ReportRequest.{ReportRequest}
 
@@ -42,15 +40,9 @@ pub record AreNew (base : ℕ) (metrics : List LMetric) (tracks : List Track) : 
   pub metrics_are : map metric_in tracks ≡ metrics
   pub stand : (installed : Installation) → installed.base ≡ base → AllStandFor installed [] tracks
 
--- one frame of the log more for all, which is shown so
-pub record AllStep (given : Handed) (shown : LogFrame) (truths : List Bool) (old new : List Track) : Type 0 where
-  pub metrics : map metric_in new ≡ map metric_in old
-  pub stand : TakesFrame AllStandFor given shown truths old new
-
 -- a report of all: one step more, and what it shows of those that are shown
 pub record AllReport (base : ℕ) (request : ReportRequest) (old new : List Track) (trees : List MetricTree)
     : Type 0 where
-  pub metrics : map metric_in new ≡ map metric_in old
   pub stand : (installed : Installation) (steps : List Step) → AllStandFor installed steps old
       → MayReport installed steps base request
       → AllStandFor installed (with_reported steps request) new

@@ -65,7 +65,8 @@ impl Conditions {
         frame: &LogFrame,
         matched: &[bool],
     ) -> Result<(), AllocError>
-        ensures { OnOk result (KnowsStep (logged_step frame.now matched.now) self.old self.new) }
+        ensures knows { OnOk result (KnowsStep (logged_step frame.now matched.now) self.old self.new) }
+        ensures predicates { self.new.predicates ≡ self.old.predicates }
     {
         match frame {
             LogFrame::AtomAt { atom, .. } => {

@@ -3,16 +3,22 @@ ghost use Rattle.std.specs.Prelude.{◌≡◌, ◌<◌, true, List, OnOk, IfOk};
 ghost use Rattle.atom_record.specs.declared.log.LogFrame.{LogFrame};
 ghost use Rattle.pull_book.specs.PullBooks.{PullBookStandsFor};
 ghost use Rattle.state_slicer.specs.StateBooks.{StateBookStandsFor};
-ghost use Rattle.client_engine.specs.Running.{AreAsked};
+ghost use Rattle.client_engine.specs.Running.{linked_of};
 
-use crate::inside::Inside;
+use crate::brought::Brought;
+use crate::conditions::Conditions;
+use crate::parts::{Drops, log_all, report_all, tracks_of, tree_of};
 use crate::request::ReportRequest;
+use crate::state_drops::{dropped_atoms, state_drops};
+use crate::track::Track;
 use atom_record::LogFrame;
-use config_links::{LMatcher, Linked};
+use config_links::{LMatcher, LState, Linked};
 use pull_book::PullBook;
 use report_writer::ReportTree;
+use sd_base::Seq;
 use state_slicer::StateBook;
 use std::alloc::{AllocError, Global};
+use std::marker::Model;
 
 /// What a frame of the log comes with.
 #[derive(Clone, Copy)]
@@ -23,11 +29,39 @@ pub struct LogView<'a> {
     pub states: &'a StateBook,
 }
 
-/// An installed configuration. It is consumed by want of memory.
+/// An installed configuration: its matchers, its predicates with what they know, its states, its metrics with their
+/// lanes, and when it was installed and last reported.
 #[derive(Drop)]
 pub struct Instance {
-    inside: Box<Inside>,
-    ghost asked: { ∥ AreAsked inside.value ∥₁ },
+    alloc: Global,
+    matchers: Seq<LMatcher>,
+    conditions: Conditions,
+    states: Seq<LState>,
+    tracks: Vec<Track>,
+    base: u64,
+    last: u64,
+}
+
+impl Model for Instance {
+    ghost use Rattle.std.specs.Coded.{codes};
+    ghost use Rattle.config_types.specs.contracts.matcher.Test as test;
+    ghost use Rattle.client_engine.specs.Running.{Running};
+    ghost use Rattle.client_engine.specs.Tracks.{AllAskWithin};
+
+    ghost Value = { Running };
+
+    ghost coded = { Prim.hlevel (codes, test.the_row.coded) };
+
+    ghost view = { λ it. record {
+      matchers = it.matchers;
+      known = it.conditions;
+      states = it.states;
+      tracks = it.tracks.items;
+      base = it.base;
+      last = it.last;
+    } };
+
+    ghost invariant = { λ it. AllAskWithin it.conditions it.tracks.items };
 }
 
 impl Instance {
@@ -36,7 +70,9 @@ impl Instance {
     ghost use Rattle.report_writer.specs.Writable.{IsWritableReport};
     ghost use Rattle.session_frames.specs.Faultless.{IsFaultlessLog};
     ghost use Rattle.metric_meaning.specs.Forms.{is_built};
-    ghost use Rattle.client_engine.specs.InstanceStands.{linked_in, IsFresh, Logs, Reports};
+    ghost use Rattle.client_engine.specs.Known.{drops_in};
+    ghost use Rattle.client_engine.specs.InstanceParts.{AreStateDrops};
+    ghost use Rattle.client_engine.specs.InstanceStands.{IsFresh, Logs, Reports};
 
     /// A configuration that is installed when the clock stands at `base`, and the log gave this. It has seen nothing.
     pub fn new(
@@ -51,45 +87,107 @@ impl Instance {
         requires fits { base < time_limit }
         ensures fresh { (opening : List LogFrame) → PullBookStandsFor _pulls.now opening
             → StateBookStandsFor _states.now opening → IfOk result (IsFresh linked base opening) }
-        ensures linked { IfOk result (λ new. linked_in new ≡ linked) }
+        ensures linked { IfOk result (λ new. linked_of new ≡ linked) }
     {
-        let inside = Inside::new(alloc, linked, base)?;
-        let inside = Box::new(alloc, inside)?;
-        Ok(Instance { inside })
+        let Linked {
+            matchers,
+            predicates,
+            states,
+            metrics,
+        } = linked;
+        let conditions = Conditions::new(alloc, predicates)?;
+        let tracks = tracks_of(alloc, base, metrics)?;
+        Ok(Instance {
+            alloc,
+            matchers,
+            conditions,
+            states,
+            tracks,
+            base,
+            last: base,
+        })
     }
 
     /// The matchers of the configuration, in config order.
     pub fn matchers(&self) -> &[LMatcher]
-        ensures { result.now ≡ (linked_in self.now).matchers }
+        ensures { result.now ≡ self.now.matchers }
     {
-        self.inside.matchers()
+        self.matchers.as_slice()
     }
 
-    /// A frame of the log comes as it is shown, with the truth of each matcher for an atom, and the states after it.
+    /// A frame of the log comes as it is shown, with the truth of each matcher for an atom, and the states after it: it
+    /// acts on predicates, and then comes to each metric. After want of memory the configuration is of no use.
+    pub fn apply(&mut self, frame: &LogFrame, view: &LogView<'_>) -> Result<(), AllocError>
+        requires faultless { IsFaultlessLog frame.now }
+        ensures logs { OnOk result
+            (Logs self.old frame.now view.now.matched.now view.now.states.now self.new) }
+        ensures linked { linked_of self.new ≡ linked_of self.old }
+    {
+        self.conditions.log(self.alloc, frame, view.matched)?;
+        let brought = Brought {
+            frame,
+            matched: view.matched,
+            states: self.states.as_slice(),
+            book: view.states,
+        };
+        log_all(self.alloc, &mut self.conditions, &mut self.tracks, &brought)
+    }
+
+    /// A report of the configuration, where the log gave these states. After want of memory it is of no use.
+    pub fn show(
+        &mut self,
+        request: ReportRequest,
+        states: &StateBook,
+    ) -> Result<ReportTree, AllocError>
+        ensures reports { IfOk result (Reports self.old request states.now self.new) }
+        ensures linked { linked_of self.new ≡ linked_of self.old }
+        ensures writable { IfOk result IsWritableReport }
+    {
+        let last = self.last;
+        self.last = request.at;
+        let metrics = report_all(self.alloc, self.base, &mut self.tracks, request)?;
+        let drops = self.drops(states)?;
+        Ok(tree_of(request, last, metrics, drops))
+    }
+
+    /// The same as `apply`, of a configuration that is handed on.
     pub fn log(self, frame: &LogFrame, view: &LogView<'_>) -> Result<Instance, AllocError>
         requires faultless { IsFaultlessLog frame.now }
         ensures logs { IfOk result (Logs self frame.now view.now.matched.now view.now.states.now) }
-        ensures linked { IfOk result (λ new. linked_in new ≡ linked_in self) }
+        ensures linked { IfOk result (λ new. linked_of new ≡ linked_of self) }
     {
-        let Instance { mut inside } = self;
-        inside.log(frame, view)?;
-        Ok(Instance { inside })
+        let mut instance = self;
+        instance.apply(frame, view)?;
+        Ok(instance)
     }
 
-    /// A report of the configuration, where the log gave these states.
+    /// The same as `show`, of a configuration that is handed on.
     pub fn report(
         self,
         request: ReportRequest,
         states: &StateBook,
     ) -> Result<(Instance, ReportTree), AllocError>
         requires fits { request.at < time_limit }
-        ensures reports { IfOk result (λ r.
-            Reports self request states.now r.0 r.1) }
-        ensures linked { IfOk result (λ r. linked_in r.0 ≡ linked_in self) }
+        ensures reports { IfOk result (λ r. Reports self request states.now r.0 r.1) }
+        ensures linked { IfOk result (λ r. linked_of r.0 ≡ linked_of self) }
         ensures writable { IfOk result (λ r. IsWritableReport r.1) }
     {
-        let Instance { mut inside } = self;
-        let tree = inside.report(request, states)?;
-        Ok((Instance { inside }, tree))
+        let mut instance = self;
+        let tree = instance.show(request, states)?;
+        Ok((instance, tree))
+    }
+
+    // What found no room, as a report shows it.
+    fn drops(&self, book: &StateBook) -> Result<Drops, AllocError>
+        ensures of_predicates { IfOk result (λ drops. drops.of_predicates
+            ≡ drops_in self.now.known.predicates self.now.known.tables) }
+        ensures of_states { IfOk result (AreStateDrops self.now.states book.now) }
+    {
+        let states = self.states.as_slice();
+        Ok(Drops {
+            of_predicates: self.conditions.drops(self.alloc)?,
+            of_states: state_drops(self.alloc, states, book)?,
+            of_atoms: dropped_atoms(states, book),
+        })
     }
 }

@@ -62,7 +62,7 @@ impl Track {
         conditions: &mut Conditions,
     ) -> Result<(), AllocError>
         requires within { MayBeWithin (length conditions.old.predicates) self.old.metric.condition }
-        ensures metric { OnOk result (self.new.metric ≡ self.old.metric) }
+        ensures metric { self.new.metric ≡ self.old.metric }
         ensures logs { OnOk result (TakesBrought TrackStandsFor
             conditions.old brought.now self.old self.new) }
         ensures known { conditions.new ≡ conditions.old }
@@ -83,7 +83,7 @@ impl Track {
         base: u64,
         request: ReportRequest,
     ) -> Result<MetricTree, AllocError>
-        ensures metric { OnOk result (self.new.metric ≡ self.old.metric) }
+        ensures metric { self.new.metric ≡ self.old.metric }
         ensures reports { IfOk result (TakesReport TrackStandsFor
             self.old.metric base request self.old self.new) }
         ensures writable { IfOk result IsWritableMetric }

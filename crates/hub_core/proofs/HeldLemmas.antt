@@ -15,7 +15,7 @@ use Rattle.indexmap.proofs.MapLemmas.{some_index, swap_remove_entry-found, swap_
 use Rattle.atom_record.specs.declared.atom.Atom.{Atom}
 use Rattle.atom_record.specs.declared.log.LogFrame.{LogFrame}
 use Rattle.config_types.specs.declared.matcher.SimpleMatcher.{SimpleMatcher}
-use Rattle.hub_core.specs.declared.live_instance.LiveInstance.{LiveInstance}
+use Rattle.client_engine.specs.InstanceStands.{Running}
 use Rattle.client_engine.specs.Handed.{BookOfStates}
 use Rattle.client_engine.specs.declared.live_id.LiveId.{LiveId}
 use Rattle.hub_core.specs.SlotLogs.{AllLog}
@@ -44,17 +44,28 @@ and_true true = refl
 and_true false = refl
 
 -- one for a row of the client
-abbrev one_of : ℤ → LiveId × Option LiveInstance → ℕ
+abbrev one_of : ℤ → LiveId × Running → ℕ
 one_of uid row = cond (int_eq row.0.uid uid) 1 0
 
 -- one row more in front
-held-cons : (uid : ℤ) (row : LiveId × Option LiveInstance) (rows : List (LiveId × Option LiveInstance))
+held-cons : (uid : ℤ) (row : LiveId × Running) (rows : List (LiveId × Running))
     → held_by uid (row ∷ rows) ≡ one_of uid row + held_by uid rows
 held-cons uid row rows = sum_by-cons (one_of uid) row rows
 
+-- an instance of an empty configuration, where some instance is asked for
+nothing : Running
+nothing = record {
+  matchers = [];
+  known = record { predicates = []; tables = [] };
+  states = [];
+  tracks = [];
+  base = 0;
+  last = 0;
+}
+
 module _ (uid : ℤ) (name : LiveId) where
   -- a new name adds one to its client's
-  pub held-insert : (slot : Option LiveInstance) (rows : List (LiveId × Option LiveInstance))
+  pub held-insert : (slot : Running) (rows : List (LiveId × Running))
       → held_by uid (insert_entry same_id rows name slot)
       ≡ held_by uid rows + cond (int_eq name.uid uid && not (is_some (slot_at name rows))) 1 0
   held-insert slot [] = by_case (int_eq name.uid uid) refl where
@@ -78,7 +89,7 @@ module _ (uid : ℤ) (name : LiveId) where
     )
 
   -- a name that is taken out takes one from its client's
-  pub held-swap_remove : (rows : List (LiveId × Option LiveInstance))
+  pub held-swap_remove : (rows : List (LiveId × Running))
       → held_by uid (swap_remove_entry (same_id name) rows) + cond (int_eq name.uid uid && is_some
       (slot_at name rows)) 1 0 ≡ held_by uid rows
   held-swap_remove rows = by_place (position (same_id name) (keys_of rows)) refl where
@@ -91,17 +102,17 @@ module _ (uid : ℤ) (name : LiveId) where
         ≡ 0 = ap (λ b. one_if (int_eq name.uid uid && b)) absent ∙ and_false (int_eq name.uid uid) in
         omega (arith, less, ap (held_by uid) (swap_remove_entry-missing (same_id name) rows e))
     by_place (Some i) e =
-        let d : LiveId × Option LiveInstance = (name, None) in
+        let d : LiveId × Running = (name, nothing) in
         let there : is_some (slot_at name rows) ≡ true = sym (some_index (same_id name) rows) ∙ ap is_some e in
         let at = position-Some (same_id name) (keys_of rows) i name e in
         let within : i < length rows = omega (
           arith,
           at.0,
           length-map rows (λ
-              (row : LiveId × Option LiveInstance). row.0),
+              (row : LiveId × Running). row.0),
         ) in
         let key : get_or (keys_of rows) i name ≡ (get_or rows i d).0 = get_or-map (λ
-        (row : LiveId × Option LiveInstance). row.0) rows i d name within in
+        (row : LiveId × Running). row.0) rows i d name within in
         let one : one_of uid (get_or rows i d) ≡ one_if (int_eq name.uid uid) =
         ap one_if (same_uid name (get_or rows i d).0 uid (ap (same_id name) (sym key) ∙ at.1)) in
         let more : one_if (int_eq name.uid uid && is_some (slot_at name rows))
@@ -117,7 +128,7 @@ module _ (uid : ℤ) (name : LiveId) where
         )
 
   -- a write at a name leaves the number
-  pub held-set_value : (slot : Option LiveInstance) (rows : List (LiveId × Option LiveInstance))
+  pub held-set_value : (slot : Running) (rows : List (LiveId × Running))
       → held_by uid (set_value (same_id name) rows slot) ≡ held_by uid rows
   held-set_value slot [] = refl
   held-set_value slot (row ∷ rows) = by_case (same_id name row.0) (held-set_value slot rows) where
@@ -134,7 +145,7 @@ module _ (uid : ℤ) (name : LiveId) where
     )
 
 -- a client that has a slot has one at least
-pub held-found : (name : LiveId) (rows : List (LiveId × Option LiveInstance)) → is_some (slot_at name rows) ≡ true
+pub held-found : (name : LiveId) (rows : List (LiveId × Running)) → is_some (slot_at name rows) ≡ true
     → 0 < held_by name.uid rows
 held-found name [] there = absurd (true≢false (sym there))
 held-found name (row ∷ rows) there = by_case (same_id name row.0) refl there (held-found name rows) where
@@ -148,7 +159,7 @@ held-found name (row ∷ rows) there = by_case (same_id name row.0) refl there (
 
 -- a frame of the log leaves the number
 pub held-logged : (says : SimpleMatcher → Atom → Bool) (frame : LogFrame) (book : BookOfStates) (uid : ℤ)
-    (olds news : List (LiveId × Option LiveInstance)) → AllLog says frame book olds news
+    (olds news : List (LiveId × Running)) → AllLog says frame book olds news
     → held_by uid news ≡ held_by uid olds
 held-logged says frame book uid [] [] all = refl
 held-logged says frame book uid [] (new ∷ news) all = absurd all
@@ -158,10 +169,10 @@ held-logged says frame book uid (old ∷ olds) (new ∷ news) all =
     omega (arith, held-cons uid old olds, held-cons uid new news, one, held-logged says frame book uid olds news all.2)
 
 -- both facts of one client
-abbrev IsCounted : ℤ → List (LiveId × Option LiveInstance) → List (ℤ × ℕ) → Type 0
+abbrev IsCounted : ℤ → List (LiveId × Running) → List (ℤ × ℕ) → Type 0
 IsCounted n rows counts = (held_by n rows ≡ count_at n counts) × (held_by n rows ≤ 10)
 
-module _ (uid id : ℤ) (olds news : List (LiveId × Option LiveInstance)) (counts afters : List (ℤ × ℕ)) (others : ℕ)
+module _ (uid id : ℤ) (olds news : List (LiveId × Running)) (counts afters : List (ℤ × ℕ)) (others : ℕ)
     (counted : (n : ℤ) → held_by n olds ≡ count_at n counts) (few : (n : ℤ) → held_by n olds ≤ 10) where
   -- an install that had room
   pub counted_put : ((n : ℤ) → held_by n news ≡ held_by n olds + cond (int_eq uid n && not (is_some (slot_at

@@ -33,16 +33,18 @@ use Rattle.hub_meaning.specs.LiveConfigs.{with_config, without_id, config_at, li
 use Rattle.hub_meaning.specs.ClientAnswers.{install_answer, remove_answer, report_answer, reply_of, reply_to}
 use Rattle.hub_meaning.proofs.SessionLogLaws.{own-push_own, own-push_other, log_frames-push, log_frames-own, clock_of-push, clock_of-own}
 use Rattle.hub_meaning.proofs.LiveConfigLaws.{live-push, live_placed, live_distinct, history_of-push, history_of-new, history_of-log, one_if, config_at-with_config, config_at-without_id, length-with_config, length-without_id, placed_at}
-use Rattle.client_engine.specs.NextSteps.{last_from, logged_step, reported_step}
+use Rattle.metric_producer.specs.LaneCalls.{last_at}
+use Rattle.client_engine.specs.NextSteps.{bare_step, last_from, logged_step, reported_step}
+use Rattle.client_engine.specs.declared.request.ReportRequest.{ReportRequest}
 use Rattle.client_engine.specs.Handed.{BookOfStates}
-use Rattle.client_engine.specs.InstanceStands.{InstanceStandsFor, last_step_time, new_history}
+use Rattle.client_engine.specs.InstanceStands.{Running, InstanceStandsFor, last_step_time, new_history}
 use Rattle.hub_core.specs.declared.books.Books.{Books}
 use Rattle.hub_core.specs.BookStands.{BooksStandFor}
 use Rattle.client_engine.specs.declared.live_id.LiveId.{LiveId}
-use Rattle.hub_core.specs.declared.live_instance.LiveInstance.{LiveInstance}
 use Rattle.hub_core.specs.declared.lives.Lives.{Lives}
 use Rattle.hub_core.specs.declared.hub.Hub.{Hub}
-use Rattle.hub_core.specs.SlotLogs.{SlotLogs, AllLog}
+use Rattle.hub_core.specs.FrameTruths.{LogsBy}
+use Rattle.hub_core.specs.SlotLogs.{AllLog}
 use Rattle.hub_core.specs.Slots.{live_id, request_of, same_id, slot_at, count_at, ShowsAt}
 use Rattle.hub_core.specs.Commands.{change, held_at, others, Changes, Stays, StaysWith, PutsIn, InstallsLinked, Installs, TakesOut, Removes, ReportsLive}
 use Rattle.hub_core.specs.HubStands.{SlotStandsFor, LivesStandFor, HubStandsFor}
@@ -56,22 +58,31 @@ int_eq_refl n = (signed_Decides n n).1 refl
 no_step : (history : History) → with_steps history [] ≡ history
 no_step history = ap (λ (steps : List Step). record history { steps = steps }) (append-nil history.steps)
 
--- the last of one more step
-last_from-push : (time : ℕ) (steps : List Step) (step : Step) → last_from time (steps ++ step ∷ []) ≡ step.at
-last_from-push time [] step = refl
-last_from-push time (first ∷ steps) step = last_from-push first.at steps step
+-- the time of the last frame, with one more
+last_from-logged : (time : ℕ) (steps : List Step) (frame : LogFrame) (truths : List Bool)
+    → last_from time (steps ++ logged_step frame truths ∷ []) ≡ log_time frame
+last_from-logged time [] frame truths = refl
+last_from-logged time (first ∷ steps) frame truths =
+    last_from-logged (last_at time (bare_step first)) steps frame truths
+
+-- a report is none
+last_from-reported : (time : ℕ) (steps : List Step) (request : ReportRequest)
+    → last_from time (steps ++ reported_step request ∷ []) ≡ last_from time steps
+last_from-reported time [] request = refl
+last_from-reported time (first ∷ steps) request =
+    last_from-reported (last_at time (bare_step first)) steps request
 
 module _ (says : SimpleMatcher → Atom → Bool) where
   -- what is found under a name before and after a frame of the log
-  abbrev pub FoundLogs : LogFrame → BookOfStates → Option (Option LiveInstance) → Option (Option LiveInstance) → Type 0
+  abbrev pub FoundLogs : LogFrame → BookOfStates → Option Running → Option Running → Type 0
   FoundLogs frame book None None = Unit {0}
-  FoundLogs frame book (Some old) (Some new) = SlotLogs says frame book old new
+  FoundLogs frame book (Some old) (Some new) = LogsBy says frame book old new
   FoundLogs frame book None (Some new) = ⊥
   FoundLogs frame book (Some old) None = ⊥
 
-  -- where each slot took a frame, what is found under a name took it
+  -- where each took a frame, what is found under a name took it
   found_logs : (frame : LogFrame) (book : BookOfStates) (test : LiveId → Bool)
-      (olds news : List (LiveId × Option LiveInstance))
+      (olds news : List (LiveId × Running))
       → AllLog says frame book olds news → FoundLogs frame book (lookup test olds) (lookup test news)
   found_logs frame book test [] [] all = tt
   found_logs frame book test [] (new ∷ news) all = absurd all
@@ -87,65 +98,58 @@ module _ (says : SimpleMatcher → Atom → Bool) where
 
   -- a frame of the log comes to what is found under a name
   slot_logged : (uid : ℤ) (frames : List Frame) (shown : LogFrame) (book : BookOfStates) (frame : LogFrame)
-      (old new : Option (Option LiveInstance))
+      (old new : Option Running)
       (config : Option LiveConfig)
       → ((c : LiveConfig) → config ≡ Some c → c.place < length frames) → clock_of frames ≤ log_time frame
       → shown ≡ shown_as (log_frames frames) frame → StateBookStandsFor book (log_frames frames ++ frame ∷ [])
       → FoundLogs shown book old new → SlotStandsFor says uid frames old config
       → SlotStandsFor says uid (frames ++ Log frame ∷ []) new config
   slot_logged uid frames shown book frame None None None placed in_time shown_is book_is logs h = tt
-  slot_logged uid frames shown book frame (Some (Some old)) (Some (Some new)) (Some config) placed in_time shown_is
-      book_is logs h =
+  slot_logged uid frames shown book frame (Some old) (Some new) (Some config) placed in_time shown_is book_is logs h =
       let before = history_of says uid frames config in
       let log : log_of_history before ≡ log_frames frames = history_of-log says uid frames config in
       let step = logged_step frame (truths_at says (linked_form config.config uid) frame) in
       let history : history_of says uid (frames ++ Log frame ∷ []) config
       ≡ with_steps before (step ∷ []) = history_of-push says uid frames (Log frame) config (placed config refl) in
       record {
-        instance = subst (InstanceStandsFor new.instance) (sym history) (logs before frame h.instance
+        instance = subst (InstanceStandsFor new) (sym history) (logs before frame h.instance
             (omega (arith, in_time, h.time)) (shown_is ∙ ap (λ l. shown_as l frame) (sym log))
             (subst (λ l. StateBookStandsFor book (l ++ frame ∷ [])) (sym log) book_is));
-        time = ap last_step_time history ∙ last_from-push before.installed.base before.steps step
-            ∙ sym (clock_of-push frames (Log frame));
+        time = ap last_step_time history ∙ last_from-logged before.installed.base before.steps frame
+            (truths_at says (linked_form config.config uid) frame) ∙ sym (clock_of-push frames (Log frame));
       }
-  slot_logged uid frames shown book frame (Some (Some old)) (Some None) (Some config) placed in_time shown_is book_is
-      logs h = absurd logs
-  slot_logged uid frames shown book frame (Some None) new (Some config) placed in_time shown_is book_is logs h =
-      absurd h
-  slot_logged uid frames shown book frame (Some slot) new None placed in_time shown_is book_is logs h = absurd h
+  slot_logged uid frames shown book frame (Some old) new None placed in_time shown_is book_is logs h = absurd h
   slot_logged uid frames shown book frame None new (Some config) placed in_time shown_is book_is logs h = absurd h
   slot_logged uid frames shown book frame None (Some new) None placed in_time shown_is book_is logs h = absurd logs
-  slot_logged uid frames shown book frame (Some (Some old)) None (Some config) placed in_time shown_is book_is logs
-      h = absurd logs
+  slot_logged uid frames shown book frame (Some old) None (Some config) placed in_time shown_is book_is logs h =
+      absurd logs
 
   -- a frame that is no step to a configuration leaves what is held for it
-  slot_idle : (uid : ℤ) (frames : List Frame) (frame : Frame) (slot : Option (Option LiveInstance))
+  slot_idle : (uid : ℤ) (frames : List Frame) (frame : Frame) (slot : Option Running)
       (config : Option LiveConfig) → clock_after (clock_of frames) frame ≡ clock_of frames
       → ((c : LiveConfig) → config ≡ Some c → (c.place < length frames) × (step_at says c.id
       (linked_form c.config uid) frames frame ≡ [])) → SlotStandsFor says uid frames slot config
       → SlotStandsFor says uid (frames ++ frame ∷ []) slot config
   slot_idle uid frames frame None None still idle h = tt
-  slot_idle uid frames frame (Some (Some it)) (Some config) still idle h =
+  slot_idle uid frames frame (Some it) (Some config) still idle h =
       let facts = idle config refl in
       let same : history_of says uid (frames ++ frame ∷ []) config ≡ history_of says uid frames config =
       history_of-push says uid frames frame config facts.0
       ∙ ap (with_steps (history_of says uid frames config)) facts.1
       ∙ no_step (history_of says uid frames config) in
       record {
-        instance = subst (InstanceStandsFor it.instance) (sym same) h.instance;
+        instance = subst (InstanceStandsFor it) (sym same) h.instance;
         time = ap last_step_time same ∙ h.time ∙ sym (clock_of-push frames frame ∙ still);
       }
-  slot_idle uid frames frame (Some None) (Some config) still idle h = absurd h
-  slot_idle uid frames frame (Some slot) None still idle h = absurd h
+  slot_idle uid frames frame (Some it) None still idle h = absurd h
   slot_idle uid frames frame None (Some config) still idle h = absurd h
 
   -- what is found is there where a configuration is live
-  both_there : (uid : ℤ) (frames : List Frame) (slot : Option (Option LiveInstance)) (config : Option LiveConfig)
+  both_there : (uid : ℤ) (frames : List Frame) (slot : Option Running) (config : Option LiveConfig)
       → SlotStandsFor says uid frames slot config → is_some slot ≡ is_some config
   both_there uid frames None None h = refl
-  both_there uid frames (Some (Some it)) (Some config) h = refl
-  both_there uid frames (Some None) (Some config) h = absurd h
-  both_there uid frames (Some slot) None h = absurd h
+  both_there uid frames (Some it) (Some config) h = refl
+  both_there uid frames (Some it) None h = absurd h
   both_there uid frames None (Some config) h = absurd h
 
   -- a frame of the log comes to all
@@ -269,7 +273,7 @@ module _ (says : SimpleMatcher → Atom → Bool) where
     }
 
     -- one slot changed, on both sides
-    changed : (slot : Option (Option LiveInstance)) (count : ℕ) (body : ReplyBody)
+    changed : (slot : Option Running) (count : ℕ) (body : ReplyBody)
         → Changes (live_id uid id) slot count (change old new body)
         → SlotStandsFor says uid (before ++ frame ∷ []) slot (config_at id after)
         → ((other : ℤ) → int_eq id other ≡ false → IsIdle other) → ((other : ℤ) → int_eq id other ≡ false
@@ -333,7 +337,7 @@ module _ (says : SimpleMatcher → Atom → Bool) where
           ∙ length-without_id id lives_before (live_distinct (own uid frames)) in
           omega (arith, found_none, none, h.counts uid)
 
-    remove_case : (slot : Option (Option LiveInstance)) (config : Option LiveConfig)
+    remove_case : (slot : Option Running) (config : Option LiveConfig)
         → config_at id lives_before ≡ config → SlotStandsFor says uid (own uid frames) slot config
         → MatchOption slot (StaysWith answers.NoConfig (change old new body))
         (λ slot. TakesOut (live_id uid id) (change old new body))
@@ -350,7 +354,7 @@ module _ (says : SimpleMatcher → Atom → Bool) where
           → cond same None (config_at other lives_before) ≡ config_at other lives_before
       absent other true e = sym (ap (λ n. config_at n lives_before) (sym ((signed_Decides id other).0 e)) ∙ none)
       absent other false e = refl
-    remove_case (Some slot) (Some config) is s r = (
+    remove_case (Some it) (Some config) is s r = (
       changed frames (Remove uid id) uid id (λ n. refl) (λ clock. refl) old new h None
           (others (live_id uid id) old) body r.changes
           (subst (SlotStandsFor says uid (own uid frames ++ Remove uid id ∷ []) None) (sym
@@ -363,8 +367,7 @@ module _ (says : SimpleMatcher → Atom → Bool) where
       r.answer,
     )
     remove_case None (Some config) is s r = absurd s
-    remove_case (Some (Some it)) None is s r = absurd s
-    remove_case (Some None) None is s r = absurd s
+    remove_case (Some it) None is s r = absurd s
 
     -- what a remove makes of what is held, and its answer
     pub serves_remove : Removes (live_id uid id) (change old new body)
@@ -379,12 +382,12 @@ module _ (says : SimpleMatcher → Atom → Bool) where
     -- by what is held and what is live
     report_case : (clock : ℕ) (book : BookOfStates) (include_current : Bool) → clock ≡ clock_of frames
         → StateBookStandsFor book (log_frames frames)
-        → (slot : Option (Option LiveInstance)) (config : Option LiveConfig) → config_at id lives_before ≡ config
+        → (slot : Option Running) (config : Option LiveConfig) → config_at id lives_before ≡ config
         → SlotStandsFor says uid (own uid frames) slot config
         → new.counts ≡ old.counts
         → MatchOption slot ((new.slots.entries ≡ old.slots.entries) × (body
-        ≡ answers.NoConfig)) (λ slot. MatchOption slot (Unit {0}) (λ instance. ShowsAt
-        (request_of uid id include_current clock) book instance old.slots.entries new.slots.entries body))
+        ≡ answers.NoConfig)) (λ it. ShowsAt (request_of uid id include_current clock) book it
+        old.slots.entries new.slots.entries body)
         → LivesStandFor says new (frames ++ Report uid id include_current ∷ []) × (body
         ≡ report_answer says uid id (own uid frames) include_current config)
     report_case clock book include_current now book_is None None none s counts r = (
@@ -404,7 +407,7 @@ module _ (says : SimpleMatcher → Atom → Bool) where
           absurd (cc)
       idle other config is false e = ap (λ b. cond b (reported_step (request_of uid id include_current
           (clock_of (own uid frames))) ∷ []) []) e
-    report_case clock book include_current now book_is (Some (Some it)) (Some config) is s counts r =
+    report_case clock book include_current now book_is (Some it) (Some config) is s counts r =
         let mine = own uid frames in
         let at = placed_at (length mine) id lives_before (live_placed mine) config is in
         let time : clock ≡ clock_of mine = now ∙ sym (clock_of-own uid frames) in
@@ -421,18 +424,17 @@ module _ (says : SimpleMatcher → Atom → Bool) where
         let log : log_of_history (history_of says uid mine config) ≡ log_frames frames =
         history_of-log says uid mine config ∙ log_frames-own uid frames in
         let done = r.steps (history_of says uid mine config) s.instance (s.time ∙ sym time) in (
-          changed frames (Report uid id include_current) uid id (λ n. refl) (λ clock. refl) old new h (Some
-              (Some r.next)) (count_at uid old.counts.entries) body (record {
+          changed frames (Report uid id include_current) uid id (λ n. refl) (λ clock. refl) old new h
+              (Some r.next) (count_at uid old.counts.entries) body (record {
                 slots = r.slots;
                 counts = λ n. ap (λ
                     (c : _). count_at n c.entries) counts ∙ same_count n (int_eq uid n) refl;
               })
-              (subst (SlotStandsFor says uid (mine ++ Report uid id include_current ∷ []) (Some (Some r.next)))
+              (subst (SlotStandsFor says uid (mine ++ Report uid id include_current ∷ []) (Some r.next))
               (sym is) (record {
-                instance = subst (InstanceStandsFor r.next.instance) (sym history) done.0;
-                time = ap last_step_time history ∙ last_from-push (clock_of (take config.place mine))
-                    (history_of says uid mine config).steps
-                    (reported_step (request_of uid id include_current clock)) ∙ time
+                instance = subst (InstanceStandsFor r.next) (sym history) done.0;
+                time = ap last_step_time history ∙ last_from-reported (clock_of (take config.place mine))
+                    (history_of says uid mine config).steps (request_of uid id include_current clock) ∙ s.time
                     ∙ sym (clock_of-push mine (Report uid id include_current));
               }))
               (λ other e other_config other_is.
@@ -447,9 +449,7 @@ module _ (says : SimpleMatcher → Atom → Bool) where
               (history_of says uid mine config) uid id include_current t))) time,
         )
     report_case clock book include_current now book_is None (Some config) is s counts r = absurd s
-    report_case clock book include_current now book_is (Some None) (Some config) is s counts r = absurd s
-    report_case clock book include_current now book_is (Some (Some it)) None is s counts r = absurd s
-    report_case clock book include_current now book_is (Some None) None is s counts r = absurd s
+    report_case clock book include_current now book_is (Some it) None is s counts r = absurd s
 
     -- what a report makes of what is held, and its answer
     pub serves_report : (clock : ℕ) (book : BookOfStates) (include_current : Bool) → clock ≡ clock_of frames
@@ -495,11 +495,11 @@ module _ (says : SimpleMatcher → Atom → Bool) where
           sym (log_frames-push mine (Install uid id config) ∙ append-nil (log_frames mine)
           ∙ log_frames-own uid frames) in
           let history = history_of-new says uid mine (Install uid id config) put refl in
-          let fresh : InstanceStandsFor r.fresh.instance (history_of says uid
+          let fresh : InstanceStandsFor r.fresh (history_of says uid
           (mine ++ Install uid id config ∷ []) put) =
-          subst (InstanceStandsFor r.fresh.instance) (sym history)
-          (subst (λ t. InstanceStandsFor r.fresh.instance (new_history t opening (linked_form decoded uid))) time
-          (subst (λ l. InstanceStandsFor r.fresh.instance (new_history clock opening l)) form
+          subst (InstanceStandsFor r.fresh) (sym history)
+          (subst (λ t. InstanceStandsFor r.fresh (new_history t opening (linked_form decoded uid))) time
+          (subst (λ l. InstanceStandsFor r.fresh (new_history clock opening l)) form
           (r.is_fresh opening (subst (BooksStandFor books) opening_is books_are)))) in
           let at_id : config_at id (live_after mine (Install uid id config) lives_before) ≡ Some put =
           ap (config_at id) after_is ∙ config_at-with_config put id lives_before
@@ -508,9 +508,9 @@ module _ (says : SimpleMatcher → Atom → Bool) where
           let without_len = length-without_id id lives_before (live_distinct mine) in
           let len : others (live_id uid id) old + 1 ≡ length (with_config put lives_before) = omega
           (arith, with_len, without_len, others_are) in (
-            changed frames (Install uid id config) uid id (λ n. refl) (λ clock. refl) old new h (Some
-                (Some r.fresh)) (others (live_id uid id) old + 1) body r.changes
-                (subst (SlotStandsFor says uid (mine ++ Install uid id config ∷ []) (Some (Some r.fresh)))
+            changed frames (Install uid id config) uid id (λ n. refl) (λ clock. refl) old new h
+                (Some r.fresh) (others (live_id uid id) old + 1) body r.changes
+                (subst (SlotStandsFor says uid (mine ++ Install uid id config ∷ []) (Some r.fresh))
                 (sym at_id) (record {
                   instance = fresh;
                   time = ap last_step_time history

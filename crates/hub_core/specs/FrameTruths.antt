@@ -10,8 +10,7 @@ use Rattle.matcher_truths.specs.MatcherTruths.{all_truths, is_question}
 use Rattle.metric_meaning.specs.Histories.{History, with_step, log_of_history}
 use Rattle.metric_meaning.specs.ShownFrames.{shown_as}
 use Rattle.hub_meaning.specs.LiveConfigs.{truths_at}
-use Rattle.client_engine.specs.declared.instance.Instance.{Instance}
-use Rattle.client_engine.specs.InstanceStands.{InstanceStandsFor, last_step_time}
+use Rattle.client_engine.specs.InstanceStands.{Running, InstanceStandsFor, last_step_time}
 use Rattle.client_engine.specs.NextSteps.{logged_step}
 use Rattle.client_engine.specs.Handed.{BookOfStates}
 use Rattle.state_slicer.specs.StateBooks.{StateBookStandsFor}
@@ -29,7 +28,7 @@ module _ (says : SimpleMatcher → Atom → Bool) where
 
   -- whatever history the old stood for, if its last step isn't later than this frame, which is shown so, and the book
   -- stands for the log with it, the new stands for that history with this frame, by the truths of its matchers
-  abbrev pub LogsBy : LogFrame → BookOfStates → Instance → Instance → Type 0
+  abbrev pub LogsBy : LogFrame → BookOfStates → Running → Running → Type 0
   LogsBy shown book old new =
       (history : History) (frame : LogFrame) → InstanceStandsFor old history
       → last_step_time history ≤ log_time frame → shown ≡ shown_as (log_of_history history) frame

@@ -7,8 +7,7 @@ use Rattle.session_frames.specs.declared.frame.Frame.TheVariants.{Log}
 use Rattle.hub_meaning.specs.SessionLog.{own, log_frames, clock_of}
 use Rattle.hub_meaning.specs.Acceptance.{LiveConfig}
 use Rattle.hub_meaning.specs.LiveConfigs.{config_at, live, history_of}
-use Rattle.client_engine.specs.InstanceStands.{InstanceStandsFor, last_step_time}
-use Rattle.hub_core.specs.declared.live_instance.LiveInstance.{LiveInstance}
+use Rattle.client_engine.specs.InstanceStands.{Running, InstanceStandsFor, last_step_time}
 use Rattle.hub_core.specs.declared.lives.Lives.{Lives}
 use Rattle.hub_core.specs.declared.hub.Hub.{Hub}
 use Rattle.hub_core.specs.BookStands.{BooksStandFor}
@@ -27,16 +26,15 @@ asked_in _ hub = 0
 
 module _ (says : SimpleMatcher → Atom → Bool) where
   -- A live configuration of a client with these own frames: its last step is at the clock.
-  pub record LiveStandsFor (uid : ℤ) (frames : List Frame) (it : LiveInstance) (config : LiveConfig) : Type 0 where
-    pub instance : InstanceStandsFor it.instance (history_of says uid frames config)
+  pub record LiveStandsFor (uid : ℤ) (frames : List Frame) (it : Running) (config : LiveConfig) : Type 0 where
+    pub instance : InstanceStandsFor it (history_of says uid frames config)
     pub time : last_step_time (history_of says uid frames config) ≡ clock_of frames
 
   -- what is held at an id of a client with these own frames is its live configuration of that id
-  abbrev pub SlotStandsFor : ℤ → List Frame → Option (Option LiveInstance) → Option LiveConfig → Type 0
+  abbrev pub SlotStandsFor : ℤ → List Frame → Option Running → Option LiveConfig → Type 0
   SlotStandsFor uid frames None None = Unit {0}
-  SlotStandsFor uid frames (Some (Some it)) (Some config) = LiveStandsFor uid frames it config
-  SlotStandsFor uid frames (Some None) (Some config) = ⊥
-  SlotStandsFor uid frames (Some slot) None = ⊥
+  SlotStandsFor uid frames (Some it) (Some config) = LiveStandsFor uid frames it config
+  SlotStandsFor uid frames (Some it) None = ⊥
   SlotStandsFor uid frames None (Some config) = ⊥
 
   -- What is live is held under its client and id, and counted.

@@ -1,4 +1,5 @@
 pub mod InstallReading
+pub mod LiveOrder
 pub mod BookStands
 pub mod FrameTruths
 pub mod SlotLogs

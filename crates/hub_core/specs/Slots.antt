@@ -8,10 +8,9 @@ use Rattle.session_frames.specs.declared.reply.ReplyBody.TheVariants as answers
 use Rattle.report_writer.specs.declared.tree.ReportTree.{ReportTree}
 use Rattle.report_writer.specs.ReportSpelling.{report_message}
 use Rattle.client_engine.specs.Handed.{BookOfStates}
-use Rattle.client_engine.specs.InstanceStands.{Reports}
+use Rattle.client_engine.specs.InstanceStands.{Running, Reports}
 use Rattle.client_engine.specs.declared.request.ReportRequest.{ReportRequest}
 use Rattle.client_engine.specs.declared.live_id.LiveId.{LiveId}
-use Rattle.hub_core.specs.declared.live_instance.LiveInstance.{LiveInstance}
 use Rattle.client_engine.specs.contracts.live_id.LiveIdPartialEq.TheImpl as block
 
 -- a client's configuration of an id
@@ -31,7 +30,7 @@ abbrev pub same_id : LiveId → LiveId → Bool
 same_id = block.ghosts.eq
 
 -- what is held at a client's id
-abbrev pub slot_at : LiveId → List (LiveId × Option LiveInstance) → Option (Option LiveInstance)
+abbrev pub slot_at : LiveId → List (LiveId × Running) → Option Running
 slot_at name slots = lookup (same_id name) slots
 
 -- the number that is listed for a client, if one is
@@ -51,22 +50,22 @@ abbrev pub others_at : ℤ → Bool → List (ℤ × ℕ) → ℕ
 others_at uid there counts = count_at uid counts - (if there then 1 else 0)
 
 -- how many slots a client has
-abbrev pub held_by : ℤ → List (LiveId × Option LiveInstance) → ℕ
-held_by uid slots = count_by (λ (row : LiveId × Option LiveInstance). int_eq row.0.uid uid) slots
+abbrev pub held_by : ℤ → List (LiveId × Running) → ℕ
+held_by uid slots = count_by (λ (row : LiveId × Running). int_eq row.0.uid uid) slots
 
 -- A report of what stands under a name.
-pub record ShowsAt (request : ReportRequest) (book : BookOfStates) (live : LiveInstance)
-    (old new : List (LiveId × Option LiveInstance)) (body : ReplyBody) : Type 0 where
-  pub next : LiveInstance
+pub record ShowsAt (request : ReportRequest) (book : BookOfStates) (live : Running)
+    (old new : List (LiveId × Running)) (body : ReplyBody) : Type 0 where
+  pub next : Running
   pub tree : ReportTree
-  pub steps : Reports live.instance request book next.instance tree
+  pub steps : Reports live request book next tree
   pub slots : (other : LiveId) → slot_at other new
-      ≡ (if same_id request.name other then Some (Some next) else slot_at other old)
+      ≡ (if same_id request.name other then Some next else slot_at other old)
   pub answer : body ≡ answers.ReportBytes (report_message tree)
 
--- a report of what stands under a name; a slot that is found isn't empty
-abbrev pub ReportsAt : ReportRequest → BookOfStates → List (LiveId × Option LiveInstance)
-    → List (LiveId × Option LiveInstance) → ReplyBody → Type 0
+-- a report of what stands under a name
+abbrev pub ReportsAt : ReportRequest → BookOfStates → List (LiveId × Running) → List (LiveId × Running)
+    → ReplyBody → Type 0
 ReportsAt request book old new body =
     MatchOption (slot_at request.name old) ((new ≡ old) × (body ≡ answers.NoConfig))
-    (λ slot. MatchOption slot (Unit {0}) (λ live. ShowsAt request book live old new body))
+    (λ live. ShowsAt request book live old new body)

@@ -4,14 +4,11 @@ ghost use Rattle.atom_record.specs.declared.log.LogFrame.{LogFrame};
 ghost use Rattle.session_frames.specs.Faultless.{IsFaultlessLog};
 ghost use Rattle.report_writer.specs.Writable.{IsWritableReport};
 ghost use Rattle.link_graph.specs.Links.{AreInRange, IsOrder};
-ghost use Rattle.config_links.specs.SoundConfig.{IsSoundConfig};
 ghost use Rattle.matcher_truths.specs.MatcherTruths.{named_places, MayBeAsked};
 ghost use Rattle.matcher_truths.specs.QuestionCounts.{AreTicks};
-ghost use Rattle.hub_meaning.specs.LiveConfigs.{truths_at};
-ghost use Rattle.client_engine.specs.InstanceStands.{linked_in, IsFresh, Reports};
 ghost use Rattle.hub_core.specs.InstallReading.{MayRun};
 ghost use Rattle.hub_core.specs.BookStands.{BooksStandFor};
-ghost use Rattle.hub_core.specs.FrameTruths.{truths_by, asked_by, LogsBy};
+ghost use Rattle.hub_core.specs.FrameTruths.{truths_by, asked_by};
 ghost use Rattle.std.specs.List.{All};
 
 use crate::books::Books;
@@ -24,6 +21,7 @@ use report_writer::ReportTree;
 use sd_base::Seq;
 use state_slicer::StateBook;
 use std::alloc::{AllocError, Global};
+use std::marker::Model;
 
 /// A live configuration.
 #[derive(Drop)]
@@ -31,11 +29,26 @@ pub struct LiveInstance {
     instance: Instance,
     /// The places of its matchers, each after those that it names.
     order: Seq<u32>,
-    ghost sound: { ∥ IsSoundConfig (linked_in instance) ∥₁ },
-    ghost in_order: { ∥ IsOrder (named_places (linked_in instance).matchers) order ∥₁ },
+}
+
+impl Model for LiveInstance {
+    ghost use Rattle.std.specs.Coded.{codes};
+    ghost use Rattle.config_types.specs.contracts.matcher.Test as test;
+    ghost use Rattle.client_engine.specs.InstanceStands.{Running, linked_of};
+    ghost use Rattle.hub_core.specs.LiveOrder.{CanBeJudged};
+
+    ghost Value = { Running };
+
+    ghost coded = { Prim.hlevel (codes, test.the_row.coded) };
+
+    ghost view = { λ live. live.instance };
+
+    ghost invariant = { λ live. CanBeJudged (linked_of live.instance) live.order };
 }
 
 impl LiveInstance {
+    ghost use Rattle.client_engine.specs.InstanceStands.{IsFresh, Logs, Reports};
+
     /// A configuration that was just installed.
     pub fn new(
         alloc: Global,
@@ -46,53 +59,48 @@ impl LiveInstance {
         requires may_run { MayRun linked }
         requires timely { base < 2 ^ 63 }
         ensures { (opening : List LogFrame) → BooksStandFor books.now opening
-            → IfOk result (λ live. IsFresh linked base opening live.instance) }
+            → IfOk result (IsFresh linked base opening) }
     {
         let order = evaluation_order(alloc, linked.matchers.as_slice())?;
         let instance = Instance::new(alloc, linked, base, &books.pulls, &books.states)?;
         Ok(LiveInstance { instance, order })
     }
 
-    /// Takes in a frame of the log as it is shown, with the truths that the judge says and the states after it. The
-    /// buffer's room is kept.
-    pub fn log<J: Judge>(
-        self,
+    /// The truths of its matchers for a frame, as the judge says. The buffer's room is kept.
+    pub fn judge<J: Judge>(
+        &self,
         judge: &mut J,
         frame: &LogFrame,
-        states: &StateBook,
         truths: &mut Vec<bool>,
-    ) -> Result<LiveInstance, AllocError>
+    ) -> Result<(), AllocError>
         requires sound { IsFaultlessLog frame.now }
-        ensures logs { IfOk result (λ new.
-            LogsBy J.says frame.now states.now self.instance new.instance) }
-        ensures ticks { OnOk result
-            (AreTicks (asked_by frame.now (linked_in self.instance).matchers)
+        ensures truths { OnOk result
+            (truths.new.items ≡ truths_by J.says self.now.matchers frame.now) }
+        ensures ticks { OnOk result (AreTicks (asked_by frame.now self.now.matchers)
             (J.ticks judge.old) (J.ticks judge.new)) }
     {
-        let LiveInstance { instance, order } = self;
-        judge_all(judge, instance.matchers(), order.as_slice(), frame, truths)?;
-        let view = LogView {
-            matched: truths.as_slice(),
-            states,
-        };
-        let instance = instance.log(frame, &view)?;
-        Ok(LiveInstance { instance, order })
+        judge_all(judge, self.instance.matchers(), self.order.as_slice(), frame, truths)
+    }
+
+    /// Takes in a frame of the log as it is shown.
+    pub fn apply(&mut self, frame: &LogFrame, view: &LogView<'_>) -> Result<(), AllocError>
+        requires sound { IsFaultlessLog frame.now }
+        ensures { OnOk result
+            (Logs self.old frame.now view.now.matched.now view.now.states.now self.new) }
+    {
+        self.instance.apply(frame, view)
     }
 
     /// Reports what came since the last report.
-    pub fn report(
-        self,
+    pub fn show(
+        &mut self,
         request: ReportRequest,
         states: &StateBook,
-    ) -> Result<(LiveInstance, ReportTree), AllocError>
-        requires timely { request.at < 2 ^ 63 }
-        ensures reports { IfOk result (λ r.
-            Reports self.instance request states.now r.0.instance r.1) }
-        ensures writable { IfOk result (λ r. IsWritableReport r.1) }
+    ) -> Result<ReportTree, AllocError>
+        ensures reports { IfOk result (Reports self.old request states.now self.new) }
+        ensures writable { IfOk result IsWritableReport }
     {
-        let LiveInstance { instance, order } = self;
-        let (instance, tree) = instance.report(request, states)?;
-        Ok((LiveInstance { instance, order }, tree))
+        self.instance.show(request, states)
     }
 }
 

@@ -23,8 +23,7 @@ const MOST_CONFIGS: usize = 10;
 /// The live configurations. Their order says nothing.
 #[derive(Drop)]
 pub struct Lives {
-    /// A slot is empty only while its configuration takes a step.
-    slots: IndexMap<LiveId, Option<LiveInstance>>,
+    slots: IndexMap<LiveId, LiveInstance>,
     /// How many slots a client has; a client without any isn't here.
     counts: IndexMap<i32, usize>,
     ghost counted: { (uid : ℤ) → held_by uid slots.entries ≡ count_at uid counts.entries },
@@ -147,7 +146,6 @@ impl Lives {
         request: ReportRequest,
         states: &StateBook,
     ) -> Result<(Lives, ReplyBody), AllocError>
-        requires timely { request.at < 2 ^ 63 }
         ensures { IfOk result (λ r. ReportsLive request states.now (change self r.0 r.1)) }
     {
         let Lives { mut slots, counts } = self;

@@ -2,20 +2,21 @@
 ghost use Rattle.std.specs.Prelude.{◌≡◌, OnOk};
 ghost use Rattle.session_frames.specs.Faultless.{IsFaultlessLog};
 ghost use Rattle.matcher_truths.specs.QuestionCounts.{AreTicks};
-ghost use Rattle.hub_core.specs.SlotLogs.{SlotLogs, AllLog, asked_of, asked_by_all};
+ghost use Rattle.hub_core.specs.FrameTruths.{asked_by, LogsBy};
+ghost use Rattle.hub_core.specs.SlotLogs.{AllLog, asked_by_all};
 
 use crate::live_instance::LiveInstance;
 use atom_record::LogFrame;
-use client_engine::LiveId;
+use client_engine::{LiveId, LogView};
 use indexmap::IndexMap;
 use matcher_eval::Judge;
 use state_slicer::StateBook;
 use std::alloc::AllocError;
 
-/// A frame of the log comes to each configuration of the table, each taken out of its slot and put back.
+/// A frame of the log comes to each configuration of the table.
 pub fn log_all<J: Judge>(
     judge: &mut J,
-    slots: &mut IndexMap<LiveId, Option<LiveInstance>>,
+    slots: &mut IndexMap<LiveId, LiveInstance>,
     frame: &LogFrame,
     states: &StateBook,
     truths: &mut Vec<bool>,
@@ -27,29 +28,31 @@ pub fn log_all<J: Judge>(
         (J.ticks judge.old) (J.ticks judge.new)) }
 {
     for place in 0..slots.len() {
-        if let Some(slot) = slots.get_index_mut(place) {
-            log_slot(judge, slot, frame, states, truths)?;
+        if let Some(live) = slots.get_index_mut(place) {
+            log_to(live, judge, frame, states, truths)?;
         }
     }
     Ok(())
 }
 
-/// The configuration of a slot steps by value.
-#[tactic(auto, using(matcher_truths::proofs::QuestionCountsLemmas::rises_by_none))]
-fn log_slot<J: Judge>(
+// What a frame is shown with is made here, by the judge, and nothing below knows of it: a configuration takes what it
+// is shown.
+fn log_to<J: Judge>(
+    live: &mut LiveInstance,
     judge: &mut J,
-    slot: &mut Option<LiveInstance>,
     frame: &LogFrame,
     states: &StateBook,
     truths: &mut Vec<bool>,
 ) -> Result<(), AllocError>
     requires sound { IsFaultlessLog frame.now }
-    ensures logs { OnOk result (SlotLogs J.says frame.now states.now slot.old slot.new) }
-    ensures ticks { OnOk result (AreTicks (asked_of frame.now slot.old)
+    ensures logs { OnOk result (LogsBy J.says frame.now states.now live.old live.new) }
+    ensures ticks { OnOk result (AreTicks (asked_by frame.now live.old.matchers)
         (J.ticks judge.old) (J.ticks judge.new)) }
 {
-    if let Some(live) = slot.take() {
-        *slot = Some(live.log(judge, frame, states, truths)?);
-    }
-    Ok(())
+    live.judge(judge, frame, truths)?;
+    let view = LogView {
+        matched: truths.as_slice(),
+        states,
+    };
+    live.apply(frame, &view)
 }

@@ -1,5 +1,5 @@
 //! Slots under names, and counts of them.
-ghost use Rattle.std.specs.Prelude.{◌≡◌, ◌+◌, ◌<◌, ◌^◌, ℤ, not, ◌&&◌, Some, None, is_some, OnOk, IfOk, if◌then◌else◌};
+ghost use Rattle.std.specs.Prelude.{◌≡◌, ◌+◌, ℤ, not, ◌&&◌, Some, None, is_some, OnOk, IfOk, if◌then◌else◌};
 ghost use Rattle.std.specs.Ordering.{int_eq};
 ghost use Rattle.client_engine.specs.declared.live_id.LiveId.{LiveId};
 ghost use Rattle.hub_core.specs.Slots.{same_id, slot_at, listed_at, listed, others_at, held_by, ReportsAt};
@@ -15,22 +15,22 @@ use std::alloc::{AllocError, Global};
 
 /// Puts a configuration under a name.
 pub fn put(
-    slots: &mut IndexMap<LiveId, Option<LiveInstance>>,
+    slots: &mut IndexMap<LiveId, LiveInstance>,
     name: LiveId,
     live: LiveInstance,
 ) -> Result<(), AllocError>
     ensures slots { OnOk result ((other : LiveId) → slot_at other slots.new.entries
-        ≡ (if same_id name other then Some (Some live) else slot_at other slots.old.entries)) }
+        ≡ (if same_id name other then Some live else slot_at other slots.old.entries)) }
     ensures held { OnOk result ((uid : ℤ) → held_by uid slots.new.entries
         ≡ held_by uid slots.old.entries
         + (if int_eq name.uid uid && not (is_some (slot_at name slots.old.entries)) then 1 else 0)) }
 {
-    slots.insert(name, Some(live))?;
+    slots.insert(name, live)?;
     Ok(())
 }
 
 /// Takes what is under a name out; the last slot takes its place.
-pub fn take_out(slots: &mut IndexMap<LiveId, Option<LiveInstance>>, name: LiveId)
+pub fn take_out(slots: &mut IndexMap<LiveId, LiveInstance>, name: LiveId)
     ensures slots { (other : LiveId) → slot_at other slots.new.entries
         ≡ (if same_id name other then None else slot_at other slots.old.entries) }
     ensures held { (uid : ℤ) → held_by uid slots.new.entries
@@ -42,25 +42,20 @@ pub fn take_out(slots: &mut IndexMap<LiveId, Option<LiveInstance>>, name: LiveId
 
 /// Reports what is under the name that is asked for, as the bytes of its message.
 pub fn report_at(
-    slots: &mut IndexMap<LiveId, Option<LiveInstance>>,
+    slots: &mut IndexMap<LiveId, LiveInstance>,
     alloc: Global,
     request: ReportRequest,
     states: &StateBook,
 ) -> Result<ReplyBody, AllocError>
-    requires timely { request.at < 2 ^ 63 }
     ensures reports { IfOk result
         (ReportsAt request states.now slots.old.entries slots.new.entries) }
     ensures held { OnOk result ((uid : ℤ) →
         held_by uid slots.new.entries ≡ held_by uid slots.old.entries) }
 {
-    let Some(slot) = slots.get_mut(&request.name) else {
+    let Some(live) = slots.get_mut(&request.name) else {
         return Ok(ReplyBody::NoConfig);
     };
-    let Some(live) = slot.take() else {
-        return Ok(ReplyBody::NoConfig);
-    };
-    let (live, tree) = live.report(request, states)?;
-    *slot = Some(live);
+    let tree = live.show(request, states)?;
     Ok(ReplyBody::ReportBytes(Seq::from_vec(write(alloc, &tree)?)))
 }
 

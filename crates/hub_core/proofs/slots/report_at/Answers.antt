@@ -1,5 +1,5 @@
 -- The write at the name leaves the numbers, and what was found was reported.
-use Rattle.std.proofs.Common.{refl, ap, ◌∙◌, Some, sym, subst}
+use Rattle.std.proofs.Common.{refl, ap, ◌∙◌, sym, subst}
 use Rattle.std.specs.Prelude.{IsSome}
 use Rattle.session_frames.specs.declared.reply.ReplyBody.TheVariants.{ReportBytes}
 use Rattle.hub_core.specs.Slots.{held_by}
@@ -9,18 +9,13 @@ use Rattle.hub_core.proofs.slots.report_at.Goals as goal
 
 pub returns-clause-reports : goal.returns-clause-reports
 returns-clause-reports c =
-    shows c.args.request c.args.states.now c.args.slots.now.entries _ _ c.in-Some-take.live c.in_ok-live.live
-    c.in_ok-live.tree (sym c.in-Some.ensures.value ∙ ap Some (sym c.in-Some-take.ensures.value))
-    c.in_ok-live.ensures.reports
-    ((c.get_mut.follows.holds (Some c.in_ok-live.live)).3 (subst IsSome c.in-Some.ensures.value refl)).0
+    shows c.args.request c.args.states.now c.args.slots.now.entries _ _ c.in-Some.live.now c.show.new.self
+    c.in_ok-tree.tree (sym c.in-Some.ensures.value)
+    c.in_ok-tree.ensures.reports
+    ((c.get_mut.follows.holds c.show.new.self).3 (subst IsSome c.in-Some.ensures.value refl)).0
     (ap ReportBytes (c.from_vec.ensures ∙ c.in_ok-write.ensures))
 
 pub returns-clause-held : goal.returns-clause-held
 returns-clause-held c = λ uid.
-    ap (held_by uid) (c.get_mut.follows.holds (Some c.in_ok-live.live)).0
-    ∙ held-set_value uid c.args.request.name (Some c.in_ok-live.live) c.args.slots.now.entries
-
-pub returns-in_default-take-clause-held : goal.returns-in_default-take-clause-held
-returns-in_default-take-clause-held c = λ uid.
-    ap (held_by uid) (c.get_mut.follows.holds c.take.new.self).0
-    ∙ held-set_value uid c.args.request.name c.take.new.self c.args.slots.now.entries
+    ap (held_by uid) (c.get_mut.follows.holds c.show.new.self).0
+    ∙ held-set_value uid c.args.request.name c.show.new.self c.args.slots.now.entries

@@ -2,14 +2,15 @@ use Rattle.std.proofs.Common.{◌∙◌, List, ap, sym, subst}
 use Rattle.std.proofs.lemmas.Result.{on_ok_weaker}
 use Rattle.config_links.specs.declared.linked.LPredicate.{LPredicate}
 use Rattle.predicate_state.specs.PredicateTable.{PredicateTable}
+use Rattle.client_engine.specs.Known.{Known}
 use Rattle.client_engine.specs.KeptPredicates.{HaveTheirSpecs, tables_with}
 use Rattle.client_engine.proofs.KeptPredicatesLemmas.{knows_atom, as_many}
 use Rattle.client_engine.proofs.TracksLemmas.{whole}
 use Rattle.client_engine.proofs.conditions.Conditions.log.Goals as goal
 
 -- the atom acted on each predicate
-pub returns-in-AtomAt : goal.returns-in-AtomAt
-returns-in-AtomAt c =
+pub returns-in-AtomAt-clause-knows : goal.returns-in-AtomAt-clause-knows
+returns-in-AtomAt-clause-knows c =
     let nodes = c.self.inside.tree.nodes in
     let tables = c.self.inside.tables in
     let atom = c.in-AtomAt.atom in
@@ -25,3 +26,8 @@ returns-in-AtomAt c =
     ∙ ap (λ (ps : List LPredicate). tables_with truths atom ps c.as_mut_slice.result.now) c.as_slice-predicates.ensures
     ∙ ap (λ (ts : List PredicateTable). tables_with truths atom nodes ts) c.as_mut_slice.ensures.value))
     c.act_on_all.ensures.tables)
+
+-- and the predicates stay
+pub returns-in-AtomAt-clause-predicates : goal.returns-in-AtomAt-clause-predicates
+returns-in-AtomAt-clause-predicates c = ap (λ (known : Known). known.predicates) c.self.view_is
+

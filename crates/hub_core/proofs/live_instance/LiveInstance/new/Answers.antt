@@ -1,11 +1,11 @@
 -- A sound configuration has an order of evaluation.
 use Rattle.std.proofs.Common.{sym, subst}
-use Rattle.std.proofs.lemmas.Grind.{merely}
 use Rattle.link_graph.specs.Links.{AreInRange, HasNoCycle, IsOrder}
 use Rattle.config_links.specs.declared.linked.Linked.{Linked}
-use Rattle.config_links.specs.SoundConfig.{IsSoundConfig}
 use Rattle.config_links.proofs.SoundUses.{references_end}
 use Rattle.matcher_truths.specs.MatcherTruths.{named_places}
+use Rattle.hub_core.specs.LiveOrder.{CanBeJudged}
+use Rattle.hub_core.proofs.EvaluationLemmas.{can_be_judged}
 use Rattle.hub_core.proofs.live_instance.LiveInstance.new.Goals as goal
 
 pub evaluation_order-requires-clause-in_range : goal.evaluation_order-requires-clause-in_range
@@ -19,10 +19,6 @@ evaluation_order-requires-clause-no_cycle c =
 
 pub invariant_of-result : goal.invariant_of-result
 invariant_of-result c =
-    let same = c.in_ok-instance.ensures.linked in
     let order = subst (λ ms. IsOrder (named_places ms) c.in_ok-order.order) c.as_slice.ensures c.in_ok-order.ensures in
-    record {
-      sound = subst (λ (l : Linked). ∥ IsSoundConfig l ∥₁) (sym same) (merely c.requires.may_run.sound);
-      in_order = subst (λ (l : Linked). ∥ IsOrder (named_places l.matchers) c.in_ok-order.order ∥₁) (sym same)
-          (merely order);
-    }
+    subst (λ (l : Linked). CanBeJudged l c.in_ok-order.order) (sym c.in_ok-instance.ensures.linked)
+    (can_be_judged c.args.linked c.in_ok-order.order c.requires.may_run.sound order)

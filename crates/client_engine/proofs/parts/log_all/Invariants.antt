@@ -2,7 +2,7 @@
 use Rattle.std.proofs.Common.{◌≡◌}
 use Rattle.client_engine.specs.Bringing.{handed_with}
 use Rattle.client_engine.proofs.TracksLemmas.{AreStepped}
-use Rattle.client_engine.proofs.inside.log_all.Given as goal
+use Rattle.client_engine.proofs.parts.log_all.Given as goal
 
 abbrev pub invariant-loop-track : goal.invariant-loop-track
 invariant-loop-track l =

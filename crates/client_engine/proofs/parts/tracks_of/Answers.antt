@@ -1,5 +1,5 @@
 use Rattle.client_engine.proofs.TracksLemmas.{one_new}
-use Rattle.client_engine.proofs.inside.tracks_of.Goals as goal
+use Rattle.client_engine.proofs.parts.tracks_of.Goals as goal
 
 -- one more metric has its track
 pub loop-metric-preserved : goal.loop-metric-preserved

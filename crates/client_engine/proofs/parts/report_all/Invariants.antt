@@ -1,6 +1,6 @@
 -- The tracks so far were reported, and the others are as they were.
 use Rattle.client_engine.proofs.TracksLemmas.{AreReported}
-use Rattle.client_engine.proofs.inside.report_all.Given as goal
+use Rattle.client_engine.proofs.parts.report_all.Given as goal
 
 abbrev pub invariant-loop-track : goal.invariant-loop-track
 invariant-loop-track l =

@@ -2,7 +2,7 @@
 use Rattle.std.proofs.Common.{◌∙◌, ap}
 use Rattle.metric_meaning.specs.StateDrops.{drops_of_states, dropped_for}
 use Rattle.client_engine.specs.Running.{Running}
-use Rattle.client_engine.proofs.inside.Inside.drops.Goals as goal
+use Rattle.client_engine.proofs.instance.Instance.drops.Goals as goal
 
 pub returns-clause-of_states : goal.returns-clause-of_states
 returns-clause-of_states c =

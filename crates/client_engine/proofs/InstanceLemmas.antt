@@ -1,38 +1,40 @@
--- The parts of an instance, one step more.
-use Rattle.std.proofs.Common.{◌≡◌, ℕ, ◌<◌, ◌≤◌, Bool, List, [], ◌∷◌, ◌++◌, true, length, map, filter, All, refl, sym, ap, subst, ◌∙◌, append_assoc, arith}
-use Rattle.std.specs.Prelude.{Option, Some, None}
-use Rattle.std.proofs.Props.{props}
+-- An instance, one step more.
+use Rattle.std.proofs.Common.{◌≡◌, ℕ, ◌<◌, Bool, List, [], ◌∷◌, ◌++◌, true, length, map, filter, All, refl, sym, ap, subst, ◌∙◌, append_assoc, arith}
 use Rattle.std.specs.List.{list_all}
 use Rattle.std.proofs.lemmas.List.Concat.{flat_map-append}
 use Rattle.std.proofs.lemmas.List.Elements.{All-nil, All-cons, All-weaker}
 use Rattle.state_slicer.specs.StateBooks.{StateBookStandsFor}
-use mathlib.Core.Logic.{∥∥₁_elim}
 use Rattle.atom_record.specs.declared.log.LogFrame.{LogFrame}
 use Rattle.bucket_meaning.specs.Limits.{time_limit}
 use Rattle.config_links.specs.declared.linked.Linked.{Linked}
+use Rattle.config_links.specs.declared.linked.LMatcher.{LMatcher}
+use Rattle.config_links.specs.declared.linked.LState.{LState}
 use Rattle.config_links.specs.declared.linked.LMetric.{LMetric}
 use Rattle.config_links.specs.declared.linked.LPredicate.{LPredicate}
 use Rattle.config_links.specs.declared.linked.LPredBody.{LPredBody}
 use Rattle.config_links.specs.declared.linked.LPredBody.TheVariants.{Simple, Combo}
-use Rattle.config_links.specs.SoundConfig.{IsBound, MayBeWithin, IsSoundBody, IsSoundPredicate, IsSoundMetric, IsSoundConfig}
+use Rattle.config_links.specs.SoundConfig.{IsBound, IsSoundBody, IsSoundPredicate, IsSoundMetric, IsSoundConfig}
 use Rattle.config_links.proofs.SoundUses.{references_end}
+use Rattle.metric_producer.specs.LaneCalls.{IsTimelyStep, last_at}
 use Rattle.session_frames.specs.FrameReading.{log_time}
-use Rattle.metric_meaning.specs.Histories.{Step, What, Reported, Logged, Installation, History, with_step, frames_at, logged_frames, log_after, log_of_history}
-use Rattle.metric_meaning.specs.ShownFrames.{shown_as}
+use Rattle.metric_meaning.specs.Histories.{Step, What, Reported, Logged, Installation, frames_at, logged_frames, log_after, log_of_history}
 use Rattle.metric_meaning.specs.StateDrops.{drops_of_states, dropped_for}
 use Rattle.metric_meaning.specs.PredicateSteps.{table_spec, tables_after, predicate_drops, table_after, drop_above_zero}
 use Rattle.metric_meaning.specs.Forms.{is_built_metric, is_built}
 use Rattle.metric_meaning.specs.Reports.{report_of, last_report}
 use Rattle.metric_meaning.proofs.PredicateStepsLemmas.{tables_after-idle}
+use Rattle.report_writer.specs.declared.tree.MetricTree.{MetricTree}
 use Rattle.report_writer.specs.declared.tree.ReportTree.{ReportTree}
-use Rattle.client_engine.specs.NextSteps.{logged_step, reported_step, with_logged, ComesInTime, ComeInTime, MayReport, requested_tree, last_from}
-use Rattle.client_engine.specs.Known.{Known, KnowsAfter, drops_in}
-use Rattle.client_engine.specs.Handed.{BookOfStates}
+use Rattle.client_engine.specs.NextSteps.{logged_step, reported_step, with_logged, bare_step, ComeInTime, MayReport, TakesFrame, requested_tree, last_from}
+use Rattle.client_engine.specs.Known.{KnowsAfter, KnowsStep, drops_in}
+use Rattle.client_engine.specs.Handed.{BookOfStates, handed}
 use Rattle.client_engine.proofs.ShownLemmas.{shown_time, shown_tables}
 use Rattle.client_engine.specs.KeptPredicates.{HasItsLeaves, KeepsItsLeaves, HasBound, CanBeKept}
-use Rattle.client_engine.specs.Tracks.{CanBeTracked, metric_in, AsksWithin, AreNew}
-use Rattle.client_engine.specs.Running.{Running, linked_of, AreAsked}
-use Rattle.client_engine.specs.InsideParts.{requested_report, tree_with, InsideStandsFor, new_history, IsFreshInside, InsideLogs, InsideReports}
+use Rattle.client_engine.specs.Tracks.{CanBeTracked, metric_in, AsksWithin, AllAskWithin, AreNew, AllStandFor, AllReport}
+use Rattle.client_engine.specs.Running.{Running, linked_of}
+use Rattle.client_engine.specs.InstanceParts.{tree_with, AreStateDrops}
+use Rattle.client_engine.specs.InstanceStands.{new_history, IsFresh, Logs, Reports}
+use Rattle.client_engine.specs.declared.parts.Drops.{Drops}
 use Rattle.client_engine.specs.declared.request.ReportRequest.{ReportRequest}
 
 -- the clock at the last report, after a step at a time
@@ -42,9 +44,10 @@ reported_or last at (Reported include_current) = at
 
 -- one more step that comes in time
 in_time-push : (last : ℕ) (steps : List Step) (step : Step) → ComeInTime last steps
-    → ComesInTime (last_from last steps) step → ComeInTime last (steps ++ step ∷ [])
+    → IsTimelyStep (last_from last steps) (bare_step step) → ComeInTime last (steps ++ step ∷ [])
 in_time-push last [] step all comes = (comes, tt)
-in_time-push last (first ∷ steps) step all comes = (all.0, in_time-push first.at steps step all.1 comes)
+in_time-push last (first ∷ steps) step all comes =
+    (all.0, in_time-push (last_at last (bare_step first)) steps step all.1 comes)
 
 -- the clock at the last report, after a first step
 last_report-first : (last at : ℕ) (what : What) (truths : List Bool) (steps : List Step)
@@ -79,42 +82,47 @@ log_after-push installed steps frame truths =
     (flat_map-append (λ (step : Step). frames_at step.what) steps (logged_step frame truths ∷ []))
     ∙ sym (append_assoc installed.opening (logged_frames steps) (frame ∷ []))
 
+-- the configuration of these
+abbrev linked_with : List LMatcher → List LState → List LPredicate → List LMetric → Linked
+linked_with matchers states predicates metrics =
+    record { matchers = matchers; predicates = predicates; states = states; metrics = metrics }
+
+-- it stays where its predicates and its metrics do
+pub linked_stays : (matchers : List LMatcher) (states : List LState) (now old : List LPredicate)
+    (metrics_now metrics_old : List LMetric) → now ≡ old → metrics_now ≡ metrics_old
+    → linked_with matchers states now metrics_now ≡ linked_with matchers states old metrics_old
+linked_stays matchers states now old metrics_now metrics_old predicates metrics =
+    ap (λ ps. linked_with matchers states ps metrics_now) predicates
+    ∙ ap (linked_with matchers states old) metrics
+
 -- an instance takes one more frame of the log, which is shown so
-pub inside_logs : (old new : Running) (shown : LogFrame) (truths : List Bool) (book : BookOfStates)
-    → InsideLogs shown truths book old new → log_time shown < time_limit
-    → (history : History) (frame : LogFrame) → InsideStandsFor old history
-    → last_from history.installed.base history.steps ≤ log_time frame
-    → shown ≡ shown_as (log_of_history history) frame
-    → StateBookStandsFor book (log_of_history history ++ frame ∷ [])
-    → InsideStandsFor new (with_step history (logged_step frame truths))
-inside_logs old new shown truths book logs fits history frame has later shown_is book_is =
+pub instance_logs : (old new : Running) (shown : LogFrame) (truths : List Bool) (book : BookOfStates)
+    → new ≡ record old { known = new.known; tracks = new.tracks } → linked_of new ≡ linked_of old
+    → KnowsStep (logged_step shown truths) old.known new.known
+    → TakesFrame AllStandFor (handed new.known old.states book) shown truths old.tracks new.tracks
+    → log_time shown < time_limit → Logs old shown truths book new
+instance_logs old new shown truths book same stays knows_step steps_on fits history frame has later view shown_is book_is =
     let step = logged_step frame truths in
     let installed = history.installed in
     let linked = installed.linked in
     let log = log_of_history history in
-    let base : new.base ≡ old.base = ap (λ (it : Running). it.base) logs.same in
     let time : log_time shown ≡ log_time frame = ap log_time shown_is ∙ shown_time log frame in
     let in_time = in_time-push installed.base history.steps step has.in_time
     (later, subst (λ t. t < time_limit) time fits) in
-    let predicates : new.known.predicates ≡ linked.predicates =
-    logs.known.predicates ∙ ap (λ (l : Linked). l.predicates) has.linked in
+    let linked_is : linked_of new ≡ linked = stays ∙ has.linked in
+    let predicates : new.known.predicates ≡ linked.predicates = ap (λ (l : Linked). l.predicates) linked_is in
     let knows : new.known.tables ≡ tables_after new.known.predicates (history.steps ++ step ∷ []) =
-    logs.known.tables history.steps has.knows
+    knows_step history.steps has.knows
     ∙ ap (λ f. tables_after new.known.predicates (history.steps ++ logged_step f truths ∷ [])) shown_is
     ∙ shown_tables new.known.predicates history.steps log frame truths in
     record {
-      linked = ap linked_of logs.same
-          ∙ ap (λ predicates. record (linked_of old) {
-            predicates = predicates;
-            metrics = map metric_in new.tracks;
-          }) logs.known.predicates
-          ∙ ap (λ metrics. record (linked_of old) { metrics = metrics }) logs.tracks.metrics ∙ has.linked;
-      base = base ∙ has.base;
-      last = ap (λ (it : Running). it.last) logs.same ∙ has.last
+      linked = linked_is;
+      base = ap (λ (it : Running). it.base) same ∙ has.base;
+      last = ap (λ (it : Running). it.last) same ∙ has.last
           ∙ sym (last_report-push installed.base history.steps step);
       in_time = in_time;
       knows = knows;
-      tracks = logs.tracks.stand installed history.steps frame has.tracks (record {
+      tracks = steps_on installed history.steps frame has.tracks (record {
         shown_is = shown_is;
         found = record {
           predicates = predicates;
@@ -126,29 +134,21 @@ inside_logs old new shown truths book logs fits history frame has later shown_is
       });
     }
 
--- what metrics ask stays over a frame of the log
-pub asked_after_log : (old new : Running) (shown : LogFrame) (truths : List Bool) (book : BookOfStates)
-    → InsideLogs shown truths book old new → AreAsked old → AreAsked new
-asked_after_log old new shown truths book logs asked =
-    subst (λ ps. All (AsksWithin (length ps)) (map metric_in new.tracks)) (sym logs.known.predicates)
-    (subst (All (AsksWithin (length old.known.predicates))) (sym logs.tracks.metrics) asked)
-
--- what metrics ask stays over a report
-pub asked_after_report : (old new : Running) (request : ReportRequest) (book : BookOfStates) (tree : ReportTree)
-    → InsideReports request book old new tree → AreAsked old → AreAsked new
-asked_after_report old new request book tree reports asked =
-    subst (λ (known : Known). All (AsksWithin (length known.predicates)) (map metric_in new.tracks))
-    (sym (ap (λ (it : Running). it.known) reports.same))
-    (subst (All (AsksWithin (length old.known.predicates))) (sym reports.tracks.metrics) asked)
+-- what metrics ask of predicates stays where both stay
+pub asked_after : (old new : Running) → linked_of new ≡ linked_of old → AllAskWithin old.known old.tracks
+    → AllAskWithin new.known new.tracks
+asked_after old new same asked =
+    subst (λ (l : Linked). All (AsksWithin (length l.predicates)) l.metrics) (sym same) asked
 
 -- an instance takes one more report
-pub inside_reports : (old new : Running) (request : ReportRequest) (book : BookOfStates) (tree : ReportTree)
-    → InsideReports request book old new tree
-    → (history : History) → InsideStandsFor old history → last_from history.installed.base history.steps ≡ request.at
-    → InsideStandsFor new (with_step history (reported_step request))
-    × (StateBookStandsFor book (log_of_history history) → tree ≡ requested_report history request)
+pub instance_reports : (old new : Running) (request : ReportRequest) (book : BookOfStates) (tree : ReportTree)
+    (trees : List MetricTree) (drops : Drops) → new ≡ record old { tracks = new.tracks; last = request.at }
+    → linked_of new ≡ linked_of old → tree ≡ tree_with request old.last trees drops
+    → drops.of_predicates ≡ drops_in old.known.predicates old.known.tables → AreStateDrops old.states book drops
+    → AllReport old.base request old.tracks new.tracks trees → Reports old request book new tree
 unfolding report_of
-inside_reports old new request book tree reports history has now =
+instance_reports old new request book tree trees drops same stays tree_is predicate_drops_are state_drops_are reports
+    history has now =
     let step = reported_step request in
     let steps = history.steps in
     let installed = history.installed in
@@ -161,31 +161,28 @@ inside_reports old new request book tree reports history has now =
     let predicates_are : old.known.predicates ≡ linked.predicates = ap (λ (l : Linked). l.predicates) has.linked
     in
     let states_are : old.states ≡ linked.states = ap (λ (l : Linked). l.states) has.linked in
-    let known : new.known ≡ old.known = ap (λ (it : Running). it.known) reports.same in
-    let last = last_report installed.base steps in
-    let trees = tree.metrics in
-    let drops = reports.drops in (
+    let known : new.known ≡ old.known = ap (λ (it : Running). it.known) same in
+    let last = last_report installed.base steps in (
       record {
-        linked = ap linked_of reports.same
-            ∙ ap (λ metrics. record (linked_of old) { metrics = metrics }) reports.tracks.metrics ∙ has.linked;
-        base = ap (λ (it : Running). it.base) reports.same ∙ has.base;
-        last = ap (λ (it : Running). it.last) reports.same ∙ sym (last_report-push installed.base steps step);
+        linked = stays ∙ has.linked;
+        base = ap (λ (it : Running). it.base) same ∙ has.base;
+        last = ap (λ (it : Running). it.last) same ∙ sym (last_report-push installed.base steps step);
         in_time = in_time;
         knows = subst (KnowsAfter (steps ++ step ∷ [])) (sym known)
             (has.knows ∙ sym (tables_after-idle old.known.predicates steps step (λ predicate. refl)));
-        tracks = reports.tracks.stand installed steps has.tracks may;
+        tracks = reports.stand installed steps has.tracks may;
       },
       λ book_is.
           let of_predicates : drops.of_predicates ≡ predicate_drops linked.predicates steps =
-          reports.of_predicates ∙ ap (drops_in old.known.predicates) has.knows
+          predicate_drops_are ∙ ap (drops_in old.known.predicates) has.knows
           ∙ drops_are old.known.predicates steps ∙ ap (λ ps. predicate_drops ps steps) predicates_are in
           let of_states : drops.of_states ≡ drops_of_states linked.states (log_of_history history) =
-          reports.of_states.keys (log_of_history history) book_is
+          state_drops_are.keys (log_of_history history) book_is
           ∙ ap (λ states. drops_of_states states (log_of_history history)) states_are in
           let of_atoms : drops.of_atoms ≡ dropped_for linked.states (log_of_history history) =
-          reports.of_states.atoms (log_of_history history) book_is
+          state_drops_are.atoms (log_of_history history) book_is
           ∙ ap (λ states. dropped_for states (log_of_history history)) states_are in
-          reports.tree_is
+          tree_is
           ∙ ap (λ time. tree_with request time trees drops) has.last
           ∙ ap (λ l. tree_with request last trees (record drops { of_predicates = l })) of_predicates
           ∙ ap (λ l. tree_with request last trees (record {
@@ -203,7 +200,7 @@ inside_reports old new request book tree reports history has now =
             of_states = drops_of_states linked.states (log_of_history history);
             of_atoms = dropped_for linked.states (log_of_history history);
           }))
-          (reports.tracks.shown installed steps has.tracks may
+          (reports.shown installed steps has.tracks may
           ∙ ap (λ metrics. map (requested_tree installed steps request)
           (filter (λ (metric : LMetric). metric.shown) metrics))
           (ap (λ (l : Linked). l.metrics) has.linked)),
@@ -235,44 +232,30 @@ sound_kept linked sound =
           (λ predicate s. its_bound matchers many predicate.body s) linked.predicates sound.predicates;
     }
 
--- the parts of a sound configuration, to which nothing has happened yet
-pub fresh_inside : (linked : Linked) (base : ℕ) (it : Running) → IsSoundConfig linked → it.matchers ≡ linked.matchers
+-- an instance of a sound configuration, to which nothing has happened yet
+pub fresh : (linked : Linked) (base : ℕ) (it : Running) → it.matchers ≡ linked.matchers
     → it.known.predicates ≡ linked.predicates → it.states ≡ linked.states → it.base ≡ base → it.last ≡ base
-    → KnowsAfter [] it.known → AreNew base linked.metrics it.tracks → IsFreshInside linked base it
-fresh_inside linked base it sound matchers predicates states base_is last_is knows are =
-    let metrics = are.metrics_are in
-    let asks : All (AsksWithin (length linked.predicates)) linked.metrics =
+    → KnowsAfter [] it.known → AreNew base linked.metrics it.tracks → (opening : List LogFrame)
+    → IsFresh linked base opening it
+fresh linked base it matchers predicates states base_is last_is knows are opening = record {
+  linked = ap (λ ms. record (linked_of it) { matchers = ms }) matchers
+      ∙ ap (λ ps. record linked { predicates = ps; states = it.states; metrics = map metric_in it.tracks })
+      predicates
+      ∙ ap (λ ss. record linked { states = ss; metrics = map metric_in it.tracks }) states
+      ∙ ap (λ ms. record linked { metrics = ms }) are.metrics_are;
+  base = base_is;
+  last = last_is;
+  in_time = tt;
+  knows = knows;
+  tracks = are.stand (new_history base opening linked).installed refl;
+}
+
+-- the metrics of a sound configuration ask its predicates
+pub sound_asked : (linked : Linked) → IsSoundConfig linked
+    → All (AsksWithin (length linked.predicates)) linked.metrics
+sound_asked linked sound =
     All-weaker (IsSoundMetric linked) (AsksWithin (length linked.predicates)) (λ metric s. s.condition) linked.metrics
-    sound.metrics in
-    record {
-      stands = λ opening. record {
-        linked = ap (λ ms. record (linked_of it) { matchers = ms }) matchers
-            ∙ ap (λ ps. record linked { predicates = ps; states = it.states; metrics = map metric_in it.tracks })
-            predicates
-            ∙ ap (λ ss. record linked { states = ss; metrics = map metric_in it.tracks }) states
-            ∙ ap (λ ms. record linked { metrics = ms }) metrics;
-        base = base_is;
-        last = last_is;
-        in_time = tt;
-        knows = knows;
-        tracks = are.stand (new_history base opening linked).installed refl;
-      };
-      asked = subst (λ ps. All (AsksWithin (length ps)) (map metric_in it.tracks)) (sym predicates)
-          (subst (All (AsksWithin (length linked.predicates))) (sym metrics) asks);
-    }
-
--- that a place is one of so many has one proof at most
-within_prop : (count : ℕ) (place : Option ℕ) → IsProp (MayBeWithin count place)
-within_prop count None = hlevel props
-within_prop count (Some place) = hlevel props
-
--- what a metric asks has one proof at most
-asks_prop : (count : ℕ) (metric : LMetric) → IsProp (AsksWithin count metric)
-asks_prop count metric = within_prop count metric.condition
-
--- what metrics merely ask they ask
-pub all_asked : (it : Running) → ∥ AreAsked it ∥₁ → AreAsked it
-all_asked it asked = ∥∥₁_elim asked (hlevel asks_prop) (λ all. all)
+    sound.metrics
 
 -- each metric of a configuration that is acted on is acted on
 each_built : (metrics : List LMetric) → list_all is_built_metric metrics ≡ true

@@ -1,8 +1,9 @@
 use Rattle.std.proofs.Common.{◌≡◌, ◌∙◌, length, map, All, sym, ap, subst, arith}
 use Rattle.client_engine.specs.Bringing.{handed_with}
-use Rattle.client_engine.specs.Tracks.{metric_in, AsksWithin, AllStep}
-use Rattle.client_engine.proofs.TracksLemmas.{one_stepped, all_stepped, asks_here, whole}
-use Rattle.client_engine.proofs.inside.log_all.Goals as goal
+use Rattle.client_engine.specs.NextSteps.{TakesFrame}
+use Rattle.client_engine.specs.Tracks.{metric_in, AsksWithin, AllStandFor}
+use Rattle.client_engine.proofs.TracksLemmas.{one_stepped, all_stepped, asks_here, metrics_stay, whole}
+use Rattle.client_engine.proofs.parts.log_all.Goals as goal
 
 -- each metric asks for one of the predicates
 pub log-requires : goal.log-requires
@@ -21,7 +22,7 @@ loop-track-preserved c = (
   one_stepped (handed_with c.args.conditions.now c.args.brought.now) c.args.brought.now.frame.now
       c.args.brought.now.matched.now c.deref_mut-track-items.result.now
       c.loop-track.track-items c.loop-track.track-index c.log.new.self _ (omega arith) c.loop-track.invariant.0
-      c.in_ok-log.ensures.metric
+      c.log.ensures.metric
       (handed_with c.loop-track.conditions c.args.brought.now)
       (ap (λ known. handed_with known c.args.brought.now) c.loop-track.invariant.1)
       c.in_ok-log.ensures.logs,
@@ -40,10 +41,18 @@ returns-clause-logs c =
     let ends = c.loop-track-test.false in
     let index = c.loop-track.auto.track-index-end in
     let old_size = c.args.tracks.now.ok.0 in
-    let stepped : AllStep known frame truths c.deref_mut-track-items.result.now items =
+    let stepped : TakesFrame AllStandFor known frame truths c.deref_mut-track-items.result.now items =
     all_stepped known frame truths c.deref_mut-track-items.result.now items c.loop-track.track-index
     (omega (arith, size, ends, index)) c.loop-track.invariant.0 in
     let same = subst (λ old. length items ≡ length old) value size in
-    subst (AllStep known frame truths c.args.tracks.now.items)
+    subst (TakesFrame AllStandFor known frame truths c.args.tracks.now.items)
     (sym (whole items c.args.tracks.now.items c.args.tracks.now.len same old_size))
-    (subst (λ old. AllStep known frame truths old items) value stepped)
+    (subst (λ old. TakesFrame AllStandFor known frame truths old items) value stepped)
+
+-- where memory is wanting, the metrics are what they were
+pub returns-in_err-log-clause-metrics : goal.returns-in_err-log-clause-metrics
+returns-in_err-log-clause-metrics c =
+    metrics_stay c.args.tracks.now.items c.deref_mut-track-items.result.now c.loop-track.track-items
+    c.args.tracks.now.len c.loop-track.track-index c.log.new.self _ c.deref_mut-track-items.ensures.value
+    c.args.tracks.now.ok.0 (omega arith) c.loop-track.invariant.0.len c.loop-track.invariant.0.metrics
+    c.log.ensures.metric

@@ -1,0 +1,107 @@
+//! What an instance does with each of its parts.
+ghost use Rattle.std.specs.Prelude.{◌≡◌, ◌<◌, [], ◌∷◌, ◌++◌, map, if◌then◌else◌, OnOk, IfOk};
+ghost use Rattle.std.specs.List.{All};
+ghost use Rattle.bucket_meaning.specs.Limits.{time_limit};
+ghost use Rattle.client_engine.specs.Bringing.{TakesBrought};
+ghost use Rattle.client_engine.specs.Tracks.{CanBeTracked, metric_in, AllAskWithin, AreNew, AllStandFor, AllReport};
+ghost use Rattle.client_engine.specs.InstanceParts.{tree_with};
+
+use crate::brought::Brought;
+use crate::conditions::Conditions;
+use crate::request::ReportRequest;
+use crate::track::Track;
+use config_links::LMetric;
+use report_writer::{Drop64, MetricTree, ReportTree};
+use sd_base::Seq;
+use std::alloc::{AllocError, Global};
+
+/// What a report shows beside its metrics: what found no room.
+#[derive(Drop)]
+pub struct Drops {
+    pub of_predicates: Seq<Drop64>,
+    pub of_states: Seq<Drop64>,
+    pub of_atoms: u64,
+}
+
+/// The tracks of metrics that are acted on, which begin at `base`.
+pub fn tracks_of(alloc: Global, base: u64, metrics: Seq<LMetric>) -> Result<Vec<Track>, AllocError>
+    requires fits { base < time_limit }
+    requires ready { All CanBeTracked metrics }
+    ensures { IfOk result (λ tracks. AreNew base metrics tracks.items) }
+{
+    let mut tracks = Vec::new(alloc);
+    for metric in metrics.into_vec() {
+        tracks.push(Track::new(alloc, base, metric))?;
+    }
+    Ok(tracks)
+}
+
+/// A frame of the log comes to each of these.
+pub fn log_all(
+    alloc: Global,
+    conditions: &mut Conditions,
+    tracks: &mut Vec<Track>,
+    brought: &Brought<'_>,
+) -> Result<(), AllocError>
+    requires within { AllAskWithin conditions.old tracks.old.items }
+    ensures logs { OnOk result (TakesBrought AllStandFor
+        conditions.old brought.now tracks.old.items tracks.new.items) }
+    ensures metrics { map metric_in tracks.new.items ≡ map metric_in tracks.old.items }
+    ensures known { conditions.new ≡ conditions.old }
+{
+    for track in tracks.iter_mut() {
+        track.log(alloc, brought, conditions)?;
+    }
+    Ok(())
+}
+
+/// What a report shows of each of these that is shown, in order.
+pub fn report_all(
+    alloc: Global,
+    base: u64,
+    tracks: &mut Vec<Track>,
+    request: ReportRequest,
+) -> Result<Seq<MetricTree>, AllocError>
+    ensures reports { IfOk result
+        (AllReport base request tracks.old.items tracks.new.items) }
+    ensures metrics { map metric_in tracks.new.items ≡ map metric_in tracks.old.items }
+{
+    let mut trees = Seq::new(alloc);
+    for track in tracks.iter_mut() {
+        let is_shown = track.metric.shown;
+        let tree = track.report(alloc, base, request)?;
+        show(&mut trees, tree, is_shown)?;
+    }
+    Ok(trees)
+}
+
+// Adds a metric's tree if it is shown.
+fn show(trees: &mut Seq<MetricTree>, tree: MetricTree, is_shown: bool) -> Result<(), AllocError>
+    ensures { OnOk result (trees.new ≡ trees.old ++ (if is_shown then tree ∷ [] else [])) }
+{
+    if is_shown {
+        trees.push(tree)?;
+    }
+    Ok(())
+}
+
+/// The tree of a report, with what it shows of metrics, predicates and states.
+pub fn tree_of(
+    request: ReportRequest,
+    last: u64,
+    metrics: Seq<MetricTree>,
+    drops: Drops,
+) -> ReportTree
+    ensures { result ≡ tree_with request last metrics drops }
+{
+    ReportTree {
+        uid: request.name.uid,
+        id: request.name.id,
+        last,
+        now: request.at,
+        metrics,
+        predicate_drops: drops.of_predicates,
+        state_drops: drops.of_states,
+        state_atoms_dropped: drops.of_atoms,
+    }
+}
