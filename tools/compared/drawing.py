@@ -9,7 +9,6 @@ from compared.drawn_config import (
     FIELDS,
     FIRST_N,
     INNER,
-    KINDS,
     NUMBERS,
     PULLED_IDS,
     REPEATED,
@@ -19,6 +18,7 @@ from compared.drawn_config import (
 )
 from compared.faulty import draw_tree
 from compared.history import MOST_WEIGHT
+from compared.kinds import KINDS
 from compared.pulls import MOST_IDS as MOST_PULLED
 from compared.sessions import CLEAN, Session, checked_line, next_frame, replies
 from compared.states import MOST_IDS, MOST_KEYS
@@ -174,6 +174,22 @@ class Drawn:
         self.logged(TICK, b"")
         self.report(client, self.random.random() < 0.5)
 
+    def many_atoms(self):
+        """Events and samples of some atoms in each second, over as many seconds as a report has about room for."""
+        client, count = (20, 2), self.random.randint(90, 100)
+        matcher = {"id": 1, "simple": {"atom_id": ATOM_IDS[0]}}
+        gauge = {"id": 1, "what": 1, "filter": {"include_all": True}, "bucket": SECONDS, "sampling": FIRST_N}
+        gauge.update(samples=self.random.randint(95, 100), bound=self.random.choice([1, 2, 163]))
+        tree = {"gauges": [gauge], "events": [{"id": 2, "what": 1}], "matchers": [matcher]}
+        self.command(INSTALL, client, encoded("config", tree))
+        for _ in range(MOST_WEIGHT // count + self.random.randint(-1, 2)):
+            self.now += SECOND
+            for _ in range(count):
+                self.logged(ATOM, Atom(ATOM_IDS[0], [plain(FIELDS[0], 1)]).payload())
+        self.now += SECOND
+        self.logged(TICK, b"")
+        self.report(client, self.random.random() < 0.5)
+
     def many_keys(self):
         """State atoms of one id with about as many keys as are kept, and a reset among the last of them."""
         atom_id = self.random.choice(ATOM_IDS)
@@ -201,6 +217,8 @@ class Drawn:
             self.many_keys()
         elif drawn < 0.1211:
             self.many_samples()
+        elif drawn < 0.1212:
+            self.many_atoms()
         else:
             self.log()
 

@@ -1,8 +1,9 @@
 """Random configurations that are taken, as trees, with metrics of the kinds that are asked for."""
-from compared.atoms import ALL, ANY, FIRST, LAST, is_pulled
-from compared.matching import AND, NOR, NOT
+import functools
 
-EVENTS, COUNTS, VALUES, GAUGES, DURATIONS = KINDS = ("events", "counts", "values", "gauges", "durations")
+from compared.atoms import ALL, ANY, FIRST, LAST
+from compared.kinds import COUNTS, DURATIONS, EVENTS, GAUGES, LISTED, PULLED, VALUES, is_of_pulled
+from compared.matching import AND, NOR, NOT
 
 # Ids of atoms of the log, some more often than others.
 ATOM_IDS = (1, 1, 1, 1, 2, 2, 3)
@@ -38,13 +39,14 @@ class DrawnConfig:
             self.predicates.append({"id": PREDICATE_ID + place, **self.predicate()})
         for place in range(random.choice([0, 1, 1, 2, 2, 3, 4])):
             self.states.append({"id": STATE_ID + place, **self.state()})
-        self.tree = {kind: [] for kind in KINDS}
+        self.tree = {listed: [] for listed in LISTED}
         for place in range(random.randint(1, 4) if len(kinds) == 1 else random.randint(2, 7)):
             kind = random.choice([*kinds, *(kind for kind in kinds if kind == DURATIONS)])
             if kind == DURATIONS and not self.timed():
                 self.predicates.append({"id": PREDICATE_ID + len(self.predicates), "simple": self.simple_predicate()})
-            self.tree[kind].append({"id": METRIC_ID + place, **DRAW[kind](self)})
-        ids = [metric["id"] for kind in KINDS for metric in self.tree[kind]]
+            listed, draw = DRAW[kind]
+            self.tree[listed].append({"id": METRIC_ID + place, **draw(self)})
+        ids = [metric["id"] for listed in LISTED for metric in self.tree[listed]]
         self.tree["no_report"] = [one for one in ids if random.random() < 0.1]
         self.tree.update(matchers=self.matchers, predicates=self.predicates, states=self.states)
 
@@ -223,30 +225,34 @@ class DrawnConfig:
         self.random.shuffle(state_links)
         return {"slices": list(slices.values()), "state_links": state_links}
 
-    def counted(self, is_pulled_wanted=False):
-        """The matcher of a metric, and the id of the atoms that it mostly is of."""
-        pulled = [one for one in self.matchers if is_pulled(one.get("simple", {}).get("atom_id", 0))]
-        if is_pulled_wanted and not pulled:
-            pulled = [{"id": MATCHER_ID + len(self.matchers), "simple": {"atom_id": PULLED_IDS[0]}}]
-            self.matchers += pulled
-        matcher = self.random.choice(pulled if is_pulled_wanted else self.matchers)
+    def counted(self, matchers):
+        """One of these matchers for a metric, and the id of the atoms that it mostly is of."""
+        matcher = self.random.choice(matchers)
         atom_id = matcher.get("simple", {}).get("atom_id")
         return matcher["id"], self.random.choice(ATOM_IDS) if atom_id is None else atom_id
 
+    def counted_as(self, pulled):
+        """The same among the matchers by which a value or a gauge is pulled, or isn't."""
+        matchers = [one for one in self.matchers if is_of_pulled(one) == pulled]
+        if not matchers:
+            atom_id = self.random.choice(PULLED_IDS if pulled else ATOM_IDS)
+            matchers = [{"id": MATCHER_ID + len(self.matchers), "simple": {"atom_id": atom_id}}]
+            self.matchers += matchers
+        return self.counted(matchers)
+
     def event(self):
         """A metric of events."""
-        what, atom_id = self.counted()
+        what, atom_id = self.counted(self.matchers)
         return {"what": what, **self.common(atom_id)}
 
     def count(self):
         """A count."""
-        what, atom_id = self.counted()
+        what, atom_id = self.counted(self.matchers)
         return {"what": what, **self.common(atom_id), **self.keyed(atom_id), **self.sliced(atom_id)}
 
-    def value(self):
+    def value(self, pulled=False):
         """A metric of values, pushed or pulled."""
-        what, atom_id = self.counted(self.random.random() < 0.6)
-        pulled = is_pulled(self.matchers[what - MATCHER_ID].get("simple", {}).get("atom_id", 0))
+        what, atom_id = self.counted_as(pulled)
         children = [{"field": FIELDS[0]}] if self.random.random() < 0.5 else self.children(1)
         if children[0].get("position") == ALL:
             children[0]["position"] = FIRST
@@ -263,10 +269,9 @@ class DrawnConfig:
         slices = {} if pulled else self.sliced(atom_id)
         return {"what": what, **self.common(atom_id, is_linked=not pulled), **self.keyed(atom_id), **slices, **own}
 
-    def gauge(self):
+    def gauge(self, pulled=False):
         """A metric of samples, pushed or pulled."""
-        what, atom_id = self.counted(self.random.random() < 0.6)
-        pulled = is_pulled(self.matchers[what - MATCHER_ID].get("simple", {}).get("atom_id", 0))
+        what, atom_id = self.counted_as(pulled)
         sampling = self.random.choice([None, RANDOM_ONE, FIRST_N, FIRST_N] + [CHANGE_TO_TRUE, FIRST_N] * pulled)
         trigger = self.some(0.5, lambda: self.one_of(self.matchers)) if pulled and sampling == FIRST_N else None
         samples = self.random.choice([None, 1, 2, 3, 20])
@@ -291,12 +296,15 @@ class DrawnConfig:
         return {**self.common(None, among), **self.keyed(None, among), **slices, **own}
 
 
+# Where the metrics of each kind are listed, and how one is drawn.
 DRAW = {
-    EVENTS: DrawnConfig.event,
-    COUNTS: DrawnConfig.count,
-    VALUES: DrawnConfig.value,
-    GAUGES: DrawnConfig.gauge,
-    DURATIONS: DrawnConfig.duration,
+    EVENTS: (EVENTS, DrawnConfig.event),
+    COUNTS: (COUNTS, DrawnConfig.count),
+    VALUES: (VALUES, DrawnConfig.value),
+    PULLED[VALUES]: (VALUES, functools.partial(DrawnConfig.value, pulled=True)),
+    GAUGES: (GAUGES, DrawnConfig.gauge),
+    PULLED[GAUGES]: (GAUGES, functools.partial(DrawnConfig.gauge, pulled=True)),
+    DURATIONS: (DURATIONS, DrawnConfig.duration),
 }
 
 

@@ -3,10 +3,10 @@ import sys
 
 from session_text.layout import ATOM, INSTALL, PULL, REPORT
 
-from compared.atoms import is_pulled
 from compared.counted import Count, Event, PushedGauge, PushedValue
 from compared.durations import Longest, Sum
 from compared.history import Step
+from compared.kinds import is_of_pulled
 from compared.knowledge import Predicates
 from compared.matching import Truths
 from compared.pulled import PulledGauge, PulledValue
@@ -64,7 +64,7 @@ class Instance:
 
     def is_pulled(self, metric):
         """A metric of values or samples is pulled where its matcher is a simple one of atoms that are pulled."""
-        return is_pulled(self.matchers[metric["what"]].get("simple", {}).get("atom_id", 0))
+        return is_of_pulled(self.matchers[metric["what"]])
 
     def step(self, step, atom=None):
         """A step comes. An atom acts on the predicates first, and on the tables of durations, before metrics ask."""

@@ -24,6 +24,7 @@ from session_text.layout import (
 
 from compared.atoms import MOST_ID, BadAtom, read_atom
 from compared.decoding import TooLarge, Unsupported, WireFault, decoded
+from compared.kinds import kinds_of
 from compared.meaning import Books, Instance
 from compared.verdict import Checked, line_of
 from compared.wire import replied
@@ -145,7 +146,7 @@ class Session:
     """The clients of a session, and its replies so far. Kinds of metrics that wait make an install be refused."""
 
     def __init__(self, waiting=()):
-        self.books, self.live, self.waiting = Books(), {}, waiting
+        self.books, self.live, self.waiting = Books(), {}, frozenset(waiting)
 
     def refusal(self, client, content):
         """The reply to an install that is refused, without its client, or None; and else the tree."""
@@ -163,7 +164,7 @@ class Session:
             return CLIENT_FULL, struct.pack("<I", MOST_CONFIGS)
         for number, reason, value in Checked(tree).faults():
             return REFUSED, struct.pack("<BBBq", LINK, number, reason, value)
-        if any(tree.get(kind) for kind in self.waiting):
+        if self.waiting & kinds_of(tree):
             return REFUSED, struct.pack("<BB", UNSUPPORTED, 0)
         return tree
 
