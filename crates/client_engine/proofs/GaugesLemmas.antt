@@ -54,8 +54,8 @@ module _ (metric : LMetric) (fields : Option FieldSet) (samples : ℕ)
 abbrev pub sampled_from : LMetric → Option FieldSet → Scene → Option Atom → Option KeyedAtom
 sampled_from metric fields scene found = option_map handed_sample (option_map (keyed_sample scene metric fields) found)
 
--- a lane of a gauge takes one more frame of the log, which is shown so: what it crosses, and then the sample of the atom
--- that arrives, if one does
+-- a lane of a gauge takes one more frame of the log, which is shown so: what it crosses, and then the sample of the
+-- atom that arrives, if one does
 pub gauges_log : (given : Handed) (metric : LMetric) (shown : LogFrame) (truths : List Bool)
     (old middle new : GaugeLane)
     → GetsFrame gauge_law old middle (moment_of shown (log_time shown))

@@ -1,5 +1,5 @@
 -- The lane of a metric of pushed values, one step more.
-use Rattle.std.proofs.Common.{◌≡◌, ℕ, ℤ, ◌<◌, Bool, List, [], Option, Some, None, refl, sym, ap, subst, ◌∙◌}
+use Rattle.std.proofs.Common.{◌≡◌, ℕ, ℤ, ◌<◌, Bool, List, [], Option, Some, refl, sym, ap, subst, ◌∙◌}
 use Rattle.std.specs.Option.{option_map, option_and_then}
 use Rattle.atom_record.specs.declared.atom.Atom.{Atom}
 use Rattle.atom_record.specs.declared.log.LogFrame.{LogFrame}
@@ -102,13 +102,6 @@ one_source : (kind : LKind) (one other : ValueLeaf) (its others : Aggregation) �
     → kind ≡ value_kind_at other others → one ≡ other
 one_source kind one other its others is also = ap (source_or one) (sym is ∙ also)
 
--- where no atom arrives, nothing does
-pub none_keyed : (scene : Scene) (metric : LMetric) (source : ValueLeaf) (step : Step)
-    → None ≡ arriving_by scene metric step
-    → None ≡ option_map keyed_int (value_arrival_by scene metric source step)
-none_keyed scene metric source step is =
-    ap (λ found. option_map keyed_int (option_and_then (keyed_integer scene metric source) found)) is
-
 -- what arrives with an atom: its key with this integer, if it has one
 abbrev keyed_by : Scene → LMetric → Atom → Option ℤ → Option KeyedInt
 keyed_by scene metric atom integer =
@@ -125,16 +118,7 @@ atom_keyed scene metric one source its aggregation step atom integer is also com
     (integer_is ∙ ap (λ leaf. integer_in leaf atom) (one_source metric.kind one source its aggregation is also))
     ∙ ap (λ found. option_map keyed_int (option_and_then (keyed_integer scene metric source) found)) comes
 
--- where the atom has no integer, nothing arrives
-pub without_integer : (scene : Scene) (metric : LMetric) (one source : ValueLeaf) (its aggregation : Aggregation)
-    (step : Step) (atom : Atom) → metric.kind ≡ value_kind_at one its
-    → metric.kind ≡ value_kind_at source aggregation → Some atom ≡ arriving_by scene metric step
-    → None ≡ integer_in one atom
-    → None ≡ option_map keyed_int (value_arrival_by scene metric source step)
-without_integer scene metric one source its aggregation step atom is also comes none =
-    atom_keyed scene metric one source its aggregation step atom None is also comes none
-
--- else the atom's key arrives with the integer
+-- where the atom has an integer, its key arrives with it
 pub with_integer : (scene : Scene) (metric : LMetric) (one source : ValueLeaf) (its aggregation : Aggregation)
     (step : Step) (atom : Atom) (integer : ℤ) (key : MetricKey) → metric.kind ≡ value_kind_at one its
     → metric.kind ≡ value_kind_at source aggregation → Some atom ≡ arriving_by scene metric step

@@ -15,3 +15,4 @@ pub mod SparseTimesLemmas
 pub mod SparseBooksLemmas
 pub mod SparseLemmas
 pub mod SparseTurnLemmas
+mod SparseWorked

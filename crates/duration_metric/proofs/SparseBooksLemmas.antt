@@ -5,7 +5,7 @@ use Rattle.std.proofs.lemmas.Grind.{flat_map-append}
 use Rattle.std.proofs.Math.Seq.{take-nil}
 use Rattle.atom_record.specs.declared.value.MetricKey.{MetricKey}
 use Rattle.bucket_meaning.specs.Ends.{ends_from}
-use Rattle.bucket_meaning.specs.Marks.{Mark, Ends, Came, Lost, Asked, Part, Books, no_edges, boundary_marks, books_from}
+use Rattle.bucket_meaning.specs.Marks.{Mark, Ends, Came, Lost, Asked, Part, Books, no_edges, boundary_marks}
 use Rattle.bucket_meaning.specs.Guard.{admitted, arrival_key}
 use Rattle.bucket_meaning.specs.Kept.{count_in_u64, taken_of}
 use Rattle.bucket_meaning.specs.Rows.{drops, row_of, rows_of, closed_rows}
@@ -168,7 +168,8 @@ closed_same : (one other : Closed ℕ) → one.rows ≡ other.rows → one.not_k
     → one.dropped ≡ other.dropped → one.missing ≡ other.missing → one ≡ other
 closed_same one other rows not_kept dropped missing =
     ap (λ (l : List (Row ℕ)). let c : Closed ℕ = record one { rows = l } in c) rows
-    ∙ ap (λ n. let c : Closed ℕ = record other { not_kept = n; dropped = one.dropped; missing = one.missing } in c) not_kept
+    ∙ ap (λ n. let c : Closed ℕ = record other { not_kept = n; dropped = one.dropped; missing = one.missing } in c)
+    not_kept
     ∙ ap (λ n. let c : Closed ℕ = record other { dropped = n; missing = one.missing } in c) dropped
     ∙ ap (λ n. let c : Closed ℕ = record other { missing = n } in c) missing
 

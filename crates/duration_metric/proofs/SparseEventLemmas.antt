@@ -1,5 +1,5 @@
 -- What each event makes of the inner keys of a longest duration.
-use Rattle.std.proofs.Common.{subst, ◌≡◌, ℕ, ◌+◌, ◌^◌, ◌<◌, ◌≤◌, ◌==◌, nat_lt, Bool, true, false, not, ◌&&◌, if◌then◌else◌, List, [], ◌∷◌, ◌++◌, map, filter, length, slice_get, position, Contains, Option, Some, None, ◌⊎◌, inl, inr, cond, ◌||◌, refl, sym, ap, ◌∙◌, append-nil, arith}
+use Rattle.std.proofs.Common.{subst, ◌≡◌, ℕ, ◌+◌, ◌^◌, ◌<◌, ◌≤◌, nat_lt, Bool, true, false, not, ◌&&◌, if◌then◌else◌, List, [], ◌∷◌, ◌++◌, map, filter, slice_get, position, Contains, Some, None, ◌⊎◌, inl, inr, cond, ◌||◌, refl, sym, ap, ◌∙◌, append-nil}
 use Rattle.std.specs.List.{AllByRecursion, IsDistinct, flat_map, list_any}
 use Rattle.std.specs.Map.{keys_of, lookup}
 use Rattle.std.specs.Option.{option_map}
@@ -11,10 +11,9 @@ use Rattle.metric_producer.proofs.KeysLemmas.{other_way}
 use Rattle.duration_metric.proofs.SparseKnownLemmas.{state_got}
 use Rattle.atom_record.specs.declared.value.MetricKey.{MetricKey}
 use Rattle.bucket_meaning.specs.Guard.{is_among}
-use Rattle.bucket_meaning.specs.Kept.{count_in_u64}
 use Rattle.bucket_meaning.specs.Marks.{Mark, Lost}
 use Rattle.config_types.specs.declared.parameters.PredSpec.{PredSpec}
-use Rattle.dim_table.specs.Table.{Table, keys, with_value_at, without, set_value_at}
+use Rattle.dim_table.specs.Table.{keys, with_value_at, without, set_value_at}
 use Rattle.dim_table.proofs.KeyLemmas.{keys_set_value_at, not_among, keys_of-push}
 use Rattle.predicate_state.specs.PredicateStates.{PredicateState, with_key_count, without_key, state_after}
 use Rattle.predicate_state.specs.PredicateTable.{LeafKey, same_leaves}
@@ -23,10 +22,10 @@ use Rattle.metric_producer.specs.Calls.{Got}
 use Rattle.duration_metric.specs.declared.change.InnerEvent.{InnerEvent}
 use Rattle.duration_metric.specs.declared.sparse_keys.SparseEntry.{SparseEntry}
 use Rattle.duration_metric.specs.declared.sparse_keys.SparseKeys.{SparseKeys}
-use Rattle.duration_metric.specs.InnerKeys.{DurationCall, inner_state, inner_keys, last_known}
-use Rattle.duration_metric.specs.SparseCalls.{is_on, time_on, arrival_for}
-use Rattle.duration_metric.specs.SparseEntries.{count_of, state_of, EntryStands, RowStands, KeysStand, entry_marks, row_marks, fresh_entry, TakesKeyEvent}
-use Rattle.duration_metric.proofs.SparseRowLemmas.{Row, same_decides, leaves_equiv, off_unlisted, all_at, keys_counted, or_false, all_push, all_front, all_filter, all_set, counts_set, counts_left, IsOnAsCounted, brings, none_gone, gone_set, gone_left, all_gone}
+use Rattle.duration_metric.specs.InnerKeys.{DurationCall, inner_state, last_known}
+use Rattle.duration_metric.specs.SparseCalls.{is_on}
+use Rattle.duration_metric.specs.SparseEntries.{count_of, state_of, RowStands, KeysStand, entry_marks, row_marks, fresh_entry, TakesKeyEvent}
+use Rattle.duration_metric.proofs.SparseRowLemmas.{Row, same_decides, leaves_equiv, off_unlisted, all_at, keys_counted, or_false, all_push, all_front, all_filter, all_set, counts_set, counts_left, IsOnAsCounted, none_gone, gone_set, gone_left, all_gone}
 use Rattle.duration_metric.proofs.SparseStepLemmas.{left_by, marks_are, Becomes, begins, takes_by, all_pass, none_lost, one_lost, keys_are, on_are, all_counted}
 
 -- of no keys none stands twice
@@ -50,6 +49,7 @@ left_out key [] = refl
 left_out key (row ∷ rows) = by (same_leaves key row.0) refl (left_out key rows) where
   others : List Row
   others = filter (λ (r : Row). not (same_leaves key r.0)) rows
+
   by : (b : Bool) → same_leaves key row.0 ≡ b → is_among same_leaves key (keys_of others) ≡ false
       → is_among same_leaves key (keys_of (cond (not b) (row ∷ others) others)) ≡ false
   by true alike none = none
@@ -155,7 +155,8 @@ module _ (old : SparseKeys) (at : ℕ) (event : InnerEvent) where
         let off : is_on spec (calls ++ Got at event ∷ []) row.0 ≡ false =
         ap (is_among same_leaves row.0) (on_are spec (calls ++ Got at event ∷ []) new state_now)
         ∙ off_unlisted row.0 new.table.rows
-        (subst (λ key. is_among same_leaves row.0 (keys_of (filter (λ (r : Row). not (same_leaves key r.0)) old.table.rows))
+        (subst (λ key. is_among same_leaves row.0
+        (keys_of (filter (λ (r : Row). not (same_leaves key r.0)) old.table.rows))
         ≡ false) own (left_out row.0 old.table.rows)) in
         takes_by spec calls last at event old new has refl refl (state ∙ sym acts)
         (IsDistinct-keys_filter same_leaves (λ (r : Row). not (same_leaves event.key r.0)) old.table.rows has.distinct)

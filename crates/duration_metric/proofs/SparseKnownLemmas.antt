@@ -12,10 +12,9 @@ use Rattle.predicate_state.specs.PredicateStates.{initial_state, state_from, sta
 use Rattle.predicate_state.specs.PredicateTable.{LeafKey, same_leaves}
 use Rattle.predicate_state.proofs.PredicateStateLemmas.{state_from-push}
 use Rattle.metric_producer.specs.Calls.{Got}
-use Rattle.metric_kinds.specs.Durations.{KeyMoment, time_since_off}
+use Rattle.metric_kinds.specs.Durations.{time_since_off}
 use Rattle.metric_kinds.proofs.DurationsLemmas.{since_off-off, since_off-on}
 use Rattle.duration_metric.specs.declared.change.InnerEvent.{InnerEvent}
-use Rattle.duration_metric.specs.declared.inner.Known.{Known}
 use Rattle.duration_metric.specs.InnerKeys.{DurationCall, KeySeen, key_events, inner_state, inner_keys, told_of, key_seen, last_known}
 use Rattle.duration_metric.specs.SparseCalls.{turn_times, is_timed, is_on, key_moment, time_on}
 
@@ -89,7 +88,8 @@ module _ (spec : PredSpec) (calls : List DurationCall) where
         ap (λ l. last_or None (flat_map (λ (seen : KeySeen). seen.told)
         (after_last (λ (seen : KeySeen). not seen.is_listed) l))) (outputs-push (key_seen spec key) calls call)
         ∙ ap (λ l. last_or None (flat_map (λ (seen : KeySeen). seen.told) l))
-        (after_last-passes (λ (seen : KeySeen). not seen.is_listed) (outputs (key_seen spec key) calls) now (ap not off))
+        (after_last-passes (λ (seen : KeySeen). not seen.is_listed) (outputs (key_seen spec key) calls)
+        now (ap not off))
 
     -- of one that is listed, what was told of it last
     pub known-listed : is_among same_leaves key (inner_keys spec (calls ++ call ∷ [])) ≡ true

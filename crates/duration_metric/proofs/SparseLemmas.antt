@@ -1,5 +1,5 @@
 -- A producer of longest durations stands for its calls through each of them.
-use Rattle.std.proofs.Common.{◌≡◌, ℕ, ◌+◌, ◌*◌, ◌^◌, ◌<◌, ◌≤◌, Bool, true, false, List, [], ◌∷◌, ◌++◌, map, filter, nat_lt, refl, sym, ap, subst, ◌∙◌, arith}
+use Rattle.std.proofs.Common.{◌≡◌, ℕ, ◌+◌, ◌*◌, ◌^◌, ◌<◌, ◌≤◌, true, List, [], ◌∷◌, ◌++◌, map, filter, nat_lt, refl, sym, ap, subst, ◌∙◌, arith}
 use Rattle.std.specs.List.{AllByRecursion, IsDistinct, last_or}
 use Rattle.std.specs.Map.{keys_of}
 use Rattle.atom_record.specs.declared.value.MetricKey.{MetricKey}
@@ -24,9 +24,9 @@ use Rattle.duration_metric.specs.declared.sparse.MaxProducer.{MaxProducer}
 use Rattle.duration_metric.specs.declared.sparse_books.SparseBooks.{SparseBooks}
 use Rattle.duration_metric.specs.declared.sparse_keys.SparseKeys.{SparseKeys}
 use Rattle.duration_metric.specs.InnerKeys.{DurationParams, DurationCall, duration_demands, key_events, inner_state, inner_keys, last_known, told_of}
-use Rattle.duration_metric.specs.SparseCalls.{sparse_collecting, turn_times, is_on, time_on}
+use Rattle.duration_metric.specs.SparseCalls.{sparse_collecting, turn_times, is_on}
 use Rattle.duration_metric.specs.SparseBooksStand.{HoldsTimes, with_marks, TakesMarks, IsOpened}
-use Rattle.duration_metric.specs.SparseEntries.{state_of, EntryStands, RowStands, OthersStand, KeysStand, IsOfNoCalls, TakesKeyEvent, LearnsDelta}
+use Rattle.duration_metric.specs.SparseEntries.{state_of, RowStands, KeysStand, IsOfNoCalls, TakesKeyEvent, LearnsDelta}
 use Rattle.duration_metric.specs.SparseStands.{HasSparse, SparseStandsFor, sparse_mean, sparse_law}
 use Rattle.duration_metric.proofs.SparseKnownLemmas.{state_idle, known-unlisted, known-listed, time-idle}
 use Rattle.duration_metric.proofs.SparseRowLemmas.{Row, all_both}

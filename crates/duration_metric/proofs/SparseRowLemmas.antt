@@ -1,5 +1,5 @@
 -- Rows of inner keys with their entries, one for each key: which are on, and which go off.
-use Rattle.std.proofs.Common.{subst, ◌≡◌, ℕ, zero, suc, ◌<◌, nat_lt, Bool, true, false, not, ◌&&◌, ◌||◌, if◌then◌else◌, cond, List, [], ◌∷◌, ◌++◌, map, filter, length, slice_get, position, get_or, Some, refl, sym, ap, ◌∙◌, append-nil, arith}
+use Rattle.std.proofs.Common.{subst, ◌≡◌, ℕ, zero, suc, nat_lt, Bool, true, false, not, ◌&&◌, ◌||◌, if◌then◌else◌, cond, List, [], ◌∷◌, ◌++◌, map, filter, slice_get, Some, refl, sym, ap, ◌∙◌, append-nil}
 use Rattle.std.specs.Bool.{Decides, one_answer}
 use Rattle.std.specs.Cmp.{IsEquivalence}
 use Rattle.std.specs.List.{AllByRecursion, IsDistinct, flat_map}
@@ -106,7 +106,8 @@ all_among (first ∷ ks) = (
 )
 
 -- each row's key is listed
-pub rows_listed : (rows : List Row) → AllByRecursion (λ (row : Row). is_among same_leaves row.0 (keys_of rows) ≡ true) rows
+pub rows_listed : (rows : List Row)
+    → AllByRecursion (λ (row : Row). is_among same_leaves row.0 (keys_of rows) ≡ true) rows
 rows_listed rows = all_rows (λ key. is_among same_leaves key (keys_of rows) ≡ true) rows (all_among (keys_of rows))
 
 -- another key is passed by, whether it is on or not
@@ -146,12 +147,12 @@ apart_from key (first ∷ ks) all =
 
 -- a row's key is on exactly where its count is above 0
 pub rows_on : (rows : List Row) → IsDistinct same_leaves (keys_of rows)
-    → AllByRecursion (λ (row : Row). is_among same_leaves row.0 (on_keys (map count_of rows)) ≡ nat_lt 0 row.1.count) rows
+    → AllByRecursion (λ (row : Row). is_among same_leaves row.0 (on_keys (map count_of rows))
+    ≡ nat_lt 0 row.1.count) rows
 rows_on [] distinct = tt
 rows_on (row ∷ rows) distinct =
     let apart = IsDistinct-head same_leaves row.0 (keys_of rows) distinct in
-    let others = filter (λ (entry : LeafKey × ℕ). nat_lt 0 entry.1) (map count_of rows) in
-    (
+    let others = filter (λ (entry : LeafKey × ℕ). nat_lt 0 entry.1) (map count_of rows) in (
       own (nat_lt 0 row.1.count) (count_of row) others
           (off_unlisted row.0 rows (apart_from row.0 (keys_of rows) apart)),
       all_both (λ (other : Row). same_leaves row.0 other.0 ≡ false)
@@ -201,7 +202,8 @@ module _ {M : Type 0} (f : LeafKey → List M) (on : LeafKey → Bool) where
   one_gone : (counts goes : Bool) (key : LeafKey) (others : List (LeafKey × ℕ)) (count : ℕ) (rest : List M)
       → on key ≡ goes
       → flat_map f (filter (λ k. not (on k)) (map (λ (e : LeafKey × ℕ). e.0) others)) ≡ rest
-      → flat_map f (filter (λ k. not (on k)) (map (λ (e : LeafKey × ℕ). e.0) (cond counts ((key, count) ∷ others) others)))
+      → flat_map f (filter (λ k. not (on k)) (map (λ (e : LeafKey × ℕ). e.0)
+      (cond counts ((key, count) ∷ others) others)))
       ≡ (if counts && not goes then f key else []) ++ rest
   one_gone true true key others count rest goes is =
       ap (λ b. flat_map f (cond (not b) (key ∷ filter (λ k. not (on k)) (map (λ (e : LeafKey × ℕ). e.0) others))
@@ -280,7 +282,8 @@ module _ {M : Type 0} (f : LeafKey → List M) (on : LeafKey → Bool) where
       let apart : AllByRecursion (λ other. same_leaves row.0 other ≡ false) (keys_of rows) =
       subst (λ (r : Row). AllByRecursion (λ other. same_leaves r.0 other ≡ false) (keys_of rows)) is
       (IsDistinct-head same_leaves first.0 (keys_of rows) distinct) in
-      let own_key : same_leaves row.0 first.0 ≡ true = (same_decides row.0 first.0).1 (ap (λ (r : Row). r.0) (sym is)) in
+      let own_key : same_leaves row.0 first.0 ≡ true =
+      (same_decides row.0 first.0).1 (ap (λ (r : Row). r.0) (sym is)) in
       let rest : others row.0 (first ∷ rows) ≡ rows =
       ap (λ b. cond (not b) (first ∷ others row.0 rows) (others row.0 rows)) own_key ∙ kept_rest row.0 rows apart in
       let off_first : on first.0 ≡ false = ap (λ (r : Row). on r.0) is ∙ off in

@@ -1,11 +1,13 @@
 -- The inner keys of a longest duration, once one more call has come.
-use Rattle.std.proofs.Common.{subst, ◌≡◌, ℕ, ◌+◌, ◌-◌, ◌^◌, ◌<◌, ◌≤◌, nat_lt, Bool, true, false, not, ◌&&◌, if◌then◌else◌, List, [], ◌∷◌, ◌++◌, map, filter, replicate, slice_get, Option, Some, None, refl, sym, ap, ◌∙◌, arith}
+use Rattle.std.proofs.Common.{◌≡◌, ℕ, ◌+◌, ◌-◌, ◌^◌, ◌<◌, ◌≤◌, nat_lt, Bool, true, false, not, if◌then◌else◌, List, [], ◌∷◌, ◌++◌, map, filter, replicate, length, slice_get, Option, Some, None, refl, sym, ap, ◌∙◌, arith}
 use Rattle.std.specs.List.{AllByRecursion, IsDistinct, flat_map, last_or}
 use Rattle.std.specs.Map.{keys_of}
+use Rattle.std.specs.Option.{option_map, option_and_then}
 use Rattle.std.proofs.lemmas.Bool.{lt-ltb, ltb-true}
+use Rattle.std.proofs.lemmas.List.{length-map}
+use Rattle.std.proofs.lemmas.Option.{slice_get-map}
 use Rattle.atom_record.specs.declared.value.MetricKey.{MetricKey}
 use Rattle.bucket_meaning.specs.Guard.{is_among}
-use Rattle.bucket_meaning.specs.Kept.{count_in_u64}
 use Rattle.bucket_meaning.specs.Marks.{Mark, Lost}
 use Rattle.config_types.specs.declared.parameters.PredSpec.{PredSpec}
 use Rattle.dim_table.specs.Table.{keys}
@@ -16,11 +18,11 @@ use Rattle.duration_metric.specs.declared.change.InnerEvent.{InnerEvent}
 use Rattle.duration_metric.specs.declared.inner.Known.{Known}
 use Rattle.duration_metric.specs.declared.sparse_keys.SparseEntry.{SparseEntry}
 use Rattle.duration_metric.specs.declared.sparse_keys.SparseKeys.{SparseKeys}
-use Rattle.duration_metric.specs.InnerKeys.{DurationCall, inner_state, inner_keys, inner_lost, told_of, last_known}
+use Rattle.duration_metric.specs.InnerKeys.{DurationCall, inner_state, inner_keys, inner_lost, told_of, last_known, last_truth}
 use Rattle.duration_metric.specs.SparseCalls.{turn_times, is_timed, arrival_for, keys_on, is_on, time_on, gone_off, sparse_comes}
-use Rattle.duration_metric.specs.SparseEntries.{entry_time, saved_time, count_of, state_of, EntryStands, RowStands, OthersStand, KeysStand, entry_marks, started_entry, fresh_entry}
+use Rattle.duration_metric.specs.SparseEntries.{entry_time, saved_time, count_of, state_of, EntryStands, RowStands, OthersStand, KeysStand, entry_marks, started_entry}
 use Rattle.duration_metric.proofs.SparseKnownLemmas.{state_got, known-unlisted, known-listed, time-off, time-on}
-use Rattle.duration_metric.proofs.SparseRowLemmas.{Row, all_map, all_both, on_keys, keys_counted, rows_listed, rows_on, IsOnAsCounted, brings, gone_rows}
+use Rattle.duration_metric.proofs.SparseRowLemmas.{Row, all_at, all_map, all_both, on_keys, keys_counted, rows_listed, rows_on, IsOnAsCounted, brings, gone_rows}
 
 -- a time goes on
 goes_on : (b : Bool) (time since at end : ℕ) → since ≤ at → at ≤ end
@@ -166,13 +168,13 @@ left_by spec calls at key = arrival_for (last_known spec calls key) (time_on spe
 
 -- An event.
 module _ (spec : PredSpec) (calls : List DurationCall) (last at : ℕ) (event : InnerEvent) where
-
   -- a row of a key that goes off brings what its entry says
   pub marks_are : (key : LeafKey) (entry : SparseEntry) → EntryStands spec calls last key entry → last ≤ at
       → at < 2 ^ 64 → (if nat_lt 0 entry.count then left_by spec calls at key else []) ≡ entry_marks at entry
   marks_are key entry is later fits = by (nat_lt 0 entry.count) refl where
     by : (b : Bool) → nat_lt 0 entry.count ≡ b
-        → (if b then left_by spec calls at key else []) ≡ (if b then arrival_for entry.known (saved_time entry at) else [])
+        → (if b then left_by spec calls at key else [])
+        ≡ (if b then arrival_for entry.known (saved_time entry at) else [])
     by true positive =
         ap (λ k. arrival_for k (time_on spec calls at key)) (sym is.known_is)
         ∙ ap (arrival_for entry.known) (is.time_is (ltb-true 0 entry.count positive) at later
@@ -186,6 +188,7 @@ module _ (spec : PredSpec) (calls : List DurationCall) (last at : ℕ) (event : 
   starts key entry nesting is later others on = by (nat_lt 0 entry.count) refl where
     more : ℕ
     more = count_after_start nesting entry.count
+
     by : (b : Bool) → nat_lt 0 entry.count ≡ b
         → Becomes spec calls (Got at event) at refl
         (key, if b then record entry { count = more } else record entry { count = more; time = 0; since = at })
@@ -203,7 +206,8 @@ module _ (spec : PredSpec) (calls : List DurationCall) (last at : ℕ) (event : 
   comes_by old has lost gone is_lost is_gone =
       let on = is_on spec (calls ++ Got at event ∷ []) in
       ap (λ l. l ++ flat_map (left_by spec calls at) (gone_off spec calls (Got at event))) is_lost
-      ∙ ap (λ l. lost ++ flat_map (left_by spec calls at) (filter (λ key. not (on key)) l)) (on_are spec calls old has.state_is)
+      ∙ ap (λ l. lost ++ flat_map (left_by spec calls at) (filter (λ key. not (on key)) l))
+      (on_are spec calls old has.state_is)
       ∙ ap (λ l. lost ++ l) (gone_rows (left_by spec calls at) on old.table.rows ∙ is_gone)
 
   -- nothing is lost where no key was turned away
@@ -242,8 +246,7 @@ module _ (spec : PredSpec) (calls : List DurationCall) (last at : ℕ) (event : 
       let state : state_of new ≡ inner_state spec (calls ++ Got at event ∷ []) =
       acts ∙ ap (λ s. state_after same_leaves s (state_of old) event.event event.key) has.spec_is
       ∙ ap (λ s. state_after same_leaves spec s event.event event.key) has.state_is
-      ∙ sym (state_got spec calls at event) in
-      (
+      ∙ sym (state_got spec calls at event) in (
         turned spec calls (Got at event) at refl old new last has same_spec same_bound state distinct become,
         comes_by old has lost gone
             (is_lost (ap (λ (s : PredicateState LeafKey). s.dropped) (sym has.state_is))
@@ -257,3 +260,33 @@ module _ (spec : PredSpec) (calls : List DurationCall) (last at : ℕ) (event : 
   all_pass old has later =
       all_map (RowStands spec calls last) (Becomes spec calls (Got at event) at refl) old.table.rows
       (λ row is. passes spec calls (Got at event) at refl last row.0 row.1 refl is later) has.rows_are
+
+-- What an object shows of its keys.
+module _ (it : SparseKeys) (spec : PredSpec) (calls : List DurationCall) (last : ℕ)
+    (has : KeysStand it spec calls last) where
+  -- there are as many keys as rows
+  pub len_is : length it.table.rows ≡ length (inner_keys spec calls)
+  len_is = sym (length-map it.table.rows (λ (row : Row). row.0)) ∙ ap length (sym (keys_are spec calls it has.state_is))
+
+  module _ (place : ℕ) where
+    -- the key of a row is the inner key at its place
+    pub key_is : (row : Row) → slice_get it.table.rows place ≡ Some row
+        → Some row.0 ≡ slice_get (inner_keys spec calls) place
+    key_is row there =
+        sym (ap (λ ks. slice_get ks place) (keys_are spec calls it has.state_is)
+        ∙ slice_get-map (λ (r : Row). r.0) it.table.rows place ∙ ap (option_map (λ (r : Row). r.0)) there)
+
+    -- and what it was told last is what the calls told
+    pub truth_is : (row : Row) → slice_get it.table.rows place ≡ Some row
+        → option_map (λ (known : Known). known.truth) row.1.known ≡ last_truth spec calls place
+    truth_is row there =
+        let is = all_at (RowStands spec calls last) it.table.rows place row has.rows_are there in
+        ap (option_map (λ (known : Known). known.truth)) is.known_is
+        ∙ ap (option_and_then (λ key. option_map (λ (known : Known). known.truth) (last_known spec calls key)))
+        (key_is row there)
+
+    -- where no row is, no key is
+    pub no_key_is : slice_get it.table.rows place ≡ None → None ≡ slice_get (inner_keys spec calls) place
+    no_key_is none =
+        sym (ap (λ ks. slice_get ks place) (keys_are spec calls it has.state_is)
+        ∙ slice_get-map (λ (r : Row). r.0) it.table.rows place ∙ ap (option_map (λ (r : Row). r.0)) none)

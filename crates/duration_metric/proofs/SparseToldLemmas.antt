@@ -1,5 +1,5 @@
 -- What a condition makes of the inner keys of a longest duration, one change at a time.
-use Rattle.std.proofs.Common.{subst, ◌≡◌, ℕ, zero, suc, ◌+◌, ◌-◌, ◌^◌, ◌<◌, ◌≤◌, ◌==◌, nat_lt, Bool, true, false, cond, if◌then◌else◌, List, [], ◌∷◌, ◌++◌, map, filter, slice_get, position, Option, Some, None, ◌⊎◌, ◌≢◌, inl, inr, refl, sym, ap, ◌∙◌, append-nil, arith}
+use Rattle.std.proofs.Common.{subst, ◌≡◌, ℕ, zero, suc, ◌+◌, ◌-◌, ◌^◌, ◌<◌, ◌≤◌, ◌==◌, nat_lt, Bool, true, false, cond, if◌then◌else◌, List, [], ◌∷◌, ◌++◌, map, filter, slice_get, position, Option, Some, None, ◌⊎◌, ◌≢◌, inl, inr, refl, sym, ap, ◌∙◌, arith}
 use Rattle.std.specs.List.{AllByRecursion, IsDistinct, last_or}
 use Rattle.std.specs.Map.{keys_of, values_of}
 use Rattle.std.proofs.lemmas.Bool.{lt-ltb, eq-eqb, ne_eqb}
@@ -17,12 +17,11 @@ use Rattle.predicate_state.specs.PredicateStates.{PredicateState}
 use Rattle.predicate_state.specs.PredicateTable.{LeafKey, same_leaves}
 use Rattle.metric_producer.specs.Calls.{Learned}
 use Rattle.duration_metric.specs.declared.change.InnerChange.{InnerChange}
-use Rattle.duration_metric.specs.declared.inner.Known.{Known}
 use Rattle.duration_metric.specs.declared.sparse_keys.SparseEntry.{SparseEntry}
 use Rattle.duration_metric.specs.declared.sparse_keys.SparseKeys.{SparseKeys}
-use Rattle.duration_metric.specs.InnerKeys.{DurationCall, inner_state, inner_keys, known_by, known_at, told_of, last_known}
-use Rattle.duration_metric.specs.SparseCalls.{is_timed, arrival_for, keys_on, is_on, time_on}
-use Rattle.duration_metric.specs.SparseEntries.{entry_time, saved_time, count_of, state_of, EntryStands, RowStands, KeysStand, told_entry}
+use Rattle.duration_metric.specs.InnerKeys.{DurationCall, inner_state, inner_keys, known_by, known_at, last_known}
+use Rattle.duration_metric.specs.SparseCalls.{is_timed, arrival_for, is_on, time_on}
+use Rattle.duration_metric.specs.SparseEntries.{saved_time, count_of, state_of, EntryStands, RowStands, KeysStand, told_entry}
 use Rattle.duration_metric.proofs.SparseKnownLemmas.{last_or-append, state_idle, known-listed, time-on}
 use Rattle.duration_metric.proofs.SparseRowLemmas.{Row, leaves_equiv, all_map, all_at, counts_set, IsOnAsCounted}
 use Rattle.duration_metric.proofs.SparseStepLemmas.{saved_is, saved_within, keys_are, all_counted, all_listed, Becomes, passes, others_after, turned}
@@ -256,7 +255,8 @@ module _ (spec : PredSpec) (calls : List DurationCall) (at : ℕ) where
               let was : row ≡ (other.0, own.0) = same_Some row (other.0, own.0)
               (sym there ∙ ap (slice_get it.table.rows) own.1 ∙ own.2) in
               subst (λ (r : Row). RowStands spec (with more) at r)
-              (ap (λ (r : Row). let pair : Row = (r.0, entry) in pair) was ∙ ap (λ e. let pair : Row = (other.0, e) in pair) (sym own.3))
+              (ap (λ (r : Row). let pair : Row = (r.0, entry) in pair) was
+              ∙ ap (λ e. let pair : Row = (other.0, e) in pair) (sym own.3))
               (told_stands change.place row fits refl there)
           | inr apart ↦ other_stands i other apart.0 apart.1
         ]))

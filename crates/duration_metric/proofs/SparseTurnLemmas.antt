@@ -1,5 +1,5 @@
 -- What starts and stops make of the inner keys of a longest duration, by what the code finds.
-use Rattle.std.proofs.Common.{subst, ◌≡◌, ◌≢◌, ℕ, zero, suc, ◌+◌, ◌^◌, ◌<◌, ◌≤◌, ◌==◌, nat_lt, Bool, true, false, not, ◌&&◌, if◌then◌else◌, List, [], ◌∷◌, ◌++◌, map, length, slice_get, position, Contains, Option, Some, None, ◌⊎◌, inl, inr, ⊎_elim, refl, sym, ap, ◌∙◌, append_assoc, append-nil, arith}
+use Rattle.std.proofs.Common.{subst, ◌≡◌, ℕ, zero, suc, ◌+◌, ◌^◌, ◌<◌, ◌≤◌, ◌==◌, nat_lt, Bool, true, false, not, ◌&&◌, if◌then◌else◌, List, [], ◌∷◌, ◌++◌, map, length, slice_get, position, Contains, Option, Some, None, ◌⊎◌, inl, inr, ⊎_elim, refl, sym, ap, ◌∙◌, append_assoc, append-nil, arith}
 use Rattle.std.specs.List.{flat_map}
 use Rattle.std.specs.Map.{keys_of, values_of, lookup}
 use Rattle.std.proofs.lemmas.Bool.{lt-ltb, le-ltb}
@@ -25,7 +25,7 @@ use Rattle.duration_metric.specs.declared.change.InnerChange.{InnerChange}
 use Rattle.duration_metric.specs.declared.sparse_books.SparseBooks.{SparseBooks}
 use Rattle.duration_metric.specs.declared.sparse_keys.SparseEntry.{SparseEntry}
 use Rattle.duration_metric.specs.declared.sparse_keys.SparseKeys.{SparseKeys}
-use Rattle.duration_metric.specs.InnerKeys.{DurationCall, known_by}
+use Rattle.duration_metric.specs.InnerKeys.{known_by}
 use Rattle.duration_metric.specs.SparseCalls.{sparse_comes}
 use Rattle.duration_metric.specs.SparseEntries.{count_of, state_of, KeysStand, entry_marks, row_marks, started_entry, told_entry, fresh_entry, TakesKeyEvent, ListsKey, LearnsDelta}
 use Rattle.duration_metric.specs.SparseBooksStand.{TakesMarks}
@@ -95,7 +95,8 @@ stays_on false true brought is = refl
 stays_on b false brought is = absurd (cc)
 
 -- a stop of what is on makes it off
-turns_off : {M : Type 0} (b : Bool) (brought : List M) → (if b && true then brought else []) ≡ (if b then brought else [])
+turns_off : {M : Type 0} (b : Bool) (brought : List M)
+    → (if b && true then brought else []) ≡ (if b then brought else [])
 turns_off true brought = refl
 turns_off false brought = refl
 
@@ -235,12 +236,23 @@ module _ (old : SparseKeys) (at : ℕ) (key : LeafKey) where
         → state_after same_leaves old.spec (state_of old) event key
         ≡ with_new_key old.spec.bound (state_of old) key count
         → length old.table.rows < old.table.bound → [] ≡ marks
-        → TakesKeyEvent old (record old { table = record old.table { rows = old.table.rows ++ (key, fresh_entry count at) ∷ [] } })
+        → TakesKeyEvent old
+        (record old { table = record old.table { rows = old.table.rows ++ (key, fresh_entry count at) ∷ [] } })
         at (record { event = event; key = key }) marks
     room_is count marks event acts room none spec calls last has later =
         let within : length (map count_of old.table.rows) < old.spec.bound =
-        omega (arith, length-map old.table.rows count_of, has.bound_is, ap (λ (s : PredSpec). s.bound) has.spec_is, room) in
-        subst (λ ms. KeysStand (record old { table = record old.table { rows = old.table.rows ++ (key, fresh_entry count at) ∷ [] } })
+        omega (
+          arith,
+          length-map old.table.rows count_of,
+          has.bound_is,
+          ap (λ (s : PredSpec). s.bound) has.spec_is,
+          room,
+        ) in
+        subst (λ ms. KeysStand (record old {
+          table = record old.table {
+            rows = old.table.rows ++ (key, fresh_entry count at) ∷ [];
+          };
+        })
         spec (calls ++ Got at (record { event = event; key = key }) ∷ []) at
         × (sparse_comes spec calls at (record { event = event; key = key }) ≡ ms)) none
         (takes_added old at (record { event = event; key = key }) count
@@ -260,7 +272,13 @@ module _ (old : SparseKeys) (at : ℕ) (key : LeafKey) where
         at (record { event = event; key = key }) marks
     full_is count dropped marks event acts full is counts spec calls last has later =
         let past : old.spec.bound ≤ length (map count_of old.table.rows) =
-        omega (arith, length-map old.table.rows count_of, has.bound_is, ap (λ (s : PredSpec). s.bound) has.spec_is, full) in
+        omega (
+          arith,
+          length-map old.table.rows count_of,
+          has.bound_is,
+          ap (λ (s : PredSpec). s.bound) has.spec_is,
+          full,
+        ) in
         takes_away old at (record { event = event; key = key }) dropped marks
         (acts ∙ ap (λ b. if b then record (state_of old) { counts = (state_of old).counts ++ (key, count) ∷ [] }
         else record (state_of old) { dropped = count_in_u64 ((state_of old).dropped + 1) })

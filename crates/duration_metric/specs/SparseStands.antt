@@ -1,9 +1,9 @@
 -- What a producer of longest durations stands for.
-use Rattle.std.specs.Prelude.{◌≡◌, ℕ, ◌<◌, ◌≤◌, List}
+use Rattle.std.specs.Prelude.{ℕ, ◌<◌, ◌≤◌, List}
 use Rattle.atom_record.specs.declared.value.MetricKey.{MetricKey}
 use Rattle.bucket_meaning.specs.Marks.{Books}
 use Rattle.bucket_meaning.specs.Meaning.{books_by}
-use Rattle.metric_producer.specs.Calls.{Standing, standing_of}
+use Rattle.metric_producer.specs.Calls.{standing_of}
 use Rattle.metric_producer.specs.Collecting.{calls_mean, Law}
 use Rattle.metric_producer.specs.declared.row.Row.{Row}
 use Rattle.duration_metric.specs.declared.change.InnerEvent.{InnerEvent}
@@ -21,7 +21,8 @@ pub record HasSparse (it : MaxProducer) (params : DurationParams) (calls : List 
   pub held : HoldsTimes it.books params.spec.bound books
   pub keys : KeysStand it.keys params.spec calls (standing_of (duration_demands params) calls).last
   pub sized : 0 < params.size
-  pub in_bucket : (standing_of (duration_demands params) calls).last ≤ (standing_of (duration_demands params) calls).next_end
+  pub in_bucket : (standing_of (duration_demands params) calls).last
+      ≤ (standing_of (duration_demands params) calls).next_end
 
 -- what calls mean for longest durations
 abbrev pub sparse_mean : DurationParams → List DurationCall → Books (MetricKey × ℕ)

@@ -1,9 +1,11 @@
 //! The longest time that a key of a predicate was on, by key.
-ghost use Rattle.std.specs.Prelude.{◌≡◌, ◌<◌, ◌≤◌, [], OnOk};
+ghost use Rattle.std.specs.Prelude.{◌≡◌, ◌<◌, ◌≤◌, List, [], length, slice_get, OnOk};
+ghost use Rattle.std.specs.Option.{option_copied};
 ghost use Rattle.bucket_meaning.specs.Limits.{longest_bucket, time_limit, most_keys};
 ghost use Rattle.metric_producer.specs.Calls.{Got};
 ghost use Rattle.metric_producer.specs.Moves.{Moves};
 ghost use Rattle.predicate_state.specs.declared.event.PredEvent.TheVariants.{Start, Stop, StopAll};
+ghost use Rattle.duration_metric.specs.InnerKeys.{DurationParams, DurationCall, inner_keys, last_truth};
 ghost use Rattle.duration_metric.specs.SparseStands.{SparseStandsFor, sparse_law};
 
 use crate::sparse_books::SparseBooks;
@@ -41,20 +43,28 @@ impl MaxProducer {
         }
     }
 
-    /// The number of inner keys that are listed.
-    pub fn inner_len(&self) -> usize {
+    /// The number of inner keys.
+    pub fn inner_len(&self) -> usize
+        ensures { (params : DurationParams) (calls : List DurationCall) → SparseStandsFor self.now params calls
+            → result ≡ length (inner_keys params.spec calls) }
+    {
         self.keys.table.len()
     }
 
-    /// The inner key at a place, or none past the end.
-    pub fn inner_key(&self, place: usize) -> Option<&DimKey> {
+    /// The inner key at a place, from 0, or none past the end.
+    pub fn inner_key(&self, place: usize) -> Option<&DimKey>
+        ensures { (params : DurationParams) (calls : List DurationCall) → SparseStandsFor self.now params calls
+            → option_copied result ≡ slice_get (inner_keys params.spec calls) place }
+    {
         let (key, _entry) = self.keys.table.pair(place)?;
         Some(key)
     }
 
-    /// The truth that was last told of the inner key at a place. There is none past the end, and none of a key of which
-    /// nothing was told since it is listed.
-    pub fn inner_truth(&self, place: usize) -> Option<Truth> {
+    /// The truth that was told last of the inner key at a place; none past the end, and where none was told of the key.
+    pub fn inner_truth(&self, place: usize) -> Option<Truth>
+        ensures { (params : DurationParams) (calls : List DurationCall) → SparseStandsFor self.now params calls
+            → result ≡ last_truth params.spec calls place }
+    {
         let (_key, entry) = self.keys.table.pair(place)?;
         let Some(known) = &entry.known else {
             return None;

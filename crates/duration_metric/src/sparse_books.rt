@@ -99,11 +99,7 @@ impl SparseBooks {
 }
 
 // One more time of a key.
-fn admit(
-    table: &mut Guarded<MetricKey, u64>,
-    key: MetricKey,
-    time: u64,
-) -> Result<(), AllocError>
+fn admit(table: &mut Guarded<MetricKey, u64>, key: MetricKey, time: u64) -> Result<(), AllocError>
     ensures { OnOk result (TakesTime table.old table.new key time) }
 {
     match table.admit(key, 0)? {

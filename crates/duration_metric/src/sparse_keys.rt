@@ -198,7 +198,14 @@ fn tell(table: &mut Guarded<DimKey, SparseEntry>, at: u64, change: InnerChange)
     ensures none { slice_get (values_of table.old.rows) change.place ≡ None → table.new ≡ table.old }
 {
     if let Some(entry) = table.value_at(change.place as usize) {
-        tell_entry(entry, at, Known { truth: change.truth, out: change.out });
+        tell_entry(
+            entry,
+            at,
+            Known {
+                truth: change.truth,
+                out: change.out,
+            },
+        );
     }
 }
 

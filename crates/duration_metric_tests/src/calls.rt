@@ -4,7 +4,7 @@
 use super::shown::{push_closed, push_key};
 use atom_record::{DimKey, Leaf, MetricKey, Value};
 use bucket_clock::Crossings;
-use duration_metric::{InnerChange, InnerDelta, InnerEvent, Producer, SumProducer};
+use duration_metric::{InnerChange, InnerDelta, InnerEvent, MaxProducer, Producer, SumProducer};
 use predicate_state::{PredEvent, Truth};
 use sd_base::Seq;
 use std::alloc::{AllocError, Global};
@@ -20,6 +20,20 @@ pub trait Timed: Producer<Event = InnerEvent, After = InnerDelta, Value = u64> {
 }
 
 impl Timed for SumProducer {
+    fn len(&self) -> usize {
+        self.inner_len()
+    }
+
+    fn key(&self, place: usize) -> Option<&DimKey> {
+        self.inner_key(place)
+    }
+
+    fn truth(&self, place: usize) -> Option<Truth> {
+        self.inner_truth(place)
+    }
+}
+
+impl Timed for MaxProducer {
     fn len(&self) -> usize {
         self.inner_len()
     }

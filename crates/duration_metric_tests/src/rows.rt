@@ -1,7 +1,7 @@
 //! The rows: what a producer is made with, its calls, and what its reports show.
 use super::calls::played;
 use config_types::PredSpec;
-use duration_metric::SumProducer;
+use duration_metric::{MaxProducer, SumProducer};
 use std::alloc::{AllocError, Global};
 use test_tools::{Row, Table, Tester, unsigned};
 
@@ -10,31 +10,37 @@ pub struct Durations;
 
 impl Table for Durations {
     fn marks(&self) -> &'static str {
-        "sum calls shows"
+        "sum longest calls shows"
     }
 
     fn run(&self, alloc: Global, tester: &mut Tester, row: &Row<'_>) -> Result<(), AllocError> {
-        match made_of(row.word("sum")) {
+        let longest = row.word("longest");
+        let is_longest = !longest.is_empty();
+        let text = if is_longest { longest } else { row.word("sum") };
+        match made_of(is_longest, text) {
             Some(made) => run_row(alloc, tester, row, made),
-            None => tester.differs("no producer", row.word("sum")),
+            None => tester.differs("no producer", text),
         }
     }
 }
 
-/// What a producer is made with: where its time begins, how long a bucket is, and how its inner keys are kept.
+/// What a producer is made with: whether the longest time is shown or their sum, where its time begins, how long a bucket
+/// is, and how its inner keys are kept.
 #[derive(Clone, Copy)]
 struct Made {
+    is_longest: bool,
     base: u64,
     size: u64,
     spec: PredSpec,
 }
 
 /// What a producer is made with, as `0 10 2`, and then `nesting`, `unknown`, both, or neither.
-fn made_of(text: &str) -> Option<Made> {
+fn made_of(is_longest: bool, text: &str) -> Option<Made> {
     let (base, rest) = text.split_once(' ')?;
     let (size, rest) = rest.split_once(' ')?;
     let (bound, rest) = rest.split_once(' ').unwrap_or((rest, ""));
     Some(Made {
+        is_longest,
         base: unsigned(base)?,
         size: unsigned(size)?,
         spec: PredSpec {
@@ -74,6 +80,10 @@ fn played_by(alloc: Global, made: Made, calls: &str) -> Result<Option<String>, A
     }
     if made.spec.bound < 1 || made.spec.bound > 3000 {
         return Ok(None);
+    }
+    if made.is_longest {
+        let mut longest = MaxProducer::new(alloc, made.base, made.size, made.spec);
+        return Ok(Some(played(alloc, &mut longest, made.size, calls)?));
     }
     let mut sums = SumProducer::new(alloc, made.base, made.size, made.spec);
     Ok(Some(played(alloc, &mut sums, made.size, calls)?))

@@ -1,5 +1,5 @@
 -- The loop over the slots.
-use Rattle.std.proofs.Common.{◌≡◌, ℕ, zero, suc, ◌+◌, List, [], ◌∷◌, length, take, slice_get, Option, Some, None, refl, sym, ap, subst, ◌∙◌, arith}
+use Rattle.std.proofs.Common.{◌≡◌, ℕ, zero, suc, ◌+◌, List, [], ◌∷◌, length, take, slice_get, Some, None, refl, sym, ap, subst, ◌∙◌, arith}
 use Rattle.std.specs.Map.{values_of}
 use Rattle.atom_record.specs.declared.atom.Atom.{Atom}
 use Rattle.atom_record.specs.declared.log.LogFrame.{LogFrame}

@@ -79,7 +79,13 @@ impl LiveInstance {
         ensures ticks { OnOk result (AreTicks (asked_by frame.now self.now.matchers)
             (J.ticks judge.old) (J.ticks judge.new)) }
     {
-        judge_all(judge, self.instance.matchers(), self.order.as_slice(), frame, truths)
+        judge_all(
+            judge,
+            self.instance.matchers(),
+            self.order.as_slice(),
+            frame,
+            truths,
+        )
     }
 
     /// Takes in a frame of the log as it is shown.

@@ -1,4 +1,4 @@
--- What a pushed gauge shows is what its calls mean: lemmas on `specs/PushedGaugeCalls.antt`, for the proofs of instances.
+-- What a pushed gauge shows is what its calls mean: lemmas on `specs/PushedGaugeCalls.antt`, for proofs of instances.
 use Rattle.std.proofs.Common.{◌≡◌, ℕ, Bool, List, Option, Some, None, refl}
 use Rattle.std.specs.Option.{option_map}
 use Rattle.atom_record.specs.declared.atom.Atom.{Atom}

@@ -34,8 +34,8 @@ parts_from_entries : (P : ℕ → Type 0) (before : Option AtomField) (entries :
     → All (λ (part : Part). P part.number) (parts_after before entries)
 parts_from_entries P before [] all = λ k d below. absurd (omega arith)
 parts_from_entries P before (entry ∷ after) all =
-    let others =
-    parts_from_entries P (Some entry) after (tail_all (λ (e : AtomField). P (as_field_number e.field)) entry after all) in
+    let others = parts_from_entries P (Some entry) after
+    (tail_all (λ (e : AtomField). P (as_field_number e.field)) entry after all) in
     elim (goes_on before entry) as (λ joins. All (λ (part : Part). P part.number)
     (if joins then parts_after (Some entry) after else part_at entry after ∷ parts_after (Some entry) after)) [
       | true ↦ others

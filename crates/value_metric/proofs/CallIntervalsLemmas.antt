@@ -114,7 +114,8 @@ module _ {S : Type 0} where
 open_by_calls-push : (calls : List PulledCall) (call : PulledCall)
     → let after = calls ++ call ∷ [] in
     open_by_calls after
-    ≡ opened (is_told_true calls) (is_told_true after) (begun_by_calls calls) (starts_at call) (last_found calls) (last_found after)
+    ≡ opened (is_told_true calls) (is_told_true after) (begun_by_calls calls) (starts_at call) (last_found calls)
+    (last_found after)
 open_by_calls-push calls call =
     let begun_at : List PulledCall → PulledCall → List (Option KeyedInts) =
     λ before call. begun_at_boundaries before call ++ begun_by_call before call in
@@ -149,7 +150,8 @@ open-same calls call starts told =
     ∙ ap (λ holds. opened (is_told_true calls) holds (begun_by_calls calls) (starts_at call) (last_found calls)
     (last_found after))
     (is_told_true-push calls call ∙ ap (λ l. is_truth (told_last (last_truth calls) l)) told)
-    ∙ ap (λ l. opened (is_told_true calls) (is_told_true calls) (begun_by_calls calls) l (last_found calls) (last_found after)) starts
+    ∙ ap (λ l. opened (is_told_true calls) (is_told_true calls) (begun_by_calls calls) l (last_found calls)
+    (last_found after)) starts
     ∙ open_stays (is_told_true calls) (begun_by_calls calls) (last_found calls) (last_found after)
 
 -- what a condition makes of what was open
@@ -176,5 +178,6 @@ open-begins calls call start starts begins told =
     ∙ ap (λ holds. opened (is_told_true calls) holds (begun_by_calls calls) (starts_at call) (last_found calls)
     (last_found after))
     (is_told_true-push calls call ∙ ap (λ l. is_truth (told_last (last_truth calls) l)) told)
-    ∙ ap (λ l. opened (is_told_true calls) (is_told_true calls) (begun_by_calls calls) l (last_found calls) (last_found after)) begins
+    ∙ ap (λ l. opened (is_told_true calls) (is_told_true calls) (begun_by_calls calls) l (last_found calls)
+    (last_found after)) begins
     ∙ open_begins (is_told_true calls) (begun_by_calls calls) start starts (last_found calls) (last_found after)

@@ -10,9 +10,9 @@ use Rattle.kept_rows.specs.KeptRows.{Keeping, IsKept, AddsRows}
 use Rattle.metric_producer.specs.declared.row.Row.{Row}
 use Rattle.metric_kinds.specs.Values.{unless_hidden}
 use Rattle.value_metric.specs.Totals.{total_rows, shown_total, bucket_rows, row_weighs, AddsCounted}
-use Rattle.value_metric.proofs.MarksTaken.{given_more, given_all}
+use Rattle.value_metric.proofs.MarksTaken.{given_more}
 
--- the rows of one key in a part, one at most
+-- each admitted key with what its integers give
 abbrev Totals : Type 0
 Totals = List (MetricKey × Option ℤ)
 
@@ -58,14 +58,6 @@ keeps_more hides_zeros start end totals place entry old mid new count more at be
           (counts_append old mid new count more (flat_map gives (take place totals)) (gives entry) before.0 one),
       omega (arith, before.1, one.1, few),
     )
-
--- all keys have their rows
-pub keeps_all : (hides_zeros : Bool) (start end : ℕ) (totals : Totals) (place : ℕ) (old new : Keeping (Row ℤ))
-    (count : ℕ) → length totals ≤ place
-    → AddsCounted old new count (flat_map (total_rows hides_zeros start end) (take place totals))
-    → AddsCounted old new count (flat_map (total_rows hides_zeros start end) totals)
-keeps_all hides_zeros start end totals place old new count past has =
-    subst (AddsCounted old new count) (given_all (total_rows hides_zeros start end) totals place past) has
 
 same_one : (hides : Bool) (row other : Row ℤ)
     → length (if hides then [] else row ∷ []) ≡ length (if hides then [] else other ∷ [])

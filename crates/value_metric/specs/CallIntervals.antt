@@ -24,7 +24,8 @@ begun_at_boundaries before call =
 -- the interval that begins where a call makes the condition true
 abbrev pub begun_by_call : List PulledCall → PulledCall → List (Option KeyedInts)
 begun_by_call before call =
-    let after = before ++ call ∷ [] in if is_told_true after && not (is_told_true before) then last_found after ∷ [] else []
+    let after = before ++ call ∷ [] in
+    if is_told_true after && not (is_told_true before) then last_found after ∷ [] else []
 
 -- all intervals that have begun, in order, each with what was found at its beginning
 abbrev pub begun_by_calls : List PulledCall → List (Option KeyedInts)

@@ -30,4 +30,3 @@ returns-in-AtomAt-clause-knows c =
 -- and the predicates stay
 pub returns-in-AtomAt-clause-predicates : goal.returns-in-AtomAt-clause-predicates
 returns-in-AtomAt-clause-predicates c = ap (λ (known : Known). known.predicates) c.self.view_is
-

@@ -1,5 +1,4 @@
 -- What a turn brings is put down.
-use Rattle.std.proofs.Common.{refl}
 use Rattle.std.proofs.lemmas.Result.{on_ok_weaker}
 use Rattle.duration_metric.proofs.SparseBooksLemmas.{comes, loses}
 use Rattle.duration_metric.proofs.sparse_books.SparseBooks.note.Goals as goal

@@ -21,7 +21,8 @@ returns-then-less-gt0 c =
     let place = c.in-Some.place in
     let key = c.args.key in
     let entry = c.in-Some-pair.entry.now in
-    let there = own_row rows place key (c.in-Some-pair._key.now, entry) c.in-Some-pair.ensures c.in-Some.ensures.there in
+    let there = own_row rows place key (c.in-Some-pair._key.now, entry) c.in-Some-pair.ensures
+    c.in-Some.ensures.there in
     stays_started c.args.self.now c.args.at key place entry (sym c.in-Some.ensures.value) there c.add_stop-less.result
     c.set_count.new.table c.add_stop-less.ensures c.if-less-gt0.true
     (c.set_count.ensures entry (value_of_row rows place (key, entry) there))
@@ -33,7 +34,8 @@ returns-then-self c =
     let place = c.in-Some.place in
     let key = c.args.key in
     let entry = c.in-Some-pair.entry.now in
-    let there = own_row rows place key (c.in-Some-pair._key.now, entry) c.in-Some-pair.ensures c.in-Some.ensures.there in
+    let there = own_row rows place key (c.in-Some-pair._key.now, entry) c.in-Some-pair.ensures
+    c.in-Some.ensures.there in
     stops_listed c.args.self.now c.args.at key place entry (sym c.in-Some.ensures.value) there
     c.set_count-then-self.new.table (turn_marks c.in_ok-turn.turn) (omega (arith, c.ranges.at))
     (omega (arith, c.if-less-gt0.false, c.add_stop-less.ensures)) c.if-self.true
@@ -46,7 +48,8 @@ returns-in_default-remove c =
     let place = c.in-Some.place in
     let key = c.args.key in
     let entry = c.in-Some-pair.entry.now in
-    let there = own_row rows place key (c.in-Some-pair._key.now, entry) c.in-Some-pair.ensures c.in-Some.ensures.there in
+    let there = own_row rows place key (c.in-Some-pair._key.now, entry) c.in-Some-pair.ensures
+    c.in-Some.ensures.there in
     absurd (found_entry rows place key entry (sym c.in-Some.ensures.value) there c.in_default-remove.ensures.value)
 
 -- the key goes off, and leaves
@@ -56,7 +59,8 @@ returns c =
     let place = c.in-Some.place in
     let key = c.args.key in
     let entry = c.in-Some-pair.entry.now in
-    let there = own_row rows place key (c.in-Some-pair._key.now, entry) c.in-Some-pair.ensures c.in-Some.ensures.there in
+    let there = own_row rows place key (c.in-Some-pair._key.now, entry) c.in-Some-pair.ensures
+    c.in-Some.ensures.there in
     let gone = own_entry rows place key entry c.in-Some-remove.gone (sym c.in-Some.ensures.value) there
     c.in-Some-remove.ensures.value in
     stops_gone c.args.self.now c.args.at key place entry (sym c.in-Some.ensures.value) there c.remove.new.self

@@ -1,9 +1,8 @@
 -- What the evaluation asks for is always so of a live configuration.
-use Rattle.std.proofs.Common.{◌∙◌, sym, ap, subst}
+use Rattle.std.proofs.Common.{sym, subst}
 use Rattle.std.specs.List.{All}
 use Rattle.link_graph.specs.Links.{AreInRange}
 use Rattle.matcher_truths.specs.MatcherTruths.{named_places, MayBeAsked}
-use Rattle.hub_core.specs.FrameTruths.{truths_by}
 use Rattle.hub_core.proofs.live_instance.LiveInstance.judge.Goals as goal
 
 pub judge_all-requires-clause-in_range : goal.judge_all-requires-clause-in_range
