@@ -1,5 +1,5 @@
 -- The active keys: as a walk over the inner keys finds them, and as the calls tell of them.
-use Rattle.std.proofs.Common.{◌≡◌, ℕ, zero, suc, ◌+◌, ◌≤◌, Bool, true, false, nat_lt, if◌then◌else◌, List, [], ◌∷◌, ◌++◌, map, length, Option, Some, None, refl, sym, ap, subst, ◌∙◌, arith, append-nil, append_assoc}
+use Rattle.std.proofs.Common.{◌≡◌, ℕ, ◌+◌, ◌≤◌, Bool, true, false, nat_lt, if◌then◌else◌, List, [], ◌∷◌, ◌++◌, map, length, Option, Some, None, refl, sym, ap, ◌∙◌, arith, append-nil, append_assoc}
 use Rattle.std.specs.List.{flat_map, last_or, IsDistinct}
 use Rattle.std.specs.Option.{unwrap_or}
 use Rattle.std.proofs.lemmas.List.{length-append}
@@ -13,13 +13,13 @@ use Rattle.predicate_state.specs.declared.truth.Truth.{Truth}
 use Rattle.predicate_state.specs.declared.truth.Truth.TheVariants.{False, Unknown, True}
 use Rattle.predicate_state.specs.PredicateStates.{PredicateState}
 use Rattle.predicate_state.specs.PredicateTable.{LeafKey}
-use Rattle.metric_producer.specs.Calls.{Got, Learned}
+use Rattle.metric_producer.specs.Calls.{Learned}
 use Rattle.metric_kinds.specs.Keys.{is_same_key}
 use Rattle.duration_metric.specs.declared.change.InnerDelta.{InnerDelta}
 use Rattle.duration_metric.specs.declared.inner.Known.{Known}
 use Rattle.duration_metric.specs.declared.inner.Inner.{Inner}
 use Rattle.duration_metric.specs.declared.inner.InnerTable.{InnerTable}
-use Rattle.duration_metric.specs.InnerKeys.{DurationCall, inner_state, last_known}
+use Rattle.duration_metric.specs.InnerKeys.{DurationCall, last_known}
 use Rattle.duration_metric.specs.InnerStands.{row_count, AreKnown, InnersStandFor}
 use Rattle.duration_metric.specs.SumCalls.{while_true, known_out, counted_out, active_after, active_told, active_since}
 use Rattle.duration_metric.specs.SumSteps.{out_for, row_out, active_in}

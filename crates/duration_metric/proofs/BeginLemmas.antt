@@ -2,7 +2,7 @@
 use Rattle.std.proofs.Common.{◌≡◌, ◌⊎◌, ℕ, ◌+◌, ◌-◌, ◌<◌, ◌≤◌, Bool, true, false, not, ◌||◌, cond, if◌then◌else◌, List, [], ◌∷◌, ◌++◌, map, filter, length, slice_get, Contains, Some, refl, sym, ap, subst, ◌∙◌, arith, ⊎_elim, append-nil, append_assoc}
 use Rattle.std.specs.List.{list_any}
 use Rattle.std.specs.Map.{keys_of}
-use Rattle.std.proofs.lemmas.Bool.{cases_Bool, true≢false}
+use Rattle.std.proofs.lemmas.Bool.{true≢false}
 use Rattle.std.proofs.lemmas.List.{map-append, length-map}
 use Rattle.std.proofs.lemmas.List.Elements.{filter-append}
 use Rattle.std.proofs.lemmas.List.Folds.{list_any-append}
@@ -18,7 +18,7 @@ use Rattle.dim_table.proofs.KeyLemmas.{Contains-from_place, is_among-from_Contai
 use Rattle.metric_kinds.specs.Keys.{is_same_key}
 use Rattle.metric_kinds.specs.Runs.{newly}
 use Rattle.duration_metric.specs.declared.sum.Span.{Span}
-use Rattle.duration_metric.specs.SumSteps.{begun, Begins, HasFresh, HasSpans, HasBegun, BeginsAll}
+use Rattle.duration_metric.specs.SumSteps.{begun, BeginsRun, HasSpans, HasBegun, BeginsAll}
 
 -- the keys of rows by key
 keys_of-spans : (span : MetricKey → Span) (ks : List MetricKey) → keys_of (map (λ key. (key, span key)) ks) ≡ ks
@@ -121,18 +121,6 @@ newly-push before some key =
       one true = refl
       one false = refl
 
--- no key came yet
-pub begins_none : (it : Table MetricKey Span) (before : List MetricKey) (at : ℕ) → BeginsAll it it before [] at
-begins_none it before at bound span seen lost fresh has = record {
-  more = 0;
-  has = record {
-    bound_is = has.bound_is;
-    rows = has.rows ∙ ap (λ ks. map (λ key. (key, span key)) (admitted is_same_key bound ks)) (sym (append-nil seen));
-    dropped_are = has.dropped_are ∙ ap count_in_u64 (omega arith);
-  };
-  counted = ap (dropped is_same_key bound) (append-nil seen) ∙ omega arith;
-}
-
 either_first : (first second : Bool) → first ≡ true → (first || second) ≡ true
 either_first true second is = refl
 either_first false second is = absurd (true≢false (sym is))
@@ -143,7 +131,7 @@ neither false second none = refl
 
 -- one key more
 pub begins_more : (first old new : Table MetricKey Span) (before some : List MetricKey) (key : MetricKey) (at : ℕ)
-    → BeginsAll first old before some at → Begins old new before key at
+    → BeginsAll first old before some at → BeginsRun old new before key at
     → BeginsAll first new before (some ++ key ∷ []) at
 begins_more first old new before some key at begins one bound span seen lost fresh has =
     let came = newly is_same_key before some in
@@ -191,9 +179,11 @@ none_newly : (all keys : List MetricKey)
 none_newly all [] there = refl
 none_newly all (key ∷ keys) there =
     let here : is_among is_same_key key all ≡ true =
-    there key (either_first (is_same_key key key) (is_among is_same_key key keys) ((metric_key_exact key key).1 refl)) in
+    there key
+    (either_first (is_same_key key key) (is_among is_same_key key keys) ((metric_key_exact key key).1 refl)) in
     ap (λ b. cond (not b) (key ∷ newly is_same_key all keys) (newly is_same_key all keys)) here
-    ∙ none_newly all keys (λ other is. there other (or_later (is_same_key key other) (is_among is_same_key other keys) is))
+    ∙ none_newly all keys
+    (λ other is. there other (or_later (is_same_key key other) (is_among is_same_key other keys) is))
   where
     or_later : (b c : Bool) → c ≡ true → (b || c) ≡ true
     or_later true c is = refl

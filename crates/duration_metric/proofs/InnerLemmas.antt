@@ -1,20 +1,20 @@
 -- A table of inner keys through an event: its counts are those of a predicate's table, and what was told stays.
-use Rattle.std.proofs.Common.{◌≡◌, ℕ, zero, suc, ◌<◌, Bool, true, false, not, cond, nat_lt, if◌then◌else◌, List, [], ◌∷◌, ◌++◌, map, filter, length, slice_get, Contains, Option, Some, None, ◌+◌, refl, sym, ap, subst, ◌∙◌, arith, ⊎_elim}
+use Rattle.std.proofs.Common.{◌≡◌, ℕ, zero, suc, Bool, true, false, not, cond, nat_lt, if◌then◌else◌, List, [], ◌∷◌, ◌++◌, map, filter, length, slice_get, Contains, Option, Some, None, ◌+◌, refl, sym, ap, subst, ◌∙◌, arith, ⊎_elim}
 use Rattle.std.specs.Map.{keys_of, values_of}
 use Rattle.std.proofs.lemmas.Bool.{cases_Bool, lt-ltb, le-ltb}
 use Rattle.std.proofs.lemmas.List.{map-append, length-map}
-use Rattle.std.proofs.lemmas.Option.{none-some, same_Some}
+use Rattle.std.proofs.lemmas.Option.{same_Some}
 use Rattle.bucket_meaning.specs.Kept.{count_in_u64}
 use Rattle.dim_table.specs.declared.answer.Admit.{Admit}
 use Rattle.dim_table.specs.declared.answer.Admit.TheVariants.{At, Full}
-use Rattle.dim_table.specs.Table.{Table, keys, set_value_at, with_value_at, without, IsThere, IsNew, IsTurnedAway, Admits}
+use Rattle.dim_table.specs.Table.{Table, keys, set_value_at, with_value_at, without, IsThere, IsNew, Admits}
 use Rattle.dim_table.proofs.KeyLemmas.{Contains-from_place}
-use Rattle.predicate_state.specs.PredicateStates.{PredicateState, with_new_key, without_key, state_after_stop_all}
+use Rattle.predicate_state.specs.PredicateStates.{PredicateState, without_key}
 use Rattle.predicate_state.specs.PredicateTable.{LeafKey, same_leaves}
 use Rattle.duration_metric.specs.declared.inner.Known.{Known}
 use Rattle.duration_metric.specs.declared.inner.Inner.{Inner}
 use Rattle.duration_metric.specs.declared.inner.InnerTable.{InnerTable}
-use Rattle.duration_metric.specs.InnerStands.{row_count, state_in, AreKnown, ChangesTo, IsAsSpec, SetsCount, ListsKey}
+use Rattle.duration_metric.specs.InnerStands.{row_count, state_in, AreKnown, ChangesTo, SetsCount, ListsKey}
 
 -- the keys with their counts are the keys
 pub keys_of-counts : (rows : List (LeafKey × Inner)) → keys_of (map row_count rows) ≡ keys_of rows
@@ -116,17 +116,6 @@ takes_out old new key is = record {
   known_are = λ known absent all.
       subst (λ (t : InnerTable). AreKnown known t.keys.rows) (sym is)
       (known-filter known (λ row. not (same_leaves key row.0)) old.keys.rows all);
-}
-
--- all keys are taken out
-pub takes_all_out : (old new : InnerTable)
-    → new ≡ record old { unknown = false; keys = record old.keys { rows = [] } }
-    → ChangesTo old new (state_after_stop_all (state_in old))
-takes_all_out old new is = record {
-  spec_is = ap (λ (t : InnerTable). t.spec) is;
-  bound_is = ap (λ (t : InnerTable). t.keys.bound) is;
-  state_is = ap state_in is;
-  known_are = λ known absent all. subst (λ (t : InnerTable). AreKnown known t.keys.rows) (sym is) tt;
 }
 
 -- a new key is listed, of which nothing was told, or it is counted

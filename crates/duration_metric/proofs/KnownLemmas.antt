@@ -5,7 +5,7 @@ use Rattle.std.specs.List.{flat_map, after_last, suffix_len, prefix_len, last_or
 use Rattle.std.specs.Map.{keys_of, values_of}
 use Rattle.std.specs.Option.{option_map, option_and_then}
 use Rattle.std.specs.Cmp.Lexicographic.{pointwise_decides}
-use Rattle.std.proofs.lemmas.Bool.{cases_Bool, lt-ltb, true≢false}
+use Rattle.std.proofs.lemmas.Bool.{lt-ltb}
 use Rattle.std.proofs.lemmas.Grind.{flat_map-append}
 use Rattle.std.proofs.lemmas.List.{map-append, length-append, reverse-append, drop_all, drop-append-le}
 use Rattle.std.proofs.lemmas.List.Elements.{filter-append}
@@ -30,7 +30,7 @@ use Rattle.duration_metric.specs.declared.inner.Known.{Known}
 use Rattle.duration_metric.specs.declared.inner.Inner.{Inner}
 use Rattle.duration_metric.specs.declared.inner.InnerTable.{InnerTable}
 use Rattle.duration_metric.specs.InnerKeys.{DurationCall, key_events, known_by, known_at, KeySeen, inner_state, inner_keys, told_of, key_seen, last_known, last_truth}
-use Rattle.duration_metric.specs.InnerStands.{row_count, state_in, AreKnown, InnersStandFor, ChangesTo, ActsOn, TakesEvent, TakesDelta, TellsOne, TellsAll}
+use Rattle.duration_metric.specs.InnerStands.{state_in, AreKnown, InnersStandFor, ActsOn, TakesEvent, TakesDelta, TellsOne, TellsAll}
 use Rattle.duration_metric.proofs.InnerLemmas.{keys_of-counts, counts-same}
 
 -- whether two inner keys are the same is decided
@@ -434,14 +434,3 @@ module _ (it : InnerTable) (spec : PredSpec) (calls : List DurationCall) (stands
       (known_at_place (last_known spec calls) it.keys.rows place row stands.known_are at)
       ∙ ap (option_and_then (λ key. option_map (λ (known : Known). known.truth) (last_known spec calls key)))
       (key_is row at)
-
-  -- where no row is, no key is
-  pub no_key_is : slice_get it.keys.rows place ≡ None → None ≡ slice_get (inner_keys spec calls) place
-  no_key_is none =
-      sym (none_there it.keys.rows place none)
-      ∙ ap (λ ks. slice_get ks place) (listed_keys it spec calls stands.state_is) where
-        none_there : (rows : List (LeafKey × Inner)) (place : ℕ) → slice_get rows place ≡ None
-            → slice_get (keys_of rows) place ≡ None
-        none_there [] place none = refl
-        none_there (row ∷ rows) zero none = absurd (none-some row (sym none))
-        none_there (row ∷ rows) (suc place) none = none_there rows place none

@@ -1,21 +1,19 @@
 -- Spans of keys: what is summed step by step is the time of the runs, found by looking ahead.
-use Rattle.std.proofs.Common.{◌≡◌, ℕ, zero, suc, ◌+◌, ◌-◌, ◌^◌, ◌<◌, ◌≤◌, Bool, true, false, not, ◌||◌, cond, if◌then◌else◌, List, [], ◌∷◌, ◌++◌, map, filter, sum, Option, Some, None, refl, sym, ap, subst, ◌∙◌, arith, ⊎_elim, append-nil}
+use Rattle.std.proofs.Common.{◌≡◌, ℕ, ◌+◌, ◌-◌, ◌^◌, ◌<◌, ◌≤◌, Bool, true, false, not, ◌||◌, cond, if◌then◌else◌, List, [], ◌∷◌, ◌++◌, map, sum, Option, Some, None, refl, sym, ap, subst, ◌∙◌, arith, ⊎_elim, append-nil}
 use Rattle.std.specs.List.{flat_map, list_any}
 use Rattle.std.proofs.lemmas.Bool.{cases_Bool, true≢false}
 use Rattle.std.proofs.lemmas.List.Folds.{list_any-append}
 use Rattle.atom_record.specs.Equal.{metric_key_exact}
 use Rattle.atom_record.specs.declared.value.MetricKey.{MetricKey}
 use Rattle.bucket_meaning.specs.Guard.{is_among, admitted, of_key}
-use Rattle.bucket_meaning.specs.Marks.{Part}
 use Rattle.bucket_meaning.specs.Rows.{row_of, rows_of}
-use Rattle.metric_producer.specs.declared.row.Row.{Row}
 use Rattle.metric_kinds.specs.Keys.{is_same_key}
-use Rattle.metric_kinds.specs.Runs.{Active, next_time, newly, runs, run_keys, run_keys_after, active_time, last_keys, last_turn, DontFall, AreDistinct}
+use Rattle.metric_kinds.specs.Runs.{Active, newly, runs, run_keys, run_keys_after, active_time, last_keys, last_turn, DontFall, AreDistinct}
 use Rattle.metric_kinds.specs.Durations.{sum_kind, duration_row}
 use Rattle.metric_kinds.proofs.RunsLemmas.{next_at, sum_of_runs}
 use Rattle.duration_metric.specs.declared.sum.Span.{Span}
 use Rattle.duration_metric.specs.SumStands.{span_at, span_from, no_span, span_of, span_time, spans, span_row}
-use Rattle.duration_metric.specs.SumSteps.{row_at, begun, HasFresh}
+use Rattle.duration_metric.specs.SumSteps.{row_at, HasFresh}
 
 -- the time since a run that is under way began
 abbrev open_time : Option ℕ → ℕ → ℕ

@@ -1,15 +1,15 @@
 -- One step of each loop of a producer of sums.
-use Rattle.std.proofs.Common.{◌≡◌, ◌⊎◌, ℕ, zero, suc, ◌+◌, ◌*◌, ◌-◌, ◌^◌, ◌<◌, ◌≤◌, Bool, true, false, not, ◌||◌, if◌then◌else◌, List, [], ◌∷◌, ◌++◌, map, take, length, get_or, slice_get, Option, Some, None, refl, sym, ap, subst, ◌∙◌, arith, ⊎_elim, append-nil, append_assoc}
+use Rattle.std.proofs.Common.{◌≡◌, ◌⊎◌, ℕ, zero, suc, ◌+◌, ◌*◌, ◌-◌, ◌^◌, ◌<◌, ◌≤◌, Bool, true, false, not, ◌||◌, List, [], ◌∷◌, ◌++◌, map, take, length, get_or, slice_get, Option, Some, None, refl, sym, ap, subst, ◌∙◌, arith, ⊎_elim, append-nil, append_assoc}
 use Rattle.std.specs.List.{flat_map, list_any}
 use Rattle.std.specs.Map.{values_of}
-use Rattle.std.proofs.lemmas.Bool.{cases_Bool, true≢false}
-use Rattle.std.proofs.lemmas.List.{map-append, length-append, length-map, take_more, take_all}
+use Rattle.std.proofs.lemmas.Bool.{cases_Bool}
+use Rattle.std.proofs.lemmas.List.{map-append, length-append, length-map, take_more}
 use Rattle.std.proofs.Math.Nat.{mul-le-mul_right}
 use Rattle.std.proofs.lemmas.Grind.{flat_map-append}
 use Rattle.std.proofs.lemmas.Option.{none-some, same_Some, slice_get_within, get_or_from_slice_get}
 use Rattle.atom_record.specs.Equal.{metric_key_exact}
 use Rattle.atom_record.specs.declared.value.MetricKey.{MetricKey}
-use Rattle.bucket_meaning.specs.Guard.{is_among, with_key, firsts}
+use Rattle.bucket_meaning.specs.Guard.{is_among, firsts}
 use Rattle.bucket_meaning.specs.Kept.{count_in_u64}
 use Rattle.dim_table.specs.Table.{Table, with_value_at, set_value_at}
 use Rattle.kept_rows.specs.KeptRows.{Keeping, IsKept, AddsRows}
@@ -157,19 +157,6 @@ adds_span start end old mid new done entry first later =
     (sym (flat_map-append (span_row start end) done (entry ∷ [])
     ∙ ap (λ l. flat_map (span_row start end) done ++ l) (append-nil (span_row start end entry))))
     (adds_more old mid new (flat_map (span_row start end) done) (span_row start end entry) first later)
-
--- the row of one key more, of a full bucket
-pub adds_whole : (start size : ℕ) (keys : List MetricKey) (i : ℕ) (key : MetricKey) (row : Row ℕ)
-    (old mid new : Keeping (Row ℕ)) → i < length keys → key ≡ get_or keys i key → row ≡ whole_row start size key
-    → AddsRows row_weight old mid (map (whole_row start size) (take i keys))
-    → AddsRows row_weight mid new (row ∷ [])
-    → AddsRows row_weight old new (map (whole_row start size) (take (i + 1) keys))
-adds_whole start size keys i key row old mid new within is row_is first later =
-    subst (AddsRows row_weight old new)
-    (sym (ap (map (whole_row start size)) (next_taken keys i key within is)
-    ∙ map-append (whole_row start size) (take i keys) (key ∷ [])))
-    (adds_more old mid new (map (whole_row start size) (take i keys)) (whole_row start size key ∷ []) first
-    (subst (λ (r : Row ℕ). AddsRows row_weight mid new (r ∷ [])) row_is later))
 
 -- so many full buckets, and then others
 pub whole_rows-split : (start size i n : ℕ) (keys : List MetricKey)

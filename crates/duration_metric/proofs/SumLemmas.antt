@@ -1,5 +1,5 @@
 -- A producer of sums holds its books through every call.
-use Rattle.std.proofs.Common.{◌≡◌, ℕ, zero, suc, ◌+◌, ◌*◌, ◌-◌, ◌^◌, ◌<◌, ◌≤◌, Bool, true, false, not, ◌&&◌, ◌==◌, if◌then◌else◌, nat_lt, List, [], ◌∷◌, ◌++◌, map, length, replicate, Option, Some, None, refl, sym, ap, subst, ◌∙◌, arith, ⊎_elim, append-nil, append_assoc}
+use Rattle.std.proofs.Common.{◌≡◌, ℕ, zero, suc, ◌+◌, ◌*◌, ◌-◌, ◌^◌, ◌<◌, ◌≤◌, Bool, true, false, not, ◌&&◌, ◌==◌, if◌then◌else◌, nat_lt, List, [], ◌∷◌, ◌++◌, map, length, replicate, Option, Some, None, refl, sym, ap, subst, ◌∙◌, arith, ⊎_elim, append-nil}
 use Rattle.std.specs.List.{flat_map, IsDistinct}
 use Rattle.std.specs.Map.{lookup}
 use Rattle.std.specs.Cmp.Lexicographic.{pointwise, pointwise_decides}
@@ -13,7 +13,7 @@ use Rattle.bucket_clock.specs.Clock.{last_end}
 use Rattle.bucket_meaning.specs.Ends.{ends_from}
 use Rattle.bucket_meaning.specs.Guard.{is_among, admitted, dropped}
 use Rattle.bucket_meaning.specs.Kept.{count_in_u64}
-use Rattle.bucket_meaning.specs.Marks.{Mark, Ends, Came, Lost, Part, Books, after, books_from, boundary_marks}
+use Rattle.bucket_meaning.specs.Marks.{Mark, Came, Lost, Part, Books, after, books_from, boundary_marks}
 use Rattle.bucket_meaning.specs.Meaning.{marks_on, books_by}
 use Rattle.bucket_meaning.specs.Rows.{drops, rows_of, closed_rows}
 use Rattle.bucket_meaning.proofs.MeaningLemmas.{books_by-push}
@@ -42,10 +42,10 @@ use Rattle.duration_metric.specs.declared.inner.InnerTable.{InnerTable}
 use Rattle.duration_metric.specs.declared.sum.Span.{Span}
 use Rattle.duration_metric.specs.declared.sum.SumProducer.{SumProducer}
 use Rattle.duration_metric.specs.InnerKeys.{DurationParams, DurationCall, key_events, duration_demands, inner_state}
-use Rattle.duration_metric.specs.InnerStands.{state_in, InnersStandFor, TakesEvent, TakesDelta}
+use Rattle.duration_metric.specs.InnerStands.{InnersStandFor, TakesEvent, TakesDelta}
 use Rattle.duration_metric.specs.SumCalls.{active_after, active_since, sum_collecting}
-use Rattle.duration_metric.specs.SumStands.{span_of, spans, span_row, whole_row, whole_rows, HoldsBooks, HasBooks, SumStandsFor, sum_law}
-use Rattle.duration_metric.specs.SumSteps.{active_in, row_at, HasFresh, HasSpans, HasBegun, StepsAll, BeginsAll, ClosesRows, Opens}
+use Rattle.duration_metric.specs.SumStands.{span_of, spans, span_row, whole_row, whole_rows, HoldsSums, HasSums, SumStandsFor, sum_law}
+use Rattle.duration_metric.specs.SumSteps.{active_in, row_at, HasSpans, HasBegun, StepsAll, BeginsAll, ClosesRows, Opens}
 use Rattle.duration_metric.proofs.KnownLemmas.{inner_state-got, inner_state-other, takes_other}
 use Rattle.duration_metric.proofs.ActiveLemmas.{active_is, few_active, active_once, since-learned, since-other}
 use Rattle.duration_metric.proofs.SpanLemmas.{part_rows, spans-step, spans-steady, spans_fresh}
@@ -61,12 +61,12 @@ standing-push params calls call =
 -- where an object holds the books after the marks of a call, it stands for the calls with this one
 moves_by : (old new : SumProducer) (call : DurationCall)
     → ((params : DurationParams) (calls : List DurationCall) (books : Books (Active MetricKey))
-    → HasBooks old params calls books → IsAdmitted (duration_demands params) calls call
-    → HasBooks new params (calls ++ call ∷ [])
+    → HasSums old params calls books → IsAdmitted (duration_demands params) calls call
+    → HasSums new params (calls ++ call ∷ [])
     (marks_on (calls_mean sum_collecting) params books (call_marks sum_collecting params calls call)))
     → Moves sum_law old new call
 moves_by old new call step params calls has may =
-    subst (HasBooks new params (calls ++ call ∷ []))
+    subst (HasSums new params (calls ++ call ∷ []))
     (sym (books_by-push (calls_mean sum_collecting) params calls call))
     (step params calls (books_by (calls_mean sum_collecting) params calls) has may)
 
@@ -143,8 +143,8 @@ same_drops it spec calls stands = ap (λ (s : PredicateState LeafKey). s.dropped
 
 -- what a producer holds beside its inner keys stays, whatever these are, and with more drops
 holds_on : (it : SumProducer) (inner : InnerTable) (bound : ℕ) (keys : List MetricKey) (last at others n : ℕ)
-    (books : Books (Active MetricKey)) → last ≤ at → HoldsBooks it bound keys last others books
-    → HoldsBooks (record it { inner = inner }) bound keys at others (record books { dropped = n })
+    (books : Books (Active MetricKey)) → last ≤ at → HoldsSums it bound keys last others books
+    → HoldsSums (record it { inner = inner }) bound keys at others (record books { dropped = n })
 holds_on it inner bound keys last at others n books later holds = record {
   bound_is = holds.bound_is;
   start = holds.start;
@@ -179,7 +179,7 @@ got it inner at event takes = moves_by it (record it { inner = inner }) (Got at 
     (sym (inner_state-got spec calls at event))
     (drops_grow spec (inner_state spec calls) event.event event.key (drops_fit spec calls)).0 in
     let standing = standing-push params calls call in
-    subst (HasBooks (record it { inner = inner }) params now)
+    subst (HasSums (record it { inner = inner }) params now)
     (sym (lost_books (drops sum_kind spec.bound) more books))
     (record {
       inner = stands;
@@ -187,9 +187,9 @@ got it inner at event takes = moves_by it (record it { inner = inner }) (Got at 
       reported = omega (arith, was, is, grows, has.reported);
       dropped = omega (arith, was, is, grows, has.reported, has.dropped);
       in_bucket = λ sized. subst (λ (s : Standing). s.last ≤ s.next_end) (sym standing) (may.0.timely.in_bucket sized);
-      holds = subst (λ (s : Standing). HoldsBooks (record it { inner = inner }) spec.bound
+      holds = subst (λ (s : Standing). HoldsSums (record it { inner = inner }) spec.bound
           (active_since spec now) s.last has.others (record books { dropped = books.dropped + more })) (sym standing)
-          (subst (λ ks. HoldsBooks (record it { inner = inner }) spec.bound ks at has.others
+          (subst (λ ks. HoldsSums (record it { inner = inner }) spec.bound ks at has.others
           (record books { dropped = books.dropped + more })) (sym (since-other spec calls call refl))
           (holds_on it inner spec.bound (active_since spec calls) (standing_of demands calls).last at has.others
           (books.dropped + more) books may.0.timely.not_before has.holds));
@@ -220,12 +220,12 @@ once-push (first ∷ came) now all one = (all.0, once-push came now all.1 one)
 record Turned (it : SumProducer) (bound : ℕ) (active : List MetricKey) (at others : ℕ)
     (books new : Books (Active MetricKey)) : Type 0 where
   more : ℕ
-  holds : HoldsBooks it bound active at (others + more) new
+  holds : HoldsSums it bound active at (others + more) new
   counted : new.dropped ≡ books.dropped + more
 
 module _ (it : SumProducer) (active : List MetricKey) (mid new : Table MetricKey Span) (at bound : ℕ)
     (keys : List MetricKey) (last others : ℕ) (books : Books (Active MetricKey))
-    (holds : HoldsBooks it bound keys last others books) (later : last ≤ at) (steps : StepsAll it.table mid active at)
+    (holds : HoldsSums it bound keys last others books) (later : last ≤ at) (steps : StepsAll it.table mid active at)
     (begins : BeginsAll mid new keys active at) (few : length active ≤ bound) (once : IsDistinct is_same_key active)
   where
     abbrev came : List (Active MetricKey)
@@ -274,7 +274,8 @@ module _ (it : SumProducer) (active : List MetricKey) (mid new : Table MetricKey
             rises = holds.rises;
             so_far = omega (arith, holds.so_far, later);
             all_once = holds.all_once;
-            table = begun.has.rows ∙ ap (λ ks. map (λ key. (key, span_of came key)) (admitted is_same_key bound ks)) stays;
+            table = begun.has.rows
+                ∙ ap (λ ks. map (λ key. (key, span_of came key)) (admitted is_same_key bound ks)) stays;
             dropped = begun.has.dropped_are ∙ ap (λ n. count_in_u64 (others + n)) no_more;
             kept = holds.kept;
             missing = holds.missing;
@@ -306,7 +307,8 @@ module _ (it : SumProducer) (active : List MetricKey) (mid new : Table MetricKey
             so_far = omega (arith, turn-push books.start came now);
             all_once = once-push came now holds.all_once once;
             table = begun.has.rows
-                ∙ ap (λ ks. map (λ key. (key, span_of (came ++ now ∷ []) key)) (admitted is_same_key bound ks)) (sym all);
+                ∙ ap (λ ks. map (λ key. (key, span_of (came ++ now ∷ []) key)) (admitted is_same_key bound ks))
+                (sym all);
             dropped = begun.has.dropped_are;
             kept = holds.kept;
             missing = holds.missing;
@@ -329,8 +331,8 @@ module _ (it : SumProducer) (active : List MetricKey) (mid new : Table MetricKey
 
 -- other inner keys, and the rest as it is
 other_inner : (it : SumProducer) (inner : InnerTable) (bound : ℕ) (keys : List MetricKey) (last others : ℕ)
-    (books : Books (Active MetricKey)) → HoldsBooks it bound keys last others books
-    → HoldsBooks (record it { inner = inner }) bound keys last others books
+    (books : Books (Active MetricKey)) → HoldsSums it bound keys last others books
+    → HoldsSums (record it { inner = inner }) bound keys last others books
 other_inner it inner bound keys last others books holds =
     holds_on it inner bound keys last last others books.dropped books (omega arith) holds
 
@@ -354,14 +356,15 @@ learned it inner active mid new at delta takes gathered fits steps begins =
     ∙ sym (same_drops it.inner spec calls has.inner) in
     let few : length active ≤ spec.bound =
     omega (arith, few_active inner.keys.rows, ap length gathered, fits, stands.bound_is) in
-    let once : IsDistinct is_same_key active = subst (IsDistinct is_same_key) (sym gathered) (active_once inner.keys.rows)
+    let once : IsDistinct is_same_key active =
+    subst (IsDistinct is_same_key) (sym gathered) (active_once inner.keys.rows)
     in
     let standing = standing-push params calls call in
     let turns = turned_by it active mid new at spec.bound (active_since spec calls)
     (standing_of (duration_demands params) calls).last has.others books has.holds may.0.timely.not_before steps
     (subst (λ ks. BeginsAll mid new ks active at) has.holds.active begins) few once in
     let result = record it { inner = inner; active = active; table = new } in
-    subst (λ ks. HasBooks result params now
+    subst (λ ks. HasSums result params now
     (books_from (drops sum_kind spec.bound) books (turned at (active_since spec calls) ks))) active_now
     (record {
       inner = stands;
@@ -369,10 +372,10 @@ learned it inner active mid new at delta takes gathered fits steps begins =
       reported = omega (arith, same_lost, has.reported);
       dropped = omega (arith, same_lost, has.reported, has.dropped, turns.counted);
       in_bucket = λ sized. subst (λ (s : Standing). s.last ≤ s.next_end) (sym standing) (may.0.timely.in_bucket sized);
-      holds = subst (λ (s : Standing). HoldsBooks result spec.bound (active_since spec now) s.last
+      holds = subst (λ (s : Standing). HoldsSums result spec.bound (active_since spec now) s.last
           (has.others + turns.more)
           (books_from (drops sum_kind spec.bound) books (turned at (active_since spec calls) active))) (sym standing)
-          (subst (λ ks. HoldsBooks result spec.bound ks at (has.others + turns.more)
+          (subst (λ ks. HoldsSums result spec.bound ks at (has.others + turns.more)
           (books_from (drops sum_kind spec.bound) books (turned at (active_since spec calls) active)))
           (active_now ∙ sym (since-learned spec calls at delta))
           (other_inner (record it { active = active; table = new }) inner spec.bound active at
@@ -406,7 +409,7 @@ parts_whole bound keys few once start size sized (suc n) =
 module _ (old mid : SumProducer) (kept : Keeping (Row ℕ)) (new : Table MetricKey Span) (end size n stop bound : ℕ)
     (keys : List MetricKey) (last others : ℕ) (books : Books (Active MetricKey)) (stops : stop ≡ end + n * size)
     (closes : ClosesRows old mid end) (adds : AddsRows row_weight mid.kept kept (whole_rows end size n keys))
-    (begins : BeginsAll mid.table new [] keys stop) (holds : HoldsBooks old bound keys last others books)
+    (begins : BeginsAll mid.table new [] keys stop) (holds : HoldsSums old bound keys last others books)
     (later : last ≤ end) (fits : end < 2 ^ 63) (sized : 0 < size) where
   abbrev part : Part (Active MetricKey)
   part = record { start = books.start; end = end; came = books.came }
@@ -466,7 +469,7 @@ module _ (old mid : SumProducer) (kept : Keeping (Row ℕ)) (new : Table MetricK
     missing = books.missing;
   }
 
-  jumped_holds : (lost : ℕ) → HoldsBooks jumped_it bound keys stop others (jumped_books stop lost)
+  jumped_holds : (lost : ℕ) → HoldsSums jumped_it bound keys stop others (jumped_books stop lost)
   jumped_holds lost = record {
     bound_is = jumped_begun.has.bound_is;
     start = refl;
@@ -503,8 +506,8 @@ module _ (old mid : SumProducer) (kept : Keeping (Row ℕ)) (new : Table MetricK
   jumped-drops = omega (arith, none_dropped_first bound keys holds.few end)
 
   -- the producer holds the books after all boundaries
-  pub jumps : HoldsBooks jumped_it bound keys stop others (books_from (drops sum_kind bound) books all_marks)
-  jumps = subst (HoldsBooks jumped_it bound keys stop others) (sym (jumped-are books.dropped jumped-drops))
+  pub jumps : HoldsSums jumped_it bound keys stop others (books_from (drops sum_kind bound) books all_marks)
+  jumps = subst (HoldsSums jumped_it bound keys stop others) (sym (jumped-are books.dropped jumped-drops))
       (jumped_holds books.dropped)
 
   -- and none more is dropped
@@ -557,10 +560,10 @@ cuts old mid new at closes opens = moves_by old new (CutAt at)
         ap (λ (t : InnerTable). t.keys.dropped) inner,
       );
       in_bucket = λ sized. subst (λ (s : Standing). s.last ≤ s.next_end) (sym standing) (may.0.timely.in_bucket sized);
-      holds = subst (λ (s : Standing). HoldsBooks new spec.bound (active_since spec now) s.last has.others result)
+      holds = subst (λ (s : Standing). HoldsSums new spec.bound (active_since spec now) s.last has.others result)
           (sym standing)
-          (subst (λ ks. HoldsBooks new spec.bound ks at has.others result) (sym (since-other spec calls call refl))
-          (subst (λ (it : SumProducer). HoldsBooks it spec.bound keys at has.others result) new_is holds));
+          (subst (λ ks. HoldsSums new spec.bound ks at has.others result) (sym (since-other spec calls call refl))
+          (subst (λ (it : SumProducer). HoldsSums it spec.bound keys at has.others result) new_is holds));
     })
 
 -- ends of buckets were crossed
@@ -616,12 +619,12 @@ crosses old mid new kept start crossings closes is_last adds opens = moves_by ol
         ap (λ (t : InnerTable). t.keys.dropped) inner,
       );
       in_bucket = λ is_sized. subst (λ (s : Standing). s.last ≤ s.next_end) (sym standing) (omega arith);
-      holds = subst (λ (s : Standing). HoldsBooks new spec.bound (active_since spec now) s.last has.others result)
+      holds = subst (λ (s : Standing). HoldsSums new spec.bound (active_since spec now) s.last has.others result)
           (sym standing)
-          (subst (λ ks. HoldsBooks new spec.bound ks (last_end crossings) has.others result)
+          (subst (λ ks. HoldsSums new spec.bound ks (last_end crossings) has.others result)
           (sym (since-other spec calls call refl))
-          (subst (λ at. HoldsBooks new spec.bound keys at has.others result) stops
-          (subst (λ (it : SumProducer). HoldsBooks it spec.bound keys start has.others result) (sym opens.same)
+          (subst (λ at. HoldsSums new spec.bound keys at has.others result) stops
+          (subst (λ (it : SumProducer). HoldsSums it spec.bound keys start has.others result) (sym opens.same)
           holds)));
     })
 
@@ -643,9 +646,9 @@ took it kept table reported none left is =
       reported = omega (arith, is);
       dropped = omega (arith, is);
       in_bucket = λ sized. subst (λ (s : Standing). s.last ≤ s.next_end) (sym standing) (has.in_bucket sized);
-      holds = subst (λ (s : Standing). HoldsBooks new spec.bound (active_since spec now) s.last 0
+      holds = subst (λ (s : Standing). HoldsSums new spec.bound (active_since spec now) s.last 0
           (record books { closed = []; dropped = 0; missing = 0 })) (sym standing)
-          (subst (λ ks. HoldsBooks new spec.bound ks (standing_of (duration_demands params) calls).last 0
+          (subst (λ ks. HoldsSums new spec.bound ks (standing_of (duration_demands params) calls).last 0
           (record books { closed = []; dropped = 0; missing = 0 })) (sym (since-other spec calls Took refl))
           (record {
             bound_is = ap (λ (t : Table MetricKey Span). t.bound) left ∙ has.holds.bound_is;

@@ -1,16 +1,15 @@
 -- Worked calls of a producer of sums, by computing.
-use Rattle.std.proofs.Common.{◌≡◌, ℕ, pos, true, false, List, [], ◌∷◌, ◌++◌, Some, None, refl}
+use Rattle.std.proofs.Common.{◌≡◌, ℕ, pos, false, List, [], ◌∷◌, ◌++◌, Some, None, refl}
 use Rattle.atom_record.specs.declared.value.Value.TheVariants.{Int}
 use Rattle.atom_record.specs.declared.value.Leaf.TheVariants.{One}
-use Rattle.atom_record.specs.declared.value.MetricKey.{MetricKey}
 use Rattle.bucket_meaning.specs.Meaning.{report_by}
 use Rattle.bucket_meaning.specs.Kept.{Taken}
 use Rattle.predicate_state.specs.declared.event.PredEvent.{PredEvent}
-use Rattle.predicate_state.specs.declared.event.PredEvent.TheVariants.{Start, Stop, StopAll}
+use Rattle.predicate_state.specs.declared.event.PredEvent.TheVariants.{Start, Stop}
 use Rattle.predicate_state.specs.declared.truth.Truth.{Truth}
 use Rattle.predicate_state.specs.declared.truth.Truth.TheVariants.{False, Unknown, True}
 use Rattle.predicate_state.specs.PredicateTable.{LeafKey}
-use Rattle.metric_producer.specs.Calls.{Got, Learned, Crossed, CutAt, Took}
+use Rattle.metric_producer.specs.Calls.{Got, Learned, Crossed, CutAt}
 use Rattle.metric_producer.specs.declared.row.Row.{Row}
 use Rattle.metric_producer.specs.Collecting.{calls_mean}
 use Rattle.duration_metric.specs.declared.change.InnerChange.{InnerChange}

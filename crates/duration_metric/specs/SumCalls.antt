@@ -9,7 +9,7 @@ use Rattle.config_types.specs.declared.parameters.PredSpec.{PredSpec}
 use Rattle.predicate_state.specs.declared.truth.Truth.{Truth}
 use Rattle.predicate_state.specs.declared.truth.Truth.TheVariants.{False, Unknown, True}
 use Rattle.predicate_state.specs.PredicateTable.{LeafKey}
-use Rattle.metric_producer.specs.Calls.{Got, Learned}
+use Rattle.metric_producer.specs.Calls.{Learned}
 use Rattle.metric_producer.specs.Collecting.{Collecting}
 use Rattle.metric_producer.specs.declared.row.Row.{Row}
 use Rattle.metric_kinds.specs.Keys.{is_same_key}

@@ -1,14 +1,12 @@
 -- What a producer of sums of durations stands for.
-use Rattle.std.specs.Prelude.{◌≡◌, ℕ, zero, suc, ◌+◌, ◌-◌, ◌^◌, ◌<◌, ◌≤◌, min, Bool, true, false, List, [], ◌∷◌, ◌++◌, map, length, Option, Some, None}
+use Rattle.std.specs.Prelude.{◌≡◌, ℕ, zero, suc, ◌+◌, ◌-◌, ◌<◌, ◌≤◌, Bool, true, false, List, [], ◌∷◌, ◌++◌, map, length, Option, Some, None}
 use Rattle.std.specs.List.{IsDistinct}
 use Rattle.atom_record.specs.declared.value.MetricKey.{MetricKey}
-use Rattle.bucket_clock.specs.declared.crossings.Crossings.{Crossings}
 use Rattle.bucket_meaning.specs.Guard.{is_among, admitted}
 use Rattle.bucket_meaning.specs.Kept.{count_in_u64}
-use Rattle.bucket_meaning.specs.Marks.{Ends, Came, Books}
-use Rattle.bucket_meaning.specs.Meaning.{mark_on, books_by}
+use Rattle.bucket_meaning.specs.Marks.{Books}
+use Rattle.bucket_meaning.specs.Meaning.{books_by}
 use Rattle.bucket_meaning.specs.Rows.{closed_rows}
-use Rattle.dim_table.specs.Table.{Table}
 use Rattle.kept_rows.specs.KeptRows.{IsKept}
 use Rattle.metric_producer.specs.declared.row.Row.{Row}
 use Rattle.metric_producer.specs.Calls.{standing_of}
@@ -76,7 +74,7 @@ whole_rows start size (suc n) keys = map (whole_row start size) keys ++ whole_ro
 
 -- What a producer holds besides its inner keys: the books, of which so many arrivals were dropped, where these keys are
 -- active since the last condition, up to a time.
-pub record HoldsBooks (it : SumProducer) (bound : ℕ) (keys : List MetricKey) (last others : ℕ)
+pub record HoldsSums (it : SumProducer) (bound : ℕ) (keys : List MetricKey) (last others : ℕ)
     (books : Books (Active MetricKey)) : Type 0 where
   pub bound_is : it.table.bound ≡ bound
   pub start : it.start ≡ books.start
@@ -93,7 +91,7 @@ pub record HoldsBooks (it : SumProducer) (bound : ℕ) (keys : List MetricKey) (
   pub missing : books.missing ≡ 0
 
 -- The producer was made with these, has got these calls, and holds these books.
-pub record HasBooks (it : SumProducer) (params : DurationParams) (calls : List DurationCall)
+pub record HasSums (it : SumProducer) (params : DurationParams) (calls : List DurationCall)
     (books : Books (Active MetricKey)) : Type 0 where
   pub inner : InnersStandFor it.inner params.spec calls
   pub others : ℕ
@@ -101,7 +99,7 @@ pub record HasBooks (it : SumProducer) (params : DurationParams) (calls : List D
   pub dropped : books.dropped ≡ others + (it.inner.keys.dropped - it.reported)
   pub in_bucket : let standing = standing_of (duration_demands params) calls in
       0 < params.size → standing.last ≤ standing.next_end
-  pub holds : HoldsBooks it params.spec.bound (active_since params.spec calls)
+  pub holds : HoldsSums it params.spec.bound (active_since params.spec calls)
       (standing_of (duration_demands params) calls).last others books
 
 -- what calls mean for sums of durations
@@ -110,7 +108,7 @@ sums_mean = books_by (calls_mean sum_collecting)
 
 -- the producer was made with these, and has got these calls
 abbrev pub SumStandsFor : SumProducer → DurationParams → List DurationCall → Type 0
-SumStandsFor it params calls = HasBooks it params calls (sums_mean params calls)
+SumStandsFor it params calls = HasSums it params calls (sums_mean params calls)
 
 -- the law of sums of durations
 abbrev pub sum_law :

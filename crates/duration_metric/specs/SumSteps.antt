@@ -1,5 +1,5 @@
 -- How the steps of a producer of sums change its table and its rows.
-use Rattle.std.specs.Prelude.{◌≡◌, ◌⊎◌, ℕ, ◌+◌, nat_lt, Bool, true, false, List, [], ◌∷◌, ◌++◌, map, slice_get, Option, Some, None, if◌then◌else◌}
+use Rattle.std.specs.Prelude.{◌≡◌, ◌⊎◌, ℕ, ◌+◌, nat_lt, true, false, List, [], ◌++◌, map, slice_get, Option, Some, None, if◌then◌else◌}
 use Rattle.std.specs.List.{flat_map}
 use Rattle.atom_record.specs.declared.value.MetricKey.{MetricKey}
 use Rattle.bucket_meaning.specs.Guard.{is_among, firsts, admitted, dropped}
@@ -49,8 +49,8 @@ abbrev pub begun : ℕ → Span
 begun at = record { sum = 0; since = Some at }
 
 -- a key that was active before changes nothing, and another is admitted
-abbrev pub Begins : Table MetricKey Span → Table MetricKey Span → List MetricKey → MetricKey → ℕ → Type 0
-Begins old new before key at =
+abbrev pub BeginsRun : Table MetricKey Span → Table MetricKey Span → List MetricKey → MetricKey → ℕ → Type 0
+BeginsRun old new before key at =
     ((is_among is_same_key key before ≡ true) × (new ≡ old))
     ⊎ ((is_among is_same_key key before ≡ false) × (answer : Admit) × Admits old new key (begun at) answer)
 

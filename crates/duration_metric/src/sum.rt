@@ -13,7 +13,7 @@ ghost use Rattle.metric_kinds.specs.Counts.{row_weight};
 ghost use Rattle.duration_metric.specs.SumCalls.{while_true, known_out};
 ghost use Rattle.duration_metric.specs.InnerKeys.{DurationParams, DurationCall, inner_keys, last_truth};
 ghost use Rattle.duration_metric.specs.SumStands.{span_at, span_time, span_row, whole_row, whole_rows, SumStandsFor};
-ghost use Rattle.duration_metric.specs.SumSteps.{active_in, StepsAll, StepsOne, Begins, BeginsAll, ClosesRows, Opens, out_for};
+ghost use Rattle.duration_metric.specs.SumSteps.{active_in, StepsAll, StepsOne, BeginsRun, BeginsAll, ClosesRows, Opens, out_for};
 
 use crate::inner::{Inner, InnerTable, Known};
 use crate::{Closed, InnerDelta, InnerEvent, Producer, Row};
@@ -73,15 +73,16 @@ impl SumProducer {
 
     /// The number of inner keys.
     pub fn inner_len(&self) -> usize
-        ensures { (params : DurationParams) (calls : List DurationCall) → SumStandsFor self.now params calls
-            → result ≡ length (inner_keys params.spec calls) }
+        ensures { (params : DurationParams) (calls : List DurationCall)
+            → SumStandsFor self.now params calls → result ≡ length (inner_keys params.spec calls) }
     {
         self.inner.len()
     }
 
     /// The inner key at a place, from 0, or none past the end.
     pub fn inner_key(&self, place: usize) -> Option<&DimKey>
-        ensures { (params : DurationParams) (calls : List DurationCall) → SumStandsFor self.now params calls
+        ensures { (params : DurationParams) (calls : List DurationCall)
+            → SumStandsFor self.now params calls
             → option_copied result ≡ slice_get (inner_keys params.spec calls) place }
     {
         self.inner.key(place)
@@ -89,8 +90,8 @@ impl SumProducer {
 
     /// The truth that was told last of the inner key at a place; none past the end, and where none was told of the key.
     pub fn inner_truth(&self, place: usize) -> Option<Truth>
-        ensures { (params : DurationParams) (calls : List DurationCall) → SumStandsFor self.now params calls
-            → result ≡ last_truth params.spec calls place }
+        ensures { (params : DurationParams) (calls : List DurationCall)
+            → SumStandsFor self.now params calls → result ≡ last_truth params.spec calls place }
     {
         self.inner.truth(place)
     }
@@ -104,7 +105,7 @@ impl SumProducer {
         keep_all(&mut self.kept, start, end, self.table.move_out())
     }
 
-    // Begins a part in which the active keys are active from its start on.
+    // BeginsRun a part in which the active keys are active from its start on.
     fn open(&mut self) -> Result<(), AllocError>
         ensures { OnOk result (Opens self.old self.new) }
     {
@@ -167,7 +168,7 @@ fn begin(
     at: u64,
     alloc: Global,
 ) -> Result<(), AllocError>
-    ensures { OnOk result (Begins table.old table.new before.now key.now at) }
+    ensures { OnOk result (BeginsRun table.old table.new before.now key.now at) }
 {
     if before.contains(key) {
         return Ok(());

@@ -1,6 +1,6 @@
 //! Calls as words: `3:start=7`, `3:stop=7` and `3:stop_all` are what an atom does to an inner key at a time,
-//! `3:tell=0T9,1F8` the changes of places, each with a truth (T, U or F) and an output key, `cross:10+2` the crossing of a
-//! full end and of so many full buckets after it, `cut:5` a cut, `take` a report, and `inner` shows the inner keys.
+//! `3:tell=0T9,1F8` the changes of places, each with a truth (T, U or F) and an output key, `cross:10+2` the crossing of
+//! a full end and of so many full buckets after it, `cut:5` a cut, `take` a report, and `inner` shows the inner keys.
 use super::shown::{push_closed, push_key};
 use atom_record::{DimKey, Leaf, MetricKey, Value};
 use bucket_clock::Crossings;
