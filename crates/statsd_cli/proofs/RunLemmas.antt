@@ -1,7 +1,6 @@
 -- The run of a session: from frame to frame, and how it ends.
-use Rattle.std.proofs.Common.{◌≡◌, ℕ, ◌+◌, ◌-◌, ◌≤◌, ◌<◌, false, List, [], ◌∷◌, ◌++◌, Option, Some, None, Ok, Err, fold, refl, sym, ap, subst, ◌∙◌, append_assoc, arith, inl, inr, ⊎_elim}
-use Rattle.std.specs.Prelude.{◌⊎◌, option_to_list, IfSome}
-use Rattle.std.specs.List.{flat_map}
+use Rattle.std.proofs.Common.{◌≡◌, ℕ, ◌+◌, ◌-◌, ◌≤◌, ◌<◌, false, List, [], ◌∷◌, ◌++◌, Option, Some, None, fold, refl, sym, ap, subst, ◌∙◌, append_assoc, arith, inl, inr, ⊎_elim}
+use Rattle.std.specs.Prelude.{◌⊎◌, IfSome}
 use Rattle.std.proofs.lemmas.List.{append-nil}
 use Rattle.sd_io.specs.States.{Input, Output, Ports, ports, input_with}
 use Rattle.sd_io.specs.Causes.{Rose, Gains, GainsFront, Takes}
@@ -15,7 +14,6 @@ use Rattle.session_frames.specs.Frames.{most_session_frames, clock_after, Next, 
 use Rattle.session_frames.specs.Reader.{Reading, unread, GivesFrame, IsUnfinished, Refuses}
 use Rattle.session_frames.proofs.FrameLaws.{StandsWhole-from_next, Begins-more, Begins-push, Reads-from_Begins, Begins_clock, some_reading, one_frames, Reads-more}
 use Rattle.session_frames.specs.declared.reply.Reply.{Reply}
-use Rattle.session_frames.specs.Replies.{reply_bytes}
 use Rattle.hub_meaning.specs.SessionLog.{clock_from, clock_of}
 use Rattle.matcher_eval.specs.declared.field_judge.FieldJudge.{FieldJudge}
 use Rattle.matcher_eval.specs.AtomTests.{matcher_holds}
@@ -28,8 +26,12 @@ use Rattle.hub_core.specs.HubStands.{HubStandsFor}
 use Rattle.statsd_cli.specs.Endings.{status_of}
 use Rattle.statsd_cli.specs.declared.command.Command.{Command}
 use Rattle.statsd_cli.specs.declared.command.Command.TheVariants.{Replay, Check, Load, Unknown}
-use Rattle.statsd_cli.specs.Run.{IsBadSession, IsUnfinishedEnd, IsRun, reply_text, IsServed, ending_by}
+use Rattle.statsd_cli.specs.Run.{IsBadSession, IsUnfinishedEnd, IsRun, bytes_if_any, ending_by}
 use Rattle.statsd_cli.specs.Does.{Did, IsUndisturbed}
+
+-- the bytes of the reply to a frame, if it has one
+abbrev reply_text : List Frame → Frame → List ℕ
+reply_text frames frame = bytes_if_any (reply_to matcher_holds frames frame)
 
 -- A run under way: these frames were served, of the bytes taken.
 pub record IsAlong (left_old left_new : Input) (old new : Output) (reader : Reading) (hub : Hub FieldJudge) : Type 0
@@ -124,6 +126,12 @@ module _ (lo ln : Input) (o n : Output) (reader : Reading) (hub : Hub FieldJudge
       outcome = record {
         frames = a.frames;
         session = ends_at r.taken (Bad at fault) (r.cause.placed, r.cause.broken);
+        at_once = record {
+          place = reader.place;
+          left = reader.pending ++ r.taken;
+          begins_there = further r.taken;
+          no_more = r.no_more;
+        };
         at_end = r.cause.at_end;
         written = a.written;
       };
@@ -177,18 +185,24 @@ module _ (lo ln : Input) (o n : Output) (reader : Reading) (hub : Hub FieldJudge
             (StandsWhole-from_next reader.place (reader.pending ++ g.taken) frame [] g.next.0).room,
           )
 
-      -- the frame was served
-      pub goes_on : (new : Hub FieldJudge) → IsServed n m a.frames frame (Ok new) → ln.faults ≤ lm.faults
-          → n.faults ≤ m.faults → IsAlong lo lm o m after new
-      goes_on new served reads writes = record {
+      -- the frame was served, and its reply was written
+      pub goes_on : (new : Hub FieldJudge) (reply : Option Reply)
+          → HubStandsFor matcher_holds new (a.frames ++ frame ∷ [])
+          → reply ≡ reply_to matcher_holds a.frames frame
+          → Gains n m (bytes_if_any reply)
+          → ln.faults ≤ lm.faults
+          → n.faults ≤ m.faults
+          → IsAlong lo lm o m after new
+      goes_on new reply stands is gained reads writes = record {
         frames = a.frames ++ frame ∷ [];
         taken = a.taken ++ g.taken;
         consumes = Takes-trans lo ln lm a.taken g.taken a.consumes g.consumes;
         begins = one_more;
         unended = ap (λ (r : Reading). r.ended) g.next.1;
-        stands = served.0;
+        stands = stands;
         written = subst (Gains o m) (sym (text-push matcher_holds a.frames frame))
-            (Gains-trans o n m (text matcher_holds a.frames) (reply_text a.frames frame) a.written served.1);
+            (Gains-trans o n m (text matcher_holds a.frames) (reply_text a.frames frame) a.written
+            (subst (λ r. Gains n m (bytes_if_any r)) is gained));
         reads = omega (arith, a.reads, reads);
         writes = omega (arith, a.writes, writes);
       }
@@ -199,18 +213,18 @@ module _ (lo ln : Input) (o n : Output) (reader : Reading) (hub : Hub FieldJudge
           Reads-from_Begins start (a.taken ++ g.taken) (a.frames ++ frame ∷ []) after.place after.pending others end
           one_more reads
 
-      -- the frame wasn't served
-      pub ends_in_serve : (ending : Ending) → IsServed n m a.frames frame (Err ending) → IsRun (ports lo o) (ports lm m) ending
-      ends_in_serve Done served = absurd served
-      ends_in_serve Refused served = absurd served
-      ends_in_serve Usage served = absurd served
-      ends_in_serve (BadSession at fault) served = absurd served
-      ends_in_serve ReadFault served = absurd served
-      ends_in_serve WriteFault served =
+      -- the reply to the frame wasn't written
+      pub ends_in_reply : (reply : Option Reply)
+          → reply ≡ reply_to matcher_holds a.frames frame
+          → GainsFront n m (bytes_if_any reply)
+          → Rose n.faults m.faults
+          → IsRun (ports lo o) (ports lm m) WriteFault
+      ends_in_reply reply is gained rose =
           let others = some_reading after.place after.pending in
           let front : GainsFront o m (text matcher_holds (a.frames ++ frame ∷ [])) =
           subst (GainsFront o m) (sym (text-push matcher_holds a.frames frame))
-          (front_after o n m (text matcher_holds a.frames) (reply_text a.frames frame) a.written served.0) in
+          (front_after o n m (text matcher_holds a.frames) (reply_text a.frames frame) a.written
+          (subst (λ r. GainsFront n m (bytes_if_any r)) is gained)) in
           let back = text_after (a.frames ++ frame ∷ []) others.0 in
           record {
             taken = a.taken ++ g.taken;
@@ -219,12 +233,15 @@ module _ (lo ln : Input) (o n : Output) (reader : Reading) (hub : Hub FieldJudge
               frames = (a.frames ++ frame ∷ []) ++ others.0;
               end = others.1;
               session = whole_session others.0 others.1 others.2;
-              rose = omega (arith, a.writes, served.1);
+              rose = omega (arith, a.writes, rose);
               written = subst (GainsFront o m) (sym back.1)
                   (front_before o m (text matcher_holds (a.frames ++ frame ∷ [])) back.0 front);
             };
           }
-      ends_in_serve NoMemory served =
+
+      -- there was no memory for the frame
+      pub ends_in_step : Gains o m (text matcher_holds a.frames) → IsRun (ports lo o) (ports lm m) NoMemory
+      ends_in_step written =
           let others = some_reading after.place after.pending in
           record {
             taken = a.taken ++ g.taken;
@@ -235,8 +252,7 @@ module _ (lo ln : Input) (o n : Output) (reader : Reading) (hub : Hub FieldJudge
               end = others.1;
               session = subst (λ all. frames_of (a.taken ++ g.taken) all others.1)
                   (append_assoc a.frames (frame ∷ []) others.0) (whole_session others.0 others.1 others.2);
-              written = subst (Gains o m) (append-nil (text matcher_holds a.frames))
-                  (Gains-trans o n m (text matcher_holds a.frames) [] a.written served);
+              written = written;
             };
           }
 
@@ -277,13 +293,6 @@ good_isnt_bad bytes read_old None read_now o n at fault frames run good = run.co
 good_isnt_bad bytes read_old (Some rest) read_now o n at fault frames run good =
     not_bad bytes rest run.taken (ports (input_with (Some bytes) read_old) o) read_now n at fault frames run.consumes
     run.outcome good
-
--- the bytes of a reply that there is
-pub reply_text_is : (frames : List Frame) (frame : Frame) (reply : Reply) → reply_to matcher_holds frames frame
-    ≡ Some reply
-    → reply_text frames frame ≡ reply_bytes reply
-reply_text_is frames frame reply is = ap (λ r. flat_map reply_bytes (option_to_list r)) is
-    ∙ append-nil (reply_bytes reply)
 
 -- A good session is answered to its end, unless the outside fails or memory is wanting.
 complete_at : (bytes : List ℕ) (read_old : ℕ) (o : Output) (new : Ports) (status : ℕ) (ending : Ending)

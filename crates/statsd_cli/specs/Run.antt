@@ -1,22 +1,20 @@
 -- The run of a session: how it ended, what it took of its input, and what it wrote.
-use Rattle.std.specs.Prelude.{◌≡◌, ℕ, List, [], ◌∷◌, ◌++◌, Result, Ok, Err, option_to_list}
+use Rattle.std.specs.Prelude.{◌≡◌, ℕ, ◌≤◌, List, ◌++◌, length, Option, option_to_list}
 use Rattle.std.specs.List.{flat_map}
-use Rattle.sd_io.specs.States.{Output, Ports}
+use Rattle.sd_io.specs.States.{Ports}
 use Rattle.sd_io.specs.Causes.{Gains, GainsFront, IsAtEnd, Rose, Takes}
 use Rattle.session_frames.specs.declared.frame.Frame.{Frame}
 use Rattle.session_frames.specs.declared.frame.FrameError.{FrameError}
 use Rattle.session_frames.specs.declared.frame.FrameError.TheVariants.{Session, Read, Memory}
 use Rattle.session_frames.specs.declared.frame.SessionFault.{SessionFault}
 use Rattle.session_frames.specs.declared.frame.SessionFault.TheVariants.{Cut}
-use Rattle.session_frames.specs.Frames.{End, Clean, Bad, frames_of}
+use Rattle.session_frames.specs.Frames.{End, Clean, Bad, start, needed, frames_of, Begins}
+use Rattle.session_frames.specs.declared.reply.Reply.{Reply}
 use Rattle.session_frames.specs.Replies.{reply_bytes}
-use Rattle.matcher_eval.specs.declared.field_judge.FieldJudge.{FieldJudge}
 use Rattle.matcher_eval.specs.AtomTests.{matcher_holds}
-use Rattle.hub_meaning.specs.ClientAnswers.{reply_to, text}
-use Rattle.hub_core.specs.declared.hub.Hub.{Hub}
+use Rattle.hub_meaning.specs.ClientAnswers.{text}
 use Rattle.statsd_cli.specs.declared.ending.Ending.{Ending}
 use Rattle.statsd_cli.specs.declared.ending.Ending.TheVariants.{Done, Refused, Usage, BadSession, ReadFault, WriteFault, NoMemory}
-use Rattle.hub_core.specs.HubStands.{HubStandsFor}
 
 -- The input ended at a frame's end, and every command was answered.
 pub record IsDone (taken : List ℕ) (old new : Ports) : Type 0 where
@@ -25,11 +23,23 @@ pub record IsDone (taken : List ℕ) (old new : Ports) : Type 0 where
   pub at_end : IsAtEnd new.input.left
   pub written : Gains old.output new.output (text matcher_holds frames)
 
--- The session has the fault after its good frames, and every command in these was answered. It is cut only where the
--- input ended.
+-- A reading stands at a place with these bytes, and they are no more than what it needs there.
+pub record NeedsAll {P : Type 0} (begins : P → List ℕ → Type 0) (needs : P → List ℕ → ℕ) : Type 0 where
+  pub place : P
+  pub left : List ℕ
+  pub begins_there : begins place left
+  pub no_more : length left ≤ needs place left
+
+-- after these frames no byte was taken but those that the judgement of what stands there asks for: nothing was read on
+abbrev pub IsReadNoFurther : List ℕ → List Frame → Type 0
+IsReadNoFurther taken frames = NeedsAll (Begins start taken frames) needed
+
+-- The session has the fault after its good frames, and every command in these was answered. The fault was told before
+-- more was read than it took to see it. The session is cut only where the input ended.
 pub record IsBadSession (at : ℕ) (fault : SessionFault) (taken : List ℕ) (old new : Ports) : Type 0 where
   pub frames : List Frame
   pub session : frames_of taken frames (Bad at fault)
+  pub at_once : IsReadNoFurther taken frames
   pub at_end : fault ≡ Cut → IsAtEnd new.input.left
   pub written : Gains old.output new.output (text matcher_holds frames)
 
@@ -80,18 +90,9 @@ pub record IsRun (old new : Ports) (ending : Ending) : Type 0 where
   pub consumes : Takes old.input new.input taken
   pub outcome : Outcome taken old new ending
 
--- the bytes of the reply to a frame, if it has one
-abbrev pub reply_text : List Frame → Frame → List ℕ
-reply_text frames frame = flat_map reply_bytes (option_to_list (reply_to matcher_holds frames frame))
-
--- one frame was served after these: its reply was written, or why not
-abbrev pub IsServed : Output → Output → List Frame → Frame → Result (Hub FieldJudge) Ending → Type 0
-IsServed old new frames frame (Ok hub) =
-    HubStandsFor matcher_holds hub (frames ++ frame ∷ []) × Gains old new (reply_text frames frame)
-IsServed old new frames frame (Err WriteFault) =
-    GainsFront old new (reply_text frames frame) × Rose old.faults new.faults
-IsServed old new frames frame (Err NoMemory) = Gains old new []
-IsServed old new frames frame (Err ending) = ⊥
+-- the bytes of a reply, if there is one
+abbrev pub bytes_if_any : Option Reply → List ℕ
+bytes_if_any reply = flat_map reply_bytes (option_to_list reply)
 
 -- why a run ends where the reader gave no frame
 abbrev pub ending_by : FrameError → Ending

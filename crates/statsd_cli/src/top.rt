@@ -1,19 +1,17 @@
 //! The top call, and each command: the run of a session, the check of a configuration, and a session of its own.
-ghost use Rattle.std.specs.Prelude.{◌≡◌, ℕ, ◌≤◌, ◌⊎◌, List, take, IfSome};
+ghost use Rattle.std.specs.Prelude.{◌≡◌, ℕ, ◌⊎◌, List, take, IfSome};
 ghost use Rattle.sd_io.specs.States.{ports};
-ghost use Rattle.sd_io.specs.Causes.{Rose};
+ghost use Rattle.sd_io.specs.Causes.{IsPut, Rose};
 ghost use Rattle.session_frames.specs.declared.frame.Frame.{Frame};
-ghost use Rattle.session_frames.specs.Frames.{Clean, frames_of, IsFaultless, IsInTime};
+ghost use Rattle.session_frames.specs.Frames.{Clean, frames_of};
 ghost use Rattle.matcher_eval.specs.AtomTests.{matcher_holds};
-ghost use Rattle.hub_meaning.specs.SessionLog.{clock_of};
 ghost use Rattle.hub_meaning.specs.ClientIsolation.{EqualOwnFramesEqualReplies};
-ghost use Rattle.hub_core.specs.HubStands.{HubStandsFor};
 ghost use Rattle.config_check.specs.Findings.{finding_of};
 ghost use Rattle.config_check.specs.Checks.{most_taken};
 ghost use Rattle.statsd_cli.specs.Commands.{command_of, HasFewFrames};
 ghost use Rattle.statsd_cli.specs.Streams.{streams};
 ghost use Rattle.statsd_cli.specs.Endings.{status_of, status_done, status_no_memory};
-ghost use Rattle.statsd_cli.specs.Run.{IsRun, IsServed, ending_by};
+ghost use Rattle.statsd_cli.specs.Run.{IsRun, bytes_if_any, ending_by};
 ghost use Rattle.statsd_cli.specs.Check.{ending_found, check_ending};
 ghost use Rattle.statsd_cli.specs.Does.{Did, Does, IsChecked, IsUndisturbed};
 
@@ -24,8 +22,8 @@ use atom_record::Bytes;
 use config_check::{CheckError, Finding, check_config};
 use hub_core::Hub;
 use matcher_eval::FieldJudge;
-use sd_io::{Sink, Source};
-use session_frames::{Frame, FrameError, FrameReader, write_reply};
+use sd_io::{Sink, Source, WriteFailed};
+use session_frames::{FrameError, FrameReader, Reply, write_reply};
 use std::alloc::Global;
 
 /// Does what the words ask for, and gives the program's status. The words are those of the command line without the
@@ -136,12 +134,16 @@ fn replay<S: Source, K: Sink>(alloc: Global, input: &mut S, out: &mut K) -> Endi
         let Some(frame) = frame else {
             return Ending::Done;
         };
-        match serve(hub, frame, out) {
-            Ok(served) => {
+        let (stepped, reply) = match hub.step(frame) {
+            Ok(stepped) => stepped,
+            Err(_) => return Ending::NoMemory,
+        };
+        match put_reply(&reply, out) {
+            Ok(()) => {
                 reader = next;
-                hub = served;
+                hub = stepped;
             }
-            Err(ending) => return ending,
+            Err(_) => return Ending::WriteFault,
         }
     }
 }
@@ -157,27 +159,12 @@ fn ending_of(e: FrameError) -> Ending
     }
 }
 
-/// One frame comes to the hub, and its reply goes out.
-fn serve<K: Sink>(
-    hub: Hub<FieldJudge>,
-    frame: Frame,
-    out: &mut K,
-) -> Result<Hub<FieldJudge>, Ending>
-    requires faultless { IsFaultless frame }
-    ensures serves { (frames : List Frame) → HubStandsFor matcher_holds hub frames
-        → IsInTime (clock_of frames) frame
-        → IsServed (K.state out.old) (K.state out.new) frames frame result }
-    ensures later { (K.state out.old).faults ≤ (K.state out.new).faults }
+/// Writes the reply to a frame, if it has one.
+fn put_reply<K: Sink>(reply: &Option<Reply>, out: &mut K) -> Result<(), WriteFailed>
+    ensures { IsPut (K.state out.old) (K.state out.new) result (bytes_if_any reply.now) }
 {
-    let (hub, reply) = match hub.step(frame) {
-        Ok(stepped) => stepped,
-        Err(_) => return Err(Ending::NoMemory),
-    };
-    let Some(reply) = reply else {
-        return Ok(hub);
-    };
-    match write_reply(&reply, out) {
-        Ok(()) => Ok(hub),
-        Err(_) => Err(Ending::WriteFault),
+    match reply {
+        Some(reply) => write_reply(reply, out),
+        None => Ok(()),
     }
 }

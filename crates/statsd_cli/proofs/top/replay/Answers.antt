@@ -1,7 +1,7 @@
--- One frame after the other; where no frame comes or one isn't served, the run ends so.
+-- One frame after the other; where no frame comes or its reply doesn't go out, the run ends so.
 use Rattle.std.proofs.Common.{Err, ap, subst}
 use Rattle.session_frames.specs.Frames.{IsInTime}
-use Rattle.statsd_cli.proofs.RunLemmas.{begins_along, clock_along, ends_done, ends_refused, comes_nearer, goes_on, ends_in_serve}
+use Rattle.statsd_cli.proofs.RunLemmas.{begins_along, clock_along, ends_done, ends_refused, comes_nearer, goes_on, ends_in_reply, ends_in_step}
 use Rattle.statsd_cli.proofs.top.replay.Goals as goal
 
 pub frames-init : goal.frames-init
@@ -25,25 +25,83 @@ pub frames-smaller : goal.frames-smaller
 frames-smaller g c =
     let along = c.frames.invariant in
     comes_nearer _ _ _ _ c.frames.reader c.frames.hub along _ c.in-Ok.given.0 c.in-Some.frame
-    (rw c.in-Some.is at (c.in-Ok.ensures.gives along.unended)) (g.K.Sink.state c.serve.new.out)
+    (rw c.in-Some.is at (c.in-Ok.ensures.gives along.unended)) (g.K.Sink.state c.put_reply.new.out)
 
+-- the reply was put; what it is made of is let go in one of five ways, of which none changes the outcome
 pub frames-preserved : goal.frames-preserved
 frames-preserved g c =
     let along = c.frames.invariant in
     let good = rw c.in-Some.is at c.in-Ok.ensures.faultless in
     let in_time = subst (λ n. IsInTime n c.in-Some.frame) (clock_along _ _ _ _ c.frames.reader c.frames.hub along)
     good.1 in
+    let served = c.in-Ok-step.ensures.serves along.frames along.stands in_time in
     goes_on _ _ _ _ c.frames.reader c.frames.hub along _ c.in-Ok.given.0 c.in-Some.frame
-    (rw c.in-Some.is at (c.in-Ok.ensures.gives along.unended)) _ c.in-Ok-serve.served
-    (c.in-Ok-serve.ensures.serves along.frames along.stands in_time) c.in-Ok.ensures.cause.later
-    c.in-Ok-serve.ensures.later
+    (rw c.in-Some.is at (c.in-Ok.ensures.gives along.unended)) _ c.in-Ok-step.stepped.0 c.in-Ok-step.stepped.1
+    served.0 served.1 c.in-Ok-put_reply.ensures.bytes c.in-Ok.ensures.cause.later
+    c.in-Ok-put_reply.ensures.cause.later
 
-pub returns-in-Err-serve : goal.returns-in-Err-serve
-returns-in-Err-serve g c =
+pub frames-preserved-in-Ok-put_reply : goal.frames-preserved-in-Ok-put_reply
+frames-preserved-in-Ok-put_reply g c =
     let along = c.frames.invariant in
     let good = rw c.in-Some.is at c.in-Ok.ensures.faultless in
     let in_time = subst (λ n. IsInTime n c.in-Some.frame) (clock_along _ _ _ _ c.frames.reader c.frames.hub along)
     good.1 in
-    ends_in_serve _ _ _ _ c.frames.reader c.frames.hub along _ c.in-Ok.given.0 c.in-Some.frame
-    (rw c.in-Some.is at (c.in-Ok.ensures.gives along.unended)) _ c.in-Err-serve.ending
-    (c.in-Err-serve.ensures.serves along.frames along.stands in_time)
+    let served = c.in-Ok-step.ensures.serves along.frames along.stands in_time in
+    goes_on _ _ _ _ c.frames.reader c.frames.hub along _ c.in-Ok.given.0 c.in-Some.frame
+    (rw c.in-Some.is at (c.in-Ok.ensures.gives along.unended)) _ c.in-Ok-step.stepped.0 c.in-Ok-step.stepped.1
+    served.0 served.1 c.in-Ok-put_reply.ensures.bytes c.in-Ok.ensures.cause.later
+    c.in-Ok-put_reply.ensures.cause.later
+
+pub frames-preserved-in-Ok-put_reply-2 : goal.frames-preserved-in-Ok-put_reply-2
+frames-preserved-in-Ok-put_reply-2 g c =
+    let along = c.frames.invariant in
+    let good = rw c.in-Some.is at c.in-Ok.ensures.faultless in
+    let in_time = subst (λ n. IsInTime n c.in-Some.frame) (clock_along _ _ _ _ c.frames.reader c.frames.hub along)
+    good.1 in
+    let served = c.in-Ok-step.ensures.serves along.frames along.stands in_time in
+    goes_on _ _ _ _ c.frames.reader c.frames.hub along _ c.in-Ok.given.0 c.in-Some.frame
+    (rw c.in-Some.is at (c.in-Ok.ensures.gives along.unended)) _ c.in-Ok-step.stepped.0 c.in-Ok-step.stepped.1
+    served.0 served.1 c.in-Ok-put_reply.ensures.bytes c.in-Ok.ensures.cause.later
+    c.in-Ok-put_reply.ensures.cause.later
+
+pub frames-preserved-in-Ok-put_reply-3 : goal.frames-preserved-in-Ok-put_reply-3
+frames-preserved-in-Ok-put_reply-3 g c =
+    let along = c.frames.invariant in
+    let good = rw c.in-Some.is at c.in-Ok.ensures.faultless in
+    let in_time = subst (λ n. IsInTime n c.in-Some.frame) (clock_along _ _ _ _ c.frames.reader c.frames.hub along)
+    good.1 in
+    let served = c.in-Ok-step.ensures.serves along.frames along.stands in_time in
+    goes_on _ _ _ _ c.frames.reader c.frames.hub along _ c.in-Ok.given.0 c.in-Some.frame
+    (rw c.in-Some.is at (c.in-Ok.ensures.gives along.unended)) _ c.in-Ok-step.stepped.0 c.in-Ok-step.stepped.1
+    served.0 served.1 c.in-Ok-put_reply.ensures.bytes c.in-Ok.ensures.cause.later
+    c.in-Ok-put_reply.ensures.cause.later
+
+pub frames-preserved-in-Ok-put_reply-4 : goal.frames-preserved-in-Ok-put_reply-4
+frames-preserved-in-Ok-put_reply-4 g c =
+    let along = c.frames.invariant in
+    let good = rw c.in-Some.is at c.in-Ok.ensures.faultless in
+    let in_time = subst (λ n. IsInTime n c.in-Some.frame) (clock_along _ _ _ _ c.frames.reader c.frames.hub along)
+    good.1 in
+    let served = c.in-Ok-step.ensures.serves along.frames along.stands in_time in
+    goes_on _ _ _ _ c.frames.reader c.frames.hub along _ c.in-Ok.given.0 c.in-Some.frame
+    (rw c.in-Some.is at (c.in-Ok.ensures.gives along.unended)) _ c.in-Ok-step.stepped.0 c.in-Ok-step.stepped.1
+    served.0 served.1 c.in-Ok-put_reply.ensures.bytes c.in-Ok.ensures.cause.later
+    c.in-Ok-put_reply.ensures.cause.later
+
+pub returns-in-Err-put_reply : goal.returns-in-Err-put_reply
+returns-in-Err-put_reply g c =
+    let along = c.frames.invariant in
+    let good = rw c.in-Some.is at c.in-Ok.ensures.faultless in
+    let in_time = subst (λ n. IsInTime n c.in-Some.frame) (clock_along _ _ _ _ c.frames.reader c.frames.hub along)
+    good.1 in
+    let served = c.in-Ok-step.ensures.serves along.frames along.stands in_time in
+    let failed = c.in-Err-put_reply.ensures in
+    ends_in_reply _ _ _ _ c.frames.reader c.frames.hub along _ c.in-Ok.given.0 c.in-Some.frame
+    (rw c.in-Some.is at (c.in-Ok.ensures.gives along.unended)) _ c.in-Ok-step.stepped.1 served.1 failed.bytes
+    failed.cause.failed
+
+pub returns-in-Err-step : goal.returns-in-Err-step
+returns-in-Err-step g c =
+    let along = c.frames.invariant in
+    ends_in_step _ _ _ _ c.frames.reader c.frames.hub along _ c.in-Ok.given.0 c.in-Some.frame
+    (rw c.in-Some.is at (c.in-Ok.ensures.gives along.unended)) _ along.written
