@@ -29,7 +29,7 @@ use Rattle.duration_metric.specs.declared.change.InnerDelta.{InnerDelta}
 use Rattle.duration_metric.specs.declared.inner.Known.{Known}
 use Rattle.duration_metric.specs.declared.inner.Inner.{Inner}
 use Rattle.duration_metric.specs.declared.inner.InnerTable.{InnerTable}
-use Rattle.duration_metric.specs.InnerKeys.{DurationCall, key_events, known_by, known_at, KeySeen, inner_state, inner_keys, told_of, key_seen, last_known, last_truth}
+use Rattle.duration_metric.specs.InnerKeys.{DurationCall, key_events, known_by, known_at, KeySeen, inner_state, inner_keys, told_to, key_seen, last_known, told_truth}
 use Rattle.duration_metric.specs.InnerStands.{state_in, AreKnown, InnersStandFor, ActsOn, TakesEvent, TakesDelta, TellsOne, TellsAll}
 use Rattle.duration_metric.proofs.InnerLemmas.{keys_of-counts, counts-same}
 
@@ -85,10 +85,10 @@ module _ (spec : PredSpec) where
       ≡ state_after same_leaves spec (inner_state spec calls) event.event event.key
   inner_state-got calls at event =
       let one : KeyEvent LeafKey = record { event = event.event; key = event.key } in
-      ap (λ events. state_of events) (flat_map-append key_events calls (Got at event ∷ []))
+      ap (λ events. sparse_state events) (flat_map-append key_events calls (Got at event ∷ []))
       ∙ state_from-push same_leaves spec (initial_state spec) (flat_map key_events calls) one where
-        state_of : List (KeyEvent LeafKey) → PredicateState LeafKey
-        state_of events = state_from same_leaves spec (initial_state spec) events
+        sparse_state : List (KeyEvent LeafKey) → PredicateState LeafKey
+        sparse_state events = state_from same_leaves spec (initial_state spec) events
 
   -- a call without an event leaves the inner keys
   pub inner_state-other : (calls : List DurationCall) (call : DurationCall) → key_events call ≡ []
@@ -102,20 +102,20 @@ module _ (spec : PredSpec) where
   -- a key that is listed after a call was told last what the call tells, or what it was told before
   pub last_known-listed : (calls : List DurationCall) (call : DurationCall) (key : LeafKey)
       → is_among same_leaves key (inner_keys spec (calls ++ call ∷ [])) ≡ true
-      → last_known spec (calls ++ call ∷ []) key ≡ last_or (last_known spec calls key) (told_of spec key calls call)
+      → last_known spec (calls ++ call ∷ []) key ≡ last_or (last_known spec calls key) (told_to spec key calls call)
   last_known-listed calls call key listed =
       let told : KeySeen → List Known = λ (seen : KeySeen). seen.told in
       let absent : KeySeen → Bool = λ (seen : KeySeen). not seen.is_listed in
       let seen = outputs (key_seen spec key) calls in
       let now : KeySeen = record {
         is_listed = is_among same_leaves key (inner_keys spec (calls ++ call ∷ []));
-        told = told_of spec key calls call;
+        told = told_to spec key calls call;
       } in
       ap (λ l. last_or None (flat_map told (after_last absent l))) (outputs-push (key_seen spec key) calls call)
       ∙ ap (λ l. last_or None (flat_map told l)) (after_last-more absent seen now false (ap not listed))
       ∙ ap (last_or None) (flat_map-append told (after_last absent seen) (now ∷ []))
-      ∙ ap (λ l. last_or None (flat_map told (after_last absent seen) ++ l)) (append-nil (told_of spec key calls call))
-      ∙ last_or-append None (flat_map told (after_last absent seen)) (told_of spec key calls call)
+      ∙ ap (λ l. last_or None (flat_map told (after_last absent seen) ++ l)) (append-nil (told_to spec key calls call))
+      ∙ last_or-append None (flat_map told (after_last absent seen)) (told_to spec key calls call)
 
   -- a key that is absent after a call was told nothing since
   known_none : (calls : List DurationCall) (call : DurationCall) (key : LeafKey)
@@ -127,7 +127,7 @@ module _ (spec : PredSpec) where
       let seen = outputs (key_seen spec key) calls in
       let now : KeySeen = record {
         is_listed = is_among same_leaves key (inner_keys spec (calls ++ call ∷ []));
-        told = told_of spec key calls call;
+        told = told_to spec key calls call;
       } in
       ap (λ l. last_or None (flat_map told (after_last absent l))) (outputs-push (key_seen spec key) calls call)
       ∙ ap (λ l. last_or None (flat_map told l)) (after_last-more absent seen now true (ap not absent_is))
@@ -192,7 +192,7 @@ takes_event old new event acts spec calls at stands =
 
 -- a call that neither acts nor tells is one of them, too
 pub takes_other : (it : InnerTable) (spec : PredSpec) (calls : List DurationCall) (call : DurationCall)
-    → key_events call ≡ [] → ((key : LeafKey) → told_of spec key calls call ≡ []) → InnersStandFor it spec calls
+    → key_events call ≡ [] → ((key : LeafKey) → told_to spec key calls call ≡ []) → InnersStandFor it spec calls
     → InnersStandFor it spec (calls ++ call ∷ [])
 takes_other it spec calls call none silent stands =
     let state : state_in it ≡ inner_state spec (calls ++ call ∷ []) =
@@ -428,7 +428,7 @@ module _ (it : InnerTable) (spec : PredSpec) (calls : List DurationCall) (stands
 
   -- and what it was told last is what the calls told
   pub truth_is : (row : LeafKey × Inner) → slice_get it.keys.rows place ≡ Some row
-      → option_map (λ (known : Known). known.truth) row.1.known ≡ last_truth spec calls place
+      → option_map (λ (known : Known). known.truth) row.1.known ≡ told_truth spec calls place
   truth_is row at =
       ap (option_map (λ (known : Known). known.truth))
       (known_at_place (last_known spec calls) it.keys.rows place row stands.known_are at)

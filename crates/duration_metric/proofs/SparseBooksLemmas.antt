@@ -20,7 +20,7 @@ use Rattle.metric_producer.specs.declared.row.Row.{Row}
 use Rattle.metric_producer.specs.declared.row.Closed.{Closed}
 use Rattle.duration_metric.specs.declared.sparse_books.SparseBooks.{SparseBooks}
 use Rattle.duration_metric.specs.SparseTimes.{longest_of, longest_times, HasTimes, TakesTime, time_rows}
-use Rattle.duration_metric.specs.SparseBooksStand.{HoldsTimes, with_marks, TakesMarks, ShowsBooks}
+use Rattle.duration_metric.specs.SparseBooksStand.{HoldsTimes, with_longest, TakesLongestMarks, ShowsLongest}
 
 -- the rows of a part are those of its longest times
 rows_by_times : (bound : ℕ) (part : Part (MetricKey × ℕ)) (ks : List MetricKey)
@@ -69,19 +69,19 @@ opens it bound start table starts lost kept = record {
 }
 
 -- nothing comes
-pub stays : (it : SparseBooks) → TakesMarks it it []
+pub stays : (it : SparseBooks) → TakesLongestMarks it it []
 stays it bound books has = has
 
 -- some marks come, and then others
-pub then_more : (old mid new : SparseBooks) (first second : List (Mark (MetricKey × ℕ))) → TakesMarks old mid first
-    → TakesMarks mid new second → TakesMarks old new (first ++ second)
+pub then_more : (old mid new : SparseBooks) (first second : List (Mark (MetricKey × ℕ))) → TakesLongestMarks old mid first
+    → TakesLongestMarks mid new second → TakesLongestMarks old new (first ++ second)
 then_more old mid new first second one other bound books has =
     subst (HoldsTimes new bound) (sym (books-append (drops longest_kind bound) books first second))
-    (other bound (with_marks bound books first) (one bound books has))
+    (other bound (with_longest bound books first) (one bound books has))
 
 -- a time came
 pub comes : (old : SparseBooks) (table : Table MetricKey ℕ) (key : MetricKey) (time : ℕ)
-    → TakesTime old.table table key time → TakesMarks old (record old { table = table }) (Came (key, time) ∷ [])
+    → TakesTime old.table table key time → TakesLongestMarks old (record old { table = table }) (Came (key, time) ∷ [])
 comes old table key time takes bound books has =
     let more = drops longest_kind bound books.came (key, time) in
     record {
@@ -100,7 +100,7 @@ comes old table key time takes bound books has =
 
 -- an inner key was lost
 pub loses : (old : SparseBooks) (lost : ℕ) → lost ≡ count_in_u64 (old.lost + 1)
-    → TakesMarks old (record old { lost = lost }) (Lost ∷ [])
+    → TakesLongestMarks old (record old { lost = lost }) (Lost ∷ [])
 loses old lost is bound books has = record {
   bound_is = has.bound_is;
   start = has.start;
@@ -117,7 +117,7 @@ loses old lost is bound books has = record {
 pub closes : (old new : SparseBooks) (end : ℕ) → new.start ≡ end → new.lost ≡ old.lost
     → new.table ≡ record old.table { rows = [] }
     → AddsRows row_weight old.kept new.kept (flat_map (time_rows old.start end) old.table.rows)
-    → TakesMarks old new (Ends end ∷ [])
+    → TakesLongestMarks old new (Ends end ∷ [])
 closes old new end start lost table adds bound books has =
     let part : Part (MetricKey × ℕ) = record { start = books.start; end = end; came = books.came } in
     let rows : flat_map (time_rows old.start end) old.table.rows ≡ rows_of longest_kind bound part =
@@ -146,7 +146,7 @@ closes old new end start lost table adds bound books has =
 -- what was kept is handed out
 pub hands_out : (old new : SparseBooks) → new.start ≡ old.start → new.lost ≡ 0
     → new.table ≡ record old.table { dropped = 0 } → ((weigh : Row ℕ → ℕ) → IsKept weigh [] new.kept)
-    → TakesMarks old new (Asked ∷ [])
+    → TakesLongestMarks old new (Asked ∷ [])
 hands_out old new start lost table kept bound books has = record {
   bound_is = ap (λ (t : Table MetricKey ℕ). t.bound) table ∙ has.bound_is;
   start = start ∙ has.start;
@@ -175,7 +175,7 @@ closed_same one other rows not_kept dropped missing =
 
 -- what is handed out is what a report shows
 pub shows : (it : SparseBooks) (closed : Closed ℕ) → closed.rows ≡ it.kept.rows → closed.not_kept ≡ it.kept.others
-    → closed.dropped ≡ count_in_u64 (it.table.dropped + it.lost) → closed.missing ≡ 0 → ShowsBooks it closed
+    → closed.dropped ≡ count_in_u64 (it.table.dropped + it.lost) → closed.missing ≡ 0 → ShowsLongest it closed
 shows it closed rows not_kept dropped missing bound books has =
     let drop : closed.dropped ≡ count_in_u64 books.dropped =
     omega (arith, dropped, has.table.dropped_are, has.lost, has.dropped) in
@@ -190,7 +190,7 @@ shows it closed rows not_kept dropped missing bound books has =
 -- an empty part is closed
 closes_empty : (it : SparseBooks) (bound : ℕ) (books : Books (MetricKey × ℕ)) (end : ℕ)
     → HoldsTimes it bound books → books.came ≡ []
-    → HoldsTimes (record it { start = end }) bound (with_marks bound books (Ends end ∷ []))
+    → HoldsTimes (record it { start = end }) bound (with_longest bound books (Ends end ∷ []))
 closes_empty it bound books end has none = record {
   bound_is = has.bound_is;
   start = refl;
@@ -212,16 +212,16 @@ closes_empty it bound books end has none = record {
 pub closes_many : (n : ℕ) (it : SparseBooks) (bound : ℕ) (books : Books (MetricKey × ℕ)) (size : ℕ)
     → HoldsTimes it bound books → books.came ≡ []
     → HoldsTimes (record it { start = it.start + n * size }) bound
-    (with_marks bound books (boundary_marks no_edges (ends_from (it.start + size) size n)))
+    (with_longest bound books (boundary_marks no_edges (ends_from (it.start + size) size n)))
 closes_many zero it bound books size has none =
     subst (λ s. HoldsTimes (record it { start = s }) bound books) (omega arith) has
 closes_many (suc n) it bound books size has none =
     let next = closes_empty it bound books (it.start + size) has none in
     subst (λ s. HoldsTimes (record it { start = s }) bound
-    (with_marks bound (with_marks bound books (Ends (it.start + size) ∷ []))
+    (with_longest bound (with_longest bound books (Ends (it.start + size) ∷ []))
     (boundary_marks no_edges (ends_from (it.start + size + size) size n)))) (omega arith)
     (closes_many n (record it { start = it.start + size }) bound
-    (with_marks bound books (Ends (it.start + size) ∷ [])) size next refl)
+    (with_longest bound books (Ends (it.start + size) ∷ [])) size next refl)
 
 -- one more row was added, or none, of those that were to come
 pub adds_next : (start end : ℕ) (old mid new : Keeping (Row ℕ)) (times done rest later : List (MetricKey × ℕ))

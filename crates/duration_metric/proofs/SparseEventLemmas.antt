@@ -24,7 +24,7 @@ use Rattle.duration_metric.specs.declared.sparse_keys.SparseEntry.{SparseEntry}
 use Rattle.duration_metric.specs.declared.sparse_keys.SparseKeys.{SparseKeys}
 use Rattle.duration_metric.specs.InnerKeys.{DurationCall, inner_state, last_known}
 use Rattle.duration_metric.specs.SparseCalls.{is_on}
-use Rattle.duration_metric.specs.SparseEntries.{count_of, state_of, RowStands, KeysStand, entry_marks, row_marks, fresh_entry, TakesKeyEvent}
+use Rattle.duration_metric.specs.SparseEntries.{entry_count, sparse_state, RowStands, KeysStand, entry_marks, row_marks, fresh_entry, TakesKeyEvent}
 use Rattle.duration_metric.proofs.SparseRowLemmas.{Row, same_decides, leaves_equiv, off_unlisted, all_at, keys_counted, or_false, all_push, all_front, all_filter, all_set, counts_set, counts_left, IsOnAsCounted, none_gone, gone_set, gone_left, all_gone}
 use Rattle.duration_metric.proofs.SparseStepLemmas.{left_by, marks_are, Becomes, begins, takes_by, all_pass, none_lost, one_lost, keys_are, on_are, all_counted}
 
@@ -70,7 +70,7 @@ rows_bring spec calls last at event later fits (row ∷ rows) all =
 
 module _ (old : SparseKeys) (at : ℕ) (event : InnerEvent) where
   -- nothing becomes of the keys
-  pub takes_nothing : state_after same_leaves old.spec (state_of old) event.event event.key ≡ state_of old
+  pub takes_nothing : state_after same_leaves old.spec (sparse_state old) event.event event.key ≡ sparse_state old
       → TakesKeyEvent old old at event []
   takes_nothing acts spec calls last has later =
       takes_by spec calls last at event old old has refl refl (sym acts) has.distinct
@@ -82,23 +82,23 @@ module _ (old : SparseKeys) (at : ℕ) (event : InnerEvent) where
   module _ (place : ℕ) (row : Row) (found : position (same_leaves event.key) (keys old.table) ≡ Some place)
       (there : slice_get old.table.rows place ≡ Some row) where
     -- its key among the counts
-    found_count : position (same_leaves event.key) (keys_of (map count_of old.table.rows)) ≡ Some place
+    found_count : position (same_leaves event.key) (keys_of (map entry_count old.table.rows)) ≡ Some place
     found_count = ap (position (same_leaves event.key)) (keys_counted old.table.rows) ∙ found
 
     -- what a look-up finds
-    pub looked_up : lookup (same_leaves event.key) (state_of old).counts ≡ Some row.1.count
+    pub looked_up : lookup (same_leaves event.key) (sparse_state old).counts ≡ Some row.1.count
     looked_up =
-        sym (value_at_position (same_leaves event.key) (map count_of old.table.rows) place (count_of row) found_count
-        (slice_get-map count_of old.table.rows place ∙ ap (option_map count_of) there))
+        sym (value_at_position (same_leaves event.key) (map entry_count old.table.rows) place (entry_count row) found_count
+        (slice_get-map entry_count old.table.rows place ∙ ap (option_map entry_count) there))
 
     -- another entry is another count
     pub recounts : (entry : SparseEntry) (unknown : Bool)
         → (let given : PredicateState LeafKey = record {
           unknown = unknown;
-          counts = map count_of (set_value_at old.table.rows place entry);
+          counts = map entry_count (set_value_at old.table.rows place entry);
           dropped = old.table.dropped;
         } in given)
-        ≡ with_key_count same_leaves (record (state_of old) { unknown = unknown }) event.key entry.count
+        ≡ with_key_count same_leaves (record (sparse_state old) { unknown = unknown }) event.key entry.count
     recounts entry unknown =
         ap (λ (counts : List (LeafKey × ℕ)). let given : PredicateState LeafKey = record {
           unknown = unknown;
@@ -106,12 +106,12 @@ module _ (old : SparseKeys) (at : ℕ) (event : InnerEvent) where
           dropped = old.table.dropped;
         } in given)
         (counts_set old.table.rows place entry
-        ∙ set_at_position (same_leaves event.key) (map count_of old.table.rows) place entry.count found_count)
+        ∙ set_at_position (same_leaves event.key) (map entry_count old.table.rows) place entry.count found_count)
 
     -- the row gets another entry
     pub takes_set : (entry : SparseEntry) (marks : List (Mark (MetricKey × ℕ)))
-        → state_after same_leaves old.spec (state_of old) event.event event.key
-        ≡ with_key_count same_leaves (state_of old) event.key entry.count
+        → state_after same_leaves old.spec (sparse_state old) event.event event.key
+        ≡ with_key_count same_leaves (sparse_state old) event.key entry.count
         → ((spec : PredSpec) (calls : List DurationCall) (last : ℕ) → KeysStand old spec calls last → last ≤ at
         → RowStands spec calls last row → is_on spec calls row.0 ≡ nat_lt 0 row.1.count
         → Becomes spec calls (Got at event) at refl (row.0, entry))
@@ -135,21 +135,21 @@ module _ (old : SparseKeys) (at : ℕ) (event : InnerEvent) where
 
     -- the row leaves
     pub takes_left : at < 2 ^ 64 → row.0 ≡ event.key
-        → state_after same_leaves old.spec (state_of old) event.event event.key
-        ≡ without_key same_leaves (state_of old) event.key
+        → state_after same_leaves old.spec (sparse_state old) event.event event.key
+        ≡ without_key same_leaves (sparse_state old) event.key
         → TakesKeyEvent old (record old { table = without same_leaves old.table event.key }) at event
         (entry_marks at row.1)
     takes_left fits own acts spec calls last has later =
         let is = all_at (RowStands spec calls last) old.table.rows place row has.rows_are there in
         let new : SparseKeys = record old { table = without same_leaves old.table event.key } in
-        let state : state_of new ≡ without_key same_leaves (state_of old) event.key =
+        let state : sparse_state new ≡ without_key same_leaves (sparse_state old) event.key =
         ap (λ (counts : List (LeafKey × ℕ)). let given : PredicateState LeafKey = record {
           unknown = old.unknown;
           counts = counts;
           dropped = old.table.dropped;
         } in given) (counts_left event.key old.table.rows) in
-        let state_now : state_of new ≡ inner_state spec (calls ++ Got at event ∷ []) =
-        state ∙ sym acts ∙ ap (λ s. state_after same_leaves s (state_of old) event.event event.key) has.spec_is
+        let state_now : sparse_state new ≡ inner_state spec (calls ++ Got at event ∷ []) =
+        state ∙ sym acts ∙ ap (λ s. state_after same_leaves s (sparse_state old) event.event event.key) has.spec_is
         ∙ ap (λ s. state_after same_leaves spec s event.event event.key) has.state_is
         ∙ sym (state_got spec calls at event) in
         let off : is_on spec (calls ++ Got at event ∷ []) row.0 ≡ false =
@@ -174,8 +174,8 @@ module _ (old : SparseKeys) (at : ℕ) (event : InnerEvent) where
 
   -- a new key is listed
   pub takes_added : (count : ℕ) → ¬ Contains (keys old.table) event.key
-      → state_after same_leaves old.spec (state_of old) event.event event.key
-      ≡ record (state_of old) { counts = (state_of old).counts ++ (event.key, count) ∷ [] }
+      → state_after same_leaves old.spec (sparse_state old) event.event event.key
+      ≡ record (sparse_state old) { counts = (sparse_state old).counts ++ (event.key, count) ∷ [] }
       → TakesKeyEvent old
       (record old { table = record old.table { rows = old.table.rows ++ (event.key, fresh_entry count at) ∷ [] } }) at
       event []
@@ -195,7 +195,7 @@ module _ (old : SparseKeys) (at : ℕ) (event : InnerEvent) where
         unknown = old.unknown;
         counts = counts;
         dropped = old.table.dropped;
-      } in given) (map-append count_of old.table.rows ((event.key, fresh_entry count at) ∷ [])) ∙ sym acts)
+      } in given) (map-append entry_count old.table.rows ((event.key, fresh_entry count at) ∷ [])) ∙ sym acts)
       (subst (IsDistinct same_leaves) (sym (keys_of-push old.table.rows event.key (fresh_entry count at)))
       (IsDistinct-push leaves_equiv (keys old.table) event.key has.distinct
       (not_any event.key (keys old.table) unlisted)))
@@ -210,8 +210,8 @@ module _ (old : SparseKeys) (at : ℕ) (event : InnerEvent) where
 
   -- a new key is turned away
   pub takes_away : (dropped : ℕ) (marks : List (Mark (MetricKey × ℕ)))
-      → state_after same_leaves old.spec (state_of old) event.event event.key
-      ≡ record (state_of old) { dropped = dropped }
+      → state_after same_leaves old.spec (sparse_state old) event.event event.key
+      ≡ record (sparse_state old) { dropped = dropped }
       → ((dropped ≡ old.table.dropped) × (marks ≡ [])) ⊎ ((dropped ≡ old.table.dropped + 1) × (marks ≡ Lost ∷ []))
       → TakesKeyEvent old (record old { table = record old.table { dropped = dropped } }) at event marks
   takes_away dropped marks acts counts spec calls last has later =
@@ -226,14 +226,14 @@ module _ (old : SparseKeys) (at : ℕ) (event : InnerEvent) where
 
   -- all keys are stopped
   pub takes_all : at < 2 ^ 64
-      → state_after same_leaves old.spec (state_of old) event.event event.key
-      ≡ record (state_of old) { unknown = false; counts = [] }
+      → state_after same_leaves old.spec (sparse_state old) event.event event.key
+      ≡ record (sparse_state old) { unknown = false; counts = [] }
       → TakesKeyEvent old (record old { unknown = false; table = record old.table { rows = [] } }) at event
       (flat_map (row_marks at) old.table.rows)
   takes_all fits acts spec calls last has later =
       let new : SparseKeys = record old { unknown = false; table = record old.table { rows = [] } } in
-      let state_now : state_of new ≡ inner_state spec (calls ++ Got at event ∷ []) =
-      sym acts ∙ ap (λ s. state_after same_leaves s (state_of old) event.event event.key) has.spec_is
+      let state_now : sparse_state new ≡ inner_state spec (calls ++ Got at event ∷ []) =
+      sym acts ∙ ap (λ s. state_after same_leaves s (sparse_state old) event.event event.key) has.spec_is
       ∙ ap (λ s. state_after same_leaves spec s event.event event.key) has.state_is
       ∙ sym (state_got spec calls at event) in
       takes_by spec calls last at event old new has refl refl (sym acts) none_distinct tt

@@ -15,8 +15,8 @@ use Rattle.metric_producer.specs.Calls.{Got}
 use Rattle.metric_kinds.specs.Durations.{time_since_off}
 use Rattle.metric_kinds.proofs.DurationsLemmas.{since_off-off, since_off-on}
 use Rattle.duration_metric.specs.declared.change.InnerEvent.{InnerEvent}
-use Rattle.duration_metric.specs.InnerKeys.{DurationCall, KeySeen, key_events, inner_state, inner_keys, told_of, key_seen, last_known}
-use Rattle.duration_metric.specs.SparseCalls.{turn_times, is_timed, is_on, key_moment, time_on}
+use Rattle.duration_metric.specs.InnerKeys.{DurationCall, KeySeen, key_events, inner_state, inner_keys, told_to, key_seen, last_known}
+use Rattle.duration_metric.specs.SparseCalls.{turn_times, is_told_timed, is_on, inner_moment, running_time}
 
 -- the elements at the end that pass no test, one more
 no_suffix : {X : Type 0} (test : X → Bool) (xs : List X) (last : X) (passes : Bool) → test last ≡ passes
@@ -78,7 +78,7 @@ module _ (spec : PredSpec) (calls : List DurationCall) where
     abbrev now : KeySeen
     now = record {
       is_listed = is_among same_leaves key (inner_keys spec (calls ++ call ∷ []));
-      told = told_of spec key calls call;
+      told = told_to spec key calls call;
     }
 
     -- nothing is known of a key that isn't listed
@@ -93,7 +93,7 @@ module _ (spec : PredSpec) (calls : List DurationCall) where
 
     -- of one that is listed, what was told of it last
     pub known-listed : is_among same_leaves key (inner_keys spec (calls ++ call ∷ [])) ≡ true
-        → last_known spec (calls ++ call ∷ []) key ≡ last_or (last_known spec calls key) (told_of spec key calls call)
+        → last_known spec (calls ++ call ∷ []) key ≡ last_or (last_known spec calls key) (told_to spec key calls call)
     known-listed on =
         let before = after_last (λ (seen : KeySeen). not seen.is_listed) (outputs (key_seen spec key) calls) in
         ap (λ l. last_or None (flat_map (λ (seen : KeySeen). seen.told)
@@ -101,48 +101,48 @@ module _ (spec : PredSpec) (calls : List DurationCall) where
         ∙ ap (λ l. last_or None (flat_map (λ (seen : KeySeen). seen.told) l))
         (after_last-fails (λ (seen : KeySeen). not seen.is_listed) (outputs (key_seen spec key) calls) now (ap not on))
         ∙ ap (last_or None) (flat_map-append (λ (seen : KeySeen). seen.told) before (now ∷ [])
-        ∙ ap (λ l. flat_map (λ (seen : KeySeen). seen.told) before ++ l) (append-nil (told_of spec key calls call)))
-        ∙ last_or-append None (flat_map (λ (seen : KeySeen). seen.told) before) (told_of spec key calls call)
+        ∙ ap (λ l. flat_map (λ (seen : KeySeen). seen.told) before ++ l) (append-nil (told_to spec key calls call)))
+        ∙ last_or-append None (flat_map (λ (seen : KeySeen). seen.told) before) (told_to spec key calls call)
 
     -- the key's moments, with those of the call
     moments : (end : ℕ) (times : List ℕ) → turn_times call ≡ times
-        → time_on spec (calls ++ call ∷ []) end key
-        ≡ time_since_off (outputs (key_moment spec key) calls ++ map (λ at. record {
+        → running_time spec (calls ++ call ∷ []) end key
+        ≡ time_since_off (outputs (inner_moment spec key) calls ++ map (λ at. record {
           at = at;
           is_on = is_on spec (calls ++ call ∷ []) key;
-          holds = is_timed (last_known spec (calls ++ call ∷ []) key);
+          holds = is_told_timed (last_known spec (calls ++ call ∷ []) key);
         }) times) end
     moments end times is =
-        ap (λ l. time_since_off l end) (outputs-push (key_moment spec key) calls call)
-        ∙ ap (λ ts. time_since_off (outputs (key_moment spec key) calls ++ map (λ at. record {
+        ap (λ l. time_since_off l end) (outputs-push (inner_moment spec key) calls call)
+        ∙ ap (λ ts. time_since_off (outputs (inner_moment spec key) calls ++ map (λ at. record {
           at = at;
           is_on = is_on spec (calls ++ call ∷ []) key;
-          holds = is_timed (last_known spec (calls ++ call ∷ []) key);
+          holds = is_told_timed (last_known spec (calls ++ call ∷ []) key);
         }) ts) end) is
 
     -- a call that is neither an event nor a condition leaves its time
     pub time-idle : (end : ℕ) → turn_times call ≡ []
-        → time_on spec (calls ++ call ∷ []) end key ≡ time_on spec calls end key
+        → running_time spec (calls ++ call ∷ []) end key ≡ running_time spec calls end key
     time-idle end none =
-        moments end [] none ∙ ap (λ l. time_since_off l end) (append-nil (outputs (key_moment spec key) calls))
+        moments end [] none ∙ ap (λ l. time_since_off l end) (append-nil (outputs (inner_moment spec key) calls))
 
     module _ (at end : ℕ) (turns : turn_times call ≡ at ∷ []) where
       -- a key that isn't on then has no time
-      pub time-off : is_on spec (calls ++ call ∷ []) key ≡ false → time_on spec (calls ++ call ∷ []) end key ≡ 0
+      pub time-off : is_on spec (calls ++ call ∷ []) key ≡ false → running_time spec (calls ++ call ∷ []) end key ≡ 0
       time-off off = moments end (at ∷ []) turns
-          ∙ since_off-off (outputs (key_moment spec key) calls) (record {
+          ∙ since_off-off (outputs (inner_moment spec key) calls) (record {
             at = at;
             is_on = is_on spec (calls ++ call ∷ []) key;
-            holds = is_timed (last_known spec (calls ++ call ∷ []) key);
+            holds = is_told_timed (last_known spec (calls ++ call ∷ []) key);
           }) end off
 
       -- the time of one that is on goes on from what it was
       pub time-on : is_on spec (calls ++ call ∷ []) key ≡ true
-          → time_on spec (calls ++ call ∷ []) end key
-          ≡ time_on spec calls at key + (if is_timed (last_known spec (calls ++ call ∷ []) key) then end - at else 0)
+          → running_time spec (calls ++ call ∷ []) end key
+          ≡ running_time spec calls at key + (if is_told_timed (last_known spec (calls ++ call ∷ []) key) then end - at else 0)
       time-on on = moments end (at ∷ []) turns
-          ∙ since_off-on (outputs (key_moment spec key) calls) (record {
+          ∙ since_off-on (outputs (inner_moment spec key) calls) (record {
             at = at;
             is_on = is_on spec (calls ++ call ∷ []) key;
-            holds = is_timed (last_known spec (calls ++ call ∷ []) key);
+            holds = is_told_timed (last_known spec (calls ++ call ∷ []) key);
           }) end on

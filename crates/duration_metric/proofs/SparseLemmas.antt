@@ -23,10 +23,10 @@ use Rattle.duration_metric.specs.declared.change.InnerDelta.{InnerDelta}
 use Rattle.duration_metric.specs.declared.sparse.MaxProducer.{MaxProducer}
 use Rattle.duration_metric.specs.declared.sparse_books.SparseBooks.{SparseBooks}
 use Rattle.duration_metric.specs.declared.sparse_keys.SparseKeys.{SparseKeys}
-use Rattle.duration_metric.specs.InnerKeys.{DurationParams, DurationCall, duration_demands, key_events, inner_state, inner_keys, last_known, told_of}
+use Rattle.duration_metric.specs.InnerKeys.{DurationParams, DurationCall, duration_demands, key_events, inner_state, inner_keys, last_known, told_to}
 use Rattle.duration_metric.specs.SparseCalls.{sparse_collecting, turn_times, is_on}
-use Rattle.duration_metric.specs.SparseBooksStand.{HoldsTimes, with_marks, TakesMarks, IsOpened}
-use Rattle.duration_metric.specs.SparseEntries.{state_of, RowStands, KeysStand, IsOfNoCalls, TakesKeyEvent, LearnsDelta}
+use Rattle.duration_metric.specs.SparseBooksStand.{HoldsTimes, with_longest, TakesLongestMarks, AreNewSparse}
+use Rattle.duration_metric.specs.SparseEntries.{sparse_state, RowStands, KeysStand, IsOfNoCalls, TakesKeyEvent, LearnsDelta}
 use Rattle.duration_metric.specs.SparseStands.{HasSparse, SparseStandsFor, sparse_mean, sparse_law}
 use Rattle.duration_metric.proofs.SparseKnownLemmas.{state_idle, known-unlisted, known-listed, time-idle}
 use Rattle.duration_metric.proofs.SparseRowLemmas.{Row, all_both}
@@ -35,7 +35,7 @@ use Rattle.duration_metric.proofs.SparseBooksLemmas.{closes_many}
 
 -- of no calls
 pub of_no_calls : (it : SparseKeys) (spec : PredSpec) → it.spec ≡ spec → it.table.bound ≡ spec.bound
-    → state_of it ≡ initial_state spec → it.table.rows ≡ [] → IsOfNoCalls it spec
+    → sparse_state it ≡ initial_state spec → it.table.rows ≡ [] → IsOfNoCalls it spec
 unfolding IsDistinct
 of_no_calls it spec same_spec same_bound state none last = record {
   spec_is = same_spec;
@@ -48,11 +48,11 @@ of_no_calls it spec same_spec same_bound state none last = record {
 
 -- a call that is neither an event nor a condition leaves the inner keys
 idles : (it : SparseKeys) (spec : PredSpec) (calls : List DurationCall) (last later : ℕ) (call : DurationCall)
-    → key_events call ≡ [] → turn_times call ≡ [] → ((key : LeafKey) → told_of spec key calls call ≡ [])
+    → key_events call ≡ [] → turn_times call ≡ [] → ((key : LeafKey) → told_to spec key calls call ≡ [])
     → KeysStand it spec calls last → last ≤ later → KeysStand it spec (calls ++ call ∷ []) later
 idles it spec calls last later call idle none untold has reached =
     let state = state_idle spec calls call idle in
-    let now : state_of it ≡ inner_state spec (calls ++ call ∷ []) = has.state_is ∙ sym state in
+    let now : sparse_state it ≡ inner_state spec (calls ++ call ∷ []) = has.state_is ∙ sym state in
     let on_same : (key : LeafKey) → is_on spec (calls ++ call ∷ []) key ≡ is_on spec calls key = λ key.
     ap (λ (s : PredicateState LeafKey). is_among same_leaves key (map (λ (entry : LeafKey × ℕ). entry.0)
     (filter (λ (entry : LeafKey × ℕ). nat_lt 0 entry.1) s.counts))) state in
@@ -122,7 +122,7 @@ moves_by old new call step params calls has may =
 
 -- no call has come
 pub begins_with : (it : MaxProducer) (params : DurationParams) → IsOfNoCalls it.keys params.spec
-    → IsOpened it.books params.base params.spec.bound → 0 < params.size → SparseStandsFor it params []
+    → AreNewSparse it.books params.base params.spec.bound → 0 < params.size → SparseStandsFor it params []
 begins_with it params keys books sized = record {
   held = books;
   keys = keys params.base;
@@ -132,14 +132,14 @@ begins_with it params keys books sized = record {
 
 -- an event came
 pub came : (old new : MaxProducer) (at : ℕ) (event : InnerEvent) (marks : List (Mark (MetricKey × ℕ)))
-    → TakesKeyEvent old.keys new.keys at event marks → TakesMarks old.books new.books marks
+    → TakesKeyEvent old.keys new.keys at event marks → TakesLongestMarks old.books new.books marks
     → Moves sparse_law old new (Got at event)
 came old new at event marks keys books_take =
     moves_by old new (Got at event) (λ params calls books has may.
     let bound = params.spec.bound in
     let both = keys params.spec calls (reached_by params calls).last has.keys may.0.timely.not_before in
     stands_after params new calls (Got at event) _
-    (subst (λ ms. HoldsTimes new.books bound (with_marks bound books ms)) (sym both.1)
+    (subst (λ ms. HoldsTimes new.books bound (with_longest bound books ms)) (sym both.1)
     (books_take bound books has.held))
     both.0 has.sized (may.0.timely.in_bucket has.sized))
 
@@ -154,7 +154,7 @@ learned old new at delta same keys =
     has.sized (may.0.timely.in_bucket has.sized))
 
 -- the open part was cut
-pub cuts : (old : MaxProducer) (books_now : SparseBooks) (at : ℕ) → TakesMarks old.books books_now (Ends at ∷ [])
+pub cuts : (old : MaxProducer) (books_now : SparseBooks) (at : ℕ) → TakesLongestMarks old.books books_now (Ends at ∷ [])
     → Moves sparse_law old (record old { books = books_now }) (CutAt at)
 cuts old books_now at closed =
     moves_by old (record old { books = books_now }) (CutAt at) (λ params calls books has may.
@@ -165,7 +165,7 @@ cuts old books_now at closed =
     has.sized (may.0.timely.in_bucket has.sized))
 
 -- what is kept was handed out
-pub took : (old : MaxProducer) (books_now : SparseBooks) → TakesMarks old.books books_now (Asked ∷ [])
+pub took : (old : MaxProducer) (books_now : SparseBooks) → TakesLongestMarks old.books books_now (Asked ∷ [])
     → Moves sparse_law old (record old { books = books_now }) Took
 took old books_now asked =
     moves_by old (record old { books = books_now }) Took (λ params calls books has may.
@@ -177,7 +177,7 @@ took old books_now asked =
 
 -- ends of buckets were crossed
 pub crosses : (old : MaxProducer) (closed : SparseBooks) (crossings : Crossings) (start : ℕ)
-    → TakesMarks old.books closed (Ends crossings.first_end ∷ [])
+    → TakesLongestMarks old.books closed (Ends crossings.first_end ∷ [])
     → (last_end crossings < 2 ^ 63 → start ≡ last_end crossings)
     → Moves sparse_law old (record old { books = record closed { start = start } }) (Crossed crossings)
 crosses old closed crossings start takes is_last =
@@ -187,16 +187,16 @@ crosses old closed crossings start takes is_last =
     let first = crossings.first_end in
     let size = crossings.size in
     let full = crossings.full_buckets in
-    let closed_books = with_marks bound books (Ends first ∷ []) in
+    let closed_books = with_longest bound books (Ends first ∷ []) in
     let has_first = takes bound books has.held in
     let last : start ≡ last_end crossings = is_last (answer_fits (duration_demands params) _ crossings may.0) in
     let many = closes_many full closed bound closed_books size has_first refl in
     let at_first : first ≡ (reached_by params calls).next_end = may.0.answer.first_end in
     stands_after params (record old { books = record closed { start = start } }) calls (Crossed crossings) _
     (subst (λ s. HoldsTimes (record closed { start = s }) bound
-    (with_marks bound closed_books (boundary_marks no_edges (ends_from (first + size) size full)))) (sym last)
+    (with_longest bound closed_books (boundary_marks no_edges (ends_from (first + size) size full)))) (sym last)
     (subst (λ s. HoldsTimes (record closed { start = s + full * size }) bound
-    (with_marks bound closed_books (boundary_marks no_edges (ends_from (s + size) size full)))) has_first.start many))
+    (with_longest bound closed_books (boundary_marks no_edges (ends_from (s + size) size full)))) has_first.start many))
     (idles old.keys params.spec calls (reached_by params calls).last (last_end crossings) (Crossed crossings) refl refl
     (λ key. refl) has.keys (omega (arith, at_first, has.in_bucket)))
     has.sized (omega arith))

@@ -12,7 +12,7 @@ use Rattle.dim_table.specs.Table.{set_value_at}
 use Rattle.predicate_state.specs.PredicateTable.{LeafKey, same_leaves}
 use Rattle.metric_producer.proofs.KeysLemmas.{other_way}
 use Rattle.duration_metric.specs.declared.sparse_keys.SparseEntry.{SparseEntry}
-use Rattle.duration_metric.specs.SparseEntries.{count_of}
+use Rattle.duration_metric.specs.SparseEntries.{entry_count}
 
 -- Facts of each element of a list.
 module _ {X : Type 0} where
@@ -86,7 +86,7 @@ abbrev pub on_keys : List (LeafKey × ℕ) → List LeafKey
 on_keys counts = map (λ (entry : LeafKey × ℕ). entry.0) (filter (λ (entry : LeafKey × ℕ). nat_lt 0 entry.1) counts)
 
 -- the rows' keys are those of their counts
-pub keys_counted : (rows : List Row) → keys_of (map count_of rows) ≡ keys_of rows
+pub keys_counted : (rows : List Row) → keys_of (map entry_count rows) ≡ keys_of rows
 keys_counted [] = refl
 keys_counted (row ∷ rows) = ap (λ ks. row.0 ∷ ks) (keys_counted rows)
 
@@ -129,12 +129,12 @@ own false entry others none = none
 
 -- a key that isn't listed isn't on
 pub off_unlisted : (key : LeafKey) (rows : List Row) → is_among same_leaves key (keys_of rows) ≡ false
-    → is_among same_leaves key (on_keys (map count_of rows)) ≡ false
+    → is_among same_leaves key (on_keys (map entry_count rows)) ≡ false
 off_unlisted key [] none = refl
 off_unlisted key (row ∷ rows) none =
     let both = or_false (same_leaves row.0 key) (is_among same_leaves key (keys_of rows)) none in
-    passed key (nat_lt 0 row.1.count) (count_of row)
-    (filter (λ (entry : LeafKey × ℕ). nat_lt 0 entry.1) (map count_of rows)) both.0
+    passed key (nat_lt 0 row.1.count) (entry_count row)
+    (filter (λ (entry : LeafKey × ℕ). nat_lt 0 entry.1) (map entry_count rows)) both.0
     ∙ off_unlisted key rows both.1
 
 -- a key that differs from all of these isn't among them
@@ -147,18 +147,18 @@ apart_from key (first ∷ ks) all =
 
 -- a row's key is on exactly where its count is above 0
 pub rows_on : (rows : List Row) → IsDistinct same_leaves (keys_of rows)
-    → AllByRecursion (λ (row : Row). is_among same_leaves row.0 (on_keys (map count_of rows))
+    → AllByRecursion (λ (row : Row). is_among same_leaves row.0 (on_keys (map entry_count rows))
     ≡ nat_lt 0 row.1.count) rows
 rows_on [] distinct = tt
 rows_on (row ∷ rows) distinct =
     let apart = IsDistinct-head same_leaves row.0 (keys_of rows) distinct in
-    let others = filter (λ (entry : LeafKey × ℕ). nat_lt 0 entry.1) (map count_of rows) in (
-      own (nat_lt 0 row.1.count) (count_of row) others
+    let others = filter (λ (entry : LeafKey × ℕ). nat_lt 0 entry.1) (map entry_count rows) in (
+      own (nat_lt 0 row.1.count) (entry_count row) others
           (off_unlisted row.0 rows (apart_from row.0 (keys_of rows) apart)),
       all_both (λ (other : Row). same_leaves row.0 other.0 ≡ false)
-          (λ (other : Row). is_among same_leaves other.0 (on_keys (map count_of rows)) ≡ nat_lt 0 other.1.count)
-          (λ (other : Row). is_among same_leaves other.0 (on_keys (map count_of (row ∷ rows))) ≡ nat_lt 0 other.1.count)
-          rows (λ other differ is. passed other.0 (nat_lt 0 row.1.count) (count_of row) others differ ∙ is)
+          (λ (other : Row). is_among same_leaves other.0 (on_keys (map entry_count rows)) ≡ nat_lt 0 other.1.count)
+          (λ (other : Row). is_among same_leaves other.0 (on_keys (map entry_count (row ∷ rows))) ≡ nat_lt 0 other.1.count)
+          rows (λ other differ is. passed other.0 (nat_lt 0 row.1.count) (entry_count row) others differ ∙ is)
           (all_rows (λ other. same_leaves row.0 other ≡ false) rows apart)
           (rows_on rows (IsDistinct-tail same_leaves row.0 (keys_of rows) distinct)),
     )
@@ -174,20 +174,20 @@ all_set P (first ∷ rows) (suc place) row entry all at one = (all.0, all_set P 
 
 -- the counts of rows, once one of them has another entry
 pub counts_set : (rows : List Row) (place : ℕ) (entry : SparseEntry)
-    → map count_of (set_value_at rows place entry) ≡ set_value_at (map count_of rows) place entry.count
+    → map entry_count (set_value_at rows place entry) ≡ set_value_at (map entry_count rows) place entry.count
 counts_set [] place entry = refl
 counts_set (row ∷ rows) zero entry = refl
-counts_set (row ∷ rows) (suc place) entry = ap (λ l. count_of row ∷ l) (counts_set rows place entry)
+counts_set (row ∷ rows) (suc place) entry = ap (λ l. entry_count row ∷ l) (counts_set rows place entry)
 
 -- and once one has left
 pub counts_left : (key : LeafKey) (rows : List Row)
-    → map count_of (filter (λ (row : Row). not (same_leaves key row.0)) rows)
-    ≡ filter (λ (entry : LeafKey × ℕ). not (same_leaves key entry.0)) (map count_of rows)
+    → map entry_count (filter (λ (row : Row). not (same_leaves key row.0)) rows)
+    ≡ filter (λ (entry : LeafKey × ℕ). not (same_leaves key entry.0)) (map entry_count rows)
 counts_left key [] = refl
 counts_left key (row ∷ rows) = by (not (same_leaves key row.0)) _ _ (counts_left key rows) where
-  by : (b : Bool) (left : List Row) (counts : List (LeafKey × ℕ)) → map count_of left ≡ counts
-      → map count_of (cond b (row ∷ left) left) ≡ cond b (count_of row ∷ counts) counts
-  by true left counts is = ap (λ l. count_of row ∷ l) is
+  by : (b : Bool) (left : List Row) (counts : List (LeafKey × ℕ)) → map entry_count left ≡ counts
+      → map entry_count (cond b (row ∷ left) left) ≡ cond b (entry_count row ∷ counts) counts
+  by true left counts is = ap (λ l. entry_count row ∷ l) is
   by false left counts is = is
 
 -- What goes off of some rows, where `on` says which keys are on afterwards.
@@ -215,11 +215,11 @@ module _ {M : Type 0} (f : LeafKey → List M) (on : LeafKey → Bool) where
 
   -- what the keys bring that go off is what their rows bring
   pub gone_rows : (rows : List Row)
-      → flat_map f (filter (λ key. not (on key)) (on_keys (map count_of rows))) ≡ flat_map brings rows
+      → flat_map f (filter (λ key. not (on key)) (on_keys (map entry_count rows))) ≡ flat_map brings rows
   gone_rows [] = refl
   gone_rows (row ∷ rows) =
       one_gone (nat_lt 0 row.1.count) (on row.0) row.0
-      (filter (λ (entry : LeafKey × ℕ). nat_lt 0 entry.1) (map count_of rows)) row.1.count _ refl (gone_rows rows)
+      (filter (λ (entry : LeafKey × ℕ). nat_lt 0 entry.1) (map entry_count rows)) row.1.count _ refl (gone_rows rows)
 
   stays : (b : Bool) (key : LeafKey) → (if b && not b then f key else []) ≡ []
   stays true key = refl

@@ -18,9 +18,9 @@ use Rattle.duration_metric.specs.declared.change.InnerEvent.{InnerEvent}
 use Rattle.duration_metric.specs.declared.inner.Known.{Known}
 use Rattle.duration_metric.specs.declared.sparse_keys.SparseEntry.{SparseEntry}
 use Rattle.duration_metric.specs.declared.sparse_keys.SparseKeys.{SparseKeys}
-use Rattle.duration_metric.specs.InnerKeys.{DurationCall, inner_state, inner_keys, inner_lost, told_of, last_known, last_truth}
-use Rattle.duration_metric.specs.SparseCalls.{turn_times, is_timed, arrival_for, keys_on, is_on, time_on, gone_off, sparse_comes}
-use Rattle.duration_metric.specs.SparseEntries.{entry_time, saved_time, count_of, state_of, EntryStands, RowStands, OthersStand, KeysStand, entry_marks, started_entry}
+use Rattle.duration_metric.specs.InnerKeys.{DurationCall, inner_state, inner_keys, inner_lost, told_to, last_known, told_truth}
+use Rattle.duration_metric.specs.SparseCalls.{turn_times, is_told_timed, arrival_for, running_keys, is_on, running_time, keys_gone, sparse_comes}
+use Rattle.duration_metric.specs.SparseEntries.{entry_time, saved_time, entry_count, sparse_state, EntryStands, RowStands, OthersStand, KeysStand, entry_marks, started_entry}
 use Rattle.duration_metric.proofs.SparseKnownLemmas.{state_got, known-unlisted, known-listed, time-off, time-on}
 use Rattle.duration_metric.proofs.SparseRowLemmas.{Row, all_at, all_map, all_both, on_keys, keys_counted, rows_listed, rows_on, IsOnAsCounted, brings, gone_rows}
 
@@ -39,36 +39,36 @@ within false time since at first second = omega (arith, first, second)
 pub saved_is : (entry : SparseEntry) (at : ℕ) → entry.time ≤ entry.since → entry.since ≤ at → at < 2 ^ 64
     → saved_time entry at ≡ entry_time entry at
 saved_is entry at first second fits =
-    let most = within (is_timed entry.known) entry.time entry.since at first second in omega (arith, most, fits)
+    let most = within (is_told_timed entry.known) entry.time entry.since at first second in omega (arith, most, fits)
 
 -- and no more than the time at which it is asked for
 pub saved_within : (entry : SparseEntry) (at : ℕ) → entry.time ≤ entry.since → entry.since ≤ at
     → saved_time entry at ≤ at
 saved_within entry at first second =
-    let most = within (is_timed entry.known) entry.time entry.since at first second in omega (arith, most)
+    let most = within (is_told_timed entry.known) entry.time entry.since at first second in omega (arith, most)
 
 module _ (spec : PredSpec) (calls : List DurationCall) where
   -- the keys of an object that knows what these calls tell
-  pub keys_are : (it : SparseKeys) → state_of it ≡ inner_state spec calls
+  pub keys_are : (it : SparseKeys) → sparse_state it ≡ inner_state spec calls
       → inner_keys spec calls ≡ keys_of it.table.rows
   keys_are it is =
       ap (λ (s : PredicateState LeafKey). keys_of s.counts) (sym is) ∙ keys_counted it.table.rows
 
   -- those of them that are on
-  pub on_are : (it : SparseKeys) → state_of it ≡ inner_state spec calls
-      → keys_on spec calls ≡ on_keys (map count_of it.table.rows)
+  pub on_are : (it : SparseKeys) → sparse_state it ≡ inner_state spec calls
+      → running_keys spec calls ≡ on_keys (map entry_count it.table.rows)
   on_are it is = ap (λ (s : PredicateState LeafKey). on_keys s.counts) (sym is)
 
   -- each of its rows is on as its count says
-  pub all_counted : (it : SparseKeys) → state_of it ≡ inner_state spec calls → IsDistinct same_leaves (keys it.table)
+  pub all_counted : (it : SparseKeys) → sparse_state it ≡ inner_state spec calls → IsDistinct same_leaves (keys it.table)
       → AllByRecursion (IsOnAsCounted (λ key. arrival_for None 0) (is_on spec calls)) it.table.rows
   all_counted it is distinct =
-      all_map (λ (row : Row). is_among same_leaves row.0 (on_keys (map count_of it.table.rows)) ≡ nat_lt 0 row.1.count)
+      all_map (λ (row : Row). is_among same_leaves row.0 (on_keys (map entry_count it.table.rows)) ≡ nat_lt 0 row.1.count)
       (IsOnAsCounted (λ key. arrival_for None 0) (is_on spec calls)) it.table.rows
       (λ row on. ap (is_among same_leaves row.0) (on_are it is) ∙ on) (rows_on it.table.rows distinct)
 
   -- each of its keys is listed
-  pub all_listed : (it : SparseKeys) → state_of it ≡ inner_state spec calls
+  pub all_listed : (it : SparseKeys) → sparse_state it ≡ inner_state spec calls
       → AllByRecursion (λ (row : Row). is_among same_leaves row.0 (inner_keys spec calls) ≡ true) it.table.rows
   all_listed it is =
       all_map (λ (row : Row). is_among same_leaves row.0 (keys_of it.table.rows) ≡ true)
@@ -96,7 +96,7 @@ module _ (spec : PredSpec) (calls : List DurationCall) (call : DurationCall) (at
       → RowStands spec (calls ++ call ∷ []) at row
 
   -- an entry of which nothing was told goes on
-  pub passes : (last : ℕ) (key : LeafKey) (entry : SparseEntry) → told_of spec key calls call ≡ []
+  pub passes : (last : ℕ) (key : LeafKey) (entry : SparseEntry) → told_to spec key calls call ≡ []
       → EntryStands spec calls last key entry → last ≤ at → Becomes (key, entry)
   passes last key entry none is later listed on =
       let known_now : last_known spec (calls ++ call ∷ []) key ≡ entry.known =
@@ -107,15 +107,15 @@ module _ (spec : PredSpec) (calls : List DurationCall) (call : DurationCall) (at
         time_within = is.time_within;
         time_is = λ positive end reached.
             time-on spec calls call key at end turns (on ∙ lt-ltb 0 entry.count positive)
-            ∙ ap (λ n. n + (if is_timed (last_known spec (calls ++ call ∷ []) key) then end - at else 0))
+            ∙ ap (λ n. n + (if is_told_timed (last_known spec (calls ++ call ∷ []) key) then end - at else 0))
             (is.time_is positive at later)
-            ∙ ap (λ k. entry_time entry at + (if is_timed k then end - at else 0)) known_now
-            ∙ goes_on (is_timed entry.known) entry.time entry.since at end (omega (arith, is.since_within, later))
+            ∙ ap (λ k. entry_time entry at + (if is_told_timed k then end - at else 0)) known_now
+            ∙ goes_on (is_told_timed entry.known) entry.time entry.since at end (omega (arith, is.since_within, later))
             reached;
       }
 
   -- an entry of a key that wasn't on begins
-  pub begins : (key : LeafKey) (count : ℕ) (known : Option Known) → told_of spec key calls call ≡ []
+  pub begins : (key : LeafKey) (count : ℕ) (known : Option Known) → told_to spec key calls call ≡ []
       → known ≡ last_known spec calls key → is_on spec calls key ≡ false → OthersStand spec calls
       → Becomes (key, record { count = count; known = known; time = 0; since = at })
   begins key count known none is off others listed on =
@@ -127,9 +127,9 @@ module _ (spec : PredSpec) (calls : List DurationCall) (call : DurationCall) (at
         time_within = omega arith;
         time_is = λ positive end reached.
             time-on spec calls call key at end turns (on ∙ lt-ltb 0 count positive)
-            ∙ ap (λ n. n + (if is_timed (last_known spec (calls ++ call ∷ []) key) then end - at else 0))
+            ∙ ap (λ n. n + (if is_told_timed (last_known spec (calls ++ call ∷ []) key) then end - at else 0))
             (others.off key off at)
-            ∙ ap (λ k. 0 + (if is_timed k then end - at else 0)) known_now;
+            ∙ ap (λ k. 0 + (if is_told_timed k then end - at else 0)) known_now;
       }
 
   -- nothing is known of other keys
@@ -141,7 +141,7 @@ module _ (spec : PredSpec) (calls : List DurationCall) (call : DurationCall) (at
 
   -- an object that knows what all these calls tell
   pub turned : (old new : SparseKeys) (last : ℕ) → KeysStand old spec calls last → new.spec ≡ old.spec
-      → new.table.bound ≡ old.table.bound → state_of new ≡ inner_state spec (calls ++ call ∷ [])
+      → new.table.bound ≡ old.table.bound → sparse_state new ≡ inner_state spec (calls ++ call ∷ [])
       → IsDistinct same_leaves (keys new.table) → AllByRecursion Becomes new.table.rows
       → KeysStand new spec (calls ++ call ∷ []) at
   turned old new last has same_spec same_bound state distinct become = record {
@@ -164,7 +164,7 @@ module _ (spec : PredSpec) (calls : List DurationCall) (call : DurationCall) (at
 
 -- what a key brings that goes off after these calls
 abbrev pub left_by : PredSpec → List DurationCall → ℕ → LeafKey → List (Mark (MetricKey × ℕ))
-left_by spec calls at key = arrival_for (last_known spec calls key) (time_on spec calls at key)
+left_by spec calls at key = arrival_for (last_known spec calls key) (running_time spec calls at key)
 
 -- An event.
 module _ (spec : PredSpec) (calls : List DurationCall) (last at : ℕ) (event : InnerEvent) where
@@ -176,7 +176,7 @@ module _ (spec : PredSpec) (calls : List DurationCall) (last at : ℕ) (event : 
         → (if b then left_by spec calls at key else [])
         ≡ (if b then arrival_for entry.known (saved_time entry at) else [])
     by true positive =
-        ap (λ k. arrival_for k (time_on spec calls at key)) (sym is.known_is)
+        ap (λ k. arrival_for k (running_time spec calls at key)) (sym is.known_is)
         ∙ ap (arrival_for entry.known) (is.time_is (ltb-true 0 entry.count positive) at later
         ∙ sym (saved_is entry at is.time_within (omega (arith, is.since_within, later)) fits))
     by false positive = refl
@@ -205,7 +205,7 @@ module _ (spec : PredSpec) (calls : List DurationCall) (last at : ℕ) (event : 
       → sparse_comes spec calls at event ≡ lost ++ gone
   comes_by old has lost gone is_lost is_gone =
       let on = is_on spec (calls ++ Got at event ∷ []) in
-      ap (λ l. l ++ flat_map (left_by spec calls at) (gone_off spec calls (Got at event))) is_lost
+      ap (λ l. l ++ flat_map (left_by spec calls at) (keys_gone spec calls (Got at event))) is_lost
       ∙ ap (λ l. lost ++ flat_map (left_by spec calls at) (filter (λ key. not (on key)) l))
       (on_are spec calls old has.state_is)
       ∙ ap (λ l. lost ++ l) (gone_rows (left_by spec calls at) on old.table.rows ∙ is_gone)
@@ -231,7 +231,7 @@ module _ (spec : PredSpec) (calls : List DurationCall) (last at : ℕ) (event : 
   -- what an event makes of an object, by its parts
   pub takes_by : (old new : SparseKeys) → KeysStand old spec calls last → new.spec ≡ old.spec
       → new.table.bound ≡ old.table.bound
-      → state_of new ≡ state_after same_leaves old.spec (state_of old) event.event event.key
+      → sparse_state new ≡ state_after same_leaves old.spec (sparse_state old) event.event event.key
       → IsDistinct same_leaves (keys new.table)
       → AllByRecursion (Becomes spec calls (Got at event) at refl) new.table.rows
       → (lost gone : List (Mark (MetricKey × ℕ)))
@@ -243,8 +243,8 @@ module _ (spec : PredSpec) (calls : List DurationCall) (last at : ℕ) (event : 
       → flat_map (brings (left_by spec calls at) (is_on spec (calls ++ Got at event ∷ []))) old.table.rows ≡ gone)
       → KeysStand new spec (calls ++ Got at event ∷ []) at × (sparse_comes spec calls at event ≡ lost ++ gone)
   takes_by old new has same_spec same_bound acts distinct become lost gone is_lost is_gone =
-      let state : state_of new ≡ inner_state spec (calls ++ Got at event ∷ []) =
-      acts ∙ ap (λ s. state_after same_leaves s (state_of old) event.event event.key) has.spec_is
+      let state : sparse_state new ≡ inner_state spec (calls ++ Got at event ∷ []) =
+      acts ∙ ap (λ s. state_after same_leaves s (sparse_state old) event.event event.key) has.spec_is
       ∙ ap (λ s. state_after same_leaves spec s event.event event.key) has.state_is
       ∙ sym (state_got spec calls at event) in (
         turned spec calls (Got at event) at refl old new last has same_spec same_bound state distinct become,
@@ -278,7 +278,7 @@ module _ (it : SparseKeys) (spec : PredSpec) (calls : List DurationCall) (last :
 
     -- and what it was told last is what the calls told
     pub truth_is : (row : Row) → slice_get it.table.rows place ≡ Some row
-        → option_map (λ (known : Known). known.truth) row.1.known ≡ last_truth spec calls place
+        → option_map (λ (known : Known). known.truth) row.1.known ≡ told_truth spec calls place
     truth_is row there =
         let is = all_at (RowStands spec calls last) it.table.rows place row has.rows_are there in
         ap (option_map (λ (known : Known). known.truth)) is.known_is

@@ -20,8 +20,8 @@ use Rattle.duration_metric.specs.declared.change.InnerChange.{InnerChange}
 use Rattle.duration_metric.specs.declared.sparse_keys.SparseEntry.{SparseEntry}
 use Rattle.duration_metric.specs.declared.sparse_keys.SparseKeys.{SparseKeys}
 use Rattle.duration_metric.specs.InnerKeys.{DurationCall, inner_state, inner_keys, known_by, known_at, last_known}
-use Rattle.duration_metric.specs.SparseCalls.{is_timed, arrival_for, is_on, time_on}
-use Rattle.duration_metric.specs.SparseEntries.{saved_time, count_of, state_of, EntryStands, RowStands, KeysStand, told_entry}
+use Rattle.duration_metric.specs.SparseCalls.{is_told_timed, arrival_for, is_on, running_time}
+use Rattle.duration_metric.specs.SparseEntries.{saved_time, entry_count, sparse_state, EntryStands, RowStands, KeysStand, told_entry}
 use Rattle.duration_metric.proofs.SparseKnownLemmas.{last_or-append, state_idle, known-listed, time-on}
 use Rattle.duration_metric.proofs.SparseRowLemmas.{Row, leaves_equiv, all_map, all_at, counts_set, IsOnAsCounted}
 use Rattle.duration_metric.proofs.SparseStepLemmas.{saved_is, saved_within, keys_are, all_counted, all_listed, Becomes, passes, others_after, turned}
@@ -193,7 +193,7 @@ module _ (spec : PredSpec) (calls : List DurationCall) (at : ℕ) where
           time_within = is.time_within;
           time_is = λ positive end reached.
               time-on spec calls (telling more) row.0 at end refl (on_row more i row there positive)
-              ∙ ap (λ k. time_on spec calls at row.0 + (if is_timed k then end - at else 0)) same
+              ∙ ap (λ k. running_time spec calls at row.0 + (if is_told_timed k then end - at else 0)) same
               ∙ sym (time-on spec calls (telling changes) row.0 at end refl (on_row changes i row there positive))
               ∙ is.time_is positive end reached;
         }
@@ -210,19 +210,19 @@ module _ (spec : PredSpec) (calls : List DurationCall) (at : ℕ) where
           since_within = omega arith;
           time_within = saved_within row.1 at is.time_within is.since_within;
           time_is = λ positive end reached.
-              let before : time_on spec calls at row.0 ≡ saved_time row.1 at =
-              sym (no_time (is_timed (last_known spec (with changes) row.0)) (time_on spec calls at row.0) at)
+              let before : running_time spec calls at row.0 ≡ saved_time row.1 at =
+              sym (no_time (is_told_timed (last_known spec (with changes) row.0)) (running_time spec calls at row.0) at)
               ∙ sym (time-on spec calls (telling changes) row.0 at at refl (on_row changes i row there positive))
               ∙ is.time_is positive at (omega arith)
               ∙ sym (saved_is row.1 at is.time_within is.since_within fits) in
               time-on spec calls (telling more) row.0 at end refl (on_row more i row there positive)
-              ∙ ap (λ n. n + (if is_timed (last_known spec (with more) row.0) then end - at else 0)) before
-              ∙ ap (λ k. saved_time row.1 at + (if is_timed k then end - at else 0)) told;
+              ∙ ap (λ n. n + (if is_told_timed (last_known spec (with more) row.0) then end - at else 0)) before
+              ∙ ap (λ k. saved_time row.1 at + (if is_told_timed k then end - at else 0)) told;
         }
 
     -- an object with the same keys and counts, each of whose rows stands
     told_by_rows : (new : SparseKeys) → new.spec ≡ it.spec → new.table.bound ≡ it.table.bound
-        → state_of new ≡ state_of it → keys new.table ≡ keys it.table
+        → sparse_state new ≡ sparse_state it → keys new.table ≡ keys it.table
         → AllByRecursion (RowStands spec (with more) at) new.table.rows → KeysStand new spec (with more) at
     told_by_rows new same_spec same_bound state same_keys rows = record {
       spec_is = same_spec ∙ has.spec_is;
@@ -246,8 +246,8 @@ module _ (spec : PredSpec) (calls : List DurationCall) (at : ℕ) where
           counts = counts;
           dropped = it.table.dropped;
         } in given) (counts_set it.table.rows change.place entry
-        ∙ set_same (map count_of it.table.rows) change.place (count_of row)
-        (slice_get-map count_of it.table.rows change.place ∙ ap (option_map count_of) there)))
+        ∙ set_same (map entry_count it.table.rows) change.place (entry_count row)
+        (slice_get-map entry_count it.table.rows change.place ∙ ap (option_map entry_count) there)))
         (keys_set_value_at it.table.rows change.place entry)
         (all_places (RowStands spec (with more) at) (set_value_at it.table.rows change.place entry)
         (λ i other at_i. elim (set_at it.table.rows change.place entry i other at_i) [

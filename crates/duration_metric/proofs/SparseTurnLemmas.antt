@@ -27,8 +27,8 @@ use Rattle.duration_metric.specs.declared.sparse_keys.SparseEntry.{SparseEntry}
 use Rattle.duration_metric.specs.declared.sparse_keys.SparseKeys.{SparseKeys}
 use Rattle.duration_metric.specs.InnerKeys.{known_by}
 use Rattle.duration_metric.specs.SparseCalls.{sparse_comes}
-use Rattle.duration_metric.specs.SparseEntries.{count_of, state_of, KeysStand, entry_marks, row_marks, started_entry, told_entry, fresh_entry, TakesKeyEvent, ListsKey, LearnsDelta}
-use Rattle.duration_metric.specs.SparseBooksStand.{TakesMarks}
+use Rattle.duration_metric.specs.SparseEntries.{entry_count, sparse_state, KeysStand, entry_marks, row_marks, started_entry, told_entry, fresh_entry, TakesKeyEvent, ListsKey, LearnsDelta}
+use Rattle.duration_metric.specs.SparseBooksStand.{TakesLongestMarks}
 use Rattle.duration_metric.proofs.SparseRowLemmas.{Row, same_decides, keys_counted}
 use Rattle.duration_metric.proofs.SparseStepLemmas.{left_by, marks_are, recounted, passes, starts}
 use Rattle.duration_metric.proofs.SparseEventLemmas.{takes_nothing, looked_up, takes_set, takes_left, takes_added, takes_away, takes_all}
@@ -126,9 +126,9 @@ module _ (old : SparseKeys) (at : ℕ) (key : LeafKey) where
       let is = written entry (value_of_row old.table.rows place (key, entry) there) in
       subst (λ t. TakesKeyEvent old (record old { table = t }) at starting []) (sym is)
       (takes_set old at starting place (key, entry) found there more []
-      (ap (state_after_start same_leaves old.spec (state_of old) key)
+      (ap (state_after_start same_leaves old.spec (sparse_state old) key)
       (looked_up old at starting place (key, entry) found there)
-      ∙ ap (with_key_count same_leaves (state_of old) key) (sym (started_count old.spec.nesting at entry)))
+      ∙ ap (with_key_count same_leaves (sparse_state old) key) (sym (started_count old.spec.nesting at entry)))
       (λ spec calls last has later is_row on.
       starts spec calls last at starting key entry old.spec.nesting is_row later has.others_are on)
       (λ spec calls last has later is_row. stays_on (nat_lt 0 entry.count) (nat_lt 0 more.count)
@@ -139,22 +139,22 @@ module _ (old : SparseKeys) (at : ℕ) (key : LeafKey) where
   module _ (place : ℕ) (entry : SparseEntry) (found : position (same_leaves key) (keys old.table) ≡ Some place)
       (there : slice_get old.table.rows place ≡ Some (key, entry)) where
     -- what a stop does by the look-up
-    stop_is : state_after same_leaves old.spec (state_of old) Stop key
-        ≡ state_after_stop same_leaves old.spec (state_of old) key (Some entry.count)
+    stop_is : state_after same_leaves old.spec (sparse_state old) Stop key
+        ≡ state_after_stop same_leaves old.spec (sparse_state old) key (Some entry.count)
     stop_is =
-        ap (state_after_stop same_leaves old.spec (state_of old) key)
+        ap (state_after_stop same_leaves old.spec (sparse_state old) key)
         (looked_up old at stopping place (key, entry) found there)
 
     -- it stays listed with a count
     set_is : (less : ℕ) → less ≡ count_after_stop old.spec.nesting entry.count
         → (less == 0 && not old.unknown) ≡ false
-        → state_after same_leaves old.spec (state_of old) Stop key ≡ with_key_count same_leaves (state_of old) key less
+        → state_after same_leaves old.spec (sparse_state old) Stop key ≡ with_key_count same_leaves (sparse_state old) key less
     set_is less is stays_listed =
         stop_is
-        ∙ ap (λ n. if n == 0 && not old.unknown then without_key same_leaves (state_of old) key
-        else with_key_count same_leaves (state_of old) key n) (sym is)
-        ∙ ap (λ b. if b then without_key same_leaves (state_of old) key
-        else with_key_count same_leaves (state_of old) key less) stays_listed
+        ∙ ap (λ n. if n == 0 && not old.unknown then without_key same_leaves (sparse_state old) key
+        else with_key_count same_leaves (sparse_state old) key n) (sym is)
+        ∙ ap (λ b. if b then without_key same_leaves (sparse_state old) key
+        else with_key_count same_leaves (sparse_state old) key less) stays_listed
 
     -- it stays on
     pub stays_started : (less : ℕ) (table : Table LeafKey SparseEntry)
@@ -199,51 +199,51 @@ module _ (old : SparseKeys) (at : ℕ) (key : LeafKey) where
         (subst (TakesKeyEvent old (record old { table = without same_leaves old.table key }) at stopping) (sym marks_is)
         (takes_left old at stopping place (key, entry) found there fits refl
         (stop_is
-        ∙ ap (λ n. if n == 0 && not old.unknown then without_key same_leaves (state_of old) key
-        else with_key_count same_leaves (state_of old) key n) (sym is)
-        ∙ ap (λ b. if not b then without_key same_leaves (state_of old) key
-        else with_key_count same_leaves (state_of old) key 0) known)))
+        ∙ ap (λ n. if n == 0 && not old.unknown then without_key same_leaves (sparse_state old) key
+        else with_key_count same_leaves (sparse_state old) key n) (sym is)
+        ∙ ap (λ b. if not b then without_key same_leaves (sparse_state old) key
+        else with_key_count same_leaves (sparse_state old) key 0) known)))
 
   -- A key that isn't listed.
   module _ (absent : position (same_leaves key) (keys old.table) ≡ None) where
     -- a look-up finds none
-    unfound : lookup (same_leaves key) (state_of old).counts ≡ None
+    unfound : lookup (same_leaves key) (sparse_state old).counts ≡ None
     unfound =
-        lookup_absent (same_leaves key) (map count_of old.table.rows)
+        lookup_absent (same_leaves key) (map entry_count old.table.rows)
         (ap (position (same_leaves key)) (keys_counted old.table.rows) ∙ absent)
 
     -- a start lists it
-    pub start_lists : state_after same_leaves old.spec (state_of old) Start key
-        ≡ with_new_key old.spec.bound (state_of old) key 1
-    start_lists = ap (state_after_start same_leaves old.spec (state_of old) key) unfound
+    pub start_lists : state_after same_leaves old.spec (sparse_state old) Start key
+        ≡ with_new_key old.spec.bound (sparse_state old) key 1
+    start_lists = ap (state_after_start same_leaves old.spec (sparse_state old) key) unfound
 
     -- a stop lists it where it might have been started before
-    pub stop_lists : old.unknown ≡ true → state_after same_leaves old.spec (state_of old) Stop key
-        ≡ with_new_key old.spec.bound (state_of old) key 0
+    pub stop_lists : old.unknown ≡ true → state_after same_leaves old.spec (sparse_state old) Stop key
+        ≡ with_new_key old.spec.bound (sparse_state old) key 0
     stop_lists unknown =
-        ap (state_after_stop same_leaves old.spec (state_of old) key) unfound
-        ∙ ap (λ b. if b then with_new_key old.spec.bound (state_of old) key 0 else state_of old) unknown
+        ap (state_after_stop same_leaves old.spec (sparse_state old) key) unfound
+        ∙ ap (λ b. if b then with_new_key old.spec.bound (sparse_state old) key 0 else sparse_state old) unknown
 
     -- and does nothing where not
     pub stop_nothing : old.unknown ≡ false → TakesKeyEvent old old at stopping []
     stop_nothing known =
         takes_nothing old at stopping
-        (ap (state_after_stop same_leaves old.spec (state_of old) key) unfound
-        ∙ ap (λ b. if b then with_new_key old.spec.bound (state_of old) key 0 else state_of old) known)
+        (ap (state_after_stop same_leaves old.spec (sparse_state old) key) unfound
+        ∙ ap (λ b. if b then with_new_key old.spec.bound (sparse_state old) key 0 else sparse_state old) known)
 
     -- there is room
     room_is : (count : ℕ) (marks : List (Mark (MetricKey × ℕ))) (event : PredEvent)
-        → state_after same_leaves old.spec (state_of old) event key
-        ≡ with_new_key old.spec.bound (state_of old) key count
+        → state_after same_leaves old.spec (sparse_state old) event key
+        ≡ with_new_key old.spec.bound (sparse_state old) key count
         → length old.table.rows < old.table.bound → [] ≡ marks
         → TakesKeyEvent old
         (record old { table = record old.table { rows = old.table.rows ++ (key, fresh_entry count at) ∷ [] } })
         at (record { event = event; key = key }) marks
     room_is count marks event acts room none spec calls last has later =
-        let within : length (map count_of old.table.rows) < old.spec.bound =
+        let within : length (map entry_count old.table.rows) < old.spec.bound =
         omega (
           arith,
-          length-map old.table.rows count_of,
+          length-map old.table.rows entry_count,
           has.bound_is,
           ap (λ (s : PredSpec). s.bound) has.spec_is,
           room,
@@ -257,33 +257,33 @@ module _ (old : SparseKeys) (at : ℕ) (key : LeafKey) where
         × (sparse_comes spec calls at (record { event = event; key = key }) ≡ ms)) none
         (takes_added old at (record { event = event; key = key }) count
         (missing same_leaves same_decides (keys old.table) key absent)
-        (acts ∙ ap (λ b. if b then record (state_of old) { counts = (state_of old).counts ++ (key, count) ∷ [] }
-        else record (state_of old) { dropped = count_in_u64 ((state_of old).dropped + 1) })
-        (lt-ltb (length (map count_of old.table.rows)) old.spec.bound within))
+        (acts ∙ ap (λ b. if b then record (sparse_state old) { counts = (sparse_state old).counts ++ (key, count) ∷ [] }
+        else record (sparse_state old) { dropped = count_in_u64 ((sparse_state old).dropped + 1) })
+        (lt-ltb (length (map entry_count old.table.rows)) old.spec.bound within))
         spec calls last has later)
 
     -- there is none
     full_is : (count dropped : ℕ) (marks : List (Mark (MetricKey × ℕ))) (event : PredEvent)
-        → state_after same_leaves old.spec (state_of old) event key
-        ≡ with_new_key old.spec.bound (state_of old) key count
+        → state_after same_leaves old.spec (sparse_state old) event key
+        ≡ with_new_key old.spec.bound (sparse_state old) key count
         → length old.table.rows ≡ old.table.bound → dropped ≡ count_in_u64 (old.table.dropped + 1)
         → ((dropped ≡ old.table.dropped) × (marks ≡ [])) ⊎ ((dropped ≡ old.table.dropped + 1) × (marks ≡ Lost ∷ []))
         → TakesKeyEvent old (record old { table = record old.table { dropped = dropped } })
         at (record { event = event; key = key }) marks
     full_is count dropped marks event acts full is counts spec calls last has later =
-        let past : old.spec.bound ≤ length (map count_of old.table.rows) =
+        let past : old.spec.bound ≤ length (map entry_count old.table.rows) =
         omega (
           arith,
-          length-map old.table.rows count_of,
+          length-map old.table.rows entry_count,
           has.bound_is,
           ap (λ (s : PredSpec). s.bound) has.spec_is,
           full,
         ) in
         takes_away old at (record { event = event; key = key }) dropped marks
-        (acts ∙ ap (λ b. if b then record (state_of old) { counts = (state_of old).counts ++ (key, count) ∷ [] }
-        else record (state_of old) { dropped = count_in_u64 ((state_of old).dropped + 1) })
-        (le-ltb (length (map count_of old.table.rows)) old.spec.bound past)
-        ∙ ap (λ n. let s : PredicateState LeafKey = record (state_of old) { dropped = n } in s) (sym is))
+        (acts ∙ ap (λ b. if b then record (sparse_state old) { counts = (sparse_state old).counts ++ (key, count) ∷ [] }
+        else record (sparse_state old) { dropped = count_in_u64 ((sparse_state old).dropped + 1) })
+        (le-ltb (length (map entry_count old.table.rows)) old.spec.bound past)
+        ∙ ap (λ n. let s : PredicateState LeafKey = record (sparse_state old) { dropped = n } in s) (sym is))
         counts spec calls last has later
 
     -- it is listed, or counted as lost
@@ -358,13 +358,13 @@ learns_next old mid at table done change fits learns there nowhere spec calls la
 
 -- one row more was put down
 pub notes_next : (at : ℕ) (old mid new : SparseBooks) (all done rest later : List Row) (row : Row)
-    → all ≡ done ++ rest → TakesMarks old mid (flat_map (row_marks at) done) → rest ≡ row ∷ later
-    → TakesMarks mid new (row_marks at row)
-    → (so_far : List Row) × (all ≡ so_far ++ later) × TakesMarks old new (flat_map (row_marks at) so_far)
+    → all ≡ done ++ rest → TakesLongestMarks old mid (flat_map (row_marks at) done) → rest ≡ row ∷ later
+    → TakesLongestMarks mid new (row_marks at row)
+    → (so_far : List Row) × (all ≡ so_far ++ later) × TakesLongestMarks old new (flat_map (row_marks at) so_far)
 notes_next at old mid new all done rest later row split noted first one = (
   done ++ row ∷ [],
   split ∙ ap (λ l. done ++ l) first ∙ sym (append_assoc done (row ∷ []) later),
-  subst (TakesMarks old new)
+  subst (TakesLongestMarks old new)
       (ap (λ l. flat_map (row_marks at) done ++ l) (sym (append-nil (row_marks at row)))
       ∙ sym (flat_map-append (row_marks at) done (row ∷ [])))
       (then_more old mid new (flat_map (row_marks at) done) (row_marks at row) noted one),

@@ -13,7 +13,7 @@ use Rattle.metric_producer.specs.Calls.{Got, Learned, Crossed, CutAt}
 use Rattle.metric_producer.specs.declared.row.Row.{Row}
 use Rattle.metric_producer.specs.Collecting.{calls_mean}
 use Rattle.duration_metric.specs.declared.change.InnerChange.{InnerChange}
-use Rattle.duration_metric.specs.InnerKeys.{DurationCall, last_truth}
+use Rattle.duration_metric.specs.InnerKeys.{DurationCall, told_truth}
 use Rattle.duration_metric.specs.SumCalls.{sum_collecting}
 
 -- a key with one number
@@ -80,8 +80,8 @@ abbrev two_keys : List DurationCall
 two_keys = got 1 Start 7 ∷ told 1 (change 0 True 7 ∷ []) ∷ got 2 Start 8 ∷ told 2 (change 1 False 8 ∷ [])
     ∷ got 3 Stop 7 ∷ told 3 [] ∷ got 4 Start 7 ∷ []
 
-closes_up : last_truth (record { nesting = false; unknown = false; bound = 3; leaves = 1 }) two_keys 0 ≡ Some False
+closes_up : told_truth (record { nesting = false; unknown = false; bound = 3; leaves = 1 }) two_keys 0 ≡ Some False
 closes_up = refl
 
-comes_again : last_truth (record { nesting = false; unknown = false; bound = 3; leaves = 1 }) two_keys 1 ≡ None
+comes_again : told_truth (record { nesting = false; unknown = false; bound = 3; leaves = 1 }) two_keys 1 ≡ None
 comes_again = refl

@@ -56,16 +56,16 @@ module _ (spec : PredSpec) where
   inner_keys calls = keys_of (inner_state calls).counts
 
   -- what a call tells of a key: a change names it by its place among the inner keys
-  abbrev pub told_of : LeafKey → List DurationCall → DurationCall → List Known
-  told_of key before (Learned at delta) = known_at delta.changes (position (same_leaves key) (inner_keys before))
-  told_of key before _ = []
+  abbrev pub told_to : LeafKey → List DurationCall → DurationCall → List Known
+  told_to key before (Learned at delta) = known_at delta.changes (position (same_leaves key) (inner_keys before))
+  told_to key before _ = []
 
   -- a key, once a call has come after these
   abbrev pub key_seen : LeafKey → List DurationCall → DurationCall → List KeySeen
   key_seen key before call =
       record {
         is_listed = is_among same_leaves key (inner_keys (before ++ call ∷ []));
-        told = told_of key before call;
+        told = told_to key before call;
       } ∷ []
 
   -- what these calls told last of a key, since it was last absent; none where nothing was told since
@@ -75,8 +75,8 @@ module _ (spec : PredSpec) where
       (after_last (λ (seen : KeySeen). not seen.is_listed) (outputs (key_seen key) calls)))
 
   -- the truth that these calls told last of the inner key at a place
-  abbrev pub last_truth : List DurationCall → ℕ → Option Truth
-  last_truth calls place =
+  abbrev pub told_truth : List DurationCall → ℕ → Option Truth
+  told_truth calls place =
       option_and_then (λ key. option_map (λ (known : Known). known.truth) (last_known calls key))
       (slice_get (inner_keys calls) place)
 

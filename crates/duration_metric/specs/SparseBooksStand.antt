@@ -26,22 +26,22 @@ pub record HoldsTimes (it : SparseBooks) (bound : ℕ) (books : Books (MetricKey
   pub missing : books.missing ≡ 0
 
 -- the object holds the books of a metric whose time has just begun
-abbrev pub IsOpened : SparseBooks → ℕ → ℕ → Type 0
-IsOpened it start bound =
+abbrev pub AreNewSparse : SparseBooks → ℕ → ℕ → Type 0
+AreNewSparse it start bound =
     HoldsTimes it bound (record { start = start; came = []; closed = []; dropped = 0; missing = 0 })
 
 -- the books after some marks more
-abbrev pub with_marks : ℕ → Books (MetricKey × ℕ) → List (Mark (MetricKey × ℕ)) → Books (MetricKey × ℕ)
-with_marks bound = books_from (drops longest_kind bound)
+abbrev pub with_longest : ℕ → Books (MetricKey × ℕ) → List (Mark (MetricKey × ℕ)) → Books (MetricKey × ℕ)
+with_longest bound = books_from (drops longest_kind bound)
 
 -- whatever books the old object holds, the new one holds them after these marks
-abbrev pub TakesMarks : SparseBooks → SparseBooks → List (Mark (MetricKey × ℕ)) → Type 0
-TakesMarks old new marks =
+abbrev pub TakesLongestMarks : SparseBooks → SparseBooks → List (Mark (MetricKey × ℕ)) → Type 0
+TakesLongestMarks old new marks =
     (bound : ℕ) (books : Books (MetricKey × ℕ)) → HoldsTimes old bound books
-    → HoldsTimes new bound (with_marks bound books marks)
+    → HoldsTimes new bound (with_longest bound books marks)
 
 -- whatever books the object holds, what is handed out is what a report shows of them
-abbrev pub ShowsBooks : SparseBooks → Closed ℕ → Type 0
-ShowsBooks it closed =
+abbrev pub ShowsLongest : SparseBooks → Closed ℕ → Type 0
+ShowsLongest it closed =
     (bound : ℕ) (books : Books (MetricKey × ℕ)) → HoldsTimes it bound books
     → closed ≡ closed_of (taken_of row_weight (closed_rows longest_kind bound books) books.dropped books.missing)

@@ -25,14 +25,14 @@ turn_times (Learned at delta) = at ∷ []
 turn_times _ = []
 
 -- a truth is True
-abbrev pub is_true : Truth → Bool
-is_true True = true
-is_true _ = false
+abbrev pub is_surely_true : Truth → Bool
+is_surely_true True = true
+is_surely_true _ = false
 
 -- the condition was told, and is true
-abbrev pub is_timed : Option Known → Bool
-is_timed None = false
-is_timed (Some known) = is_true known.truth
+abbrev pub is_told_timed : Option Known → Bool
+is_told_timed None = false
+is_told_timed (Some known) = is_surely_true known.truth
 
 -- a time arrives for the key for which an inner key counts, if that was told
 abbrev pub arrival_for : Option Known → ℕ → List (Mark (MetricKey × ℕ))
@@ -41,37 +41,37 @@ arrival_for (Some known) time = Came (known.out, time) ∷ []
 
 module _ (spec : PredSpec) where
   -- the inner keys that are on after these calls, in order: those with a count above 0
-  abbrev pub keys_on : List DurationCall → List LeafKey
-  keys_on calls =
+  abbrev pub running_keys : List DurationCall → List LeafKey
+  running_keys calls =
       map (λ (entry : LeafKey × ℕ). entry.0)
       (filter (λ (entry : LeafKey × ℕ). nat_lt 0 entry.1) (inner_state spec calls).counts)
 
   -- an inner key is on after these calls
   abbrev pub is_on : List DurationCall → LeafKey → Bool
-  is_on calls key = is_among same_leaves key (keys_on calls)
+  is_on calls key = is_among same_leaves key (running_keys calls)
 
   -- an inner key once a call has come after these: whether it is on, and whether its condition is true
-  abbrev pub key_moment : LeafKey → List DurationCall → DurationCall → List KeyMoment
-  key_moment key before call =
+  abbrev pub inner_moment : LeafKey → List DurationCall → DurationCall → List KeyMoment
+  inner_moment key before call =
       let calls = before ++ call ∷ [] in
-      map (λ at. record { at = at; is_on = is_on calls key; holds = is_timed (last_known spec calls key) })
+      map (λ at. record { at = at; is_on = is_on calls key; holds = is_told_timed (last_known spec calls key) })
       (turn_times call)
 
   -- for how long, up to a time, an inner key has had a true condition since it went on
-  abbrev pub time_on : List DurationCall → ℕ → LeafKey → ℕ
-  time_on calls end key = time_since_off (outputs (key_moment key) calls) end
+  abbrev pub running_time : List DurationCall → ℕ → LeafKey → ℕ
+  running_time calls end key = time_since_off (outputs (inner_moment key) calls) end
 
   -- the inner keys that a call turns off, in the order in which they were listed before it
-  abbrev pub gone_off : List DurationCall → DurationCall → List LeafKey
-  gone_off before call = filter (λ key. not (is_on (before ++ call ∷ []) key)) (keys_on before)
+  abbrev pub keys_gone : List DurationCall → DurationCall → List LeafKey
+  keys_gone before call = filter (λ key. not (is_on (before ++ call ∷ []) key)) (running_keys before)
 
   -- what an event brings: an inner key that is turned away is lost, and each that goes off arrives with its time, for
   -- the key for which it counted
   abbrev pub sparse_comes : List DurationCall → ℕ → InnerEvent → List (Mark (MetricKey × ℕ))
   sparse_comes before at event =
       inner_lost spec before at event
-      ++ flat_map (λ key. arrival_for (last_known spec before key) (time_on before at key))
-      (gone_off before (Got at event))
+      ++ flat_map (λ key. arrival_for (last_known spec before key) (running_time before at key))
+      (keys_gone before (Got at event))
 
 -- a condition brings nothing, and nothing more happens at a boundary: a key that is on arrives where it goes off
 abbrev pub sparse_collecting : Collecting DurationParams InnerEvent InnerDelta (MetricKey × ℕ) MetricKey ℕ (Row ℕ)

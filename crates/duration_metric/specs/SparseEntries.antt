@@ -19,19 +19,19 @@ use Rattle.duration_metric.specs.declared.sparse_keys.SparseKeys.{SparseKeys}
 use Rattle.duration_metric.specs.declared.sparse_keys.Turn.{Turn}
 use Rattle.duration_metric.specs.declared.sparse_keys.Turn.TheVariants as turns
 use Rattle.duration_metric.specs.InnerKeys.{DurationCall, inner_state, inner_keys, last_known}
-use Rattle.duration_metric.specs.SparseCalls.{is_timed, arrival_for, is_on, time_on, sparse_comes}
+use Rattle.duration_metric.specs.SparseCalls.{is_told_timed, arrival_for, is_on, running_time, sparse_comes}
 
 -- the time of an entry up to an end
 abbrev pub entry_time : SparseEntry → ℕ → ℕ
-entry_time entry end = entry.time + (if is_timed entry.known then end - entry.since else 0)
+entry_time entry end = entry.time + (if is_told_timed entry.known then end - entry.since else 0)
 
 -- a row as its key and its count
-abbrev pub count_of : LeafKey × SparseEntry → LeafKey × ℕ
-count_of row = (row.0, row.1.count)
+abbrev pub entry_count : LeafKey × SparseEntry → LeafKey × ℕ
+entry_count row = (row.0, row.1.count)
 
 -- what is known of these keys, as of those of a predicate
-abbrev pub state_of : SparseKeys → PredicateState LeafKey
-state_of it = record { unknown = it.unknown; counts = map count_of it.table.rows; dropped = it.table.dropped }
+abbrev pub sparse_state : SparseKeys → PredicateState LeafKey
+sparse_state it = record { unknown = it.unknown; counts = map entry_count it.table.rows; dropped = it.table.dropped }
 
 -- An entry is that of a key after these calls, none of which came after a time: it has what was told last of the key
 -- and, while the key is on, its time.
@@ -40,7 +40,7 @@ pub record EntryStands (spec : PredSpec) (calls : List DurationCall) (last : ℕ
   pub known_is : entry.known ≡ last_known spec calls key
   pub since_within : entry.since ≤ last
   pub time_within : entry.time ≤ entry.since
-  pub time_is : 0 < entry.count → (end : ℕ) → last ≤ end → time_on spec calls end key ≡ entry_time entry end
+  pub time_is : 0 < entry.count → (end : ℕ) → last ≤ end → running_time spec calls end key ≡ entry_time entry end
 
 -- a row has the entry of its key
 abbrev pub RowStands : PredSpec → List DurationCall → ℕ → LeafKey × SparseEntry → Type 0
@@ -50,13 +50,13 @@ RowStands spec calls last row = EntryStands spec calls last row.0 row.1
 pub record OthersStand (spec : PredSpec) (calls : List DurationCall) : Type 0 where
   pub unlisted : (key : LeafKey) → is_among same_leaves key (inner_keys spec calls) ≡ false
       → last_known spec calls key ≡ None
-  pub off : (key : LeafKey) → is_on spec calls key ≡ false → (end : ℕ) → time_on spec calls end key ≡ 0
+  pub off : (key : LeafKey) → is_on spec calls key ≡ false → (end : ℕ) → running_time spec calls end key ≡ 0
 
 -- The keys are kept as the spec says, and are the inner keys after these calls, each with its entry.
 pub record KeysStand (it : SparseKeys) (spec : PredSpec) (calls : List DurationCall) (last : ℕ) : Type 0 where
   pub spec_is : it.spec ≡ spec
   pub bound_is : it.table.bound ≡ spec.bound
-  pub state_is : state_of it ≡ inner_state spec calls
+  pub state_is : sparse_state it ≡ inner_state spec calls
   pub distinct : IsDistinct same_leaves (keys it.table)
   pub rows_are : AllByRecursion (RowStands spec calls last) it.table.rows
   pub others_are : OthersStand spec calls
@@ -69,6 +69,7 @@ saved_time entry end = count_in_u64 (entry_time entry end)
 abbrev pub entry_marks : ℕ → SparseEntry → List (Mark (MetricKey × ℕ))
 entry_marks at entry = if nat_lt 0 entry.count then arrival_for entry.known (saved_time entry at) else []
 
+-- the marks of a row whose key leaves at a time
 abbrev pub row_marks : ℕ → LeafKey × SparseEntry → List (Mark (MetricKey × ℕ))
 row_marks at row = entry_marks at row.1
 
@@ -107,7 +108,7 @@ TakesKeyEvent old new at event marks =
 abbrev pub ListsKey : SparseKeys → SparseKeys → ℕ → LeafKey → ℕ → List (Mark (MetricKey × ℕ)) → Type 0
 ListsKey old new at key count marks =
     (event : PredEvent)
-    → state_after same_leaves old.spec (state_of old) event key ≡ with_new_key old.spec.bound (state_of old) key count
+    → state_after same_leaves old.spec (sparse_state old) event key ≡ with_new_key old.spec.bound (sparse_state old) key count
     → TakesKeyEvent old new at (record { event = event; key = key }) marks
 
 -- whatever calls the old one stood for, at a later time the new one stands for a condition more

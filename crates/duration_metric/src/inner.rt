@@ -8,7 +8,7 @@ ghost use Rattle.dim_table.specs.Table.{keys};
 ghost use Rattle.predicate_state.specs.declared.event.PredEvent.TheVariants.{Start, Stop, StopAll};
 ghost use Rattle.predicate_state.specs.PredicateStates.{count_after_start, count_after_stop, without_key, state_after_stop_all};
 ghost use Rattle.predicate_state.specs.PredicateTable.{LeafKey, same_leaves};
-ghost use Rattle.duration_metric.specs.InnerKeys.{DurationCall, inner_keys, last_truth};
+ghost use Rattle.duration_metric.specs.InnerKeys.{DurationCall, inner_keys, told_truth};
 ghost use Rattle.duration_metric.specs.InnerStands.{state_in, InnersStandFor, ChangesTo, ActsOn, SetsCount, ListsKey, TakesEvent, TakesDelta, TellsOne, TellsAll};
 
 use crate::{InnerChange, InnerDelta, InnerEvent};
@@ -212,7 +212,7 @@ impl InnerTable {
     /// The truth that was told last of the inner key at a place.
     pub(crate) fn truth(&self, place: usize) -> Option<Truth>
         ensures { (spec : PredSpec) (calls : List DurationCall) → InnersStandFor self.now spec calls
-            → result ≡ last_truth spec calls place }
+            → result ≡ told_truth spec calls place }
     {
         let (_key, inner) = self.keys.pair(place)?;
         let Some(known) = &inner.known else {

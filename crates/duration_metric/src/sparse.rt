@@ -5,7 +5,7 @@ ghost use Rattle.bucket_meaning.specs.Limits.{longest_bucket, time_limit, most_k
 ghost use Rattle.metric_producer.specs.Calls.{Got};
 ghost use Rattle.metric_producer.specs.Moves.{Moves};
 ghost use Rattle.predicate_state.specs.declared.event.PredEvent.TheVariants.{Start, Stop, StopAll};
-ghost use Rattle.duration_metric.specs.InnerKeys.{DurationParams, DurationCall, inner_keys, last_truth};
+ghost use Rattle.duration_metric.specs.InnerKeys.{DurationParams, DurationCall, inner_keys, told_truth};
 ghost use Rattle.duration_metric.specs.SparseStands.{SparseStandsFor, sparse_law};
 
 use crate::sparse_books::SparseBooks;
@@ -63,7 +63,7 @@ impl MaxProducer {
     /// The truth that was told last of the inner key at a place; none past the end, and where none was told of the key.
     pub fn inner_truth(&self, place: usize) -> Option<Truth>
         ensures { (params : DurationParams) (calls : List DurationCall) → SparseStandsFor self.now params calls
-            → result ≡ last_truth params.spec calls place }
+            → result ≡ told_truth params.spec calls place }
     {
         let (_key, entry) = self.keys.table.pair(place)?;
         let Some(known) = &entry.known else {

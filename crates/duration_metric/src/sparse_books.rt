@@ -9,7 +9,7 @@ ghost use Rattle.kept_rows.specs.KeptRows.{AddsRows};
 ghost use Rattle.metric_kinds.specs.Counts.{row_weight};
 ghost use Rattle.metric_kinds.specs.Durations.{duration_row};
 ghost use Rattle.duration_metric.specs.SparseTimes.{time_rows, TakesTime};
-ghost use Rattle.duration_metric.specs.SparseBooksStand.{IsOpened, TakesMarks, ShowsBooks};
+ghost use Rattle.duration_metric.specs.SparseBooksStand.{AreNewSparse, TakesLongestMarks, ShowsLongest};
 ghost use Rattle.duration_metric.specs.SparseEntries.{entry_marks, row_marks, turn_marks};
 
 use crate::sparse_keys::{SparseEntry, Turn, leave};
@@ -34,7 +34,7 @@ impl SparseBooks {
     pub(crate) fn new(alloc: Global, start: u64, bound: usize) -> SparseBooks
         requires least_bound { 1 ≤ bound }
         requires most_bound { bound ≤ most_keys }
-        ensures { IsOpened result start bound }
+        ensures { AreNewSparse result start bound }
     {
         SparseBooks {
             start,
@@ -46,7 +46,7 @@ impl SparseBooks {
 
     /// What an event makes of the inner keys is put down.
     pub(crate) fn note(&mut self, turn: Turn) -> Result<(), AllocError>
-        ensures { OnOk result (TakesMarks self.old self.new (turn_marks turn)) }
+        ensures { OnOk result (TakesLongestMarks self.old self.new (turn_marks turn)) }
     {
         match turn {
             Turn::Stays => Ok(()),
@@ -64,7 +64,7 @@ impl SparseBooks {
         gone: IntoIter<DimKey, SparseEntry>,
         at: u64,
     ) -> Result<(), AllocError>
-        ensures { OnOk result (TakesMarks self.old self.new (flat_map (row_marks at) gone)) }
+        ensures { OnOk result (TakesLongestMarks self.old self.new (flat_map (row_marks at) gone)) }
     {
         for (_key, entry) in gone {
             self.note(leave(entry, at))?;
@@ -74,7 +74,7 @@ impl SparseBooks {
 
     /// Closes the open part at a time, and opens the next.
     pub(crate) fn close(&mut self, end: u64) -> Result<(), AllocError>
-        ensures { OnOk result (TakesMarks self.old self.new (Ends end ∷ [])) }
+        ensures { OnOk result (TakesLongestMarks self.old self.new (Ends end ∷ [])) }
     {
         let start = self.start;
         self.start = end;
@@ -83,8 +83,8 @@ impl SparseBooks {
 
     /// Hands out what a report shows. The open part goes on.
     pub(crate) fn take(&mut self) -> Closed<u64>
-        ensures gives { ShowsBooks self.old result }
-        ensures moves { TakesMarks self.old self.new (Asked ∷ []) }
+        ensures gives { ShowsLongest self.old result }
+        ensures moves { TakesLongestMarks self.old self.new (Asked ∷ []) }
     {
         let (rows, not_kept) = self.kept.take();
         let dropped = self.table.take_dropped().saturating_add(self.lost);

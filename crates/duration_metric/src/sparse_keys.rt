@@ -9,7 +9,7 @@ ghost use Rattle.predicate_state.specs.declared.event.PredEvent.TheVariants as e
 ghost use Rattle.predicate_state.specs.PredicateStates.{count_after_start, count_after_stop};
 ghost use Rattle.predicate_state.specs.PredicateTable.{same_leaves};
 ghost use Rattle.duration_metric.specs.InnerKeys.{known_by};
-ghost use Rattle.duration_metric.specs.SparseCalls.{is_timed};
+ghost use Rattle.duration_metric.specs.SparseCalls.{is_told_timed};
 ghost use Rattle.duration_metric.specs.SparseEntries.{saved_time, entry_marks, row_marks, turn_marks, started_entry, told_entry, IsOfNoCalls, ListsKey, TakesKeyEvent, LearnsDelta};
 ghost use Rattle.duration_metric.specs.declared.sparse_keys.SparseEntry.{SparseEntry};
 
@@ -230,7 +230,7 @@ fn time_of(entry: &SparseEntry, end: u64) -> u64
 
 // Whether a condition was told that is true.
 fn is_timed_now(known: &Option<Known>) -> bool
-    ensures { result ≡ is_timed known.now }
+    ensures { result ≡ is_told_timed known.now }
 {
     match known {
         Some(known) => known.truth == Truth::True,

@@ -11,7 +11,7 @@ ghost use Rattle.bucket_meaning.specs.Guard.{with_key, firsts};
 ghost use Rattle.metric_kinds.specs.Keys.{is_same_key};
 ghost use Rattle.metric_kinds.specs.Counts.{row_weight};
 ghost use Rattle.duration_metric.specs.SumCalls.{while_true, known_out};
-ghost use Rattle.duration_metric.specs.InnerKeys.{DurationParams, DurationCall, inner_keys, last_truth};
+ghost use Rattle.duration_metric.specs.InnerKeys.{DurationParams, DurationCall, inner_keys, told_truth};
 ghost use Rattle.duration_metric.specs.SumStands.{span_at, span_time, span_row, whole_row, whole_rows, SumStandsFor};
 ghost use Rattle.duration_metric.specs.SumSteps.{active_in, StepsAll, StepsOne, BeginsRun, BeginsAll, ClosesRows, Opens, out_for};
 
@@ -91,7 +91,7 @@ impl SumProducer {
     /// The truth that was told last of the inner key at a place; none past the end, and where none was told of the key.
     pub fn inner_truth(&self, place: usize) -> Option<Truth>
         ensures { (params : DurationParams) (calls : List DurationCall)
-            → SumStandsFor self.now params calls → result ≡ last_truth params.spec calls place }
+            → SumStandsFor self.now params calls → result ≡ told_truth params.spec calls place }
     {
         self.inner.truth(place)
     }

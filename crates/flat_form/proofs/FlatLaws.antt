@@ -1,6 +1,7 @@
 -- For the builds of this crate, and for those of types with a flat form of their own.
-use Rattle.std.proofs.Common.{◌≡◌, ℕ, zero, suc, ◌+◌, ◌<◌, List, [], ◌∷◌, ◌++◌, length, drop, All, Some, None, Result, Ok, Err, refl, sym, ap, subst, ◌∙◌, append_assoc, arith}
+use Rattle.std.proofs.Common.{◌≡◌, ℕ, zero, suc, ◌+◌, ◌<◌, List, [], ◌∷◌, ◌++◌, length, drop, All, Option, Some, None, Result, Ok, Err, refl, sym, ap, subst, ◌∙◌, append_assoc, arith}
 use Rattle.std.specs.Prelude.{slice_get}
+use Rattle.std.specs.Option.{option_to_list}
 use Rattle.std.specs.List.{flat_map}
 use Rattle.std.proofs.lemmas.List.{drop-drop, drop_at, append-nil, length-append, length_push, nil_from_length}
 use Rattle.std.proofs.lemmas.List.Concat.{flat_map-append}
@@ -12,7 +13,7 @@ use Rattle.flat_form.specs.declared.item.Item.{Item}
 use Rattle.flat_form.specs.declared.item.Item.TheVariants.{Dims, Slices}
 use Rattle.flat_form.specs.declared.flat_error.FlatError.{FlatError}
 use Rattle.flat_form.specs.declared.flat_error.FlatError.TheVariants.{Bad, Memory}
-use Rattle.flat_form.specs.Flat.{Anything, IsValidPair, StandsAt, IsBuilt, Builds, Holds, AreBuilt, BuildsAll, number_items, pair_items, key_items, list_items}
+use Rattle.flat_form.specs.Flat.{Anything, IsValidPair, StandsAt, IsBuilt, Builds, Holds, AreBuilt, BuildsAll, number_items, pair_items, key_items, list_items, option_items, IsMissingOr}
 
 -- where two parts stand, the first does
 pub StandsAt-front : (items : List Item) (place : ℕ) (x y : List Item)
@@ -186,6 +187,22 @@ module _ {X Y : Type 0} (inner_valid : X → Type 0) (inner : X → List Item) (
     (outer : Y → List Item) (form : Y → X)
     (as_form : (y : Y) → outer y ≡ inner (form y)) (form_valid : (y : Y) → outer_valid y → inner_valid (form y))
     (items : List Item) (place : ℕ) where
+  -- a value, built from its form, where no other valid one has this form
+  pub form_built : (x : X) (next : ℕ)
+      → IsBuilt inner_valid inner items place x next
+      → (y : Y)
+      → outer_valid y
+      → form y ≡ x
+      → ((z : Y) → outer_valid z → form z ≡ x → z ≡ y)
+      → IsBuilt outer_valid outer items place y next
+  form_built x next one y valid is alone = record {
+    is_valid = valid;
+    stands = subst (StandsAt items place) (ap inner (sym is) ∙ sym (as_form y)) one.stands;
+    ends = one.ends ∙ ap (λ (l : List Item). place + length l) (ap inner (sym is) ∙ sym (as_form y));
+    only = λ other ok there. alone other ok
+        (one.only (form other) (form_valid other ok) (subst (StandsAt items place) (as_form other) there));
+  }
+
   -- no form stands there
   pub form_fails : (e : FlatError)
       → Builds inner_valid inner items place (Err e)
@@ -409,3 +426,50 @@ module _ {X : Type 0} (valid : X → Type 0) (flat : X → List Item) (items : L
   count_fails Bad never = λ others all there. never (length others) tt
       (StandsAt-front items place (number_items (length others)) (flat_map flat others) there)
   count_fails Memory none = tt
+
+-- the one of a list that is one or none
+same_option : {X : Type 0} (x y : Option X) → option_to_list x ≡ option_to_list y → x ≡ y
+same_option None None same = refl
+same_option None (Some y) same = absurd cc
+same_option (Some x) None same = absurd cc
+same_option (Some x) (Some y) same = let one : x ≡ y = cc in ap (λ (z : _). Some z) one
+
+module _ {X : Type 0} (valid : X → Type 0) (flat : X → List Item) (items : List Item) (place count middle : ℕ)
+    (one : IsBuilt Anything number_items items place count middle) where
+  -- a value that may be missing, built as a list of one or none
+  option_built : (value : Option X) (next : ℕ)
+      → AreBuilt valid flat items middle count (option_to_list value) next
+      → IsBuilt (IsMissingOr valid) (option_items flat) items place value next
+  option_built value next are =
+      let list = list_built valid flat items place count middle one (Ok (option_to_list value, next)) are in
+      form_built (All valid) (list_items flat) (IsMissingOr valid) (option_items flat) option_to_list (λ y. refl)
+      (λ y ok. ok) items place (option_to_list value) next list value list.is_valid refl
+      (λ z ok same. same_option z value same)
+
+  -- one is there
+  pub found_built : count ≡ 1
+      → (value : X) (next : ℕ)
+      → IsBuilt valid flat items middle value next
+      → IsBuilt (IsMissingOr valid) (option_items flat) items place (Some value) next
+  found_built is value next there = option_built (Some value) next
+      (rw is (are_more valid flat items middle 0 [] middle value next (are_none valid flat items middle) there))
+
+  -- the one that is said to be there has a fault
+  pub found_fails : count ≡ 1
+      → (e : FlatError)
+      → Builds valid flat items middle (Err e)
+      → Builds (IsMissingOr valid) (option_items flat) items place (Err e)
+  found_fails is e fails =
+      let never = next_fails valid flat items middle 0 count [] middle (are_none valid flat items middle)
+      (omega (arith, is)) e fails in
+      form_fails (All valid) (list_items flat) (IsMissingOr valid) (option_items flat) option_to_list (λ y. refl)
+      (λ y ok. ok) items place e (list_built valid flat items place count middle one (Err e) never)
+
+-- no number stands there
+pub option_fails : {X : Type 0} (valid : X → Type 0) (flat : X → List Item) (items : List Item) (place : ℕ)
+    (e : FlatError)
+    → Builds Anything number_items items place (Err e)
+    → Builds (IsMissingOr valid) (option_items flat) items place (Err e)
+option_fails valid flat items place e fails =
+    form_fails (All valid) (list_items flat) (IsMissingOr valid) (option_items flat) option_to_list (λ y. refl)
+    (λ y ok. ok) items place e (count_fails valid flat items place e fails)

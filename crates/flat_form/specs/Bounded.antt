@@ -1,5 +1,6 @@
 -- Items have no more bytes than they weigh, and a value has no more items than its head and its entries allow.
-use Rattle.std.specs.Prelude.{◌≡◌, ℕ, ◌+◌, ◌*◌, ◌≤◌, nat_le, Bool, true, false, if◌then◌else◌, List, [], ◌∷◌, ◌++◌, length, All}
+use Rattle.std.specs.Prelude.{◌≡◌, ℕ, ℤ, ◌+◌, ◌*◌, ◌≤◌, nat_le, Bool, true, false, if◌then◌else◌, List, [], ◌∷◌, ◌++◌, length, All, Option}
+use Rattle.std.specs.Option.{option_to_list}
 use Rattle.std.specs.List.{flat_map, sum_by}
 use Rattle.std.proofs.Common.{arith, refl}
 use Rattle.std.proofs.lemmas.Bool.{leb-true}
@@ -20,7 +21,7 @@ use Rattle.flat_form.specs.declared.item.Item.TheVariants.{Num, Dims, Slices, At
 use Rattle.atom_record.specs.AtomSpelling.{value_bytes, entry_bytes}
 use Rattle.atom_record.specs.TypedValue.{typed_bytes}
 use Rattle.flat_form.specs.ItemSpelling.{spelled_leaf, spelled_slice, spelled_item, spelled_items}
-use Rattle.flat_form.specs.Flat.{Anything, IsValidPair, number_items, dims_items, key_items, atom_items, pair_items, list_items}
+use Rattle.flat_form.specs.Flat.{Anything, IsValidPair, IsSigned, IsLong, IsMissingOr, number_items, signed_items, long_items, option_items, dims_items, key_items, atom_items, pair_items, list_items}
 use Rattle.flat_form.specs.Weight.{text_weight, value_weight, leaf_weight, entry_weight, held_weight, held, most_items, entries_for, most_head, head_within, entries_within, pair_entries, list_entries}
 
 -- pieces, each within its weight
@@ -125,6 +126,14 @@ parts_few heads items entries few = few_by items entries (nat_le heads most_head
 pub number_bounded : (number : ℕ) → Anything number → length (number_items number) ≤ most_items 1 0
 number_bounded number valid = omega arith
 
+-- a signed integer is one item
+pub signed_bounded : (number : ℤ) → IsSigned number → length (signed_items number) ≤ most_items 1 0
+signed_bounded number valid = omega arith
+
+-- a long signed integer is two items
+pub long_bounded : (number : ℤ) → IsLong number → length (long_items number) ≤ most_items 2 0
+long_bounded number valid = omega arith
+
 -- a key of dimensions is one item
 pub dims_bounded : (dims : List Leaf) → Anything dims → length (dims_items dims) ≤ most_items 1 0
 dims_bounded dims valid = omega arith
@@ -197,6 +206,20 @@ elements_few flat (x ∷ xs) =
 pub list_few : {X : Type 0} (flat : X → List Item) (values : List X)
     → list_entries flat values ≤ length (list_items flat values)
 list_few flat values = let part = elements_few flat values in omega arith
+
+-- the entries of a value that may be missing: one for each eight items that are begun
+abbrev pub option_entries : {X : Type 0} → (X → List Item) → Option X → ℕ
+option_entries flat value = list_entries flat (option_to_list value)
+
+-- a value that may be missing is one item, and eight at most for each entry
+pub option_bounded : {X : Type 0} (flat : X → List Item) (valid : X → Type 0) → (value : Option X)
+    → IsMissingOr valid value → length (option_items flat value) ≤ most_items 1 (option_entries flat value)
+option_bounded flat valid value is = list_bounded flat valid (option_to_list value) is
+
+-- one that may be missing has no more entries than items
+pub option_few : {X : Type 0} (flat : X → List Item) (value : Option X)
+    → option_entries flat value ≤ length (option_items flat value)
+option_few flat value = list_few flat (option_to_list value)
 
 -- a value without entries has no more of them than items
 pub none_few : {X : Type 0} (flat : X → List Item) (value : X) → 0 ≤ length (flat value)

@@ -1,5 +1,7 @@
 -- The items that a value flattens to, and what building from items answers.
-use Rattle.std.specs.Prelude.{◌≡◌, ℕ, ◌+◌, List, [], ◌∷◌, ◌++◌, length, drop, All, Result, Ok, Err}
+use Rattle.std.specs.Prelude.{◌≡◌, ℕ, ◌+◌, ◌/◌, ◌%◌, ◌^◌, ℤ, List, [], ◌∷◌, ◌++◌, length, drop, All, Option, Result, Ok, Err, FitsSigned}
+use Rattle.std.specs.Option.{option_to_list}
+use Rattle.std.specs.Int.{w64, w128, cast_unsigned}
 use Rattle.std.specs.List.{flat_map}
 use Rattle.atom_record.specs.declared.value.Leaf.{Leaf}
 use Rattle.atom_record.specs.declared.value.MetricKey.{MetricKey}
@@ -71,6 +73,26 @@ BuildsAll valid flat items place count (Err Memory) = Unit {0}
 abbrev pub number_items : ℕ → List Item
 number_items number = Num number ∷ []
 
+-- a signed integer is one item: its bits as a number
+abbrev pub signed_items : ℤ → List Item
+signed_items number = number_items (cast_unsigned w64 number)
+
+-- an integer of 64 bits with a sign
+abbrev pub IsSigned : ℤ → Type 0
+IsSigned number = FitsSigned w64 number
+
+-- the upper and the lower half of 128 bits
+abbrev pub halves : ℕ → ℕ × ℕ
+halves bits = (bits / 2 ^ 64, bits % 2 ^ 64)
+
+-- a long signed integer is two items: the halves of its bits, each as a number
+abbrev pub long_items : ℤ → List Item
+long_items number = Num (halves (cast_unsigned w128 number)).0 ∷ Num (halves (cast_unsigned w128 number)).1 ∷ []
+
+-- an integer of 128 bits with a sign
+abbrev pub IsLong : ℤ → Type 0
+IsLong number = FitsSigned w128 number
+
 -- a key of dimensions is one item
 abbrev pub dims_items : List Leaf → List Item
 dims_items dims = Dims dims ∷ []
@@ -90,3 +112,11 @@ pair_items first second pair = first pair.0 ++ second pair.1
 -- a list is the number of its elements, and these
 abbrev pub list_items : {X : Type 0} → (X → List Item) → List X → List Item
 list_items flat values = Num (length values) ∷ flat_map flat values
+
+-- a value that may be missing is saved as a list of one or none
+abbrev pub option_items : {X : Type 0} → (X → List Item) → Option X → List Item
+option_items flat value = list_items flat (option_to_list value)
+
+-- it is missing, or such a value
+abbrev pub IsMissingOr : {X : Type 0} → (X → Type 0) → Option X → Type 0
+IsMissingOr holds value = All holds (option_to_list value)

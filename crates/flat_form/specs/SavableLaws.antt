@@ -1,5 +1,7 @@
 -- A valid value that is savable flattens to items that can be spelled.
-use Rattle.std.specs.Prelude.{ℕ, List, [], ◌∷◌, length, All}
+use Rattle.std.specs.Prelude.{ℕ, ℤ, List, [], ◌∷◌, length, All, Option}
+use Rattle.std.specs.Option.{option_to_list}
+use Rattle.std.specs.Int.{w64, w128, cast_unsigned}
 use Rattle.std.specs.List.{flat_map}
 use Rattle.std.proofs.lemmas.List.Elements.{All-nil, All-cons, All-head, All-tail, All-append}
 use Rattle.atom_record.specs.declared.value.Leaf.{Leaf}
@@ -8,7 +10,7 @@ use Rattle.atom_record.specs.declared.atom.Atom.{Atom}
 use Rattle.atom_record.specs.AtomSound.{HasNoFault}
 use Rattle.flat_form.specs.declared.item.Item.{Item}
 use Rattle.flat_form.specs.declared.item.Item.TheVariants.{Num, Dims, Slices, AtomItem}
-use Rattle.flat_form.specs.Flat.{Anything, IsValidPair, number_items, dims_items, key_items, atom_items, pair_items, list_items}
+use Rattle.flat_form.specs.Flat.{Anything, IsValidPair, IsSigned, IsLong, IsMissingOr, halves, number_items, signed_items, long_items, option_items, dims_items, key_items, atom_items, pair_items, list_items}
 use Rattle.flat_form.specs.Savable.{IsSavable, AreSavable, AreShortLeaves, IsShortKey}
 
 -- one item, and then others
@@ -22,6 +24,16 @@ none_savable = All-nil IsSavable
 -- each number can be spelled
 pub number_savable : (number : ℕ) → Anything number → Anything number → AreSavable (number_items number)
 number_savable number valid savable = items_savable (Num number) [] tt none_savable
+
+-- each signed integer can be spelled
+pub signed_savable : (number : ℤ) → IsSigned number → Anything number → AreSavable (signed_items number)
+signed_savable number valid savable = number_savable (cast_unsigned w64 number) tt tt
+
+-- each long signed integer can be spelled
+pub long_savable : (number : ℤ) → IsLong number → Anything number → AreSavable (long_items number)
+long_savable number valid savable =
+    items_savable (Num (halves (cast_unsigned w128 number)).0) (number_items (halves (cast_unsigned w128 number)).1) tt
+    (number_savable (halves (cast_unsigned w128 number)).1 tt tt)
 
 -- dimensions whose counts and texts fit
 pub dims_savable : (dims : List Leaf) → Anything dims → AreShortLeaves dims → AreSavable (dims_items dims)
@@ -64,3 +76,9 @@ pub list_savable : {X : Type 0} (flat : X → List Item) (valid savable : X → 
 list_savable flat valid savable each values are can =
     items_savable (Num (length values)) (flat_map flat values) tt
     (elements_savable flat valid savable each values are can)
+
+-- a savable value that may be missing
+pub option_savable : {X : Type 0} (flat : X → List Item) (valid savable : X → Type 0)
+    → ((x : X) → valid x → savable x → AreSavable (flat x))
+    → (value : Option X) → IsMissingOr valid value → IsMissingOr savable value → AreSavable (option_items flat value)
+option_savable flat valid savable each value is can = list_savable flat valid savable each (option_to_list value) is can

@@ -3,7 +3,7 @@ ghost use Rattle.std.specs.Prelude.{◌≡◌, ℕ, ◌+◌, List, [], ◌∷◌
 ghost use Rattle.std.specs.List.{flat_map};
 ghost use Rattle.std.proofs.Common.{refl};
 ghost use Rattle.flat_form.specs.declared.item.Item.{Item};
-ghost use Rattle.flat_form.specs.Flat.{IsFront, Anything, Holds, Builds, BuildsAll};
+ghost use Rattle.flat_form.specs.Flat.{IsFront, Anything, Holds, Builds, BuildsAll, halves};
 ghost use Rattle.flat_form.specs.Weight.{most_items, most_head};
 ghost use Rattle.flat_form.specs.Savable.{AreSavable};
 
@@ -183,6 +183,89 @@ impl Flat for u64 {
 
     fn build(alloc: Global, items: &Items, place: usize) -> Result<(u64, usize), FlatError> {
         build_one(alloc, items, place)
+    }
+}
+
+impl Flat for i64 {
+    ghost use Rattle.flat_form.specs.Flat.{signed_items, IsSigned};
+    ghost use Rattle.flat_form.specs.Bounded.{short_head, signed_bounded, none_few};
+    ghost use Rattle.flat_form.specs.SavableLaws.{signed_savable};
+
+    ghost flat = { signed_items };
+
+    ghost valid = { IsSigned };
+
+    ghost head = { 1 };
+
+    ghost short = { short_head 1 refl };
+
+    ghost bounded = { signed_bounded };
+
+    ghost few = { none_few signed_items };
+
+    ghost spells = { signed_savable };
+
+    fn show_valid(&self) {
+        let _value = *self;
+    }
+
+    fn flatten(&self, _alloc: Global, out: &mut Items) -> Result<(), AllocError> {
+        out.push(Item::Num(self.cast_unsigned()))
+    }
+
+    fn build(alloc: Global, items: &Items, place: usize) -> Result<(i64, usize), FlatError> {
+        let (bits, next) = u64::build(alloc, items, place)?;
+        Ok((bits.cast_signed(), next))
+    }
+}
+
+// What the upper half of 128 bits counts.
+const HALF: u128 = 0x1_0000_0000_0000_0000;
+
+// The upper and the lower half of 128 bits.
+fn split_bits(bits: u128) -> (u64, u64)
+    ensures { result ≡ halves bits }
+{
+    ((bits / HALF) as u64, (bits % HALF) as u64)
+}
+
+// The 128 bits whose halves these are.
+fn join_bits(high: u64, low: u64) -> u128
+    ensures { halves result ≡ (high, low) }
+{
+    (high as u128) * HALF + (low as u128)
+}
+
+impl Flat for i128 {
+    ghost use Rattle.flat_form.specs.Flat.{long_items, IsLong};
+    ghost use Rattle.flat_form.specs.Bounded.{short_head, long_bounded, none_few};
+    ghost use Rattle.flat_form.specs.SavableLaws.{long_savable};
+
+    ghost flat = { long_items };
+
+    ghost valid = { IsLong };
+
+    ghost head = { 2 };
+
+    ghost short = { short_head 2 refl };
+
+    ghost bounded = { long_bounded };
+
+    ghost few = { none_few long_items };
+
+    ghost spells = { long_savable };
+
+    fn show_valid(&self) {
+        let _value = *self;
+    }
+
+    fn flatten(&self, alloc: Global, out: &mut Items) -> Result<(), AllocError> {
+        split_bits(self.cast_unsigned()).flatten(alloc, out)
+    }
+
+    fn build(alloc: Global, items: &Items, place: usize) -> Result<(i128, usize), FlatError> {
+        let ((high, low), next) = <(u64, u64)>::build(alloc, items, place)?;
+        Ok((join_bits(high, low).cast_signed(), next))
     }
 }
 
@@ -404,5 +487,57 @@ impl<T: Flat + Drop> Flat for Seq<T> {
     fn build(alloc: Global, items: &Items, place: usize) -> Result<(Seq<T>, usize), FlatError> {
         let (count, middle) = u64::build(alloc, items, place)?;
         build_all(alloc, items, middle, count)
+    }
+}
+
+impl<T: Flat + Drop> Flat for Option<T> {
+    ghost use Rattle.flat_form.specs.Flat.{option_items, IsMissingOr};
+    ghost use Rattle.flat_form.specs.Bounded.{short_head, option_entries, option_bounded, option_few};
+    ghost use Rattle.flat_form.specs.SavableLaws.{option_savable};
+
+    ghost flat = { option_items T.flat };
+
+    ghost valid = { IsMissingOr T.valid };
+
+    ghost savable = { IsMissingOr T.savable };
+
+    ghost head = { 1 };
+
+    ghost short = { short_head 1 refl };
+
+    ghost entries = { option_entries T.flat };
+
+    ghost bounded = { option_bounded T.flat T.valid };
+
+    ghost few = { option_few T.flat };
+
+    ghost spells = { option_savable T.flat T.valid T.savable T.spells };
+
+    fn show_valid(&self) {
+        if let Some(value) = self {
+            value.show_valid();
+        }
+    }
+
+    fn flatten(&self, alloc: Global, out: &mut Items) -> Result<(), AllocError> {
+        match self {
+            None => out.push(Item::Num(0)),
+            Some(value) => {
+                out.push(Item::Num(1))?;
+                value.flatten(alloc, out)
+            }
+        }
+    }
+
+    fn build(alloc: Global, items: &Items, place: usize) -> Result<(Option<T>, usize), FlatError> {
+        let (count, middle) = u64::build(alloc, items, place)?;
+        match count {
+            0 => Ok((None, middle)),
+            1 => {
+                let (value, next) = T::build(alloc, items, middle)?;
+                Ok((Some(value), next))
+            }
+            _ => Err(FlatError::Bad),
+        }
     }
 }

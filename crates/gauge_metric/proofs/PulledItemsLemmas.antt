@@ -21,7 +21,7 @@ use Rattle.metric_producer.specs.declared.row.Row.{Row}
 use Rattle.gauge_metric.specs.declared.gauge.KeyedAtom.{KeyedAtom}
 use Rattle.gauge_metric.specs.declared.pulled.PulledGauge.{PulledGauge}
 use Rattle.gauge_metric.specs.EventItems.{atom_row_items, IsAtomRow}
-use Rattle.gauge_metric.specs.PulledItems.{sample_items, mode_number, mode_of, told_number, told_of, snapshot_list, snapshot_of, pulled_items, IsPulled, all_lists, PulledForm, gauge_of_form}
+use Rattle.gauge_metric.specs.PulledItems.{sample_items, mode_number, mode_of, told_number, told_by_number, snapshot_list, snapshot_in, pulled_items, IsPulledGauge, all_lists, PulledForm, gauge_of_form}
 
 -- a sample by its parts
 abbrev sample_form : KeyedAtom → MetricKey × Atom
@@ -68,7 +68,7 @@ form_of it =
     (it.start, (it.samples, (mode_number it.mode, (told_number it.told, (it.dropped, (it.missing, last_parts it))))))
 
 -- they are valid
-form_valid : (it : PulledGauge) → IsPulled it → IsPulledForm (form_of it)
+form_valid : (it : PulledGauge) → IsPulledGauge it → IsPulledForm (form_of it)
 form_valid it is = (tt, (tt, (tt, (tt, (tt, (tt, (all_lists (snapshot_list it.snapshot), (is.table, is.kept))))))))
 
 -- the number of a mode leads back to it
@@ -78,14 +78,14 @@ mode_back AtChange = refl
 mode_back AtTrigger = refl
 
 -- so does that of what was told
-told_back : (told : Option Truth) → told_of (told_number told) ≡ Some told
+told_back : (told : Option Truth) → told_by_number (told_number told) ≡ Some told
 told_back None = refl
 told_back (Some False) = refl
 told_back (Some Unknown) = refl
 told_back (Some True) = refl
 
 -- and the list of a snapshot
-snapshot_back : (snapshot : Option (List KeyedAtom)) → snapshot_of (snapshot_list snapshot) ≡ Some snapshot
+snapshot_back : (snapshot : Option (List KeyedAtom)) → snapshot_in (snapshot_list snapshot) ≡ Some snapshot
 snapshot_back None = refl
 snapshot_back (Some samples) = refl
 
@@ -116,7 +116,7 @@ mode_is number mode is =
     (if_some (number == 0) AtStart second mode is)
 
 -- the number of what was told that a number is
-told_is : (number : ℕ) (told : Option Truth) → told_of number ≡ Some told → told_number told ≡ number
+told_is : (number : ℕ) (told : Option Truth) → told_by_number number ≡ Some told → told_number told ≡ number
 told_is number told is =
     let fourth : Option (Option Truth) = if number == 3 then Some (Some True) else None in
     let third : Option (Option Truth) = if number == 2 then Some (Some Unknown) else fourth in
@@ -136,7 +136,7 @@ told_is number told is =
     (if_some (number == 0) None second told is)
 
 -- the list of a snapshot that a list is
-snapshot_is : (list : List (List KeyedAtom)) (snapshot : Option (List KeyedAtom)) → snapshot_of list ≡ Some snapshot
+snapshot_is : (list : List (List KeyedAtom)) (snapshot : Option (List KeyedAtom)) → snapshot_in list ≡ Some snapshot
     → snapshot_list snapshot ≡ list
 snapshot_is [] snapshot is = ap snapshot_list (sym (same_Some _ _ is))
 snapshot_is (samples ∷ []) snapshot is = ap snapshot_list (sym (same_Some _ _ is))
@@ -177,12 +177,12 @@ with_three form mode told list =
 form_is : (form : PulledForm) (it : PulledGauge) → gauge_of_form form ≡ Some it → form_of it ≡ form
 form_is form it is =
     let one = and_then_some (λ mode. option_and_then (λ told. option_map (gauge_with form mode told)
-    (snapshot_of form.1.1.1.1.1.1.0)) (told_of form.1.1.1.0)) (mode_of form.1.1.0) it is in
+    (snapshot_in form.1.1.1.1.1.1.0)) (told_by_number form.1.1.1.0)) (mode_of form.1.1.0) it is in
     let mode = one.0 in
-    let two = and_then_some (λ told. option_map (gauge_with form mode told) (snapshot_of form.1.1.1.1.1.1.0))
-    (told_of form.1.1.1.0) it one.2 in
+    let two = and_then_some (λ told. option_map (gauge_with form mode told) (snapshot_in form.1.1.1.1.1.1.0))
+    (told_by_number form.1.1.1.0) it one.2 in
     let told = two.0 in
-    let three = map_some (gauge_with form mode told) (snapshot_of form.1.1.1.1.1.1.0) it two.2 in
+    let three = map_some (gauge_with form mode told) (snapshot_in form.1.1.1.1.1.1.0) it two.2 in
     let snapshot = three.0 in
     ap form_of (sym three.2)
     ∙ ap (λ n. with_three form n (told_number told) (snapshot_list snapshot)) (mode_is form.1.1.0 mode one.1)
@@ -192,24 +192,24 @@ form_is form it is =
 module _ (items : List Item) (place : ℕ) where
   -- no such parts stand there, so no gauge does
   pub pulled_fails : (e : FlatError) → Builds IsPulledForm pulled_form_items items place (Err e)
-      → Builds IsPulled pulled_items items place (Err e)
+      → Builds IsPulledGauge pulled_items items place (Err e)
   pulled_fails e fails =
-      laws.form_fails IsPulledForm pulled_form_items IsPulled pulled_items form_of (λ it. refl) form_valid items place e
+      laws.form_fails IsPulledForm pulled_form_items IsPulledGauge pulled_items form_of (λ it. refl) form_valid items place e
       fails
 
   module _ (form : PulledForm) (next : ℕ) (one : IsBuilt IsPulledForm pulled_form_items items place form next) where
     -- the parts that stand there are those of every gauge whose items do
-    the_form : (other : PulledGauge) → IsPulled other → StandsAt items place (pulled_items other) → form_of other ≡ form
+    the_form : (other : PulledGauge) → IsPulledGauge other → StandsAt items place (pulled_items other) → form_of other ≡ form
     the_form other other_valid there = one.only (form_of other) (form_valid other other_valid) there
 
     -- they are no gauge's, so no gauge's items stand there
-    pub pulled_none : gauge_of_form form ≡ None → Builds IsPulled pulled_items items place (Err Bad)
+    pub pulled_none : gauge_of_form form ≡ None → Builds IsPulledGauge pulled_items items place (Err Bad)
     pulled_none none other other_valid there =
         none-some other (sym none ∙ sym (ap gauge_of_form (the_form other other_valid there)) ∙ form_back other)
 
     -- the gauge of these parts stands there, and no other
     pub pulled_built : (it : PulledGauge) → gauge_of_form form ≡ Some it
-        → IsBuilt IsPulled pulled_items items place it next
+        → IsBuilt IsPulledGauge pulled_items items place it next
     pulled_built it is =
         let same : form ≡ form_of it = sym (form_is form it is) in
         let mine = subst (λ f. IsBuilt IsPulledForm pulled_form_items items place f next) same one in

@@ -22,8 +22,8 @@ use Rattle.gauge_metric.specs.declared.gauge.KeyedAtom.{KeyedAtom}
 use Rattle.gauge_metric.specs.declared.pulled.Brought.{Brought}
 use Rattle.gauge_metric.specs.declared.pulled.PulledGauge.{PulledGauge}
 use Rattle.gauge_metric.specs.GaugeStands.{sampled, sample_row, AreSampled, HaveSamples}
-use Rattle.gauge_metric.specs.PulledSampling.{PulledParams, keyed, moment_marks, marks_if}
-use Rattle.gauge_metric.specs.PulledStands.{HasPulled, with_marks, HasBrought, Brings, AreBrought, TakesMarks, TakesBrought, TakesMoment, with_counts, rows_again, RepeatsPart}
+use Rattle.gauge_metric.specs.PulledSampling.{PulledGaugeParams, keyed, moment_marks, marks_if}
+use Rattle.gauge_metric.specs.PulledStands.{HoldsSampled, after_marks, HasBrought, Brings, AreBrought, TakesSampleMarks, GetsBrought, TakesMoment, with_counts, rows_again, RepeatsPart}
 use Rattle.gauge_metric.proofs.ClosedRowsLemmas.{closed_rows-push}
 use Rattle.gauge_metric.proofs.SampledLemmas.{have_samples}
 use Rattle.gauge_metric.proofs.GaugeLemmas.{rows_of_part, sampled_empty}
@@ -35,9 +35,9 @@ abbrev TheTable : Type 0
 TheTable = Table MetricKey (List Atom)
 
 -- what was told last doesn't matter to the books
-pub told_anew : (it : PulledGauge) (told : Option Truth) (snapshot : Option (List KeyedAtom)) (params : PulledParams)
-    (books : Books (MetricKey × Atom)) → HasPulled it params books
-    → HasPulled (record it { told = told; snapshot = snapshot }) params books
+pub told_anew : (it : PulledGauge) (told : Option Truth) (snapshot : Option (List KeyedAtom)) (params : PulledGaugeParams)
+    (books : Books (MetricKey × Atom)) → HoldsSampled it params books
+    → HoldsSampled (record it { told = told; snapshot = snapshot }) params books
 told_anew it told snapshot params books has = record {
   bound = has.bound;
   samples = has.samples;
@@ -104,7 +104,7 @@ moment_taken old table brought brings = record {
 }
 
 -- where nothing comes, nothing changes
-pub nothing_taken : (it : PulledGauge) → TakesBrought it it [] (record { lost = 0; missed = 0 })
+pub nothing_taken : (it : PulledGauge) → GetsBrought it it [] (record { lost = 0; missed = 0 })
 nothing_taken it = record {
   takes = record { told = refl; snapshot = refl; mode = refl; holds = λ params books has. has };
   brought_are = λ params books has none. record { lost = refl; missed = refl };
@@ -115,7 +115,7 @@ pub closes_pulled : (old : PulledGauge) (table : TheTable) (kept : Keeping (Row 
     → table ≡ record old.table { rows = [] }
     → (HaveSamples old.table.rows
     → AddsRows samples_weight old.kept kept (map (sample_row old.start end) old.table.rows))
-    → TakesMarks old (record old { start = end; table = table; kept = kept }) (Ends end ∷ [])
+    → TakesSampleMarks old (record old { start = end; table = table; kept = kept }) (Ends end ∷ [])
 closes_pulled old table kept end is adds = record {
   told = refl;
   snapshot = refl;
@@ -189,13 +189,13 @@ opening_again samples bound false found = record {
 }
 
 -- full buckets went by that open with the same marks as the open part
-pub repeats : (old new : PulledGauge) (crossings : Crossings) (brought : Brought) (params : PulledParams)
+pub repeats : (old new : PulledGauge) (crossings : Crossings) (brought : Brought) (params : PulledGaugeParams)
     (marks : List (Mark (MetricKey × Atom))) (closed : List (Part (MetricKey × Atom))) (dropped missing : ℕ)
     → ComesAgain params.spec.samples params.bound marks
-    → let opened = with_marks params (books_at crossings.first_end [] closed dropped missing) marks in
-    HasPulled old params opened → AreBrought params marks brought → RepeatsPart old new crossings brought
+    → let opened = after_marks params (books_at crossings.first_end [] closed dropped missing) marks in
+    HoldsSampled old params opened → AreBrought params marks brought → RepeatsPart old new crossings brought
     → last_end crossings < 2 ^ 63
-    → HasPulled new params (with_marks params opened
+    → HoldsSampled new params (after_marks params opened
     (flat_map (λ at. Ends at ∷ marks)
     (ends_from (crossings.first_end + crossings.size) crossings.size crossings.full_buckets)))
 repeats old new crossings brought params marks closed dropped missing again has are repeated fits =
@@ -208,10 +208,10 @@ repeats old new crossings brought params marks closed dropped missing again has 
     let full = crossings.full_buckets in
     let opened : Books (MetricKey × Atom) =
     books_at first again.came closed (dropped + again.lost) (missing + again.missed) in
-    let opened_is : with_marks params (books_at first [] closed dropped missing) marks ≡ opened =
+    let opened_is : after_marks params (books_at first [] closed dropped missing) marks ≡ opened =
     again.bring first closed dropped missing in
     let later = flat_map (λ at. Ends at ∷ marks) (ends_from (first + size) size full) in
-    let now : HasPulled old params opened = subst (HasPulled old params) opened_is has in
+    let now : HoldsSampled old params opened = subst (HoldsSampled old params) opened_is has in
     let empty : Books (MetricKey × Atom) =
     books_at 0 again.came [] (0 + again.lost) (0 + again.missed) in
     let from_empty : books_from drop (books_at 0 [] [] 0 0) marks ≡ empty = again.bring 0 [] 0 0 in
@@ -233,7 +233,7 @@ repeats old new crossings brought params marks closed dropped missing again has 
     (parts_rows samples bound again.came first size full
     ∙ ap (λ some. rows_again some first size full) (sym rows_are)) in
     let table : new.table ≡ old.table = ap (λ (it : PulledGauge). it.table) repeated.rest in
-    subst (HasPulled new params)
+    subst (HoldsSampled new params)
     (sym (ap (λ b. books_from drop b later) opened_is
     ∙ opened_again drop marks again.came again.lost again.missed size again.bring full first closed
     (dropped + again.lost) (missing + again.missed)))

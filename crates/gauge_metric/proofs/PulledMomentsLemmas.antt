@@ -10,8 +10,8 @@ use Rattle.metric_producer.specs.Collecting.{call_marks}
 use Rattle.metric_kinds.specs.Intervals.{Interval, Seen, found_at_end, intervals_ahead, intervals_of}
 use Rattle.gauge_metric.specs.declared.gauge.KeyedAtom.{KeyedAtom}
 use Rattle.gauge_metric.specs.declared.snapshot.SnapAtoms.TheVariants.{Snapshot, Trigger}
-use Rattle.gauge_metric.specs.PulledSampling.{PulledParams, PulledCall, last_snapshot, last_truth, is_held, is_start_moment, moment_marks, marks_if, pulled_collecting}
-use Rattle.gauge_metric.specs.PulledMoments.{seen_by_calls, seen_in_part, begun_marks, AreInPart, part_marks}
+use Rattle.gauge_metric.specs.PulledSampling.{PulledGaugeParams, PulledGaugeCall, last_snapshot, last_condition, is_told_held, is_start_moment, moment_marks, marks_if, pulled_collecting}
+use Rattle.gauge_metric.specs.PulledMoments.{sampled_after, seen_in_part, begun_marks, AreInPart, part_marks}
 use Rattle.gauge_metric.proofs.PulledCallsLemmas.{snapshot_push, truth_push}
 
 -- the samples where an interval begins, or none
@@ -49,7 +49,7 @@ seen_by_event held now found later same =
     ∙ ap (λ b. marks_if b found ++ begun_marks (intervals_ahead held later)) (stays held)
 
 -- with another mode
-abbrev with_mode : PulledParams → Sampling → PulledParams
+abbrev with_mode : PulledGaugeParams → Sampling → PulledGaugeParams
 with_mode params mode = record params { spec = record params.spec { mode = mode } }
 
 -- a truth, and one that holds
@@ -57,58 +57,58 @@ and_true : (b : Bool) → b ≡ (b && true)
 and_true true = refl
 and_true false = refl
 
-module _ (params : PulledParams) (is_start : params.spec.mode ≡ AtStart) where
+module _ (params : PulledGaugeParams) (is_start : params.spec.mode ≡ AtStart) where
   -- what is sampled at these calls is what the intervals that begin at them say
-  pub begun_within : (before calls : List PulledCall) → AreInPart calls
+  pub begun_within : (before calls : List PulledGaugeCall) → AreInPart calls
       → outputs_after (call_marks pulled_collecting params) before calls
-      ≡ begun_marks (intervals_ahead (is_held (last_truth before)) (seen_in_part before calls))
+      ≡ begun_marks (intervals_ahead (is_told_held (last_condition before)) (seen_in_part before calls))
   begun_within before [] within = refl
   begun_within before (Got at (Snapshot found) ∷ calls) within =
-      let call : PulledCall = Got at (Snapshot found) in
+      let call : PulledGaugeCall = Got at (Snapshot found) in
       let next = before ++ call ∷ [] in
-      let same : is_held (last_truth next) ≡ is_held (last_truth before) = ap is_held (truth_push before call) in
+      let same : is_told_held (last_condition next) ≡ is_told_held (last_condition before) = ap is_told_held (truth_push before call) in
       begun_within next calls within.1
       ∙ ap (λ held. begun_marks (intervals_ahead held (seen_in_part next calls))) same
-      ∙ sym (seen_by_event (is_held (last_truth before)) (is_held (last_truth next)) (last_snapshot next)
+      ∙ sym (seen_by_event (is_told_held (last_condition before)) (is_told_held (last_condition next)) (last_snapshot next)
       (seen_in_part next calls) same)
   begun_within before (Got at Trigger ∷ calls) within =
-      let call : PulledCall = Got at Trigger in
+      let call : PulledGaugeCall = Got at Trigger in
       let next = before ++ call ∷ [] in
-      let same : is_held (last_truth next) ≡ is_held (last_truth before) = ap is_held (truth_push before call) in
+      let same : is_told_held (last_condition next) ≡ is_told_held (last_condition before) = ap is_told_held (truth_push before call) in
       let none : call_marks pulled_collecting params before call ≡ [] =
       ap (λ mode. call_marks pulled_collecting (with_mode params mode) before call) is_start in
       ap (λ marks. marks ++ outputs_after (call_marks pulled_collecting params) next calls) none
       ∙ begun_within next calls within.1
       ∙ ap (λ held. begun_marks (intervals_ahead held (seen_in_part next calls))) same
-      ∙ sym (seen_by_event (is_held (last_truth before)) (is_held (last_truth next)) (last_snapshot next)
+      ∙ sym (seen_by_event (is_told_held (last_condition before)) (is_told_held (last_condition next)) (last_snapshot next)
       (seen_in_part next calls) same)
   begun_within before (Learned at now ∷ calls) within =
-      let call : PulledCall = Learned at now in
+      let call : PulledGaugeCall = Learned at now in
       let next = before ++ call ∷ [] in
-      let held = is_held (last_truth before) in
+      let held = is_told_held (last_condition before) in
       let later = seen_in_part next calls in
-      let told : last_truth next ≡ Some now = truth_push before call in
+      let told : last_condition next ≡ Some now = truth_push before call in
       let found : last_snapshot next ≡ last_snapshot before = snapshot_push before call in
       let marks : call_marks pulled_collecting params before call
-      ≡ marks_if (is_held (Some now) && not held) (last_snapshot before) =
+      ≡ marks_if (is_told_held (Some now) && not held) (last_snapshot before) =
       ap (λ mode. call_marks pulled_collecting (with_mode params mode) before call) is_start in
       ap (λ l. l ++ outputs_after (call_marks pulled_collecting params) next calls)
-      (marks ∙ ap (λ t. marks_if (is_held t && not held) (last_snapshot before)) (sym told)
-      ∙ ap (marks_if (is_held (last_truth next) && not held)) (sym found))
-      ∙ ap (λ l. marks_if (is_held (last_truth next) && not held) (last_snapshot next) ++ l)
+      (marks ∙ ap (λ t. marks_if (is_told_held t && not held) (last_snapshot before)) (sym told)
+      ∙ ap (marks_if (is_told_held (last_condition next) && not held)) (sym found))
+      ∙ ap (λ l. marks_if (is_told_held (last_condition next) && not held) (last_snapshot next) ++ l)
       (begun_within next calls within.1)
-      ∙ sym (begun_cons held (seen_by_calls next) later)
+      ∙ sym (begun_cons held (sampled_after next) later)
   begun_within before (Crossed crossings ∷ calls) within = absurd (true≢false (sym within.0))
   begun_within before (CutAt at ∷ calls) within = absurd (true≢false (sym within.0))
   begun_within before (Took ∷ calls) within = absurd (true≢false (sym within.0))
 
   -- What is sampled in a part, from its beginning on, is what its intervals say, read ahead.
-  pub part_marks-ahead : (before calls : List PulledCall) → AreInPart calls
-      → part_marks params before calls ≡ begun_marks (intervals_of (seen_by_calls before ∷ seen_in_part before calls))
+  pub part_marks-ahead : (before calls : List PulledGaugeCall) → AreInPart calls
+      → part_marks params before calls ≡ begun_marks (intervals_of (sampled_after before ∷ seen_in_part before calls))
   part_marks-ahead before calls within =
-      let held = is_held (last_truth before) in
+      let held = is_told_held (last_condition before) in
       let rest = outputs_after (call_marks pulled_collecting params) before calls in
-      ap (λ mode. marks_if (is_start_moment mode (last_truth before)) (last_snapshot before) ++ rest) is_start
+      ap (λ mode. marks_if (is_start_moment mode (last_condition before)) (last_snapshot before) ++ rest) is_start
       ∙ ap (λ b. marks_if b (last_snapshot before) ++ rest) (and_true held)
       ∙ ap (λ l. marks_if (held && true) (last_snapshot before) ++ l) (begun_within before calls within)
-      ∙ sym (begun_cons false (seen_by_calls before) (seen_in_part before calls))
+      ∙ sym (begun_cons false (sampled_after before) (seen_in_part before calls))

@@ -66,8 +66,8 @@ told_number (Some Unknown) = 2
 told_number (Some True) = 3
 
 -- what was told last, by its number
-abbrev pub told_of : ℕ → Option (Option Truth)
-told_of number =
+abbrev pub told_by_number : ℕ → Option (Option Truth)
+told_by_number number =
     if number == 0 then Some None
     else (if number == 1 then Some (Some False)
     else (if number == 2 then Some (Some Unknown) else (if number == 3 then Some (Some True) else None)))
@@ -78,10 +78,10 @@ snapshot_list None = []
 snapshot_list (Some samples) = samples ∷ []
 
 -- the snapshot of such a list
-abbrev pub snapshot_of : List (List KeyedAtom) → Option (Option (List KeyedAtom))
-snapshot_of [] = Some None
-snapshot_of (samples ∷ []) = Some (Some samples)
-snapshot_of (samples ∷ more ∷ others) = None
+abbrev pub snapshot_in : List (List KeyedAtom) → Option (Option (List KeyedAtom))
+snapshot_in [] = Some None
+snapshot_in (samples ∷ []) = Some (Some samples)
+snapshot_in (samples ∷ more ∷ others) = None
 
 -- the items of a snapshot
 abbrev pub snapshot_items : Option (List KeyedAtom) → List Item
@@ -107,7 +107,7 @@ pulled_items it =
     ∷ Num it.missing ∷ pulled_rest it
 
 -- its table is one, and its kept rows are within their bound
-pub record IsPulled (it : PulledGauge) : Type 0 where
+pub record IsPulledGauge (it : PulledGauge) : Type 0 where
   pub table : IsTable Anything (All Anything) it.table
   pub kept : IsKeeping IsAtomRow it.kept
 
@@ -146,7 +146,7 @@ snapshot_few (Some samples) =
     omega arith
 
 -- a head of fourteen items, and eight at most for each entry
-pub pulled_bounded : (it : PulledGauge) → IsPulled it → length (pulled_items it) ≤ most_items 14 (pulled_entries it)
+pub pulled_bounded : (it : PulledGauge) → IsPulledGauge it → length (pulled_items it) ≤ most_items 14 (pulled_entries it)
 pulled_bounded it is =
     let snapshot = snapshot_bounded it.snapshot in
     let table = table_bounded key_items (list_items atom_items) Anything (All Anything) it.table is.table in
@@ -180,7 +180,7 @@ all_lists [] = All-nil (All Anything)
 all_lists (xs ∷ lists) = All-cons (All Anything) xs lists (all_anything xs) (all_lists lists)
 
 -- the items of such a gauge can be spelled
-pub pulled_savable : (it : PulledGauge) → IsPulled it → IsSavablePulled it → AreSavable (pulled_items it)
+pub pulled_savable : (it : PulledGauge) → IsPulledGauge it → IsSavablePulled it → AreSavable (pulled_items it)
 pulled_savable it is can =
     let snapshot = list_savable (list_items sample_items) (All Anything) (All IsSavableSample)
     (list_savable sample_items Anything IsSavableSample sample_savable) (snapshot_list it.snapshot)
@@ -223,4 +223,4 @@ gauge_of_form form =
       dropped = rest.0;
       missing = rest.1.0;
       memory = tt;
-    }) (snapshot_of rest.1.1.0)) (told_of form.1.1.1.0)) (mode_of form.1.1.0)
+    }) (snapshot_in rest.1.1.0)) (told_by_number form.1.1.1.0)) (mode_of form.1.1.0)

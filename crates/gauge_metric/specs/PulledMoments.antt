@@ -9,32 +9,32 @@ use Rattle.metric_producer.specs.Calls.{Got, Learned}
 use Rattle.metric_producer.specs.Collecting.{call_marks}
 use Rattle.metric_kinds.specs.Intervals.{Interval, Seen}
 use Rattle.gauge_metric.specs.declared.gauge.KeyedAtom.{KeyedAtom}
-use Rattle.gauge_metric.specs.PulledSampling.{PulledParams, PulledCall, last_snapshot, last_truth, is_held, is_start_moment, moment_marks, marks_if, pulled_collecting}
+use Rattle.gauge_metric.specs.PulledSampling.{PulledGaugeParams, PulledGaugeCall, last_snapshot, last_condition, is_told_held, is_start_moment, moment_marks, marks_if, pulled_collecting}
 
 -- what stands after these calls: whether the condition is true, and the last snapshot
-abbrev pub seen_by_calls : List PulledCall → Seen (Option (List KeyedAtom))
-seen_by_calls calls = record { holds = is_held (last_truth calls); found = last_snapshot calls }
+abbrev pub sampled_after : List PulledGaugeCall → Seen (Option (List KeyedAtom))
+sampled_after calls = record { holds = is_told_held (last_condition calls); found = last_snapshot calls }
 
 -- what stands after each of these calls, with others before them
-abbrev pub seen_in_part : List PulledCall → List PulledCall → List (Seen (Option (List KeyedAtom)))
-seen_in_part before calls = outputs_after (λ seen call. seen_by_calls (seen ++ call ∷ []) ∷ []) before calls
+abbrev pub seen_in_part : List PulledGaugeCall → List PulledGaugeCall → List (Seen (Option (List KeyedAtom)))
+seen_in_part before calls = outputs_after (λ seen call. sampled_after (seen ++ call ∷ []) ∷ []) before calls
 
 -- the samples that are taken where these intervals begin
 abbrev pub begun_marks : List (Interval (Option (List KeyedAtom))) → List (Mark (MetricKey × Atom))
 begun_marks intervals = flat_map (λ interval. moment_marks interval.begun) intervals
 
 -- a call within a part: an event or a condition
-abbrev pub is_in_part : PulledCall → Bool
+abbrev pub is_in_part : PulledGaugeCall → Bool
 is_in_part (Got at event) = true
 is_in_part (Learned at now) = true
 is_in_part _ = false
 
 -- these calls all come within a part
-abbrev pub AreInPart : List PulledCall → Type 0
+abbrev pub AreInPart : List PulledGaugeCall → Type 0
 AreInPart calls = AllByRecursion (λ call. is_in_part call ≡ true) calls
 
 -- what is sampled in a part that begins after some calls and in which these come
-abbrev pub part_marks : PulledParams → List PulledCall → List PulledCall → List (Mark (MetricKey × Atom))
+abbrev pub part_marks : PulledGaugeParams → List PulledGaugeCall → List PulledGaugeCall → List (Mark (MetricKey × Atom))
 part_marks params before calls =
-    marks_if (is_start_moment params.spec.mode (last_truth before)) (last_snapshot before)
+    marks_if (is_start_moment params.spec.mode (last_condition before)) (last_snapshot before)
     ++ outputs_after (call_marks pulled_collecting params) before calls

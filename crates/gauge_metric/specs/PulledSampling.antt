@@ -21,58 +21,58 @@ use Rattle.gauge_metric.specs.declared.pulled.SampleSpec.{SampleSpec}
 
 -- What a pulled gauge is made with: where its time begins, how long a bucket is, how many keys a part admits, and how
 -- it takes samples.
-pub record PulledParams : Type 0 where
+pub record PulledGaugeParams : Type 0 where
   pub base : ℕ
   pub size : ℕ
   pub bound : ℕ
   pub spec : SampleSpec
 
 -- a call of a pulled gauge
-abbrev pub PulledCall : Type 0
-PulledCall = Call SnapAtoms Truth
+abbrev pub PulledGaugeCall : Type 0
+PulledGaugeCall = Call SnapAtoms Truth
 
 -- the snapshot that a call tells, or that there is none
-abbrev pub snapshots_in : PulledCall → List (Option (List KeyedAtom))
+abbrev pub snapshots_in : PulledGaugeCall → List (Option (List KeyedAtom))
 snapshots_in (Got at (Snapshot found)) = found ∷ []
 snapshots_in _ = []
 
 -- the condition that a call tells
-abbrev pub truths_in : PulledCall → List Truth
+abbrev pub truths_in : PulledGaugeCall → List Truth
 truths_in (Learned at now) = now ∷ []
 truths_in _ = []
 
 -- the snapshot that these calls told last; there is none where none was told
-abbrev pub last_snapshot : List PulledCall → Option (List KeyedAtom)
+abbrev pub last_snapshot : List PulledGaugeCall → Option (List KeyedAtom)
 last_snapshot calls = unwrap_or (last_or None (flat_map snapshots_in calls)) None
 
 -- the condition that these calls told last, if they told one
-abbrev pub last_truth : List PulledCall → Option Truth
-last_truth calls = last_or None (flat_map truths_in calls)
+abbrev pub last_condition : List PulledGaugeCall → Option Truth
+last_condition calls = last_or None (flat_map truths_in calls)
 
 -- a condition is true where it was told so last; not to know is not enough
-abbrev pub is_held : Option Truth → Bool
-is_held (Some True) = true
-is_held _ = false
+abbrev pub is_told_held : Option Truth → Bool
+is_told_held (Some True) = true
+is_told_held _ = false
 
 -- whether a part's beginning is a moment of sampling: in the mode for it, where the condition is true
 abbrev pub is_start_moment : Sampling → Option Truth → Bool
-is_start_moment AtStart told = is_held told
+is_start_moment AtStart told = is_told_held told
 is_start_moment AtChange told = false
 is_start_moment AtTrigger told = false
 
 -- whether it is a moment of sampling that a condition is told, after what was told last: in the mode for starts an
 -- interval begins where it is true and wasn't, also by the first that is told; that one is no change
 abbrev pub is_told_moment : Sampling → Option Truth → Truth → Bool
-is_told_moment AtStart told now = is_held (Some now) && not (is_held told)
+is_told_moment AtStart told now = is_told_held (Some now) && not (is_told_held told)
 is_told_moment AtChange None now = false
-is_told_moment AtChange (Some last) now = is_held (Some now) && not (is_held (Some last))
+is_told_moment AtChange (Some last) now = is_told_held (Some now) && not (is_told_held (Some last))
 is_told_moment AtTrigger told now = false
 
 -- whether an atom of the trigger is a moment of sampling: in the mode for it, while the condition is true
 abbrev pub is_trigger_moment : Sampling → Option Truth → Bool
 is_trigger_moment AtStart told = false
 is_trigger_moment AtChange told = false
-is_trigger_moment AtTrigger told = is_held told
+is_trigger_moment AtTrigger told = is_told_held told
 
 -- the samples of a snapshot, each with its atom's key
 abbrev pub keyed : List KeyedAtom → KeyedAtoms
@@ -87,10 +87,10 @@ abbrev pub marks_if : Bool → Option (List KeyedAtom) → List (Mark (MetricKey
 marks_if is_moment found = if is_moment then moment_marks found else []
 
 -- what an event gives: a snapshot is no moment
-abbrev pub event_marks : Sampling → Option Truth → Option (List KeyedAtom) → SnapAtoms
+abbrev pub snapshot_marks : Sampling → Option Truth → Option (List KeyedAtom) → SnapAtoms
     → List (Mark (MetricKey × Atom))
-event_marks mode told found (Snapshot next) = []
-event_marks mode told found Trigger = marks_if (is_trigger_moment mode told) found
+snapshot_marks mode told found (Snapshot next) = []
+snapshot_marks mode told found Trigger = marks_if (is_trigger_moment mode told) found
 
 -- where a part begins, samples may come; where it ends nothing does
 abbrev pub part_edges : Sampling → Option Truth → Option (List KeyedAtom) → Edges (MetricKey × Atom)
@@ -101,43 +101,43 @@ part_edges mode told found = record {
 }
 
 -- whether a call tells a snapshot, or that there is none
-abbrev pub tells_snapshot : PulledCall → Bool
-tells_snapshot (Got at (Snapshot found)) = true
-tells_snapshot _ = false
+abbrev pub is_snapshot_call : PulledGaugeCall → Bool
+is_snapshot_call (Got at (Snapshot found)) = true
+is_snapshot_call _ = false
 
 -- whether a call tells the condition
-abbrev pub tells_truth : PulledCall → Bool
+abbrev pub tells_truth : PulledGaugeCall → Bool
 tells_truth (Learned at now) = true
 tells_truth _ = false
 
 -- whether a call ends a part
-abbrev pub ends_part : PulledCall → Bool
+abbrev pub ends_part : PulledGaugeCall → Bool
 ends_part (Crossed crossings) = true
 ends_part (CutAt at) = true
 ends_part _ = false
 
 -- The calls keep to buckets, and every event is taken. A condition is told once the last snapshot was, or that there is
 -- none; the first says what stands at the beginning, so it is told before any part ends.
-abbrev pub pulled_demands : PulledParams → Demands SnapAtoms Truth
-pulled_demands params = record {
+abbrev pub pulled_gauge_demands : PulledGaugeParams → Demands SnapAtoms Truth
+pulled_gauge_demands params = record {
   base = params.base;
   size = params.size;
   is_paired = false;
   takes = λ event. true;
   tells = λ calls now.
-      list_any tells_snapshot calls && (list_any tells_truth calls || not (list_any ends_part calls));
+      list_any is_snapshot_call calls && (list_any tells_truth calls || not (list_any ends_part calls));
 }
 
 -- at its moments each sample of the last snapshot arrives with its key
 abbrev pub pulled_collecting
-    : Collecting PulledParams SnapAtoms Truth (MetricKey × Atom) MetricKey Atom (Row (List Atom))
+    : Collecting PulledGaugeParams SnapAtoms Truth (MetricKey × Atom) MetricKey Atom (Row (List Atom))
 pulled_collecting = record {
-  demands = pulled_demands;
+  demands = pulled_gauge_demands;
   bound = λ params. params.bound;
   kind = λ params. gauge_kind params.spec.samples;
   comes = λ params before at event.
-      event_marks params.spec.mode (last_truth before) (last_snapshot before) event;
+      snapshot_marks params.spec.mode (last_condition before) (last_snapshot before) event;
   learns = λ params before at now.
-      marks_if (is_told_moment params.spec.mode (last_truth before) now) (last_snapshot before);
-  edges = λ params before. part_edges params.spec.mode (last_truth before) (last_snapshot before);
+      marks_if (is_told_moment params.spec.mode (last_condition before) now) (last_snapshot before);
+  edges = λ params before. part_edges params.spec.mode (last_condition before) (last_snapshot before);
 }

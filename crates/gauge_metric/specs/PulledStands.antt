@@ -19,10 +19,10 @@ use Rattle.gauge_metric.specs.declared.snapshot.SnapAtoms.{SnapAtoms}
 use Rattle.gauge_metric.specs.declared.pulled.Brought.{Brought}
 use Rattle.gauge_metric.specs.declared.pulled.PulledGauge.{PulledGauge}
 use Rattle.gauge_metric.specs.GaugeStands.{sample_row, AreSampled, HaveSamples}
-use Rattle.gauge_metric.specs.PulledSampling.{PulledParams, PulledCall, last_snapshot, last_truth, is_start_moment, keyed, moment_marks, marks_if, pulled_collecting}
+use Rattle.gauge_metric.specs.PulledSampling.{PulledGaugeParams, PulledGaugeCall, last_snapshot, last_condition, is_start_moment, keyed, moment_marks, marks_if, pulled_collecting}
 
 -- The gauge holds these books. The table's own count is handed over after each moment.
-pub record HasPulled (it : PulledGauge) (params : PulledParams) (books : Books (MetricKey × Atom)) : Type 0 where
+pub record HoldsSampled (it : PulledGauge) (params : PulledGaugeParams) (books : Books (MetricKey × Atom)) : Type 0 where
   pub bound : it.table.bound ≡ params.bound
   pub samples : it.samples ≡ params.spec.samples
   pub some : 1 ≤ params.spec.samples
@@ -34,15 +34,15 @@ pub record HasPulled (it : PulledGauge) (params : PulledParams) (books : Books (
   pub missing : it.missing ≡ count_in_u64 books.missing
 
 -- the gauge was made with these, and has got these calls: it holds their books, and has what they told last
-pub record PulledStandsFor (it : PulledGauge) (params : PulledParams) (calls : List PulledCall) : Type 0 where
-  pub books : HasPulled it params (books_by (calls_mean pulled_collecting) params calls)
+pub record PulledGaugeStandsFor (it : PulledGauge) (params : PulledGaugeParams) (calls : List PulledGaugeCall) : Type 0 where
+  pub books : HoldsSampled it params (books_by (calls_mean pulled_collecting) params calls)
   pub snapshot : it.snapshot ≡ last_snapshot calls
-  pub told : it.told ≡ last_truth calls
+  pub told : it.told ≡ last_condition calls
 
 -- the law of pulled gauges
 abbrev pub pulled_law
-    : Law PulledGauge PulledParams SnapAtoms Truth (MetricKey × Atom) MetricKey Atom (Row (List Atom))
-pulled_law = record { stands = PulledStandsFor; collecting = pulled_collecting }
+    : Law PulledGauge PulledGaugeParams SnapAtoms Truth (MetricKey × Atom) MetricKey Atom (Row (List Atom))
+pulled_law = record { stands = PulledGaugeStandsFor; collecting = pulled_collecting }
 
 -- several samples come: whatever came before, the new table has the samples with them
 pub record TakesSamples (samples : ℕ) (old new : Table MetricKey (List Atom)) (events : List KeyedAtom)
@@ -53,9 +53,9 @@ pub record TakesSamples (samples : ℕ) (old new : Table MetricKey (List Atom)) 
       AreSampled samples new later.came later.dropped
 
 -- the books after these marks
-abbrev pub with_marks : PulledParams → Books (MetricKey × Atom) → List (Mark (MetricKey × Atom))
+abbrev pub after_marks : PulledGaugeParams → Books (MetricKey × Atom) → List (Mark (MetricKey × Atom))
     → Books (MetricKey × Atom)
-with_marks params books marks = books_from (drops (gauge_kind params.spec.samples) params.bound) books marks
+after_marks params books marks = books_from (drops (gauge_kind params.spec.samples) params.bound) books marks
 
 -- What a moment brings to books of no drops and no missing snapshot.
 pub record HasBrought (samples : ℕ) (table : Table MetricKey (List Atom)) (brought : Brought)
@@ -74,7 +74,7 @@ pub record Brings (samples : ℕ) (old new : Table MetricKey (List Atom)) (found
       (books_from (drops (gauge_kind samples) old.bound) books (moment_marks found))
 
 -- these marks bring so much to a part in which nothing came
-pub record AreBrought (params : PulledParams) (marks : List (Mark (MetricKey × Atom))) (brought : Brought)
+pub record AreBrought (params : PulledGaugeParams) (marks : List (Mark (MetricKey × Atom))) (brought : Brought)
     : Type 0 where
   pub lost : brought.lost
       ≡ count_in_u64 (books_of (drops (gauge_kind params.spec.samples) params.bound) 0 marks).dropped
@@ -82,27 +82,27 @@ pub record AreBrought (params : PulledParams) (marks : List (Mark (MetricKey × 
       ≡ count_in_u64 (books_of (drops (gauge_kind params.spec.samples) params.bound) 0 marks).missing
 
 -- whatever books the old one holds, the new one holds them after these marks; what was told last stays
-pub record TakesMarks (old new : PulledGauge) (marks : List (Mark (MetricKey × Atom))) : Type 0 where
+pub record TakesSampleMarks (old new : PulledGauge) (marks : List (Mark (MetricKey × Atom))) : Type 0 where
   pub told : new.told ≡ old.told
   pub snapshot : new.snapshot ≡ old.snapshot
   pub mode : new.mode ≡ old.mode
-  pub holds : (params : PulledParams) (books : Books (MetricKey × Atom)) → HasPulled old params books
-      → HasPulled new params (with_marks params books marks)
+  pub holds : (params : PulledGaugeParams) (books : Books (MetricKey × Atom)) → HoldsSampled old params books
+      → HoldsSampled new params (after_marks params books marks)
 
 -- so do a moment's marks, which bring so much to a part in which nothing came
-pub record TakesBrought (old new : PulledGauge) (marks : List (Mark (MetricKey × Atom))) (brought : Brought)
+pub record GetsBrought (old new : PulledGauge) (marks : List (Mark (MetricKey × Atom))) (brought : Brought)
     : Type 0 where
-  pub takes : TakesMarks old new marks
-  pub brought_are : (params : PulledParams) (books : Books (MetricKey × Atom)) → HasPulled old params books
+  pub takes : TakesSampleMarks old new marks
+  pub brought_are : (params : PulledGaugeParams) (books : Books (MetricKey × Atom)) → HoldsSampled old params books
       → books.came ≡ [] → AreBrought params marks brought
 
 -- samples are taken now
 abbrev pub TakesMoment : PulledGauge → PulledGauge → Brought → Type 0
-TakesMoment old new brought = TakesBrought old new (moment_marks old.snapshot) brought
+TakesMoment old new brought = GetsBrought old new (moment_marks old.snapshot) brought
 
 -- a part begins, in which nothing came
 abbrev pub BeginsPart : PulledGauge → PulledGauge → Brought → Type 0
-BeginsPart old new brought = TakesBrought old new (marks_if (is_start_moment old.mode old.told) old.snapshot) brought
+BeginsPart old new brought = GetsBrought old new (marks_if (is_start_moment old.mode old.told) old.snapshot) brought
 
 -- so much was counted, so many times
 abbrev pub with_counts : PulledGauge → Brought → ℕ → PulledGauge

@@ -4,8 +4,8 @@ ghost use Rattle.bucket_meaning.specs.Limits.{longest_bucket, time_limit, most_k
 ghost use Rattle.bucket_meaning.specs.Marks.{Ends};
 ghost use Rattle.bucket_meaning.specs.Kept.{most_weight};
 ghost use Rattle.gauge_metric.specs.Sampling.{most_key_samples};
-ghost use Rattle.gauge_metric.specs.PulledSampling.{is_held, is_told_moment, is_start_moment, is_trigger_moment, marks_if};
-ghost use Rattle.gauge_metric.specs.PulledStands.{PulledStandsFor, Brings, TakesMarks, TakesMoment, BeginsPart, with_counts, RepeatsPart};
+ghost use Rattle.gauge_metric.specs.PulledSampling.{is_told_held, is_told_moment, is_start_moment, is_trigger_moment, marks_if};
+ghost use Rattle.gauge_metric.specs.PulledStands.{PulledGaugeStandsFor, Brings, TakesSampleMarks, TakesMoment, BeginsPart, with_counts, RepeatsPart};
 
 use crate::gauge::keep_all;
 use crate::memory::Memory;
@@ -54,7 +54,7 @@ pub struct Brought {
 
 // Whether a condition is known to be true.
 fn is_true(told: Option<Truth>) -> bool
-    ensures { result ≡ is_held told }
+    ensures { result ≡ is_told_held told }
 {
     matches!(told, Some(Truth::True))
 }
@@ -122,7 +122,7 @@ impl PulledGauge {
         requires least_samples { 1 ≤ spec.samples }
         requires few_samples { spec.samples ≤ most_key_samples }
         requires fit_together { bound * spec.samples ≤ most_weight }
-        ensures { PulledStandsFor result
+        ensures { PulledGaugeStandsFor result
             (record { base = base; size = size; bound = bound; spec = spec }) [] }
     {
         let _size = size;
@@ -162,7 +162,7 @@ impl PulledGauge {
 
     // Closes the open part at a time. The next has no sample yet.
     fn close(&mut self, end: u64) -> Result<(), AllocError>
-        ensures { OnOk result (TakesMarks self.old self.new (Ends end ∷ [])) }
+        ensures { OnOk result (TakesSampleMarks self.old self.new (Ends end ∷ [])) }
     {
         let start = self.start;
         self.start = end;
@@ -193,7 +193,7 @@ impl PulledGauge {
 
     // An atom of the trigger came.
     fn trigger(&mut self) -> Result<(), AllocError>
-        ensures { OnOk result (TakesMarks self.old self.new
+        ensures { OnOk result (TakesSampleMarks self.old self.new
             (marks_if (is_trigger_moment self.old.mode self.old.told) self.old.snapshot)) }
     {
         if samples_trigger(self.mode, self.told) {
@@ -206,7 +206,7 @@ impl PulledGauge {
 impl Producer for PulledGauge {
     ghost use Rattle.atom_record.specs.declared.atom.Atom.{Atom};
     ghost use Rattle.atom_record.specs.declared.value.MetricKey.{MetricKey};
-    ghost use Rattle.gauge_metric.specs.PulledSampling.{PulledParams};
+    ghost use Rattle.gauge_metric.specs.PulledSampling.{PulledGaugeParams};
     ghost use Rattle.gauge_metric.specs.PulledStands.{pulled_law};
 
     type Event = SnapAtoms;
@@ -215,7 +215,7 @@ impl Producer for PulledGauge {
 
     type Value = Seq<Atom>;
 
-    ghost Params = { PulledParams };
+    ghost Params = { PulledGaugeParams };
 
     ghost What = { MetricKey × Atom };
 

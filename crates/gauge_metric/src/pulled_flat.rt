@@ -3,7 +3,7 @@ ghost use Rattle.std.proofs.Common.{refl};
 ghost use Rattle.std.specs.Prelude.{◌≡◌, ◌++◌, OnOk, OnErr};
 ghost use Rattle.flat_form.specs.Flat.{IsFront};
 ghost use Rattle.flat_form.specs.Bounded.{short_head};
-ghost use Rattle.gauge_metric.specs.PulledItems.{mode_number, mode_of, told_number, told_of, snapshot_of, snapshot_items, pulled_numbers, gauge_of_form};
+ghost use Rattle.gauge_metric.specs.PulledItems.{mode_number, mode_of, told_number, told_by_number, snapshot_in, snapshot_items, pulled_numbers, gauge_of_form};
 
 use crate::memory::Memory;
 use crate::{KeyedAtom, PulledGauge, Row};
@@ -94,7 +94,7 @@ fn number_of_told(told: Option<Truth>) -> u64
 
 // What was told last, by its number.
 fn told_by(number: u64) -> Option<Option<Truth>>
-    ensures { result ≡ told_of number }
+    ensures { result ≡ told_by_number number }
 {
     match number {
         0 => Some(None),
@@ -136,7 +136,7 @@ fn flatten_snapshot(
 
 // The snapshot of a list, which is empty where there is none.
 fn snapshot_by(snapshots: Seq<Seq<KeyedAtom>>) -> Option<Option<Seq<KeyedAtom>>>
-    ensures { result ≡ snapshot_of snapshots }
+    ensures { result ≡ snapshot_in snapshots }
 {
     let mut list = snapshots.into_vec();
     if list.len() > 1 {
@@ -169,11 +169,11 @@ fn gauge_by(alloc: Global, parts: Parts) -> Option<PulledGauge>
 }
 
 impl Flat for PulledGauge {
-    ghost use Rattle.gauge_metric.specs.PulledItems.{pulled_items, IsPulled, IsSavablePulled, pulled_entries, pulled_bounded, pulled_few, pulled_savable};
+    ghost use Rattle.gauge_metric.specs.PulledItems.{pulled_items, IsPulledGauge, IsSavablePulled, pulled_entries, pulled_bounded, pulled_few, pulled_savable};
 
     ghost flat = { pulled_items };
 
-    ghost valid = { IsPulled };
+    ghost valid = { IsPulledGauge };
 
     ghost savable = { IsSavablePulled };
 

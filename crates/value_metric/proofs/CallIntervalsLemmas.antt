@@ -8,7 +8,7 @@ use Rattle.predicate_state.specs.declared.truth.Truth.TheVariants.{Unknown}
 use Rattle.metric_producer.specs.Calls.{Learned}
 use Rattle.metric_kinds.specs.Diffs.{KeyedInts}
 use Rattle.metric_kinds.specs.Intervals.{open_after}
-use Rattle.value_metric.specs.PulledValues.{PulledCall, snapshot_told, truth_told, told_last, is_truth, last_found, is_told_true}
+use Rattle.value_metric.specs.PulledValues.{PulledValueCall, snapshot_told, truth_told, told_last, is_truth, last_found, is_told_true}
 use Rattle.value_metric.specs.CallIntervals.{starts_at, begun_at_boundaries, begun_by_call, begun_by_calls, open_by_calls}
 
 module _ {A : Type 0} where
@@ -37,16 +37,16 @@ module _ {A : Type 0} where
       ∙ told_last-append before (flat_map tells calls) (tells call)
 
 -- what is found after one more call
-pub last_found-push : (calls : List PulledCall) (call : PulledCall)
+pub last_found-push : (calls : List PulledValueCall) (call : PulledValueCall)
     → last_found (calls ++ call ∷ []) ≡ told_last (last_found calls) (snapshot_told call)
 last_found-push calls call = told_last-push None snapshot_told calls call
 
 -- the truth that these calls told last
-abbrev pub last_truth : List PulledCall → Truth
+abbrev pub last_truth : List PulledValueCall → Truth
 last_truth calls = told_last Unknown (flat_map truth_told calls)
 
 -- whether the condition is true after one more call
-pub is_told_true-push : (calls : List PulledCall) (call : PulledCall)
+pub is_told_true-push : (calls : List PulledValueCall) (call : PulledValueCall)
     → is_told_true (calls ++ call ∷ []) ≡ is_truth (told_last (last_truth calls) (truth_told call))
 is_told_true-push calls call = ap is_truth (told_last-push Unknown truth_told calls call)
 
@@ -111,38 +111,38 @@ module _ {S : Type 0} where
   open_begins false begun start starts found next = refl
 
 -- what is open after one more call
-open_by_calls-push : (calls : List PulledCall) (call : PulledCall)
+open_by_calls-push : (calls : List PulledValueCall) (call : PulledValueCall)
     → let after = calls ++ call ∷ [] in
     open_by_calls after
     ≡ opened (is_told_true calls) (is_told_true after) (begun_by_calls calls) (starts_at call) (last_found calls)
     (last_found after)
 open_by_calls-push calls call =
-    let begun_at : List PulledCall → PulledCall → List (Option KeyedInts) =
+    let begun_at : List PulledValueCall → PulledValueCall → List (Option KeyedInts) =
     λ before call. begun_at_boundaries before call ++ begun_by_call before call in
     ap (λ l. if is_told_true (calls ++ call ∷ []) then last_or None l else None) (outputs-push begun_at calls call)
 
 -- while the condition is true, some interval is open
-abbrev OpenAfter : List PulledCall → Type 0
+abbrev OpenAfter : List PulledValueCall → Type 0
 OpenAfter calls = is_some (open_by_calls calls) ≡ is_told_true calls
 
-open_call : (calls : List PulledCall) (call : PulledCall) → OpenAfter calls → OpenAfter (calls ++ call ∷ [])
+open_call : (calls : List PulledValueCall) (call : PulledValueCall) → OpenAfter calls → OpenAfter (calls ++ call ∷ [])
 open_call calls call is =
     let after = calls ++ call ∷ [] in
     ap is_some (open_by_calls-push calls call)
     ∙ opened_is (is_told_true calls) (is_told_true after) (begun_by_calls calls) (starts_at call) (last_found calls)
     (last_found after) is
 
-open_calls : (before later : List PulledCall) → OpenAfter before → OpenAfter (before ++ later)
+open_calls : (before later : List PulledValueCall) → OpenAfter before → OpenAfter (before ++ later)
 open_calls before [] is = subst OpenAfter (sym (append-nil before)) is
 open_calls before (call ∷ later) is =
     subst OpenAfter (append_assoc before (call ∷ []) later)
     (open_calls (before ++ call ∷ []) later (open_call before call is))
 
-pub open_while_held : (calls : List PulledCall) → is_some (open_by_calls calls) ≡ is_told_true calls
+pub open_while_held : (calls : List PulledValueCall) → is_some (open_by_calls calls) ≡ is_told_true calls
 open_while_held calls = open_calls [] calls refl
 
 -- where a call begins no part and tells no condition, that is open which was open
-pub open-same : (calls : List PulledCall) (call : PulledCall) → starts_at call ≡ [] → truth_told call ≡ []
+pub open-same : (calls : List PulledValueCall) (call : PulledValueCall) → starts_at call ≡ [] → truth_told call ≡ []
     → open_by_calls (calls ++ call ∷ []) ≡ open_by_calls calls
 open-same calls call starts told =
     let after = calls ++ call ∷ [] in
@@ -155,7 +155,7 @@ open-same calls call starts told =
     ∙ open_stays (is_told_true calls) (begun_by_calls calls) (last_found calls) (last_found after)
 
 -- what a condition makes of what was open
-pub open-learned : (calls : List PulledCall) (at : ℕ) (now : Truth)
+pub open-learned : (calls : List PulledValueCall) (at : ℕ) (now : Truth)
     → open_by_calls (calls ++ Learned at now ∷ [])
     ≡ open_after (open_by_calls calls) (record { holds = is_truth now; found = last_found calls })
 open-learned calls at now =
@@ -169,7 +169,7 @@ open-learned calls at now =
     (open_while_held calls)
 
 -- where a call begins parts, an interval begins if the condition is true
-pub open-begins : (calls : List PulledCall) (call : PulledCall) (start : ℕ) (starts : List ℕ)
+pub open-begins : (calls : List PulledValueCall) (call : PulledValueCall) (start : ℕ) (starts : List ℕ)
     → starts_at call ≡ start ∷ starts → truth_told call ≡ []
     → open_by_calls (calls ++ call ∷ []) ≡ (if is_told_true calls then Some (last_found calls) else None)
 open-begins calls call start starts begins told =

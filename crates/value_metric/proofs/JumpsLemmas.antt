@@ -18,7 +18,7 @@ use Rattle.metric_kinds.proofs.JumpLemmas.{books_at, parts_again, BringAgain, cl
 use Rattle.value_metric.specs.declared.value_books.Counts.{Counts}
 use Rattle.value_metric.specs.declared.value_books.ValueBooks.{ValueBooks}
 use Rattle.value_metric.specs.Totals.{totals, total_rows, bucket_rows, row_weighs}
-use Rattle.value_metric.specs.ValueBooksStand.{ValueForm, form_kind, HoldsBooks, TakesMarks, Since, same_parts, ClosesAgain}
+use Rattle.value_metric.specs.ValueBooksStand.{ValueForm, form_kind, HoldsBooks, TakesValueMarks, Since, same_parts, ClosesAgain}
 use Rattle.value_metric.specs.Sums.{sums_marks, opened_marks}
 use Rattle.value_metric.specs.PulledSteps.{marks_again, TakesAgain}
 use Rattle.value_metric.proofs.BooksLemmas.{rows_by_totals, totals_none}
@@ -89,7 +89,7 @@ module _ (old mid new : ValueBooks) (since : Counts) (size number : ℕ)
     (dropped_are : since.dropped ≡ old.table.dropped) (missing_are : since.missing ≡ old.missing)
     (closes : ClosesAgain mid new since size number) where
   -- the marks of an interval that is open in all of a full bucket come in each, and so does all that they bring
-  takes_by : (marks : List (Mark (MetricKey × ℤ))) → TakesMarks old mid marks
+  takes_by : (marks : List (Mark (MetricKey × ℤ))) → TakesValueMarks old mid marks
       → ((form : ValueForm) → (came : List (MetricKey × ℤ)) × (lost : ℕ) × (missed : ℕ)
       × BringAgain (drops (form_kind form) form.bound) marks came lost missed)
       → TakesAgain old new marks size number
@@ -123,7 +123,7 @@ module _ (old mid new : ValueBooks) (since : Counts) (size number : ℕ)
 
   -- a difference of each key comes in each full bucket, nothing does, or each misses a snapshot
   pub takes_again : (spec : DiffSpec) (begun : Option (Option KeyedInts)) (ends : Option KeyedInts)
-      → TakesMarks old mid (opened_marks spec begun ends)
+      → TakesValueMarks old mid (opened_marks spec begun ends)
       → TakesAgain old new (opened_marks spec begun ends) size number
   takes_again spec None ends takes =
       takes_by [] takes (λ form. (

@@ -9,11 +9,11 @@ use Rattle.bucket_meaning.specs.Marks.{Mark, Came, books_from}
 use Rattle.bucket_meaning.specs.Rows.{drops}
 use Rattle.bucket_meaning.proofs.MarksLemmas.{books-append}
 use Rattle.value_metric.specs.declared.value_books.ValueBooks.{ValueBooks}
-use Rattle.value_metric.specs.ValueBooksStand.{form_kind, HoldsBooks, TakesMarks}
+use Rattle.value_metric.specs.ValueBooksStand.{form_kind, HoldsBooks, TakesValueMarks}
 
 -- marks and more marks
 pub takes-append : (old mid new : ValueBooks) (marks more : List (Mark (MetricKey × ℤ)))
-    → TakesMarks old mid marks → TakesMarks mid new more → TakesMarks old new (marks ++ more)
+    → TakesValueMarks old mid marks → TakesValueMarks mid new more → TakesValueMarks old new (marks ++ more)
 takes-append old mid new marks more first second form books has =
     subst (HoldsBooks new form) (sym (books-append (drops (form_kind form) form.bound) books marks more))
     (second form (books_from (drops (form_kind form) form.bound) books marks) (first form books has))
@@ -36,17 +36,17 @@ given_all gives xs place end = ap (flat_map gives) (take_all place xs end)
 -- one item more came
 pub comes_more : {X : Type 0} (gives : X → List (MetricKey × ℤ)) (xs : List X) (place : ℕ) (x : X)
     (old mid new : ValueBooks) → slice_get xs place ≡ Some x
-    → TakesMarks old mid (map Came (flat_map gives (take place xs))) → TakesMarks mid new (map Came (gives x))
-    → TakesMarks old new (map Came (flat_map gives (take (place + 1) xs)))
+    → TakesValueMarks old mid (map Came (flat_map gives (take place xs))) → TakesValueMarks mid new (map Came (gives x))
+    → TakesValueMarks old new (map Came (flat_map gives (take (place + 1) xs)))
 comes_more gives xs place x old mid new at before one =
-    subst (TakesMarks old new)
+    subst (TakesValueMarks old new)
     (sym (map-append Came (flat_map gives (take place xs)) (gives x))
     ∙ ap (map Came) (sym (given_more gives xs place x at)))
     (takes-append old mid new (map Came (flat_map gives (take place xs))) (map Came (gives x)) before one)
 
 -- all came
 pub comes_all : {X : Type 0} (gives : X → List (MetricKey × ℤ)) (xs : List X) (place : ℕ) (old new : ValueBooks)
-    → length xs ≤ place → TakesMarks old new (map Came (flat_map gives (take place xs)))
-    → TakesMarks old new (map Came (flat_map gives xs))
+    → length xs ≤ place → TakesValueMarks old new (map Came (flat_map gives (take place xs)))
+    → TakesValueMarks old new (map Came (flat_map gives xs))
 comes_all gives xs place old new end came =
-    subst (λ arrivals. TakesMarks old new (map Came arrivals)) (given_all gives xs place end) came
+    subst (λ arrivals. TakesValueMarks old new (map Came arrivals)) (given_all gives xs place end) came

@@ -27,13 +27,13 @@ use Rattle.value_metric.specs.declared.pulled_value.Open.TheVariants.{Nothing, A
 use Rattle.value_metric.specs.declared.pulled_value.PulledValue.{PulledValue}
 use Rattle.value_metric.specs.declared.value_books.Counts.{Counts}
 use Rattle.value_metric.specs.declared.value_books.ValueBooks.{ValueBooks}
-use Rattle.value_metric.specs.PulledValues.{PulledParams, PulledCall, pulled_demands, integers_found, is_truth, last_found, is_told_true, seen_by_calls}
+use Rattle.value_metric.specs.PulledValues.{PulledValueParams, PulledValueCall, pulled_value_demands, integers_found, is_truth, last_found, is_told_true, seen_after_calls}
 use Rattle.value_metric.specs.CallIntervals.{open_by_calls}
 use Rattle.value_metric.specs.PulledCollecting.{pulled_collecting, pulled_edges}
-use Rattle.value_metric.specs.PulledStands.{pulled_form, begun_sums, sums_found, HasSnapshots, HasPulled, pulled_mean, pulled_law}
+use Rattle.value_metric.specs.PulledStands.{pulled_form, begun_sums, sums_found, HasSnapshots, HoldsDiffs, pulled_mean, pulled_law}
 use Rattle.value_metric.specs.PulledSteps.{opened_again, opened_before, opened_by, ending_marks, marks_again, ClosesPulled, Jumps}
 use Rattle.value_metric.specs.Sums.{sums_marks, opened_marks}
-use Rattle.value_metric.specs.ValueBooksStand.{form_kind, HoldsBooks, TakesMark, TakesMarks, ClosesAgain}
+use Rattle.value_metric.specs.ValueBooksStand.{form_kind, HoldsBooks, TakesMark, TakesValueMarks, ClosesAgain}
 use Rattle.value_metric.proofs.MarksTaken.{takes-append}
 use Rattle.value_metric.proofs.JumpsLemmas.{takes_again}
 use Rattle.value_metric.proofs.CallIntervalsLemmas.{last_found-push, open_while_held, open-same, open-learned, open-begins}
@@ -49,7 +49,7 @@ gives spec (Some (Some start)) (Some end) =
     sym (append-nil (sums_marks spec (sums_found (Some start)) (sums_found (Some end))))
 
 -- what the open interval of a producer gives is what that of its calls gives
-ending : (it : PulledValue) (params : PulledParams) (calls : List PulledCall) → it.spec ≡ params.spec
+ending : (it : PulledValue) (params : PulledValueParams) (calls : List PulledValueCall) → it.spec ≡ params.spec
     → HasSnapshots it calls
     → ending_marks it
     ≡ flat_map (interval_marks params.spec) (ended_with (open_by_calls calls) (last_found calls))
@@ -96,7 +96,7 @@ closed_by None found = refl
 closed_by (Some b) found = refl
 
 -- one more pull
-has_pulled : (old new : PulledValue) (calls : List PulledCall) (at : ℕ) (event : SnapInts)
+has_pulled : (old new : PulledValue) (calls : List PulledValueCall) (at : ℕ) (event : SnapInts)
     → new.last ≡ sums_found (integers_found event) → new.interval ≡ opened_before old.last old.interval
     → HasSnapshots old calls → HasSnapshots new (calls ++ Got at event ∷ [])
 has_pulled old new calls at event last interval has = record {
@@ -106,7 +106,7 @@ has_pulled old new calls at event last interval has = record {
 }
 
 -- where nothing is told and no part begins, the snapshots are the same
-has_same : (it new : PulledValue) (calls : List PulledCall) → new.last ≡ it.last → new.interval ≡ it.interval
+has_same : (it new : PulledValue) (calls : List PulledValueCall) → new.last ≡ it.last → new.interval ≡ it.interval
     → HasSnapshots it calls → HasSnapshots new (calls ++ Took ∷ [])
 has_same it new calls last interval has = record {
   last = last ∙ has.last ∙ ap sums_found (sym (last_found-push calls Took));
@@ -115,7 +115,7 @@ has_same it new calls last interval has = record {
 }
 
 -- a condition that is true
-has_true : (old new : PulledValue) (calls : List PulledCall) (at : ℕ) (now : Truth) → is_truth now ≡ true
+has_true : (old new : PulledValue) (calls : List PulledValueCall) (at : ℕ) (now : Truth) → is_truth now ≡ true
     → new.last ≡ old.last → new.interval ≡ opened_by old.interval
     → HasSnapshots old calls → HasSnapshots new (calls ++ Learned at now ∷ [])
 has_true old new calls at now holds last interval has = record {
@@ -128,7 +128,7 @@ has_true old new calls at now holds last interval has = record {
 }
 
 -- a condition that isn't
-has_other : (old new : PulledValue) (calls : List PulledCall) (at : ℕ) (now : Truth) → is_truth now ≡ false
+has_other : (old new : PulledValue) (calls : List PulledValueCall) (at : ℕ) (now : Truth) → is_truth now ≡ false
     → new.last ≡ old.last → new.interval ≡ Nothing
     → HasSnapshots old calls → HasSnapshots new (calls ++ Learned at now ∷ [])
 has_other old new calls at now holds last interval has = record {
@@ -141,7 +141,7 @@ has_other old new calls at now holds last interval has = record {
 }
 
 -- a crossing
-has_crossed : (old new : PulledValue) (calls : List PulledCall) (crossings : Crossings) → new.last ≡ old.last
+has_crossed : (old new : PulledValue) (calls : List PulledValueCall) (crossings : Crossings) → new.last ≡ old.last
     → new.interval ≡ opened_again old.interval
     → HasSnapshots old calls → HasSnapshots new (calls ++ Crossed crossings ∷ [])
 has_crossed old new calls crossings last interval has = record {
@@ -155,7 +155,7 @@ has_crossed old new calls crossings last interval has = record {
 }
 
 -- a cut
-has_cut : (old new : PulledValue) (calls : List PulledCall) (at : ℕ) → new.last ≡ old.last
+has_cut : (old new : PulledValue) (calls : List PulledValueCall) (at : ℕ) → new.last ≡ old.last
     → new.interval ≡ opened_again old.interval
     → HasSnapshots old calls → HasSnapshots new (calls ++ CutAt at ∷ [])
 has_cut old new calls at last interval has = record {
@@ -168,10 +168,10 @@ has_cut old new calls at last interval has = record {
 }
 
 -- what the interval gives that begins with each full bucket and ends with it
-ending_again : (old mid : PulledValue) (params : PulledParams) (calls : List PulledCall) (end : ℕ)
+ending_again : (old mid : PulledValue) (params : PulledValueParams) (calls : List PulledValueCall) (end : ℕ)
     → old.spec ≡ params.spec → HasSnapshots old calls → ClosesPulled old mid end
     → ending_marks mid
-    ≡ flat_map (interval_marks params.spec) (ended_with (open_after None (seen_by_calls calls)) (last_found calls))
+    ≡ flat_map (interval_marks params.spec) (ended_with (open_after None (seen_after_calls calls)) (last_found calls))
 ending_again old mid params calls end spec has closed =
     let last : mid.last ≡ sums_found (last_found calls) = ap (λ (p : PulledValue). p.last) closed.others ∙ has.last in
     let interval : mid.interval ≡ opened_again old.interval = ap (λ (p : PulledValue). p.interval) closed.others in
@@ -188,14 +188,14 @@ ending_again old mid params calls end spec has closed =
     ∙ gives params.spec open_now (last_found calls)
 
 -- where a producer has its snapshots and its books after a call, it stands for the calls with this one
-pulled_moves : (old new : PulledValue) (call : PulledCall)
-    → ((params : PulledParams) (calls : List PulledCall) (books : Books (MetricKey × ℤ))
-    → HasPulled old params books calls → IsAdmitted (pulled_demands params) calls call
-    → HasPulled new params (marks_on (calls_mean pulled_collecting) params books
+pulled_moves : (old new : PulledValue) (call : PulledValueCall)
+    → ((params : PulledValueParams) (calls : List PulledValueCall) (books : Books (MetricKey × ℤ))
+    → HoldsDiffs old params books calls → IsAdmitted (pulled_value_demands params) calls call
+    → HoldsDiffs new params (marks_on (calls_mean pulled_collecting) params books
     (call_marks pulled_collecting params calls call)) (calls ++ call ∷ []))
     → Moves pulled_law old new call
 pulled_moves old new call step params calls has may =
-    subst (λ books. HasPulled new params books (calls ++ call ∷ []))
+    subst (λ books. HoldsDiffs new params books (calls ++ call ∷ []))
     (sym (books_by-push (calls_mean pulled_collecting) params calls call))
     (step params calls (pulled_mean params calls) has may)
 
@@ -226,7 +226,7 @@ learned_true old at now holds =
 
 -- a condition was told that isn't
 pub learned_other : (old mid : PulledValue) (at : ℕ) (now : Truth) → is_truth now ≡ false
-    → mid ≡ record old { books = mid.books } → TakesMarks old.books mid.books (ending_marks old)
+    → mid ≡ record old { books = mid.books } → TakesValueMarks old.books mid.books (ending_marks old)
     → Moves pulled_law old (record mid { interval = Nothing }) (Learned at now)
 learned_other old mid at now holds others takes =
     let new : PulledValue = record mid { interval = Nothing } in
@@ -283,14 +283,14 @@ pulled_crosses old mid new crossings closed jumps =
     let later = ends_from (first + size) size full in
     let closing = flat_map (interval_marks params.spec) (ended_with (open_by_calls calls) (last_found calls)) in
     let again = flat_map (interval_marks params.spec)
-    (ended_with (open_after None (seen_by_calls calls)) (last_found calls)) in
+    (ended_with (open_after None (seen_after_calls calls)) (last_found calls)) in
     let given = books_from drop books closing in
     let first_books : Books (MetricKey × ℤ) = books_from drop given (Ends first ∷ []) in
     let has_mid : HoldsBooks mid.books form first_books =
     subst (HoldsBooks mid.books form) (books-append drop books closing (Ends first ∷ []))
     (subst (λ marks. HoldsBooks mid.books form (books_from drop books (marks ++ (Ends first ∷ []))))
     (ending old params calls has.spec has.snapshots) (closed.marks form books has.held)) in
-    let fits : last_end crossings < 2 ^ 63 = answer_fits (pulled_demands params) _ crossings may.0 in
+    let fits : last_end crossings < 2 ^ 63 = answer_fits (pulled_value_demands params) _ crossings may.0 in
     let has_new : HoldsBooks new.books form (books_from drop first_books (marks_again (ending_marks mid) size
     (first + size) full)) = jumps.marks form first_books refl fits has_mid in
     let rest : books_from drop first_books (marks_again (ending_marks mid) size (first + size) full)
@@ -313,7 +313,7 @@ pulled_crosses old mid new crossings closed jumps =
 
 -- a part is closed by the end of its interval, its own end, and the beginning of the next interval
 pub closes_part : (old mid new : PulledValue) (books : ValueBooks) (end : ℕ)
-    → mid ≡ record old { books = mid.books } → TakesMarks old.books mid.books (ending_marks old)
+    → mid ≡ record old { books = mid.books } → TakesValueMarks old.books mid.books (ending_marks old)
     → TakesMark mid.books books (Ends end)
     → new ≡ record mid { books = books; interval = opened_again mid.interval } → ClosesPulled old new end
 closes_part old mid new books end others ends closes is =
@@ -324,7 +324,7 @@ closes_part old mid new books end others ends closes is =
 
 -- full buckets are closed by the end of the first one's interval, and what comes again in the others
 pub jumps_by : (old mid : PulledValue) (books : ValueBooks) (since : Counts) (size number : ℕ)
-    → mid ≡ record old { books = mid.books } → TakesMarks old.books mid.books (ending_marks old)
+    → mid ≡ record old { books = mid.books } → TakesValueMarks old.books mid.books (ending_marks old)
     → since.dropped ≡ old.books.table.dropped → since.missing ≡ old.books.missing
     → ClosesAgain mid.books books since size number → Jumps old (record mid { books = books }) size number
 jumps_by old mid books since size number others ends dropped missing closes = record {

@@ -14,7 +14,7 @@ use Rattle.metric_producer.specs.Calls.{Got, Learned, Crossed, CutAt}
 use Rattle.metric_producer.specs.declared.row.Row.{Row}
 use Rattle.metric_producer.specs.Collecting.{calls_mean}
 use Rattle.value_metric.specs.declared.keyed_int.KeyedInt.{KeyedInt}
-use Rattle.value_metric.specs.PulledValues.{PulledCall}
+use Rattle.value_metric.specs.PulledValues.{PulledValueCall}
 use Rattle.value_metric.specs.PulledCollecting.{pulled_collecting}
 
 -- a key with one number
@@ -26,18 +26,18 @@ abbrev of : ℕ → ℤ → KeyedInt
 of number integer = record { key = key number; value = integer }
 
 -- a pull gave these integers, or failed
-abbrev pull : ℕ → List KeyedInt → PulledCall
+abbrev pull : ℕ → List KeyedInt → PulledValueCall
 pull at integers = Got at (record { found = Some integers })
 
-abbrev failed : ℕ → PulledCall
+abbrev failed : ℕ → PulledValueCall
 failed at = Got at (record { found = None })
 
 -- a condition is told
-abbrev told : ℕ → Truth → PulledCall
+abbrev told : ℕ → Truth → PulledValueCall
 told at now = Learned at now
 
 -- a frame crosses an end, and so many full buckets of 10 after it
-abbrev cross : ℕ → ℕ → PulledCall
+abbrev cross : ℕ → ℕ → PulledValueCall
 cross end more = Crossed (record { start = 0; first_end = end; full_buckets = more; size = 10 })
 
 -- a row of a key in a part
@@ -53,7 +53,7 @@ abbrev rising : DiffSpec
 rising = record { agg = Sum; direction = Increasing; abs_reset = false; skip_zero = false; zero_base = false }
 
 -- what a report shows after these calls, where a part admits two keys
-abbrev after_calls : DiffSpec → List PulledCall → Taken (Row ℤ)
+abbrev after_calls : DiffSpec → List PulledValueCall → Taken (Row ℤ)
 after_calls spec calls = report_by (calls_mean pulled_collecting)
     (record { base = 0; size = 10; bound = 2; spec = spec }) calls
 
@@ -79,7 +79,7 @@ failing : after_calls (record rising { skip_zero = true })
 failing = refl
 
 -- a value that falls was reset: the whole value counts where that is asked for, and else there is no difference
-abbrev resetting : List PulledCall
+abbrev resetting : List PulledValueCall
 resetting =
     pull 0 (of 1 (pos 100) ∷ []) ∷ told 0 True ∷ pull 10 (of 1 (pos 130) ∷ []) ∷ cross 10 0
     ∷ pull 20 (of 1 (pos 90) ∷ []) ∷ cross 20 0 ∷ []
@@ -95,7 +95,7 @@ falling : after_calls (record rising { direction = Decreasing }) resetting ≡ s
 falling = refl
 
 -- three intervals in one part: what is pulled between them counts in none, and not to know ends one
-abbrev three : List PulledCall
+abbrev three : List PulledValueCall
 three =
     pull 0 (of 1 (pos 0) ∷ []) ∷ told 0 True ∷ pull 1 (of 1 (pos 5) ∷ []) ∷ told 2 Unknown ∷ pull 3 (of 1 (pos 50) ∷ [])
     ∷ told 4 True ∷ pull 5 (of 1 (pos 52) ∷ []) ∷ told 6 False ∷ pull 7 (of 1 (pos 100) ∷ []) ∷ told 8 True
@@ -111,7 +111,7 @@ greatest : after_calls (record rising { agg = Max }) three ≡ shown (row 1 0 10
 greatest = refl
 
 -- the integers of a key are summed, keys come as they stand at the end, and a new key has no difference, or one from 0
-abbrev keys_change : List PulledCall
+abbrev keys_change : List PulledValueCall
 keys_change =
     pull 0 (of 7 (pos 3) ∷ of 8 (pos 1) ∷ []) ∷ told 0 True
     ∷ pull 5 (of 8 (pos 4) ∷ of 9 (pos 2) ∷ of 8 (pos 2) ∷ []) ∷ CutAt 9 ∷ []

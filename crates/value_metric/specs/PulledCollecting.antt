@@ -9,11 +9,11 @@ use Rattle.metric_producer.specs.declared.row.Row.{Row}
 use Rattle.metric_kinds.specs.Values.{value_kind}
 use Rattle.metric_kinds.specs.Diffs.{interval_marks}
 use Rattle.value_metric.specs.declared.keyed_int.SnapInts.{SnapInts}
-use Rattle.value_metric.specs.PulledValues.{PulledParams, PulledCall, is_truth, last_found, pulled_demands}
+use Rattle.value_metric.specs.PulledValues.{PulledValueParams, PulledValueCall, is_truth, last_found, pulled_value_demands}
 use Rattle.value_metric.specs.CallIntervals.{ended_by_condition, ended_at_boundary, ended_at_next}
 
 -- what stands at a boundary: the differences of the interval that ends there. Nothing stands where a part begins
-abbrev pub pulled_edges : PulledParams → List PulledCall → Edges (MetricKey × ℤ)
+abbrev pub pulled_edges : PulledValueParams → List PulledValueCall → Edges (MetricKey × ℤ)
 pulled_edges params before = record {
   closing = λ at. flat_map (interval_marks params.spec) (ended_at_boundary before);
   closing_again = λ at. flat_map (interval_marks params.spec) (ended_at_next before);
@@ -22,9 +22,9 @@ pulled_edges params before = record {
 
 -- An interval gives its differences where it ends: where a condition is told, or at a boundary. A snapshot gives
 -- nothing by itself. Rows of 0 are hidden where that is asked for.
-abbrev pub pulled_collecting : Collecting PulledParams SnapInts Truth (MetricKey × ℤ) MetricKey ℤ (Row ℤ)
+abbrev pub pulled_collecting : Collecting PulledValueParams SnapInts Truth (MetricKey × ℤ) MetricKey ℤ (Row ℤ)
 pulled_collecting = record {
-  demands = pulled_demands;
+  demands = pulled_value_demands;
   bound = λ params. params.bound;
   kind = λ params. value_kind params.spec.agg params.spec.skip_zero;
   comes = λ params before at event. [];

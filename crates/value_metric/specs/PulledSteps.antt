@@ -11,7 +11,7 @@ use Rattle.value_metric.specs.declared.pulled_value.Open.{Open}
 use Rattle.value_metric.specs.declared.pulled_value.Open.TheVariants.{Nothing, AtLast, Earlier}
 use Rattle.value_metric.specs.declared.pulled_value.PulledValue.{PulledValue}
 use Rattle.value_metric.specs.declared.value_books.ValueBooks.{ValueBooks}
-use Rattle.value_metric.specs.ValueBooksStand.{ValueForm, form_kind, HoldsBooks, TakesMarks}
+use Rattle.value_metric.specs.ValueBooksStand.{ValueForm, form_kind, HoldsBooks, TakesValueMarks}
 use Rattle.value_metric.specs.Sums.{opened_marks}
 use Rattle.value_metric.specs.PulledStands.{begun_sums}
 
@@ -40,7 +40,7 @@ ending_marks it = opened_marks it.spec (begun_sums it.interval it.last) it.last
 -- the part is closed after what its open interval gives, and the next begins with the last snapshot
 pub record ClosesPulled (old new : PulledValue) (end : ℕ) : Type 0 where
   pub others : new ≡ record old { books = new.books; interval = opened_again old.interval }
-  pub marks : TakesMarks old.books new.books (ending_marks old ++ (Ends end ∷ []))
+  pub marks : TakesValueMarks old.books new.books (ending_marks old ++ (Ends end ∷ []))
 
 -- the marks of so many ends of buckets, before each of which the same comes
 abbrev pub marks_again : List (Mark (MetricKey × ℤ)) → ℕ → ℕ → ℕ → List (Mark (MetricKey × ℤ))

@@ -13,15 +13,15 @@ use Rattle.value_metric.specs.declared.keyed_int.SnapInts.{SnapInts}
 
 -- What a producer of pulled values is made with: where its time begins, how long a bucket is, how many keys a part
 -- admits, and how differences are taken.
-pub record PulledParams : Type 0 where
+pub record PulledValueParams : Type 0 where
   pub base : ℕ
   pub size : ℕ
   pub bound : ℕ
   pub spec : DiffSpec
 
 -- a call of a producer of pulled values: an event tells what a pull gave, and a condition how it stands after an atom
-abbrev pub PulledCall : Type 0
-PulledCall = Call SnapInts Truth
+abbrev pub PulledValueCall : Type 0
+PulledValueCall = Call SnapInts Truth
 
 -- integers with their keys, as pairs
 abbrev pub keyed_ints : List KeyedInt → KeyedInts
@@ -32,12 +32,12 @@ abbrev pub integers_found : SnapInts → Option KeyedInts
 integers_found snapshot = option_map keyed_ints snapshot.found
 
 -- the snapshot that a call tells, if it tells one
-abbrev pub snapshot_told : PulledCall → List (Option KeyedInts)
+abbrev pub snapshot_told : PulledValueCall → List (Option KeyedInts)
 snapshot_told (Got at event) = integers_found event ∷ []
 snapshot_told _ = []
 
 -- the truth that a call tells, if it tells one
-abbrev pub truth_told : PulledCall → List Truth
+abbrev pub truth_told : PulledValueCall → List Truth
 truth_told (Learned at now) = now ∷ []
 truth_told _ = []
 
@@ -53,29 +53,29 @@ is_truth Unknown = false
 is_truth False = false
 
 -- what was found in the snapshot that these calls told last; before one was told there is none
-abbrev pub last_found : List PulledCall → Option KeyedInts
+abbrev pub last_found : List PulledValueCall → Option KeyedInts
 last_found calls = told_last None (flat_map snapshot_told calls)
 
 -- whether the condition is true, as these calls told it last; before it was told it isn't
-abbrev pub is_told_true : List PulledCall → Bool
+abbrev pub is_told_true : List PulledValueCall → Bool
 is_told_true calls = is_truth (told_last Unknown (flat_map truth_told calls))
 
 -- what is seen after these calls
-abbrev pub seen_by_calls : List PulledCall → Seen (Option KeyedInts)
-seen_by_calls calls = record { holds = is_told_true calls; found = last_found calls }
+abbrev pub seen_after_calls : List PulledValueCall → Seen (Option KeyedInts)
+seen_after_calls calls = record { holds = is_told_true calls; found = last_found calls }
 
 -- a call tells a snapshot
-abbrev pub tells_snapshot : PulledCall → Bool
-tells_snapshot (Got at event) = true
-tells_snapshot _ = false
+abbrev pub tells_integers : PulledValueCall → Bool
+tells_integers (Got at event) = true
+tells_integers _ = false
 
 -- it takes every snapshot, and is told no condition before the first one, which is the snapshot of the time when it is
 -- made; a condition may be told without a snapshot before it, since atoms change it and pulls don't
-abbrev pub pulled_demands : PulledParams → Demands SnapInts Truth
-pulled_demands params = record {
+abbrev pub pulled_value_demands : PulledValueParams → Demands SnapInts Truth
+pulled_value_demands params = record {
   base = params.base;
   size = params.size;
   is_paired = false;
   takes = λ event. true;
-  tells = λ calls now. list_any tells_snapshot calls;
+  tells = λ calls now. list_any tells_integers calls;
 }

@@ -37,8 +37,8 @@ pub record HoldsBooks (it : ValueBooks) (form : ValueForm) (books : Books (Metri
   pub missing : it.missing ≡ count_in_u64 books.missing
 
 -- the object holds the books of a metric of this form whose time has just begun
-abbrev pub IsOpened : ValueBooks → ℕ → ValueForm → Type 0
-IsOpened it start form =
+abbrev pub AreNewBooks : ValueBooks → ℕ → ValueForm → Type 0
+AreNewBooks it start form =
     HoldsBooks it form (record { start = start; came = []; closed = []; dropped = 0; missing = 0 })
 
 -- the books after one more mark
@@ -52,14 +52,14 @@ TakesMark old new mark =
     → HoldsBooks new form (with_mark form books mark)
 
 -- whatever books the old object holds, the new one holds them after these marks
-abbrev pub TakesMarks : ValueBooks → ValueBooks → List (Mark (MetricKey × ℤ)) → Type 0
-TakesMarks old new marks =
+abbrev pub TakesValueMarks : ValueBooks → ValueBooks → List (Mark (MetricKey × ℤ)) → Type 0
+TakesValueMarks old new marks =
     (form : ValueForm) (books : Books (MetricKey × ℤ)) → HoldsBooks old form books
     → HoldsBooks new form (books_from (drops (form_kind form) form.bound) books marks)
 
 -- whatever books the object holds, what is handed out is what a report shows of them
-abbrev pub ShowsBooks : ValueBooks → Closed ℤ → Type 0
-ShowsBooks it closed =
+abbrev pub ShowsTotals : ValueBooks → Closed ℤ → Type 0
+ShowsTotals it closed =
     (form : ValueForm) (books : Books (MetricKey × ℤ)) → HoldsBooks it form books
     → closed
     ≡ closed_of (taken_of row_weighs (closed_rows (form_kind form) form.bound books) books.dropped books.missing)

@@ -6,10 +6,10 @@ ghost use Rattle.bucket_meaning.specs.Limits.{longest_bucket, time_limit, most_k
 ghost use Rattle.bucket_meaning.specs.Marks.{Came};
 ghost use Rattle.metric_kinds.specs.Diffs.{key_sums, start_sum, diff_by, growth, reset_diff, key_diff, keyed_diff};
 ghost use Rattle.value_metric.specs.PulledValues.{is_truth, keyed_ints};
-ghost use Rattle.value_metric.specs.PulledStands.{PulledStandsFor};
+ghost use Rattle.value_metric.specs.PulledStands.{PulledValueStandsFor};
 ghost use Rattle.value_metric.specs.PulledSteps.{opened_before, opened_by, opened_again, ending_marks, ClosesPulled, Jumps};
 ghost use Rattle.value_metric.specs.Sums.{sums_marks};
-ghost use Rattle.value_metric.specs.ValueBooksStand.{TakesMarks};
+ghost use Rattle.value_metric.specs.ValueBooksStand.{TakesValueMarks};
 
 use crate::key_sums::KeySums;
 use crate::value_books::ValueBooks;
@@ -51,7 +51,7 @@ impl PulledValue {
         requires most_size { size ≤ longest_bucket }
         requires least_bound { 1 ≤ bound }
         requires most_bound { bound ≤ most_keys }
-        ensures { PulledStandsFor result
+        ensures { PulledValueStandsFor result
             (record { base = base; size = size; bound = bound; spec = spec }) [] }
     {
         let _size = size;
@@ -89,7 +89,7 @@ impl PulledValue {
     fn end_interval(&mut self) -> Result<(), AllocError>
         ensures others { self.new ≡ record self.old { books = self.new.books } }
         ensures marks { OnOk result
-            (TakesMarks self.old.books self.new.books (ending_marks self.old)) }
+            (TakesValueMarks self.old.books self.new.books (ending_marks self.old)) }
     {
         match &self.interval {
             Open::Nothing => Ok(()),
@@ -133,7 +133,7 @@ impl PulledValue {
 impl Producer for PulledValue {
     ghost use Rattle.std.specs.Prelude.{ℤ};
     ghost use Rattle.atom_record.specs.declared.value.MetricKey.{MetricKey};
-    ghost use Rattle.value_metric.specs.PulledValues.{PulledParams};
+    ghost use Rattle.value_metric.specs.PulledValues.{PulledValueParams};
     ghost use Rattle.value_metric.specs.PulledStands.{pulled_law};
 
     type Event = SnapInts;
@@ -142,7 +142,7 @@ impl Producer for PulledValue {
 
     type Value = i64;
 
-    ghost Params = { PulledParams };
+    ghost Params = { PulledValueParams };
 
     ghost What = { MetricKey × ℤ };
 
@@ -212,7 +212,7 @@ fn give(
     starts: &Option<KeySums>,
     ends: &Option<KeySums>,
 ) -> Result<(), AllocError>
-    ensures { OnOk result (TakesMarks books.old books.new (sums_marks spec starts.now ends.now)) }
+    ensures { OnOk result (TakesValueMarks books.old books.new (sums_marks spec starts.now ends.now)) }
 {
     match (starts, ends) {
         (Some(starts), Some(ends)) => arrive_all(books, spec, starts, ends),
@@ -230,7 +230,7 @@ fn arrive_all(
     starts: &KeySums,
     ends: &KeySums,
 ) -> Result<(), AllocError>
-    ensures { OnOk result (TakesMarks books.old books.new
+    ensures { OnOk result (TakesValueMarks books.old books.new
         (map Came (flat_map (key_diff spec starts.now) ends.now))) }
 {
     for place in 0..ends.len() {
@@ -245,7 +245,7 @@ fn arrive_all(
 
 // A key's difference arrives, if there is one.
 fn arrive(books: &mut ValueBooks, key: &MetricKey, diff: Option<i128>) -> Result<(), AllocError>
-    ensures { OnOk result (TakesMarks books.old books.new (map Came (keyed_diff key.now diff))) }
+    ensures { OnOk result (TakesValueMarks books.old books.new (map Came (keyed_diff key.now diff))) }
 {
     let Some(diff) = diff else {
         return Ok(());

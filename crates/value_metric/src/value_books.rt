@@ -9,7 +9,7 @@ ghost use Rattle.dim_table.specs.Table.{with_value_at};
 ghost use Rattle.kept_rows.specs.KeptRows.{AddsRows};
 ghost use Rattle.metric_kinds.specs.Values.{unless_hidden};
 ghost use Rattle.value_metric.specs.Totals.{joined_to, shown_total, total_rows, bucket_rows, row_weighs, AddsCounted, TakesInteger};
-ghost use Rattle.value_metric.specs.ValueBooksStand.{IsOpened, TakesMark, ShowsBooks, ClosesAgain};
+ghost use Rattle.value_metric.specs.ValueBooksStand.{AreNewBooks, TakesMark, ShowsTotals, ClosesAgain};
 
 use atom_record::MetricKey;
 use config_types::Aggregation;
@@ -51,7 +51,7 @@ impl ValueBooks {
     ) -> ValueBooks
         requires least_bound { 1 ≤ bound }
         requires most_bound { bound ≤ most_keys }
-        ensures { IsOpened result start
+        ensures { AreNewBooks result start
             (record { bound = bound; aggregation = aggregation; hides_zeros = hides_zeros }) }
     {
         ValueBooks {
@@ -133,7 +133,7 @@ impl ValueBooks {
 
     /// Hands out what a report shows. The open part goes on.
     pub(crate) fn take(&mut self) -> Closed<i64>
-        ensures gives { ShowsBooks self.old result }
+        ensures gives { ShowsTotals self.old result }
         ensures moves { TakesMark self.old self.new Asked }
     {
         let (rows, not_kept) = self.kept.take();

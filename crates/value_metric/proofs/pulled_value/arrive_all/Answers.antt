@@ -6,7 +6,7 @@ use Rattle.std.proofs.lemmas.Int.{to_z-of_z}
 use Rattle.bucket_meaning.specs.Marks.{Came}
 use Rattle.dim_table.proofs.TableItemsLemmas.{past_rows}
 use Rattle.metric_kinds.specs.Diffs.{start_sum, diff_by, key_diff, keyed_diff}
-use Rattle.value_metric.specs.ValueBooksStand.{TakesMarks}
+use Rattle.value_metric.specs.ValueBooksStand.{TakesValueMarks}
 use Rattle.value_metric.proofs.MarksTaken.{comes_more, comes_all}
 use Rattle.value_metric.proofs.pulled_value.arrive_all.Goals as goal
 
@@ -21,13 +21,13 @@ loop-place-preserved c =
     comes_more (key_diff spec c.args.starts.now) c.args.ends.now c.loop-place.place
     (c.in-Some.key.now, c.in-Some.end) c.args.books.now c.loop-place.books c.arrive.new.books (sym c.in-Some.ensures)
     c.loop-place.invariant
-    (subst (λ start. TakesMarks c.loop-place.books c.arrive.new.books (map Came (keyed_diff c.in-Some.key.now
+    (subst (λ start. TakesValueMarks c.loop-place.books c.arrive.new.books (map Came (keyed_diff c.in-Some.key.now
     (option_and_then (λ from. diff_by spec.direction spec.abs_reset from c.in-Some.end)
     (start_sum spec.zero_base start))))) c.sum_of.ensures
-    (subst (λ end. TakesMarks c.loop-place.books c.arrive.new.books (map Came (keyed_diff c.in-Some.key.now
+    (subst (λ end. TakesValueMarks c.loop-place.books c.arrive.new.books (map Came (keyed_diff c.in-Some.key.now
     (option_and_then (λ from. diff_by spec.direction spec.abs_reset from end)
     (start_sum spec.zero_base c.sum_of.result))))) (to_z-of_z w128 c.in-Some.end fits)
-    (subst (λ diff. TakesMarks c.loop-place.books c.arrive.new.books (map Came (keyed_diff c.in-Some.key.now diff)))
+    (subst (λ diff. TakesValueMarks c.loop-place.books c.arrive.new.books (map Came (keyed_diff c.in-Some.key.now diff)))
     c.diff_of-diff.ensures c.in_ok-arrive.ensures)))
 
 -- no key is left
