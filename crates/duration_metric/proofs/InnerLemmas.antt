@@ -96,7 +96,7 @@ pub sets_count : (old new : InnerTable) (place count : ℕ) (was : Inner)
 sets_count old new place count was at is =
     let now : Inner = record was { count = count } in
     record {
-      spec_is = ap (λ (t : InnerTable). t.spec) is;
+      nesting_is = ap (λ (t : InnerTable). t.nesting) is;
       bound_is = ap (λ (t : InnerTable). t.keys.bound) is;
       state_is = ap state_in is
           ∙ ap (λ counts. record (state_in old) { counts = counts }) (counts-set old.keys.rows place now);
@@ -109,7 +109,7 @@ sets_count old new place count was at is =
 pub takes_out : (old new : InnerTable) (key : LeafKey) → new ≡ record old { keys = without same_leaves old.keys key }
     → ChangesTo old new (without_key same_leaves (state_in old) key)
 takes_out old new key is = record {
-  spec_is = ap (λ (t : InnerTable). t.spec) is;
+  nesting_is = ap (λ (t : InnerTable). t.nesting) is;
   bound_is = ap (λ (t : InnerTable). t.keys.bound) is;
   state_is = ap state_in is
       ∙ ap (λ counts. record (state_in old) { counts = counts }) (counts-filter key old.keys.rows);
@@ -122,18 +122,18 @@ takes_out old new key is = record {
 pub lists_key : (old new : InnerTable) (table : Table LeafKey Inner) (key : LeafKey) (count : ℕ) (answer : Admit)
     → ¬ Contains (keys old.keys) key → Admits old.keys table key (record { count = count; known = None }) answer
     → new ≡ record old { keys = table } → ListsKey old new key count
-lists_key old new table key count (At place) absent admits is bound = ⊎_elim
+lists_key old new table key count (At place) absent admits is = ⊎_elim
     (λ (there : IsThere old.keys table key place).
     absurd (absent (Contains-from_place (keys old.keys) place key there.at)))
     (λ (added : IsNew old.keys table key (record { count = count; known = None }) place).
     let row : LeafKey × Inner = (key, record { count = count; known = None }) in
     let now : InnerTable = record old { keys = record old.keys { rows = old.keys.rows ++ row ∷ [] } } in
     let new_is : new ≡ now = is ∙ ap (λ (t : Table LeafKey Inner). record old { keys = t }) added.added in
-    let room : nat_lt (length (state_in old).counts) old.spec.bound ≡ true =
-    lt-ltb (length (state_in old).counts) old.spec.bound
-    (omega (arith, added.room, bound, length-map old.keys.rows row_count)) in
+    let room : nat_lt (length (state_in old).counts) old.keys.bound ≡ true =
+    lt-ltb (length (state_in old).counts) old.keys.bound
+    (omega (arith, added.room, length-map old.keys.rows row_count)) in
     record {
-      spec_is = ap (λ (t : InnerTable). t.spec) new_is;
+      nesting_is = ap (λ (t : InnerTable). t.nesting) new_is;
       bound_is = ap (λ (t : InnerTable). t.keys.bound) new_is;
       state_is = ap state_in new_is
           ∙ ap (λ counts. record (state_in old) { counts = counts }) (map-append row_count old.keys.rows (row ∷ []))
@@ -144,14 +144,14 @@ lists_key old new table key count (At place) absent admits is bound = ⊎_elim
           (known-push known old.keys.rows row all (sym (none key absent)));
     })
     admits
-lists_key old new table key count Full absent away is bound =
+lists_key old new table key count Full absent away is =
     let now : InnerTable = record old { keys = record old.keys { dropped = count_in_u64 (old.keys.dropped + 1) } } in
     let new_is : new ≡ now = is ∙ ap (λ (t : Table LeafKey Inner). record old { keys = t }) away.added in
-    let full : nat_lt (length (state_in old).counts) old.spec.bound ≡ false =
-    le-ltb (length (state_in old).counts) old.spec.bound
-    (omega (arith, away.full, bound, length-map old.keys.rows row_count)) in
+    let full : nat_lt (length (state_in old).counts) old.keys.bound ≡ false =
+    le-ltb (length (state_in old).counts) old.keys.bound
+    (omega (arith, away.full, length-map old.keys.rows row_count)) in
     record {
-      spec_is = ap (λ (t : InnerTable). t.spec) new_is;
+      nesting_is = ap (λ (t : InnerTable). t.nesting) new_is;
       bound_is = ap (λ (t : InnerTable). t.keys.bound) new_is;
       state_is = ap state_in new_is
           ∙ sym (ap (λ b. if b then record (state_in old) { counts = (state_in old).counts ++ (key, count) ∷ [] }

@@ -1,8 +1,8 @@
 -- What calls tell of inner keys, one call at a time.
-use Rattle.std.proofs.Common.{◌≡◌, ◌⊎◌, inl, inr, ℕ, zero, suc, ◌+◌, ◌-◌, Bool, true, false, not, ◌||◌, ◌==◌, cond, if◌then◌else◌, nat_lt, List, [], ◌∷◌, ◌++◌, map, filter, length, position, slice_get, reverse, drop, Option, Some, None, refl, sym, ap, subst, ◌∙◌, arith, ⊎_elim, append-nil}
+use Rattle.std.proofs.Common.{◌≡◌, ◌⊎◌, inl, inr, ℕ, zero, suc, ◌+◌, ◌-◌, Bool, true, false, not, ◌||◌, ◌&&◌, ◌==◌, cond, if◌then◌else◌, nat_lt, List, [], ◌∷◌, ◌++◌, map, filter, length, position, slice_get, reverse, drop, Option, Some, None, refl, sym, ap, subst, ◌∙◌, arith, ⊎_elim, append-nil}
 use Rattle.std.specs.Bool.{Decides}
 use Rattle.std.specs.List.{flat_map, after_last, suffix_len, prefix_len, last_or, IsDistinct, position_or_len}
-use Rattle.std.specs.Map.{keys_of, values_of}
+use Rattle.std.specs.Map.{keys_of, values_of, lookup}
 use Rattle.std.specs.Option.{option_map, option_and_then}
 use Rattle.std.specs.Cmp.Lexicographic.{pointwise_decides}
 use Rattle.std.proofs.lemmas.Bool.{lt-ltb}
@@ -18,7 +18,9 @@ use Rattle.bucket_meaning.specs.Guard.{is_among}
 use Rattle.config_types.specs.declared.parameters.PredSpec.{PredSpec}
 use Rattle.dim_table.specs.Table.{keys, set_value_at, with_value_at}
 use Rattle.dim_table.proofs.KeyLemmas.{not_among, keys_set_value_at}
-use Rattle.predicate_state.specs.PredicateStates.{KeyEvent, PredicateState, initial_state, state_from, state_after}
+use Rattle.predicate_state.specs.declared.event.PredEvent.{PredEvent}
+use Rattle.predicate_state.specs.declared.event.PredEvent.TheVariants.{Start, Stop, StopAll}
+use Rattle.predicate_state.specs.PredicateStates.{KeyEvent, PredicateState, initial_state, count_after_start, count_after_stop, with_new_key, with_key_count, without_key, state_from, state_after, state_after_start, state_after_stop}
 use Rattle.predicate_state.specs.PredicateTable.{LeafKey, same_leaves}
 use Rattle.predicate_state.proofs.PredicateStateLemmas.{state_from-push}
 use Rattle.metric_producer.specs.Calls.{Got, Learned}
@@ -30,7 +32,7 @@ use Rattle.duration_metric.specs.declared.inner.Known.{Known}
 use Rattle.duration_metric.specs.declared.inner.Inner.{Inner}
 use Rattle.duration_metric.specs.declared.inner.InnerTable.{InnerTable}
 use Rattle.duration_metric.specs.InnerKeys.{DurationCall, key_events, known_by, known_at, KeySeen, inner_state, inner_keys, told_to, key_seen, last_known, told_truth}
-use Rattle.duration_metric.specs.InnerStands.{state_in, AreKnown, InnersStandFor, ActsOn, TakesEvent, TakesDelta, TellsOne, TellsAll}
+use Rattle.duration_metric.specs.InnerStands.{state_in, kept_spec, AreKnown, InnersStandFor, ActsOn, TakesEvent, TakesDelta, TellsOne, TellsAll}
 use Rattle.duration_metric.proofs.InnerLemmas.{keys_of-counts, counts-same}
 
 -- whether two inner keys are the same is decided
@@ -163,27 +165,44 @@ pub listed_keys : (it : InnerTable) (spec : PredSpec) (calls : List DurationCall
 listed_keys it spec calls is =
     sym (keys_of-counts it.keys.rows) ∙ ap (λ (s : PredicateState LeafKey). keys_of s.counts) is
 
+-- an event asks of a spec only whether starts are counted, and for the bound
+kept_by : (one other : PredSpec) → one.nesting ≡ other.nesting → one.bound ≡ other.bound
+    → (state : PredicateState LeafKey) (event : PredEvent) (key : LeafKey)
+    → state_after same_leaves one state event key ≡ state_after same_leaves other state event key
+kept_by one other nesting bound state Start key = started (lookup (same_leaves key) state.counts) where
+  started : (found : Option ℕ)
+      → state_after_start same_leaves one state key found ≡ state_after_start same_leaves other state key found
+  started None = ap (λ n. with_new_key n state key 1) bound
+  started (Some count) = ap (λ b. with_key_count same_leaves state key (count_after_start b count)) nesting
+kept_by one other nesting bound state Stop key = stopped (lookup (same_leaves key) state.counts) where
+  stopped : (found : Option ℕ)
+      → state_after_stop same_leaves one state key found ≡ state_after_stop same_leaves other state key found
+  stopped None = ap (λ n. if state.unknown then with_new_key n state key 0 else state) bound
+  stopped (Some count) =
+      ap (λ b. if count_after_stop b count == 0 && not state.unknown then without_key same_leaves state key
+      else with_key_count same_leaves state key (count_after_stop b count)) nesting
+kept_by one other nesting bound state StopAll key = refl
+
 -- an event that acted on a table is one of the calls that it stands for
 pub takes_event : (old new : InnerTable) (event : InnerEvent) → ActsOn old new event.event event.key
     → TakesEvent old new event
 takes_event old new event acts spec calls at stands =
-    let changes = acts (stands.bound_is ∙ sym (ap (λ (s : PredSpec). s.bound) stands.spec_is)) in
     let state : state_in new ≡ inner_state spec (calls ++ Got at event ∷ []) =
-    changes.state_is
-    ∙ ap (λ (s : PredSpec). state_after same_leaves s (state_in old) event.event event.key) stands.spec_is
+    acts.state_is
+    ∙ kept_by (kept_spec old) spec stands.nesting_is stands.bound_is (state_in old) event.event event.key
     ∙ ap (λ (s : PredicateState LeafKey). state_after same_leaves spec s event.event event.key) stands.state_is
     ∙ sym (inner_state-got spec calls at event) in
     let was = last_known spec calls in
     let now = last_known spec (calls ++ Got at event ∷ []) in
     record {
-      spec_is = changes.spec_is ∙ stands.spec_is;
-      bound_is = changes.bound_is ∙ stands.bound_is;
+      nesting_is = acts.nesting_is ∙ stands.nesting_is;
+      bound_is = acts.bound_is ∙ stands.bound_is;
       state_is = state;
       known_are = known_where was now new.keys.rows
           (λ key among. sym (last_known-listed spec calls (Got at event) key
           (subst (λ ks. is_among same_leaves key ks ≡ true)
           (listed_keys new spec (calls ++ Got at event ∷ []) state) among)))
-          (changes.known_are was
+          (acts.known_are was
           (λ key absent. last_known-absent spec calls key
           (subst (λ ks. is_among same_leaves key ks ≡ false) (listed_keys old spec calls stands.state_is)
           (not_among same_leaves leaves_exact (keys old.keys) key absent)))
@@ -198,7 +217,7 @@ takes_other it spec calls call none silent stands =
     let state : state_in it ≡ inner_state spec (calls ++ call ∷ []) =
     stands.state_is ∙ sym (inner_state-other spec calls call none) in
     record {
-      spec_is = stands.spec_is;
+      nesting_is = stands.nesting_is;
       bound_is = stands.bound_is;
       state_is = state;
       known_are = known_where (last_known spec calls) (last_known spec (calls ++ call ∷ [])) it.keys.rows
@@ -325,7 +344,7 @@ module _ (first old new : InnerTable) (changes : List InnerChange) (change : Inn
       let now : Inner = record was { known = Some (known_by change) } in
       let rows = set_value_at old.keys.rows change.place now in
       record {
-        spec_is = ap (λ (t : InnerTable). t.spec) is ∙ tells.spec_is;
+        nesting_is = ap (λ (t : InnerTable). t.nesting) is ∙ tells.nesting_is;
         bound_is = ap (λ (t : InnerTable). t.keys.bound) is ∙ tells.bound_is;
         state_is = ap state_in is
             ∙ ap (λ counts. record (state_in old) { counts = counts })
@@ -353,7 +372,7 @@ module _ (first old new : InnerTable) (changes : List InnerChange) (change : Inn
   tells_nowhere : slice_get (values_of old.keys.rows) change.place ≡ None → new ≡ old
       → TellsAll first new (changes ++ change ∷ [])
   tells_nowhere none is = record {
-    spec_is = ap (λ (t : InnerTable). t.spec) is ∙ tells.spec_is;
+    nesting_is = ap (λ (t : InnerTable). t.nesting) is ∙ tells.nesting_is;
     bound_is = ap (λ (t : InnerTable). t.keys.bound) is ∙ tells.bound_is;
     state_is = ap state_in is ∙ tells.state_is;
     known_are = λ known all.
@@ -382,7 +401,7 @@ module _ (first old new : InnerTable) (changes : List InnerChange) (change : Inn
 -- before any change
 pub tells_none : (it : InnerTable) → TellsAll it it []
 tells_none it = record {
-  spec_is = refl;
+  nesting_is = refl;
   bound_is = refl;
   state_is = refl;
   known_are = λ known all. known_where known
@@ -403,7 +422,7 @@ takes_delta old new delta tells spec calls at stands =
     let state : state_in new ≡ inner_state spec (calls ++ call ∷ []) =
     tells.state_is ∙ stands.state_is ∙ sym stays in
     record {
-      spec_is = tells.spec_is ∙ stands.spec_is;
+      nesting_is = tells.nesting_is ∙ stands.nesting_is;
       bound_is = tells.bound_is ∙ stands.bound_is;
       state_is = state;
       known_are = known_where

@@ -16,3 +16,6 @@ pub mod SparseBooksLemmas
 pub mod SparseLemmas
 pub mod SparseTurnLemmas
 mod SparseWorked
+pub mod InnerItemsLemmas
+pub mod SumFormLemmas
+pub mod SparseFormLemmas

@@ -25,6 +25,10 @@ abbrev pub state_in : InnerTable → PredicateState LeafKey
 state_in it =
     record { unknown = it.unknown; counts = map row_count it.keys.rows; dropped = it.keys.dropped }
 
+-- how the table is kept, as far as events ask
+abbrev pub kept_spec : InnerTable → PredSpec
+kept_spec it = record { nesting = it.nesting; unknown = it.unknown; bound = it.keys.bound; leaves = 0 }
+
 -- each listed key was told last what is said of it
 abbrev pub AreKnown : (LeafKey → Option Known) → List (LeafKey × Inner) → Type 0
 AreKnown known [] = Unit {0}
@@ -32,7 +36,7 @@ AreKnown known (row ∷ rows) = (row.1.known ≡ known row.0) × AreKnown known 
 
 -- The table is kept as the spec says, and has what these calls tell of the inner keys.
 pub record InnersStandFor (it : InnerTable) (spec : PredSpec) (calls : List DurationCall) : Type 0 where
-  pub spec_is : it.spec ≡ spec
+  pub nesting_is : it.nesting ≡ spec.nesting
   pub bound_is : it.keys.bound ≡ spec.bound
   pub state_is : state_in it ≡ inner_state spec calls
   pub known_are : AreKnown (last_known spec calls) it.keys.rows
@@ -45,19 +49,15 @@ KeepsKnown old new =
 
 -- The new table knows this of its keys, and each that is there still was told what it was told before.
 pub record ChangesTo (old new : InnerTable) (state : PredicateState LeafKey) : Type 0 where
-  pub spec_is : new.spec ≡ old.spec
+  pub nesting_is : new.nesting ≡ old.nesting
   pub bound_is : new.keys.bound ≡ old.keys.bound
   pub state_is : state_in new ≡ state
   pub known_are : KeepsKnown old new
 
--- the table holds as many keys as its spec says
-abbrev pub IsAsSpec : InnerTable → Type 0
-IsAsSpec it = it.keys.bound ≡ it.spec.bound
-
 -- an event acts on a key of a table as on one of a predicate, and tells nothing
 abbrev pub ActsOn : InnerTable → InnerTable → PredEvent → LeafKey → Type 0
 ActsOn old new event key =
-    IsAsSpec old → ChangesTo old new (state_after same_leaves old.spec (state_in old) event key)
+    ChangesTo old new (state_after same_leaves (kept_spec old) (state_in old) event key)
 
 -- the key at a place has another count
 abbrev pub SetsCount : InnerTable → InnerTable → ℕ → ℕ → Type 0
@@ -67,7 +67,7 @@ SetsCount old new place count = ChangesTo old new
 -- a new key is listed last, or finds no room
 abbrev pub ListsKey : InnerTable → InnerTable → LeafKey → ℕ → Type 0
 ListsKey old new key count =
-    IsAsSpec old → ChangesTo old new (with_new_key old.spec.bound (state_in old) key count)
+    ChangesTo old new (with_new_key old.keys.bound (state_in old) key count)
 
 -- whatever calls the old one stood for, the new one stands for those and this event
 abbrev pub TakesEvent : InnerTable → InnerTable → InnerEvent → Type 0
@@ -91,7 +91,7 @@ pub record TellsOne (old new : InnerTable) (change : InnerChange) : Type 0 where
 
 -- Each of some changes tells of the key at its place, the last one last.
 pub record TellsAll (old new : InnerTable) (changes : List InnerChange) : Type 0 where
-  pub spec_is : new.spec ≡ old.spec
+  pub nesting_is : new.nesting ≡ old.nesting
   pub bound_is : new.keys.bound ≡ old.keys.bound
   pub state_is : state_in new ≡ state_in old
   pub known_are : (known : LeafKey → Option Known) → AreKnown known old.keys.rows

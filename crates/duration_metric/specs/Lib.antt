@@ -8,3 +8,9 @@ pub mod SparseTimes
 pub mod SparseBooksStand
 pub mod SparseEntries
 pub mod SparseStands
+pub mod ActiveForm
+pub mod InnerItems
+pub mod SumItems
+pub mod SumForm
+pub mod SparseItems
+pub mod SparseForm

@@ -37,7 +37,9 @@ pub(crate) struct Inner {
 /// The inner keys in order, up to a bound.
 #[derive(Drop)]
 pub(crate) struct InnerTable {
-    pub(crate) spec: PredSpec,
+    /// Whether starts are counted, so that as many stops end them.
+    pub(crate) nesting: bool,
+    /// Whether keys that aren't listed are unknown.
     pub(crate) unknown: bool,
     pub(crate) keys: Guarded<DimKey, Inner>,
 }
@@ -50,7 +52,7 @@ impl InnerTable {
         ensures { InnersStandFor result spec [] }
     {
         InnerTable {
-            spec,
+            nesting: spec.nesting,
             unknown: spec.unknown,
             keys: Guarded::new(alloc, spec.bound as usize),
         }
@@ -92,7 +94,7 @@ impl InnerTable {
     {
         match self.row_of(&key) {
             Some((place, count)) => {
-                let more = add_start(self.spec.nesting, count);
+                let more = add_start(self.nesting, count);
                 self.set_count(place, more);
                 Ok(())
             }
@@ -106,7 +108,7 @@ impl InnerTable {
     {
         match self.row_of(&key) {
             Some((place, count)) => {
-                let less = add_stop(self.spec.nesting, count);
+                let less = add_stop(self.nesting, count);
                 if less == 0 && !self.unknown {
                     self.remove(&key);
                     return Ok(());

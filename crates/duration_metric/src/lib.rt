@@ -1,12 +1,17 @@
 //! What metrics of durations keep of their inner keys between two reports.
 #![tactic(auto)]
 
+mod active;
 mod change;
+mod flat;
 mod inner;
+mod memory;
 mod sparse;
 mod sparse_books;
+mod sparse_flat;
 mod sparse_keys;
 mod sum;
+mod sum_flat;
 
 pub use change::{InnerChange, InnerDelta, InnerEvent};
 pub use metric_producer::{Closed, Producer, Row};

@@ -14,6 +14,7 @@ ghost use Rattle.duration_metric.specs.SparseEntries.{saved_time, entry_marks, r
 ghost use Rattle.duration_metric.specs.declared.sparse_keys.SparseEntry.{SparseEntry};
 
 use crate::inner::Known;
+use crate::memory::Memory;
 use crate::{InnerChange, InnerDelta};
 use atom_record::{DimKey, MetricKey};
 use config_types::PredSpec;
@@ -51,7 +52,7 @@ pub struct SparseKeys {
     pub(crate) spec: PredSpec,
     pub(crate) unknown: bool,
     pub(crate) table: Guarded<DimKey, SparseEntry>,
-    pub(crate) alloc: Global,
+    pub(crate) memory: Memory,
 }
 
 impl SparseKeys {
@@ -65,7 +66,7 @@ impl SparseKeys {
             spec,
             unknown: spec.unknown,
             table: Guarded::new(alloc, spec.bound as usize),
-            alloc,
+            memory: Memory::new(alloc),
         }
     }
 
@@ -98,7 +99,7 @@ impl SparseKeys {
             return Ok(Turn::Stays);
         }
         if self.unknown {
-            let turn = turn_off(entry, at, self.alloc)?;
+            let turn = turn_off(entry, at, self.memory.alloc())?;
             set_count(&mut self.table, place, 0);
             return Ok(turn);
         }

@@ -7,7 +7,7 @@ ghost use Rattle.bucket_clock.specs.Clock.{last_end};
 ghost use Rattle.bucket_meaning.specs.Limits.{longest_bucket, time_limit, most_keys};
 ghost use Rattle.config_types.specs.declared.parameters.PredSpec.{PredSpec};
 ghost use Rattle.kept_rows.specs.KeptRows.{AddsRows};
-ghost use Rattle.bucket_meaning.specs.Guard.{with_key, firsts};
+ghost use Rattle.bucket_meaning.specs.Guard.{firsts};
 ghost use Rattle.metric_kinds.specs.Keys.{is_same_key};
 ghost use Rattle.metric_kinds.specs.Counts.{row_weight};
 ghost use Rattle.duration_metric.specs.SumCalls.{while_true, known_out};
@@ -15,13 +15,14 @@ ghost use Rattle.duration_metric.specs.InnerKeys.{DurationParams, DurationCall, 
 ghost use Rattle.duration_metric.specs.SumStands.{span_at, span_time, span_row, whole_row, whole_rows, SumStandsFor};
 ghost use Rattle.duration_metric.specs.SumSteps.{active_in, StepsAll, StepsOne, BeginsRun, BeginsAll, ClosesRows, Opens, out_for};
 
+use crate::active::ActiveKeys;
 use crate::inner::{Inner, InnerTable, Known};
+use crate::memory::Memory;
 use crate::{Closed, InnerDelta, InnerEvent, Producer, Row};
 use atom_record::{DimKey, MetricKey};
 use bucket_clock::Crossings;
 use config_types::PredSpec;
 use dim_table::Guarded;
-use distinct::Distinct;
 use indexmap::map::IntoIter;
 use kept_rows::KeptRows;
 use predicate_state::Truth;
@@ -40,12 +41,12 @@ pub struct SumProducer {
     pub(crate) start: u64,
     pub(crate) inner: InnerTable,
     /// The active keys since the last condition, in inner order.
-    pub(crate) active: Distinct<MetricKey>,
+    pub(crate) active: ActiveKeys,
     pub(crate) table: Guarded<MetricKey, Span>,
     pub(crate) kept: KeptRows<Row<u64>>,
     /// How many inner keys had found no room at the last report.
     pub(crate) reported: u64,
-    pub(crate) alloc: Global,
+    pub(crate) memory: Memory,
 }
 
 impl SumProducer {
@@ -63,11 +64,11 @@ impl SumProducer {
         SumProducer {
             start: base,
             inner: InnerTable::new(alloc, spec),
-            active: Distinct::new(alloc),
+            active: ActiveKeys::new(alloc),
             table: Guarded::new(alloc, spec.bound as usize),
             kept: KeptRows::new(alloc),
             reported: 0,
-            alloc,
+            memory: Memory::new(alloc),
         }
     }
 
@@ -109,8 +110,14 @@ impl SumProducer {
     fn open(&mut self) -> Result<(), AllocError>
         ensures { OnOk result (Opens self.old self.new) }
     {
-        let none = Distinct::new(self.alloc);
-        begin_all(&mut self.table, &none, &self.active, self.start, self.alloc)
+        let none = ActiveKeys::new(self.memory.alloc());
+        begin_all(
+            &mut self.table,
+            &none,
+            &self.active,
+            self.start,
+            self.memory.alloc(),
+        )
     }
 }
 
@@ -132,12 +139,7 @@ fn step(at: u64, is_active: bool, span: Span) -> Span
 }
 
 // Takes the span of the key at a place to a time.
-fn step_at(
-    table: &mut Guarded<MetricKey, Span>,
-    active: &Distinct<MetricKey>,
-    place: usize,
-    at: u64,
-)
+fn step_at(table: &mut Guarded<MetricKey, Span>, active: &ActiveKeys, place: usize, at: u64)
     ensures { StepsOne table.old table.new active.now place at }
 {
     let Some((key, _span)) = table.pair(place) else {
@@ -151,7 +153,7 @@ fn step_at(
 }
 
 // Takes all spans to a time, from which on these keys are active.
-fn step_all(table: &mut Guarded<MetricKey, Span>, active: &Distinct<MetricKey>, at: u64)
+fn step_all(table: &mut Guarded<MetricKey, Span>, active: &ActiveKeys, at: u64)
     ensures { StepsAll table.old table.new active.now at }
 {
     let count = table.len();
@@ -163,7 +165,7 @@ fn step_all(table: &mut Guarded<MetricKey, Span>, active: &Distinct<MetricKey>, 
 // Admits a key whose run begins, unless it was active before.
 fn begin(
     table: &mut Guarded<MetricKey, Span>,
-    before: &Distinct<MetricKey>,
+    before: &ActiveKeys,
     key: &MetricKey,
     at: u64,
     alloc: Global,
@@ -184,8 +186,8 @@ fn begin(
 // Admits the keys that weren't active before, in order.
 fn begin_all(
     table: &mut Guarded<MetricKey, Span>,
-    before: &Distinct<MetricKey>,
-    now: &Distinct<MetricKey>,
+    before: &ActiveKeys,
+    now: &ActiveKeys,
     at: u64,
     alloc: Global,
 ) -> Result<(), AllocError>
@@ -197,39 +199,20 @@ fn begin_all(
     Ok(())
 }
 
-// Lists a key, unless it is there.
-fn list_key(
-    active: &mut Distinct<MetricKey>,
-    key: &MetricKey,
-    alloc: Global,
-) -> Result<(), AllocError>
-    ensures { OnOk result (active.new ≡ with_key is_same_key active.old key.now) }
-{
-    if active.contains(key) {
-        return Ok(());
-    }
-    active.add(key.clone_key(alloc)?)?;
-    Ok(())
-}
-
 // Lists the output key of an inner key while its condition is true.
-fn list_while(
-    active: &mut Distinct<MetricKey>,
-    known: &Known,
-    alloc: Global,
-) -> Result<(), AllocError>
+fn list_while(active: &mut ActiveKeys, known: &Known, alloc: Global) -> Result<(), AllocError>
     ensures { OnOk result
         (active.new ≡ firsts is_same_key active.old (while_true known.now.truth known.now.out)) }
 {
     match known.truth {
-        Truth::True => list_key(active, &known.out, alloc),
+        Truth::True => active.list(&known.out, alloc),
         Truth::Unknown | Truth::False => Ok(()),
     }
 }
 
 // Lists the output key that was told of an inner key.
 fn list_known(
-    active: &mut Distinct<MetricKey>,
+    active: &mut ActiveKeys,
     known: &Option<Known>,
     alloc: Global,
 ) -> Result<(), AllocError>
@@ -242,7 +225,7 @@ fn list_known(
 }
 
 // Lists the output key of an inner key that counts.
-fn list_out(active: &mut Distinct<MetricKey>, row: &Inner, alloc: Global) -> Result<(), AllocError>
+fn list_out(active: &mut ActiveKeys, row: &Inner, alloc: Global) -> Result<(), AllocError>
     ensures { OnOk result
         (active.new ≡ firsts is_same_key active.old (out_for row.now.count row.now.known)) }
 {
@@ -253,11 +236,11 @@ fn list_out(active: &mut Distinct<MetricKey>, row: &Inner, alloc: Global) -> Res
 }
 
 // The active keys, each once, in inner order.
-fn gather(inner: &InnerTable, alloc: Global) -> Result<Distinct<MetricKey>, AllocError>
+fn gather(inner: &InnerTable, alloc: Global) -> Result<ActiveKeys, AllocError>
     ensures keys { IfOk result (λ active. active ≡ active_in inner.now.keys.rows) }
     ensures few { length inner.now.keys.rows ≤ inner.now.keys.bound }
 {
-    let mut active = Distinct::new(alloc);
+    let mut active = ActiveKeys::new(alloc);
     for place in 0..inner.keys.len() {
         let Some((_key, row)) = inner.keys.pair(place) else {
             return Ok(active);
@@ -388,9 +371,15 @@ impl Producer for SumProducer {
 
     fn condition(&mut self, at: u64, now: InnerDelta) -> Result<(), AllocError> {
         self.inner.tell(now);
-        let active = gather(&self.inner, self.alloc)?;
+        let active = gather(&self.inner, self.memory.alloc())?;
         step_all(&mut self.table, &active, at);
-        begin_all(&mut self.table, &self.active, &active, at, self.alloc)?;
+        begin_all(
+            &mut self.table,
+            &self.active,
+            &active,
+            at,
+            self.memory.alloc(),
+        )?;
         self.active = active;
         Ok(())
     }
@@ -401,7 +390,7 @@ impl Producer for SumProducer {
             &mut self.kept,
             self.active.as_slice(),
             &crossings,
-            self.alloc,
+            self.memory.alloc(),
         )?;
         let full = crossings.full_buckets.saturating_mul(crossings.size);
         self.start = crossings.first_end.saturating_add(full);

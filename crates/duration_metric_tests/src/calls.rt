@@ -1,10 +1,14 @@
 //! Calls as words: `3:start=7`, `3:stop=7` and `3:stop_all` are what an atom does to an inner key at a time,
 //! `3:tell=0T9,1F8` the changes of places, each with a truth (T, U or F) and an output key, `cross:10+2` the crossing of
 //! a full end and of so many full buckets after it, `cut:5` a cut, `take` a report, and `inner` shows the inner keys.
+//! `rebuilt` goes on with what the producer's items build, and `turns:100/8` stands for 100 events, each with its
+//! condition: 8 inner keys start one after the other, each true for the output key 7, and stop, the last one first, again
+//! and again. An event's time is its number.
 use super::shown::{push_closed, push_key};
 use atom_record::{DimKey, Leaf, MetricKey, Value};
 use bucket_clock::Crossings;
 use duration_metric::{InnerChange, InnerDelta, InnerEvent, MaxProducer, Producer, SumProducer};
+use flat_form::{FlatError, rebuild};
 use predicate_state::{PredEvent, Truth};
 use sd_base::Seq;
 use std::alloc::{AllocError, Global};
@@ -17,6 +21,9 @@ pub trait Timed: Producer<Event = InnerEvent, After = InnerDelta, Value = u64> {
     fn key(&self, place: usize) -> Option<&DimKey>;
 
     fn truth(&self, place: usize) -> Option<Truth>;
+
+    /// What its items build.
+    fn again(&self, alloc: Global) -> Result<Self, FlatError>;
 }
 
 impl Timed for SumProducer {
@@ -31,6 +38,10 @@ impl Timed for SumProducer {
     fn truth(&self, place: usize) -> Option<Truth> {
         self.inner_truth(place)
     }
+
+    fn again(&self, alloc: Global) -> Result<Self, FlatError> {
+        rebuild(alloc, self)
+    }
 }
 
 impl Timed for MaxProducer {
@@ -44,6 +55,10 @@ impl Timed for MaxProducer {
 
     fn truth(&self, place: usize) -> Option<Truth> {
         self.inner_truth(place)
+    }
+
+    fn again(&self, alloc: Global) -> Result<Self, FlatError> {
+        rebuild(alloc, self)
     }
 }
 
@@ -62,6 +77,10 @@ enum Do<'a> {
     Take,
     /// The inner keys are shown.
     Inner,
+    /// The producer is built again.
+    Rebuild,
+    /// So many events, by so many inner keys in turn.
+    Turns(u64, u64),
 }
 
 /// The call of a word.
@@ -69,12 +88,14 @@ fn call_of(word: &str) -> Option<Do<'_>> {
     match word {
         "take" => return Some(Do::Take),
         "inner" => return Some(Do::Inner),
+        "rebuilt" => return Some(Do::Rebuild),
         _ => (),
     }
     let (before, after) = word.split_once(':')?;
     match before {
         "cut" => Some(Do::Cut(unsigned(after)?)),
         "cross" => crossing_of(after),
+        "turns" => turns_of(after),
         _ => step_of(unsigned(before)?, after),
     }
 }
@@ -83,6 +104,16 @@ fn call_of(word: &str) -> Option<Do<'_>> {
 fn crossing_of(text: &str) -> Option<Do<'_>> {
     let (end, full) = text.split_once('+').unwrap_or((text, "0"));
     Some(Do::Cross(unsigned(end)?, unsigned(full)?))
+}
+
+/// Events in turn, as `100/8`.
+fn turns_of(text: &str) -> Option<Do<'_>> {
+    let (count, keys) = text.split_once('/')?;
+    let keys = unsigned(keys)?;
+    if keys < 1 || keys > 3000 {
+        return None;
+    }
+    Some(Do::Turns(unsigned(count)?, keys))
 }
 
 /// What happens at a time, as `start=7`.
@@ -99,7 +130,7 @@ fn step_of(at: u64, text: &str) -> Option<Do<'_>> {
 }
 
 /// The key with one leaf.
-fn key_of(alloc: Global, number: i32) -> Result<DimKey, AllocError> {
+pub fn key_of(alloc: Global, number: i32) -> Result<DimKey, AllocError> {
     let mut dims = Seq::new(alloc);
     dims.push(Leaf::One(Value::Int(number)))?;
     Ok(dims)
@@ -137,7 +168,7 @@ fn delta_of(alloc: Global, text: &str) -> Result<InnerDelta, AllocError> {
 }
 
 /// What the reports of these calls show, one after the other. Full buckets have a size.
-pub fn played<P: Timed>(
+pub fn played<P: Timed + Drop>(
     alloc: Global,
     producer: &mut P,
     size: u64,
@@ -148,11 +179,28 @@ pub fn played<P: Timed>(
         match call_of(word) {
             Some(Do::Take) => push_closed(&mut shown, &producer.take())?,
             Some(Do::Inner) => push_inner(&mut shown, producer)?,
+            Some(Do::Rebuild) => build_again(alloc, &mut shown, producer)?,
             Some(call) => act(alloc, producer, size, call)?,
             None => write!(shown, "no call {word} ")?,
         }
     }
     Ok(shown)
+}
+
+/// Goes on with what the producer's items build.
+fn build_again<P: Timed + Drop>(
+    alloc: Global,
+    shown: &mut String,
+    producer: &mut P,
+) -> Result<(), AllocError> {
+    match producer.again(alloc) {
+        Ok(built) => {
+            *producer = built;
+            Ok(())
+        }
+        Err(FlatError::Memory) => Err(AllocError),
+        Err(FlatError::Bad) => shown.push_str("not rebuilt "),
+    }
 }
 
 /// The inner keys, each with the truth that was told of it.
@@ -196,6 +244,82 @@ fn act<P: Timed>(
             size,
         }),
         Do::Cut(at) => producer.cut(at),
-        Do::Take | Do::Inner => Ok(()),
+        Do::Turns(count, keys) => turn(alloc, producer, count, keys),
+        Do::Take | Do::Inner | Do::Rebuild => Ok(()),
     }
+}
+
+/// So many events: the keys start one after the other, and then they stop, the last one first, again and again.
+fn turn<P: Timed>(
+    alloc: Global,
+    producer: &mut P,
+    count: u64,
+    keys: u64,
+) -> Result<(), AllocError> {
+    for at in 0..count {
+        turn_once(alloc, producer, at, keys)?;
+    }
+    Ok(())
+}
+
+/// One of these events.
+fn turn_once<P: Timed>(
+    alloc: Global,
+    producer: &mut P,
+    at: u64,
+    keys: u64,
+) -> Result<(), AllocError> {
+    if keys == 0 {
+        return Ok(());
+    }
+    let step = at % keys;
+    if (at / keys) % 2 == 0 {
+        return start_one(alloc, producer, at, step as u32);
+    }
+    let last = keys.saturating_sub(1);
+    stop_one(alloc, producer, at, last.saturating_sub(step) as u32)
+}
+
+/// A key starts, as the last one, and is true for the output key 7.
+fn start_one<P: Timed>(
+    alloc: Global,
+    producer: &mut P,
+    at: u64,
+    number: u32,
+) -> Result<(), AllocError> {
+    give(alloc, producer, at, PredEvent::Start, number)?;
+    let mut changes = Seq::new(alloc);
+    let out = MetricKey {
+        dims: key_of(alloc, 7)?,
+        slices: Seq::new(alloc),
+    };
+    changes.push(InnerChange {
+        place: number,
+        truth: Truth::True,
+        out,
+    })?;
+    producer.condition(at, InnerDelta { changes })
+}
+
+/// A key stops, and nothing is told of the others.
+fn stop_one<P: Timed>(
+    alloc: Global,
+    producer: &mut P,
+    at: u64,
+    number: u32,
+) -> Result<(), AllocError> {
+    give(alloc, producer, at, PredEvent::Stop, number)?;
+    let changes = Seq::new(alloc);
+    producer.condition(at, InnerDelta { changes })
+}
+
+fn give<P: Timed>(
+    alloc: Global,
+    producer: &mut P,
+    at: u64,
+    event: PredEvent,
+    number: u32,
+) -> Result<(), AllocError> {
+    let key = key_of(alloc, number as i32)?;
+    producer.event(at, InnerEvent { event, key })
 }

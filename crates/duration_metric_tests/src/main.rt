@@ -3,6 +3,7 @@
 
 mod calls;
 mod rows;
+mod saved;
 mod shown;
 
 use rows::Durations;

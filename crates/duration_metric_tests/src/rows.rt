@@ -1,5 +1,6 @@
 //! The rows: what a producer is made with, its calls, and what its reports show.
 use super::calls::played;
+use super::saved::run_built;
 use config_types::PredSpec;
 use duration_metric::{MaxProducer, SumProducer};
 use std::alloc::{AllocError, Global};
@@ -10,10 +11,13 @@ pub struct Durations;
 
 impl Table for Durations {
     fn marks(&self) -> &'static str {
-        "sum longest calls shows"
+        "sum longest calls shows items built"
     }
 
     fn run(&self, alloc: Global, tester: &mut Tester, row: &Row<'_>) -> Result<(), AllocError> {
+        if row.has("items") {
+            return run_built(alloc, tester, row);
+        }
         let longest = row.word("longest");
         let is_longest = !longest.is_empty();
         let text = if is_longest { longest } else { row.word("sum") };

@@ -12,3 +12,8 @@ mod ReadAheadLemmas
 pub mod OftenLemmas
 pub mod JumpsLemmas
 pub mod PulledLemmas
+pub mod FormLemmas
+pub mod ChoiceNumbersLemmas
+pub mod SumsItemsLemmas
+pub mod BooksItemsLemmas
+pub mod PulledValueItemsLemmas

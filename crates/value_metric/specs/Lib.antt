@@ -9,3 +9,7 @@ pub mod ReadAhead
 pub mod PulledCollecting
 pub mod PulledStands
 pub mod PulledSteps
+pub mod ChoiceNumbers
+pub mod SumsItems
+pub mod BooksItems
+pub mod PulledValueItems

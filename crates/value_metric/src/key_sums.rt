@@ -6,6 +6,7 @@ ghost use Rattle.metric_kinds.specs.Diffs.{key_sums};
 ghost use Rattle.metric_kinds.specs.Keys.{is_same_key};
 ghost use Rattle.value_metric.specs.PulledValues.{keyed_ints};
 ghost use Rattle.value_metric.specs.Sums.{with_sum};
+ghost use Rattle.value_metric.specs.SumsItems.{HaveOwnKeys, AddsOwnRow, IsSumsOf};
 
 use crate::KeyedInt;
 use atom_record::MetricKey;
@@ -41,6 +42,39 @@ impl KeySums {
             sums.add(integer.key, integer.value as i128)?;
         }
         Ok(sums)
+    }
+
+    /// Of these rows, or none where a key comes twice.
+    pub(crate) fn of_rows(
+        alloc: Global,
+        rows: Seq<(MetricKey, i128)>,
+    ) -> Result<Option<KeySums>, AllocError>
+        ensures { IfOk result (IsSumsOf rows) }
+    {
+        let mut sums = KeySums {
+            rows: IndexMap::new(alloc),
+        };
+        for (key, sum) in rows.into_vec() {
+            if !sums.add_own(key, sum)? {
+                return Ok(None);
+            }
+        }
+        Ok(Some(sums))
+    }
+
+    // Adds the row of a key, unless the key has one already. Answers whether it was added.
+    fn add_own(&mut self, key: MetricKey, sum: i128) -> Result<bool, AllocError>
+        ensures { IfOk result (AddsOwnRow self.old self.new key sum) }
+    {
+        let before = self.rows.insert(key, sum)?;
+        Ok(before.is_none())
+    }
+
+    /// No key comes twice.
+    pub(crate) fn show_own_keys(&self)
+        ensures { HaveOwnKeys self.now }
+    {
+        let _count = self.rows.len();
     }
 
     // One more integer of a key.

@@ -1,11 +1,15 @@
 //! What a metric of values keeps of its integers between two reports.
 #![tactic(auto)]
 
+mod books_flat;
 mod key_sums;
 mod keyed_int;
+mod numbers;
+mod pulled_flat;
 mod pulled_value;
 mod pushed_value;
 mod read_ahead;
+mod sums_flat;
 mod value_books;
 
 pub use keyed_int::{KeyedInt, SnapInts};

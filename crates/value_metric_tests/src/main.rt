@@ -2,6 +2,7 @@
 #![tactic(auto)]
 
 mod calls;
+mod forms;
 mod pulled;
 mod pushed;
 mod rows;

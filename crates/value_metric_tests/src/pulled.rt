@@ -17,7 +17,7 @@ pub fn played(
     let mut shown = String::new(alloc);
     for word in text.split_whitespace() {
         match call_of(word) {
-            Some(call) => act(&mut shown, values, size, call)?,
+            Some(call) => act(alloc, &mut shown, values, size, call)?,
             None => tell(alloc, &mut shown, values, word)?,
         }
     }

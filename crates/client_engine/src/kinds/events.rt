@@ -37,6 +37,7 @@ pub fn begin(alloc: Global, base: u64, metric: &LMetric) -> Lane<EventProducer>
     ensures { (installed : Installation) → installed.base ≡ base
         → EventsAlong metric.now installed [] result }
 {
+    // The clauses alone speak of the metric: it has no buckets and no bound, so that nothing of it is read here.
     let _metric = metric;
     let producer = EventProducer::new(alloc);
     Lane::new(base, 0, producer)

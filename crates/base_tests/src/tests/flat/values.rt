@@ -20,14 +20,14 @@ fn push_key(alloc: Global, items: &mut Items) -> Result<(), AllocError> {
 }
 
 // The items of a value alone.
-fn items_of<T: Flat>(alloc: Global, value: &T) -> Result<Items, AllocError> {
+pub fn items_of<T: Flat>(alloc: Global, value: &T) -> Result<Items, AllocError> {
     let mut items = Items::new(alloc);
     value.flatten(alloc, &mut items)?;
     Ok(items)
 }
 
 // Whether this value stands at the place, up to the next one.
-fn is_built<T: Flat + Drop + PartialEq>(
+pub fn is_built<T: Flat + Drop + PartialEq>(
     alloc: Global,
     items: &Items,
     place: usize,
@@ -49,7 +49,7 @@ fn is_rebuilt<T: Flat + Drop + PartialEq>(alloc: Global, value: &T) -> bool {
 }
 
 // Whether no value of this type stands at the place.
-fn is_bad<T: Flat + Drop>(alloc: Global, items: &Items, place: usize) -> bool {
+pub fn is_bad<T: Flat + Drop>(alloc: Global, items: &Items, place: usize) -> bool {
     matches!(T::build(alloc, items, place), Err(FlatError::Bad))
 }
 

@@ -21,4 +21,4 @@ returns c =
     let ends = c.loop-key-test.false in
     let keys = c.as_slice-key-items.result.now in
     subst (λ some. BeginsAll c.args.table.now c.loop-key.table c.args.before.now some c.args.at)
-    (take_all c.loop-key.key-index keys (omega (arith, ends)) ∙ c.as_slice-key-items.ensures) c.loop-key.invariant
+    (take_all c.loop-key.key-index keys (omega (arith, ends)) ∙ c.as_slice-key-items.ensures.value) c.loop-key.invariant

@@ -2,13 +2,13 @@
 use Rattle.std.proofs.Common.{ap}
 use Rattle.predicate_state.specs.PredicateTable.{PredicateTable}
 use Rattle.predicate_state.proofs.PredicateStateLemmas.{started}
-use Rattle.duration_metric.specs.InnerStands.{state_in}
+use Rattle.duration_metric.specs.InnerStands.{kept_spec, state_in}
 use Rattle.duration_metric.proofs.InnerLemmas.{changes_by}
 use Rattle.duration_metric.proofs.inner.InnerTable.start.Goals as goal
 
 pub returns-in-Some : goal.returns-in-Some
-returns-in-Some c bound =
-    let table : PredicateTable = record { spec = c.args.self.now.spec; state = state_in c.args.self.now } in
+returns-in-Some c =
+    let table : PredicateTable = record { spec = kept_spec c.args.self.now; state = state_in c.args.self.now } in
     changes_by c.args.self.now c.set_count.new.self _ _
     (ap (λ (t : PredicateTable). t.state)
     (started table c.args.key c.in-Some.place c.in-Some.count c.in-Some.ensures.count c.in-Some.ensures.place

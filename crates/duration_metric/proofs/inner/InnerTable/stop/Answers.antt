@@ -2,14 +2,14 @@
 use Rattle.std.proofs.Common.{◌≡◌, ◌==◌, ◌&&◌, not, false, ap}
 use Rattle.predicate_state.specs.PredicateTable.{PredicateTable}
 use Rattle.predicate_state.proofs.PredicateStateLemmas.{stopped, stays_above, stays_unknown}
-use Rattle.duration_metric.specs.InnerStands.{state_in}
+use Rattle.duration_metric.specs.InnerStands.{kept_spec, state_in}
 use Rattle.duration_metric.proofs.InnerLemmas.{changes_by}
 use Rattle.duration_metric.proofs.inner.InnerTable.stop.Goals as goal
 use Rattle.duration_metric.proofs.inner.InnerTable.stop.Goals.{else-less-eq0-via-then-less-eq0+else-not-self, else-less-eq0-via-else-less-eq0}
 
 pub returns-else-less-eq0 : goal.returns-else-less-eq0
-returns-else-less-eq0 c bound =
-    let table : PredicateTable = record { spec = c.args.self.now.spec; state = state_in c.args.self.now } in
+returns-else-less-eq0 c =
+    let table : PredicateTable = record { spec = kept_spec c.args.self.now; state = state_in c.args.self.now } in
     let less = c.add_stop-less.result in
     let stays : (less == 0 && not c.args.self.now.unknown) ≡ false =
     elim c.else-less-eq0.branch [

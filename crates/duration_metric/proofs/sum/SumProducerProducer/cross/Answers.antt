@@ -14,5 +14,5 @@ returns c = on_ok_weaker c.open.result
     (λ fits. omega (arith, fits, c.saturating_mul-full.ensures, c.saturating_add-self.ensures))
     (λ fits. subst (λ keys. AddsRows row_weight c.close.new.self.kept c.keep_full.new.kept
     (whole_rows c.args.crossings.first_end c.args.crossings.size c.args.crossings.full_buckets keys))
-    c.as_slice.ensures (c.in_ok-keep_full.ensures fits)))
+    c.as_slice.ensures.value (c.in_ok-keep_full.ensures fits)))
     c.open.ensures

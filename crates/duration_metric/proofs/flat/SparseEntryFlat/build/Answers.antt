@@ -1,0 +1,14 @@
+-- It is built from its parts.
+use Rattle.std.proofs.lemmas.Result.{err_from_is_err_and}
+use Rattle.duration_metric.proofs.InnerItemsLemmas.{entry_fails, entry_built}
+use Rattle.duration_metric.proofs.flat.SparseEntryFlat.build.Goals as goal
+
+-- no such parts stand there
+pub returns-in_err-form : goal.returns-in_err-form
+returns-in_err-form c =
+    let p = err_from_is_err_and c.from_residual.result c.from_residual.ensures.1 in
+    rw (p.1, p.2) (entry_fails c.args.items.now c.args.place c.in_err-form.field-0.0 c.in_err-form.ensures)
+
+-- what the parts make
+pub returns : goal.returns
+returns c = entry_built c.args.items.now c.args.place c.in_ok-form.form c.in_ok-form.next c.in_ok-form.ensures

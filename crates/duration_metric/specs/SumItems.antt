@@ -1,0 +1,120 @@
+-- The items of a producer of sums, and which of them there are.
+use Rattle.std.specs.Prelude.{ℕ, ◌+◌, ◌≤◌, List, [], ◌∷◌, ◌++◌, length, All}
+use Rattle.std.specs.List.{IsDistinct}
+use Rattle.std.proofs.Common.{arith}
+use Rattle.std.proofs.lemmas.List.{length-append}
+use Rattle.std.proofs.lemmas.List.Elements.{All-nil, All-cons, All-append}
+use Rattle.flat_form.specs.declared.item.Item.{Item}
+use Rattle.flat_form.specs.declared.item.Item.TheVariants.{Num}
+use Rattle.flat_form.specs.Flat.{Anything, IsValidPair, number_items, dims_items, key_items, list_items}
+use Rattle.flat_form.specs.Savable.{IsSavable, AreSavable, IsShortKey, AreShortLeaves}
+use Rattle.flat_form.specs.SavableLaws.{items_savable, number_savable, dims_savable, key_savable, list_savable}
+use Rattle.flat_form.specs.Weight.{most_items, list_entries}
+use Rattle.flat_form.specs.Bounded.{elements_bounded, list_few}
+use Rattle.dim_table.specs.TableItems.{table_items, IsTable, table_entries, table_bounded, table_few, table_savable}
+use Rattle.kept_rows.specs.KeptItems.{kept_items, kept_entries, IsKeeping, AreSavableRows, kept_bounded, kept_few, kept_savable}
+use Rattle.metric_producer.specs.declared.row.Row.{Row}
+use Rattle.metric_producer.specs.RowItems.{row_items, IsRow, IsSavableRow, row_savable}
+use Rattle.metric_kinds.specs.Keys.{is_same_key}
+use Rattle.predicate_state.specs.PredicateItems.{flag_number}
+use Rattle.duration_metric.specs.declared.sum.SumProducer.{SumProducer}
+use Rattle.duration_metric.specs.InnerItems.{inner_items, IsSavableInner, inner_savable, span_items, span_savable}
+
+-- the items of a row with a time
+abbrev pub time_row_items : Row ℕ → List Item
+time_row_items = row_items number_items
+
+-- the items of such a row can be spelled
+pub time_row_savable : (row : Row ℕ) → IsRow Anything row → IsSavableRow Anything row → AreSavable (time_row_items row)
+time_row_savable row is can = row_savable number_items Anything Anything number_savable row is can
+
+-- a sum's table of spans, and its kept rows
+abbrev pub sum_books_items : SumProducer → List Item
+sum_books_items it = table_items key_items span_items it.table ++ kept_items time_row_items it.kept
+
+-- its inner keys, its active keys, and its books
+abbrev pub sum_rest_items : SumProducer → List Item
+sum_rest_items it =
+    table_items dims_items inner_items it.inner.keys ++ (list_items key_items it.active ++ sum_books_items it)
+
+-- A sum is where its open part began, how many inner keys had found no room at the last report, whether starts are
+-- counted, whether keys that aren't listed are unknown, its inner keys, its active keys, its table and its kept rows.
+abbrev pub sum_items : SumProducer → List Item
+sum_items it =
+    Num it.start ∷ Num it.reported ∷ Num (flag_number it.inner.nesting) ∷ Num (flag_number it.inner.unknown)
+    ∷ sum_rest_items it
+
+-- its tables are some, no key is active twice, and its kept rows are within their bound
+pub record IsSum (it : SumProducer) : Type 0 where
+  pub inner : IsTable Anything Anything it.inner.keys
+  pub once : IsDistinct is_same_key it.active
+  pub table : IsTable Anything Anything it.table
+  pub kept : IsKeeping (IsRow Anything) it.kept
+
+-- its keys fit their counts
+pub record IsSavableSum (it : SumProducer) : Type 0 where
+  pub inner : All (IsValidPair AreShortLeaves IsSavableInner) it.inner.keys.rows
+  pub active : All IsShortKey it.active
+  pub table : All (IsValidPair IsShortKey Anything) it.table.rows
+  pub kept : AreSavableRows (IsSavableRow Anything) it.kept
+
+-- its entries: those of its inner keys, of its active keys, of the admitted keys, and of its kept rows
+abbrev pub sum_entries : SumProducer → ℕ
+sum_entries it =
+    table_entries dims_items inner_items it.inner.keys
+    + (list_entries key_items it.active
+    + (table_entries key_items span_items it.table + kept_entries time_row_items it.kept))
+
+-- a head of fourteen items, and eight at most for each entry
+pub sum_bounded : (it : SumProducer) → IsSum it → length (sum_items it) ≤ most_items 14 (sum_entries it)
+sum_bounded it is =
+    let inner = table_bounded dims_items inner_items Anything Anything it.inner.keys is.inner in
+    let active = elements_bounded key_items it.active in
+    let table = table_bounded key_items span_items Anything Anything it.table is.table in
+    let kept = kept_bounded time_row_items (IsRow Anything) it.kept is.kept in
+    let books = length-append (table_items key_items span_items it.table) (kept_items time_row_items it.kept) in
+    let keys = length-append (list_items key_items it.active) (sum_books_items it) in
+    let all = length-append (table_items dims_items inner_items it.inner.keys)
+    (list_items key_items it.active ++ sum_books_items it) in
+    omega arith
+
+-- an entry is an item at least
+pub sum_few : (it : SumProducer) → sum_entries it ≤ length (sum_items it)
+sum_few it =
+    let inner = table_few dims_items inner_items it.inner.keys in
+    let active = list_few key_items it.active in
+    let table = table_few key_items span_items it.table in
+    let kept = kept_few time_row_items it.kept in
+    let books = length-append (table_items key_items span_items it.table) (kept_items time_row_items it.kept) in
+    let keys = length-append (list_items key_items it.active) (sum_books_items it) in
+    let all = length-append (table_items dims_items inner_items it.inner.keys)
+    (list_items key_items it.active ++ sum_books_items it) in
+    omega arith
+
+-- any list has elements that are valid where any value is
+pub any_keys : {X : Type 0} (xs : List X) → All Anything xs
+any_keys [] = All-nil Anything
+any_keys (x ∷ xs) = All-cons Anything x xs tt (any_keys xs)
+
+-- the items of such a sum can be spelled
+pub sum_savable : (it : SumProducer) → IsSum it → IsSavableSum it → AreSavable (sum_items it)
+sum_savable it is can =
+    let inner = table_savable dims_items inner_items Anything Anything AreShortLeaves IsSavableInner dims_savable
+    inner_savable it.inner.keys is.inner can.inner in
+    let active = list_savable key_items Anything IsShortKey key_savable it.active (any_keys it.active) can.active in
+    let table = table_savable key_items span_items Anything Anything IsShortKey Anything key_savable span_savable
+    it.table is.table can.table in
+    let kept = kept_savable time_row_items (IsRow Anything) (IsSavableRow Anything) time_row_savable it.kept is.kept
+    can.kept in
+    let books = All-append IsSavable (table_items key_items span_items it.table) (kept_items time_row_items it.kept)
+    table kept in
+    let keys = All-append IsSavable (list_items key_items it.active) (sum_books_items it) active books in
+    let rest = All-append IsSavable (table_items dims_items inner_items it.inner.keys)
+    (list_items key_items it.active ++ sum_books_items it) inner keys in
+    let unknown = items_savable (Num (flag_number it.inner.unknown)) (sum_rest_items it) tt rest in
+    let nesting = items_savable (Num (flag_number it.inner.nesting))
+    (Num (flag_number it.inner.unknown) ∷ sum_rest_items it) tt unknown in
+    let reported = items_savable (Num it.reported)
+    (Num (flag_number it.inner.nesting) ∷ Num (flag_number it.inner.unknown) ∷ sum_rest_items it) tt nesting in
+    items_savable (Num it.start) (Num it.reported ∷ Num (flag_number it.inner.nesting)
+    ∷ Num (flag_number it.inner.unknown) ∷ sum_rest_items it) tt reported
