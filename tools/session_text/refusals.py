@@ -7,7 +7,7 @@ KINDS = {1: MATCHER, 2: PREDICATE, 3: STATE, 4: METRIC}
 MOST = {1: 800, 2: 300, 3: 16, 4: 100}
 NOT = 3
 # What no program acts on yet: these metrics, and those of these whose atoms are pulled.
-WAITING, WAITING_PULLED = ("duration_metric",), ("value_metric", "gauge_metric")
+WAITING, WAITING_PULLED = (), ("value_metric", "gauge_metric")
 # The ids of atoms that are pulled.
 PULLED = (range(10_000, 100_000), range(150_000, 200_000))
 

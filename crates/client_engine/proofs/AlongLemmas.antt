@@ -6,19 +6,21 @@ use Rattle.sd_base.proofs.OutputsLemmas.{outputs-push}
 use Rattle.atom_record.specs.declared.log.LogFrame.{LogFrame}
 use Rattle.bucket_meaning.specs.Ends.{Moment}
 use Rattle.bucket_meaning.specs.Limits.{time_limit}
-use Rattle.metric_producer.specs.LaneCalls.{LaneStep, IsTimelyStep, AreTimely, last_at}
+use Rattle.bucket_clock.specs.Clock.{Saw}
+use Rattle.metric_producer.specs.Rules.{AreAdmitted}
+use Rattle.metric_producer.specs.LaneCalls.{LaneStep, told_by, IsTimelyStep, AreTimely, last_at}
 use Rattle.metric_producer.specs.OpeningCalls.{AskWell}
 use Rattle.metric_producer.specs.declared.row.Row.{Row}
 use Rattle.metric_producer.specs.declared.row.Closed.{Closed}
 use Rattle.metric_producer.specs.Collecting.{Law, closed_of}
 use Rattle.session_frames.specs.FrameReading.{log_time}
-use Rattle.metric_lane.specs.LaneStands.{LaneHas, OpenedStandsFor, LogsNews, GetsReport}
+use Rattle.metric_lane.specs.LaneStands.{LaneHas, OpenedStandsFor, GetsFrame, LogsNews, GetsReport}
 use Rattle.metric_lane.specs.declared.lane.Lane.{Lane}
-use Rattle.metric_lane.proofs.LaneStepsLemmas.{opened_reports}
+use Rattle.metric_lane.proofs.LaneStepsLemmas.{opened_crosses, opened_reports}
 use Rattle.metric_meaning.specs.Histories.{What, Logged, Reported, Step, moment_of}
 use Rattle.metric_calls.specs.LaneSteps.{lane_step, lane_steps}
 use Rattle.metric_meaning.specs.Ways.{shown_by_steps}
-use Rattle.metric_calls.specs.Askings.{Asking, own_demands, steps_seen, AsksWell, Agrees}
+use Rattle.metric_calls.specs.Askings.{Asking, own_demands, steps_seen, calls_crossed, asked_at, shown_by_calls, AsksWell, Agrees}
 use Rattle.metric_calls.proofs.StepLemmas.{lane_step_after}
 use Rattle.metric_calls.proofs.AskingsLemmas.{asks_well, calls_mean_steps}
 use Rattle.client_engine.specs.Along.{Along}
@@ -89,14 +91,38 @@ module _ {P Params News Event After X K C V : Type 0} (asking : Asking Params Ne
               (asks_well asking law.collecting well (steps ++ step ∷ []))));
         }
 
-    -- one more report: what the lane hands out is what is shown of the metric by its steps
-    pub along_reports : Agrees asking law.collecting → (request : ReportRequest) (old new : Lane P Event After V)
-        (closed : Closed V)
+    -- what one more frame of the log crosses, and that what the metric asks at it may come then
+    pub along_crosses : (frame : LogFrame) (truths : List Bool) (old middle : Lane P Event After V)
+        → GetsFrame law old middle (moment_of frame (log_time frame)) → Along asking law steps old
+        → ComeInTime (own_demands asking law.collecting).base (with_logged steps frame truths)
+        → LaneHas law middle asking.params
+        (told_by (steps_seen asking steps) ++ Saw (moment_of frame (log_time frame)) ∷ [])
+        (calls_crossed asking law.collecting steps frame (log_time frame))
+        × AreAdmitted (own_demands asking law.collecting)
+        (calls_crossed asking law.collecting steps frame (log_time frame))
+        (asked_at asking steps frame (log_time frame) truths)
+    along_crosses frame truths old middle crosses along in_time =
+        let step = logged_step frame truths in
+        let base = (own_demands asking law.collecting).base in
+        let seen = steps_seen asking steps in
+        let all = seen ++ lane_step (asking.news steps) step ∷ [] in
+        let pushed : steps_seen asking (steps ++ step ∷ []) ≡ all = steps-push asking.news steps step in
+        opened_crosses law asking.asks asking.params seen along.fits asking.opens well.opens old middle
+        (moment_of frame (log_time frame)) (asking.news steps step) crosses along.collects
+        (subst (AreTimely base) pushed (timely_from asking.news base (steps ++ step ∷ []) in_time))
+        (subst (AskWell (own_demands asking law.collecting) asking.asks asking.opens []) pushed
+        (asks_well asking law.collecting well (steps ++ step ∷ [])))
+
+    -- one more report: what the lane hands out is what is shown of the metric by its steps, where that is what its
+    -- calls mean
+    pub along_reports_by : (request : ReportRequest) (old new : Lane P Event After V) (closed : Closed V)
+        → shown_by_calls asking law.collecting steps request.include_current request.at
+        ≡ shown_by_steps asking.way steps request.include_current request.at
         → GetsReport law old new request.at request.include_current closed → Along asking law steps old
         → ComeInTime (own_demands asking law.collecting).base (with_reported steps request)
         → Along asking law (with_reported steps request) new
         × (closed ≡ closed_of (shown_by_steps asking.way steps request.include_current request.at))
-    along_reports agrees request old new closed reports along in_time =
+    along_reports_by request old new closed means reports along in_time =
         let step = reported_step request in
         let base = (own_demands asking law.collecting).base in
         let seen = steps_seen asking steps in
@@ -111,6 +137,16 @@ module _ {P Params News Event After X K C V : Type 0} (asking : Asking Params Ne
             fits = along.fits;
             collects = subst (OpenedStandsFor law asking.asks asking.opens new asking.params) (sym pushed) both.0;
           },
-          both.1 ∙ ap closed_of
-              (calls_mean_steps asking law.collecting agrees steps request.include_current request.at),
+          both.1 ∙ ap closed_of means,
         )
+
+    -- so it is where calls and steps agree
+    pub along_reports : Agrees asking law.collecting → (request : ReportRequest) (old new : Lane P Event After V)
+        (closed : Closed V)
+        → GetsReport law old new request.at request.include_current closed → Along asking law steps old
+        → ComeInTime (own_demands asking law.collecting).base (with_reported steps request)
+        → Along asking law (with_reported steps request) new
+        × (closed ≡ closed_of (shown_by_steps asking.way steps request.include_current request.at))
+    along_reports agrees request old new closed =
+        along_reports_by request old new closed
+        (calls_mean_steps asking law.collecting agrees steps request.include_current request.at)

@@ -17,7 +17,7 @@ use Rattle.metric_meaning.specs.Scenes.{Scene, scene_after}
 use Rattle.metric_meaning.specs.Readings.{LeafReading, atom_reading}
 use Rattle.metric_meaning.specs.MetricConditions.{is_condition_true}
 use Rattle.metric_meaning.specs.StateSlices.{named_slices}
-use Rattle.metric_meaning.specs.Arrivals.{holds_in, arriving_by, atom_key}
+use Rattle.metric_meaning.specs.Arrivals.{metric_key, holds_in, arriving_by}
 use Rattle.metric_calls.specs.Askings.{Asking, own_demands, AsksWell}
 use Rattle.client_engine.specs.Handed.{Handed, IsOfScene}
 use Rattle.client_engine.specs.Along.{Along}
@@ -58,15 +58,15 @@ one_arriving scene metric frame at atom truths holds is what means on =
     (ap (λ b. if b then Some atom else None) (sym on ∙ means)
     ∙ ap (λ b. if b && holds_in scene metric (atom_reading atom) then Some atom else None) what)
 
--- what is handed has the slices that an atom's key has
-pub key_there : (given : Handed) (scene : Scene) (metric : LMetric) (atom : Atom) (dims : List Leaf)
-    (slices : List Slice) → IsOfScene given scene → dims ≡ atom_reading atom metric.dims
-    → slices ≡ named_slices given.states scene.log (atom_reading atom) metric.slices
-    → record { dims = dims; slices = slices } ≡ atom_key scene metric atom
-key_there given scene metric atom dims slices found dims_are slices_are =
+-- what is handed has the slices that a key of what is read has
+pub key_there : (given : Handed) (scene : Scene) (metric : LMetric) (reading : LeafReading) (dims : List Leaf)
+    (slices : List Slice) → IsOfScene given scene → dims ≡ reading metric.dims
+    → slices ≡ named_slices given.states scene.log reading metric.slices
+    → record { dims = dims; slices = slices } ≡ metric_key scene metric reading
+key_there given scene metric reading dims slices found dims_are slices_are =
     ap (λ (d : List Leaf). let key : MetricKey = record { dims = d; slices = slices } in key) dims_are
-    ∙ ap (λ (s : List Slice). let key : MetricKey = record { dims = atom_reading atom metric.dims; slices = s } in key)
-    (slices_are ∙ ap (λ states. named_slices states scene.log (atom_reading atom) metric.slices) found.states)
+    ∙ ap (λ (s : List Slice). let key : MetricKey = record { dims = reading metric.dims; slices = s } in key)
+    (slices_are ∙ ap (λ states. named_slices states scene.log reading metric.slices) found.states)
 
 -- What a metric asks of its producer hangs on the atom that arrives alone, as `makes` says.
 pub record IsOfArrivals {P Params News Event After X K C V : Type 0}

@@ -31,6 +31,7 @@ use Rattle.client_engine.specs.Handed.{BookOfStates, handed}
 use Rattle.client_engine.proofs.ShownLemmas.{shown_time, shown_tables}
 use Rattle.client_engine.specs.KeptPredicates.{HasItsLeaves, KeepsItsLeaves, HasBound, CanBeKept}
 use Rattle.client_engine.specs.Tracks.{CanBeTracked, metric_in, AsksWithin, AllAskWithin, AreNew, AllStandFor, AllReport}
+use Rattle.client_engine.specs.SoundMetrics.{IsSoundIn}
 use Rattle.client_engine.specs.Running.{Running, linked_of}
 use Rattle.client_engine.specs.InstanceParts.{tree_with, AreStateDrops}
 use Rattle.client_engine.specs.InstanceStands.{new_history, IsFresh, Logs, Reports}
@@ -235,9 +236,9 @@ sound_kept linked sound =
 -- an instance of a sound configuration, to which nothing has happened yet
 pub fresh : (linked : Linked) (base : ℕ) (it : Running) → it.matchers ≡ linked.matchers
     → it.known.predicates ≡ linked.predicates → it.states ≡ linked.states → it.base ≡ base → it.last ≡ base
-    → KnowsAfter [] it.known → AreNew base linked.metrics it.tracks → (opening : List LogFrame)
+    → KnowsAfter [] it.known → AreNew base linked.metrics it.tracks → IsSoundConfig linked → (opening : List LogFrame)
     → IsFresh linked base opening it
-fresh linked base it matchers predicates states base_is last_is knows are opening = record {
+fresh linked base it matchers predicates states base_is last_is knows are sound opening = record {
   linked = ap (λ ms. record (linked_of it) { matchers = ms }) matchers
       ∙ ap (λ ps. record linked { predicates = ps; states = it.states; metrics = map metric_in it.tracks })
       predicates
@@ -247,7 +248,9 @@ fresh linked base it matchers predicates states base_is last_is knows are openin
   last = last_is;
   in_time = tt;
   knows = knows;
-  tracks = are.stand (new_history base opening linked).installed refl;
+  tracks = are.stand (new_history base opening linked).installed refl
+      (All-weaker (IsSoundMetric linked) (IsSoundIn linked)
+      (λ metric s. record { leaves = (sound_kept linked sound).leaves; sound = s }) linked.metrics sound.metrics);
 }
 
 -- the metrics of a sound configuration ask its predicates

@@ -12,6 +12,11 @@ pub mod ValuesLemmas
 pub mod MessagesLemmas
 pub mod GaugesLemmas
 pub mod EventsLemmas
+pub mod InnerLemmas
+pub mod ChangesLemmas
+pub mod SumsLemmas
+pub mod InTimeLemmas
+pub mod LongestLemmas
 pub mod TracksLemmas
 pub mod InstanceLemmas
 pub mod AskedLemmas

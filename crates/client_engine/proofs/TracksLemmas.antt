@@ -1,7 +1,7 @@
 -- The metrics of a configuration with their lanes, one by one.
 use Rattle.std.proofs.Common.{◌≡◌, ℕ, zero, suc, ◌+◌, ◌<◌, Bool, true, false, if◌then◌else◌, List, [], ◌∷◌, ◌++◌, length, set, get_or, take, drop, map, filter, All, refl, sym, ap, subst, ◌∙◌, arith}
 use Rattle.std.proofs.Math.Nat.{add-zero}
-use Rattle.std.proofs.lemmas.List.{append-nil, map-append, length-set, length-map, get_or-map, get_or-drop, take_more_set, take_more, drop-set-lt, drop-drop, take_all, drop_all}
+use Rattle.std.proofs.lemmas.List.{append-nil, map-append, length-append, length-set, length-map, get_or_append_left, get_or-append-add, get_or-map, get_or-drop, take_more_set, take_more, drop-set-lt, drop-drop, take_all, drop_all}
 use Rattle.std.proofs.lemmas.List.Elements.{All-nil, All-push, All-get_or}
 use Rattle.atom_record.specs.declared.log.LogFrame.{LogFrame}
 use Rattle.config_links.specs.declared.linked.LMetric.{LMetric}
@@ -9,6 +9,7 @@ use Rattle.metric_meaning.specs.Histories.{Step, Installation}
 use Rattle.report_writer.specs.Writable.{IsWritableMetric}
 use Rattle.report_writer.specs.declared.tree.MetricTree.{MetricTree}
 use Rattle.client_engine.specs.NextSteps.{MayLog, MayReport, with_logged, with_reported, requested_tree, TakesFrame, TakesReport}
+use Rattle.client_engine.specs.SoundMetrics.{IsSoundIn}
 use Rattle.client_engine.specs.TrackStands.{TrackStandsFor}
 use Rattle.client_engine.specs.Known.{Known}
 use Rattle.client_engine.specs.Handed.{Handed}
@@ -18,18 +19,31 @@ use Rattle.client_engine.specs.declared.request.ReportRequest.{ReportRequest}
 
 -- no metric has a track yet
 pub none_new : (base : ℕ) → AreNew base [] []
-none_new base = record { metrics_are = refl; stand = λ installed is. All-nil (TrackStandsFor installed []) }
+none_new base = record { metrics_are = refl; stand = λ installed is sound. All-nil (TrackStandsFor installed []) }
+
+-- what is so of all is so of those before the last, and of the last
+all_before : {X : Type 0} (P : X → Type 0) (xs : List X) (x : X) → All P (xs ++ x ∷ []) → All P xs
+all_before P xs x all k d within =
+    subst P (get_or_append_left xs (x ∷ []) d k within)
+    (all k d (omega (arith, within, length-append xs (x ∷ []))))
+
+the_last : {X : Type 0} (P : X → Type 0) (xs : List X) (x : X) → All P (xs ++ x ∷ []) → P x
+the_last P xs x all =
+    subst P (ap (λ n. get_or (xs ++ x ∷ []) n x) (sym (add-zero (length xs))) ∙ get_or-append-add xs (x ∷ []) 0 x)
+    (all (length xs) x (omega (arith, length-append xs (x ∷ []))))
 
 -- one more metric has its track
 pub one_new : (base : ℕ) (metrics : List LMetric) (tracks : List Track) (metric : LMetric) (track : Track)
     → AreNew base metrics tracks → track.metric ≡ metric
-    → ((installed : Installation) → installed.base ≡ base → TrackStandsFor installed [] track)
+    → ((installed : Installation) → installed.base ≡ base → IsSoundIn installed.linked metric
+    → TrackStandsFor installed [] track)
     → AreNew base (metrics ++ metric ∷ []) (tracks ++ track ∷ [])
 one_new base metrics tracks metric track are is stands = record {
   metrics_are = map-append metric_in tracks (track ∷ []) ∙ ap (λ l. l ++ track.metric ∷ []) are.metrics_are
       ∙ ap (λ m. metrics ++ m ∷ []) is;
-  stand = λ installed same. All-push (TrackStandsFor installed []) tracks track (are.stand installed same)
-      (stands installed same);
+  stand = λ installed same sound. All-push (TrackStandsFor installed []) tracks track
+      (are.stand installed same (all_before (IsSoundIn installed.linked) metrics metric sound))
+      (stands installed same (the_last (IsSoundIn installed.linked) metrics metric sound));
 }
 
 -- an element is replaced by one with the same image

@@ -11,6 +11,11 @@ pub mod ValuesAlong
 pub mod Messages
 pub mod GaugesAlong
 pub mod EventsAlong
+pub mod InnerTold
+pub mod DurationsShown
+pub mod SumsAlong
+pub mod LongestAlong
+pub mod SoundMetrics
 pub mod TrackStands
 pub mod Tracks
 pub mod Running

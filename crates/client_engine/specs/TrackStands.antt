@@ -7,8 +7,10 @@ use Rattle.client_engine.specs.CountsAlong.{CountsAlong}
 use Rattle.client_engine.specs.ValuesAlong.{ValuesAlong}
 use Rattle.client_engine.specs.GaugesAlong.{GaugesAlong}
 use Rattle.client_engine.specs.EventsAlong.{EventsAlong}
+use Rattle.client_engine.specs.SumsAlong.{SumsAlong}
+use Rattle.client_engine.specs.LongestAlong.{LongestAlong}
 use Rattle.client_engine.specs.declared.track.MetricLane.{MetricLane}
-use Rattle.client_engine.specs.declared.track.MetricLane.TheVariants.{Counts, Values, Gauges, Events}
+use Rattle.client_engine.specs.declared.track.MetricLane.TheVariants.{Counts, Values, Gauges, Events, Sums, Longest}
 use Rattle.client_engine.specs.declared.track.Track.{Track}
 
 -- a lane collects for its metric, as the metric's kind has it
@@ -17,6 +19,8 @@ LaneAlong metric installed steps (Counts lane) = CountsAlong metric installed st
 LaneAlong metric installed steps (Values lane) = ValuesAlong metric installed steps lane
 LaneAlong metric installed steps (Gauges lane) = GaugesAlong metric installed steps lane
 LaneAlong metric installed steps (Events lane) = EventsAlong metric installed steps lane
+LaneAlong metric installed steps (Sums lane) = SumsAlong metric installed steps lane
+LaneAlong metric installed steps (Longest lane) = LongestAlong metric installed steps lane
 
 -- a metric with its lane is what these steps make of it
 abbrev pub TrackStandsFor : Installation → List Step → Track → Type 0

@@ -9,6 +9,7 @@ use Rattle.report_writer.specs.Writable.{IsWritableMetric}
 use Rattle.report_writer.specs.declared.tree.MetricTree.{MetricTree}
 use Rattle.client_engine.specs.NextSteps.{MayReport, with_reported, requested_tree}
 use Rattle.client_engine.specs.TrackStands.{TrackStandsFor}
+use Rattle.client_engine.specs.SoundMetrics.{IsSoundIn}
 use Rattle.client_engine.specs.Known.{Known}
 use Rattle.client_engine.specs.declared.track.Track.{Track}
 use Rattle.client_engine.specs.declared.request.ReportRequest.{ReportRequest}
@@ -38,7 +39,8 @@ AllStandFor installed steps tracks = All (TrackStandsFor installed steps) tracks
 -- tracks of just these metrics, which have seen no step
 pub record AreNew (base : ℕ) (metrics : List LMetric) (tracks : List Track) : Type 0 where
   pub metrics_are : map metric_in tracks ≡ metrics
-  pub stand : (installed : Installation) → installed.base ≡ base → AllStandFor installed [] tracks
+  pub stand : (installed : Installation) → installed.base ≡ base → All (IsSoundIn installed.linked) metrics
+      → AllStandFor installed [] tracks
 
 -- a report of all: one step more, and what it shows of those that are shown
 pub record AllReport (base : ℕ) (request : ReportRequest) (old new : List Track) (trees : List MetricTree)

@@ -2,19 +2,19 @@
 ghost use Rattle.std.specs.Prelude.{◌≡◌, length, OnOk, IfOk};
 ghost use Rattle.std.specs.Option.{option_copied};
 ghost use Rattle.config_links.specs.SoundConfig.{MayBeWithin};
-ghost use Rattle.metric_meaning.specs.Arrivals.{arriving_by, atom_key};
+ghost use Rattle.metric_meaning.specs.Arrivals.{arriving_by, metric_key};
 ghost use Rattle.metric_meaning.specs.Scenes.{Scene};
 ghost use Rattle.client_engine.specs.Handed.{IsOfScene};
 ghost use Rattle.client_engine.specs.Known.{Known};
 ghost use Rattle.client_engine.specs.Bringing.{handed_with, brought_step};
 
+use crate::asked::Asked;
 use crate::brought::Brought;
 use crate::conditions::Conditions;
 use crate::matched::is_true_at;
 use crate::slices::slices_of;
 use atom_record::{Atom, LogFrame, MetricKey};
 use config_links::LMetric;
-use field_select::key_of;
 use std::alloc::{AllocError, Global};
 
 /// The atom that arrives at a metric, if one does, whatever the metric makes of it. The condition is asked last.
@@ -42,18 +42,18 @@ pub fn arriving<'a>(
     Ok(Some(atom))
 }
 
-/// A metric's key of an atom that arrives.
-pub fn key_in(
+/// A metric's key of what is read, as of an atom that arrives.
+pub fn key_in<A: Asked>(
     alloc: Global,
     metric: &LMetric,
     brought: &Brought<'_>,
-    atom: &Atom,
+    asked: &A,
 ) -> Result<MetricKey, AllocError>
     ensures { (known : Known) (scene : Scene) → IsOfScene (handed_with known brought.now) scene
-        → IfOk result (λ key. key ≡ atom_key scene metric.now atom.now) }
+        → IfOk result (λ key. key ≡ metric_key scene metric.now (A.reading asked.now)) }
 {
-    let dims = key_of(alloc, &metric.dims, atom)?;
+    let dims = asked.read(alloc, &metric.dims)?;
     let by = metric.slices.as_slice();
-    let slices = slices_of(alloc, brought.states, by, atom, brought.book)?;
+    let slices = slices_of(alloc, brought.states, by, asked, brought.book)?;
     Ok(MetricKey { dims, slices })
 }

@@ -1,20 +1,25 @@
 //! What a metric asks of predicates.
 ghost use Rattle.std.specs.Prelude.{◌≡◌, [], map, replicate, Some, OnOk, IfOk};
 ghost use Rattle.std.specs.List.{range_with_len};
-ghost use Rattle.metric_meaning.specs.Readings.{LeafReading, atom_reading};
+ghost use Rattle.metric_meaning.specs.Readings.{LeafReading, atom_reading, key_reading};
 ghost use Rattle.metric_meaning.specs.MetricConditions.{link_binds, binds_at};
 
-use atom_record::Atom;
-use condition_links::bind_atom;
+use atom_record::{Atom, DimKey};
+use condition_links::{bind_atom, bind_key, read_key};
 use config_links::LLink;
+use field_select::{FieldSet, key_of};
 use predicate_state::BindList;
 use sd_base::Seq;
 use std::alloc::{AllocError, Global};
 
-/// What links read the values from that they ask for.
+/// What the values of a key are read from, and those that links ask for.
 pub trait Asked {
     /// The values at the fields of any set.
     ghost reading: { Self → LeafReading };
+
+    /// The values at the fields of a set.
+    fn read(&self, alloc: Global, set: &FieldSet) -> Result<DimKey, AllocError>
+        ensures { IfOk result (λ key. key ≡ reading self.now set.now) };
 
     /// What a link asks of its predicate.
     fn bind(&self, alloc: Global, link: &LLink) -> Result<BindList, AllocError>
@@ -24,8 +29,31 @@ pub trait Asked {
 impl Asked for Atom {
     ghost reading = { atom_reading };
 
+    fn read(&self, alloc: Global, set: &FieldSet) -> Result<DimKey, AllocError> {
+        key_of(alloc, set, self)
+    }
+
     fn bind(&self, alloc: Global, link: &LLink) -> Result<BindList, AllocError> {
         bind_atom(alloc, link, self)
+    }
+}
+
+/// A key of a predicate that a duration times, and the fields whose values it has.
+#[derive(Clone, Copy)]
+pub struct InnerKey<'a> {
+    pub fields: &'a FieldSet,
+    pub key: &'a DimKey,
+}
+
+impl Asked for InnerKey<'_> {
+    ghost reading = { λ it. key_reading it.fields.now it.key.now };
+
+    fn read(&self, alloc: Global, set: &FieldSet) -> Result<DimKey, AllocError> {
+        read_key(alloc, self.fields, self.key, set)
+    }
+
+    fn bind(&self, alloc: Global, link: &LLink) -> Result<BindList, AllocError> {
+        bind_key(alloc, link, self.fields, self.key)
     }
 }
 

@@ -1,17 +1,22 @@
 //! The predicates of a configuration: what atoms make of them, and what metrics ask of them.
-ghost use Rattle.std.specs.Prelude.{◌≡◌, [], length, OnOk, IfOk};
+ghost use Rattle.std.specs.Prelude.{◌≡◌, [], length, slice_get, OnOk, IfOk};
 ghost use Rattle.config_links.specs.SoundConfig.{MayBeWithin};
 ghost use Rattle.condition_links.specs.ThreeValues.{is_true};
+ghost use Rattle.metric_meaning.specs.DurationSteps.{inner_fields};
 ghost use Rattle.metric_meaning.specs.MetricConditions.{is_condition_true};
+ghost use Rattle.metric_calls.specs.DurationCalls.{event_in};
 ghost use Rattle.client_engine.specs.NextSteps.{logged_step};
 ghost use Rattle.client_engine.specs.Known.{KnowsAfter, KnowsStep, drops_in};
 ghost use Rattle.client_engine.specs.KeptPredicates.{CanBeKept};
 
 use crate::asked::{Asked, ask_all};
+use crate::inner::{fields_in, key_event, no_fields};
 use crate::tables::{act_on_all, drops_of, new_tables};
-use atom_record::LogFrame;
+use atom_record::{Atom, LogFrame};
 use condition_links::query;
 use config_links::{CondTree, LMetric, LPredicate};
+use duration_metric::InnerEvent;
+use field_select::FieldSet;
 use predicate_state::{BindList, PredTable, Truth};
 use report_writer::Drop64;
 use sd_base::Seq;
@@ -97,6 +102,34 @@ impl Conditions {
         self.tree.root = metric.condition;
         let truth = query(&self.tree, self.tables.as_slice(), self.binds.as_slice());
         Ok(is_for_sure(truth))
+    }
+
+    /// The fields whose values the keys of a predicate have; a combination has none, and what isn't there neither.
+    pub fn fields_of(&self, alloc: Global, place: u32) -> Result<FieldSet, AllocError>
+        ensures { IfOk result (λ fields. fields
+            ≡ inner_fields (slice_get self.now.predicates place)) }
+    {
+        match self.tree.nodes.get(place as usize) {
+            Some(predicate) => fields_in(alloc, &predicate.body),
+            None => Ok(no_fields(alloc)),
+        }
+    }
+
+    /// What an atom does to the keys of a predicate, if it does something.
+    pub fn inner_event(
+        &self,
+        alloc: Global,
+        place: u32,
+        atom: &Atom,
+        matched: &[bool],
+    ) -> Result<Option<InnerEvent>, AllocError>
+        ensures { IfOk result (λ event. event
+            ≡ event_in (slice_get self.now.predicates place) matched.now atom.now) }
+    {
+        match self.tree.nodes.get(place as usize) {
+            Some(predicate) => key_event(alloc, &predicate.body, atom, matched),
+            None => Ok(None),
+        }
     }
 
     /// How often a key found no room, for each predicate where that is so.

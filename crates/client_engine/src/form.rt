@@ -6,7 +6,7 @@ ghost use Rattle.metric_meaning.specs.Forms.{is_built, is_built_metric};
 use config_links::{LKind, LMetric, Linked};
 
 /// Whether a configuration is acted on: any matchers, predicates and states; metrics of events, those that count, and
-/// those of pushed values and pushed samples, under any condition and sliced by any states.
+/// those of pushed values, pushed samples and durations, under any condition and sliced by any states.
 pub fn built(linked: &Linked) -> bool
     ensures { result ≡ is_built linked.now }
 {
@@ -26,6 +26,11 @@ fn is_acted_on(metric: &LMetric) -> bool
 {
     matches!(
         metric.kind,
-        LKind::Event | LKind::Count | LKind::PushedValue { .. } | LKind::PushedGauge { .. }
+        LKind::Event
+            | LKind::Count
+            | LKind::PushedValue { .. }
+            | LKind::PushedGauge { .. }
+            | LKind::SumDuration { .. }
+            | LKind::MaxSparse { .. }
     )
 }

@@ -7,6 +7,7 @@ mod brought;
 mod conditions;
 mod form;
 mod groups;
+mod inner;
 mod instance;
 mod integers;
 mod kinds;
@@ -22,6 +23,7 @@ mod slices;
 mod state_drops;
 mod tables;
 mod track;
+mod turns;
 
 pub use form::built;
 pub use instance::{Instance, LogView};

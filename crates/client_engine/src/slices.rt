@@ -1,62 +1,66 @@
-//! The slices of an atom by states.
+//! The slices by states of what is read.
 ghost use Rattle.std.specs.Prelude.{◌≡◌, ◌++◌, List, OnOk, IfOk};
 ghost use Rattle.atom_record.specs.declared.log.LogFrame.{LogFrame};
 ghost use Rattle.state_slicer.specs.StateBooks.{StateBookStandsFor};
 ghost use Rattle.metric_meaning.specs.StateSlices.{state_key, named_slice, named_slices};
-ghost use Rattle.metric_meaning.specs.Readings.{atom_reading};
 
-use atom_record::{Atom, DimKey, Slice};
+use crate::asked::Asked;
+use atom_record::{DimKey, Slice};
 use config_links::{LSlice, LState};
-use field_select::{FieldSet, key_of};
+use field_select::FieldSet;
 use sd_base::Seq;
 use state_slicer::{StateBook, slice};
 use std::alloc::{AllocError, Global};
 
-/// The slices of an atom by these of the states, in order, as the book has the states now.
-pub fn slices_of(
+/// The slices by these of the states, in order, as the book has the states now, of what is read.
+pub fn slices_of<A: Asked>(
     alloc: Global,
     states: &[LState],
     slices: &[LSlice],
-    atom: &Atom,
+    asked: &A,
     book: &StateBook,
 ) -> Result<Seq<Slice>, AllocError>
     ensures { (log : List LogFrame) → StateBookStandsFor book.now log
-        → IfOk result (λ shown. shown ≡ named_slices states.now log (atom_reading atom.now) slices.now) }
+        → IfOk result (λ shown. shown ≡ named_slices states.now log (A.reading asked.now) slices.now) }
 {
     let mut shown = Seq::new(alloc);
     for by in slices {
-        add_slice(alloc, &mut shown, states, by, atom, book)?;
+        add_slice(alloc, &mut shown, states, by, asked, book)?;
     }
     Ok(shown)
 }
 
-// Adds the slice of an atom by one of the states.
-fn add_slice(
+// Adds the slice by one of the states.
+fn add_slice<A: Asked>(
     alloc: Global,
     shown: &mut Seq<Slice>,
     states: &[LState],
     by: &LSlice,
-    atom: &Atom,
+    asked: &A,
     book: &StateBook,
 ) -> Result<(), AllocError>
     ensures { (log : List LogFrame) → StateBookStandsFor book.now log
-        → OnOk result (shown.new ≡ shown.old ++ named_slice states.now log (atom_reading atom.now) by.now) }
+        → OnOk result (shown.new ≡ shown.old ++ named_slice states.now log (A.reading asked.now) by.now) }
 {
     match states.get(by.state as usize) {
         Some(state) => {
-            let key = state_key(alloc, &by.in_what, atom)?;
+            let key = state_key(alloc, &by.in_what, asked)?;
             shown.push(slice(state, book.value(state.atom_id, &key)))
         }
         None => Ok(()),
     }
 }
 
-// The key by which an atom asks for a state.
-fn state_key(alloc: Global, in_what: &Option<FieldSet>, atom: &Atom) -> Result<DimKey, AllocError>
-    ensures { IfOk result (λ key. key ≡ state_key in_what.now (atom_reading atom.now)) }
+// The key by which a state is asked for.
+fn state_key<A: Asked>(
+    alloc: Global,
+    in_what: &Option<FieldSet>,
+    asked: &A,
+) -> Result<DimKey, AllocError>
+    ensures { IfOk result (λ key. key ≡ state_key in_what.now (A.reading asked.now)) }
 {
     match in_what {
-        Some(set) => key_of(alloc, set, atom),
+        Some(set) => asked.read(alloc, set),
         None => Ok(Seq::new(alloc)),
     }
 }

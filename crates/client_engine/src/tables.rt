@@ -98,8 +98,8 @@ fn act_on(
     }
 }
 
-// What an atom does to a predicate with these matchers.
-fn event_by(
+/// What an atom does to a predicate with these matchers.
+pub fn event_by(
     start: Option<u32>,
     stop: Option<u32>,
     stop_all: Option<u32>,

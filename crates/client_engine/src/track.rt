@@ -5,16 +5,18 @@ ghost use Rattle.config_links.specs.SoundConfig.{MayBeWithin};
 ghost use Rattle.metric_meaning.specs.Histories.{Installation};
 ghost use Rattle.report_writer.specs.Writable.{IsWritableMetric};
 ghost use Rattle.client_engine.specs.NextSteps.{TakesReport};
+ghost use Rattle.client_engine.specs.SoundMetrics.{IsSoundIn};
 ghost use Rattle.client_engine.specs.Bringing.{TakesBrought};
 ghost use Rattle.client_engine.specs.TrackStands.{LaneAlong, TrackStandsFor};
 ghost use Rattle.client_engine.specs.Tracks.{CanBeTracked};
 
 use crate::brought::Brought;
 use crate::conditions::Conditions;
-use crate::kinds::{counts, events, gauges, values};
+use crate::kinds::{counts, events, gauges, longest, sums, values};
 use crate::request::ReportRequest;
 use config_links::{LKind, LMetric};
 use count_metric::CountProducer;
+use duration_metric::{MaxProducer, SumProducer};
 use gauge_metric::{EventProducer, PushedGauge};
 use metric_lane::Lane;
 use report_writer::MetricTree;
@@ -32,6 +34,10 @@ pub enum MetricLane {
     Gauges(Lane<PushedGauge>),
     /// Of a metric of events.
     Events(Lane<EventProducer>),
+    /// Of a metric that sums durations.
+    Sums(Lane<SumProducer>),
+    /// Of a metric of longest durations.
+    Longest(Lane<MaxProducer>),
 }
 
 /// A metric and its lane.
@@ -48,7 +54,7 @@ impl Track {
         requires tracked { CanBeTracked metric }
         ensures metric { result.metric ≡ metric }
         ensures stands { (installed : Installation) → installed.base ≡ base
-            → TrackStandsFor installed [] result }
+            → IsSoundIn installed.linked metric → TrackStandsFor installed [] result }
     {
         let lane = lane_of(alloc, base, &metric);
         Track { metric, lane }
@@ -73,6 +79,8 @@ impl Track {
             MetricLane::Values(lane) => values::log(lane, alloc, metric, brought, conditions),
             MetricLane::Gauges(lane) => gauges::log(lane, alloc, metric, brought, conditions),
             MetricLane::Events(lane) => events::log(lane, alloc, metric, brought, conditions),
+            MetricLane::Sums(lane) => sums::log(lane, alloc, metric, brought, conditions),
+            MetricLane::Longest(lane) => longest::log(lane, alloc, metric, brought, conditions),
         }
     }
 
@@ -94,6 +102,8 @@ impl Track {
             MetricLane::Values(lane) => values::report(lane, alloc, metric, base, request),
             MetricLane::Gauges(lane) => gauges::report(lane, alloc, metric, base, request),
             MetricLane::Events(lane) => events::report(lane, alloc, metric, base, request),
+            MetricLane::Sums(lane) => sums::report(lane, alloc, metric, base, request),
+            MetricLane::Longest(lane) => longest::report(lane, alloc, metric, base, request),
         }
     }
 }
@@ -103,7 +113,7 @@ fn lane_of(alloc: Global, base: u64, metric: &LMetric) -> MetricLane
     requires fits { base < time_limit }
     requires tracked { CanBeTracked metric.now }
     ensures { (installed : Installation) → installed.base ≡ base
-        → LaneAlong metric.now installed [] result }
+        → IsSoundIn installed.linked metric.now → LaneAlong metric.now installed [] result }
 {
     match &metric.kind {
         LKind::Count => MetricLane::Counts(counts::begin(alloc, base, metric)),
@@ -114,6 +124,10 @@ fn lane_of(alloc: Global, base: u64, metric: &LMetric) -> MetricLane
             MetricLane::Gauges(gauges::begin(alloc, base, metric, *samples))
         }
         LKind::Event => MetricLane::Events(events::begin(alloc, base, metric)),
+        LKind::SumDuration { spec } => MetricLane::Sums(sums::begin(alloc, base, metric, *spec)),
+        LKind::MaxSparse { spec } => {
+            MetricLane::Longest(longest::begin(alloc, base, metric, *spec))
+        }
         _ => unreachable!(),
     }
 }

@@ -31,13 +31,25 @@ pub fn bind_key(
     ensures { IfOk result (λ binds.
         binds ≡ binds_of link.now.places (key_values_at inner.now key.now link.now.in_what)) }
 {
-    let values = values_at(
+    let values = read_key(alloc, inner, key, &link.in_what)?;
+    bind_places(alloc, link.places.as_slice(), values)
+}
+
+/// The values that a key has at the leaves of a set, where the key's values are those of the leaves of `inner`.
+pub fn read_key(
+    alloc: Global,
+    inner: &FieldSet,
+    key: &DimKey,
+    set: &FieldSet,
+) -> Result<DimKey, AllocError>
+    ensures { IfOk result (λ values. values ≡ key_values_at inner.now key.now set.now) }
+{
+    values_at(
         alloc,
         inner.leaves.as_slice(),
         key.as_slice(),
-        link.in_what.leaves.as_slice(),
-    )?;
-    bind_places(alloc, link.places.as_slice(), values)
+        set.leaves.as_slice(),
+    )
 }
 
 // The values that a key of some leaves has at others.

@@ -3,14 +3,14 @@ use Rattle.std.proofs.Common.{◌≡◌, ◌⊎◌, inl, inr, ℕ, zero, suc, �
 use Rattle.std.specs.Bool.{Decides}
 use Rattle.std.specs.List.{flat_map, after_last, suffix_len, prefix_len, last_or, IsDistinct, position_or_len}
 use Rattle.std.specs.Map.{keys_of, values_of, lookup}
-use Rattle.std.specs.Option.{option_map, option_and_then}
+use Rattle.std.specs.Option.{option_map, option_and_then, option_map_or}
 use Rattle.std.specs.Cmp.Lexicographic.{pointwise_decides}
 use Rattle.std.proofs.lemmas.Bool.{lt-ltb}
 use Rattle.std.proofs.lemmas.Grind.{flat_map-append}
 use Rattle.std.proofs.lemmas.List.{map-append, length-append, reverse-append, drop_all, drop-append-le}
 use Rattle.std.proofs.lemmas.List.Elements.{filter-append}
 use Rattle.std.proofs.lemmas.Map.Keys.{IsDistinct-head, IsDistinct-tail}
-use Rattle.std.proofs.lemmas.Option.{none-some, same_Some, slice_get_within}
+use Rattle.std.proofs.lemmas.Option.{none-some, same_Some, slice_get_within, slice_get-map}
 use Rattle.sd_base.specs.Outputs.{outputs}
 use Rattle.sd_base.proofs.OutputsLemmas.{outputs-push}
 use Rattle.atom_record.specs.Equal.{leaf_exact}
@@ -31,7 +31,7 @@ use Rattle.duration_metric.specs.declared.change.InnerDelta.{InnerDelta}
 use Rattle.duration_metric.specs.declared.inner.Known.{Known}
 use Rattle.duration_metric.specs.declared.inner.Inner.{Inner}
 use Rattle.duration_metric.specs.declared.inner.InnerTable.{InnerTable}
-use Rattle.duration_metric.specs.InnerKeys.{DurationCall, key_events, known_by, known_at, KeySeen, inner_state, inner_keys, told_to, key_seen, last_known, told_truth}
+use Rattle.duration_metric.specs.InnerKeys.{DurationCall, key_events, known_by, known_at, KeySeen, inner_state, inner_keys, told_to, key_seen, last_known, told_truth, says, was_told}
 use Rattle.duration_metric.specs.InnerStands.{state_in, kept_spec, AreKnown, InnersStandFor, ActsOn, TakesEvent, TakesDelta, TellsOne, TellsAll}
 use Rattle.duration_metric.proofs.InnerLemmas.{keys_of-counts, counts-same}
 
@@ -453,3 +453,18 @@ module _ (it : InnerTable) (spec : PredSpec) (calls : List DurationCall) (stands
       (known_at_place (last_known spec calls) it.keys.rows place row stands.known_are at)
       ∙ ap (option_and_then (λ key. option_map (λ (known : Known). known.truth) (last_known spec calls key)))
       (key_is row at)
+
+  -- whether it was told something is as the calls say
+  pub says_is : (row : LeafKey × Inner) → slice_get it.keys.rows place ≡ Some row → (now : Known)
+      → says row.1.known now ≡ was_told spec calls place now
+  says_is row at now =
+      ap (λ known. says known now) (known_at_place (last_known spec calls) it.keys.rows place row stands.known_are at)
+      ∙ ap (λ found. option_map_or (λ key. says (last_known spec calls key) now) found false) (key_is row at)
+
+  -- where no row is, no key is, and nothing was told
+  pub says_nothing : slice_get it.keys.rows place ≡ None → (now : Known) → false ≡ was_told spec calls place now
+  says_nothing none now =
+      let key_of : LeafKey × Inner → LeafKey = λ (row : LeafKey × Inner). row.0 in
+      ap (λ found. option_map_or (λ key. says (last_known spec calls key) now) found false)
+      (sym (ap (option_map key_of) none) ∙ sym (slice_get-map key_of it.keys.rows place)
+      ∙ ap (λ ks. slice_get ks place) (listed_keys it spec calls stands.state_is))

@@ -2,7 +2,7 @@
 use Rattle.std.proofs.Common.{◌≡◌, ℕ, ◌+◌, ◌-◌, ◌^◌, ◌<◌, ◌≤◌, nat_lt, Bool, true, false, not, if◌then◌else◌, List, [], ◌∷◌, ◌++◌, map, filter, replicate, length, slice_get, Option, Some, None, refl, sym, ap, ◌∙◌, arith}
 use Rattle.std.specs.List.{AllByRecursion, IsDistinct, flat_map, last_or}
 use Rattle.std.specs.Map.{keys_of}
-use Rattle.std.specs.Option.{option_map, option_and_then}
+use Rattle.std.specs.Option.{option_map, option_map_or, option_and_then}
 use Rattle.std.proofs.lemmas.Bool.{lt-ltb, ltb-true}
 use Rattle.std.proofs.lemmas.List.{length-map}
 use Rattle.std.proofs.lemmas.Option.{slice_get-map}
@@ -18,7 +18,7 @@ use Rattle.duration_metric.specs.declared.change.InnerEvent.{InnerEvent}
 use Rattle.duration_metric.specs.declared.inner.Known.{Known}
 use Rattle.duration_metric.specs.declared.sparse_keys.SparseEntry.{SparseEntry}
 use Rattle.duration_metric.specs.declared.sparse_keys.SparseKeys.{SparseKeys}
-use Rattle.duration_metric.specs.InnerKeys.{DurationCall, inner_state, inner_keys, inner_lost, told_to, last_known, told_truth}
+use Rattle.duration_metric.specs.InnerKeys.{DurationCall, says, inner_state, inner_keys, inner_lost, told_to, last_known, told_truth, was_told}
 use Rattle.duration_metric.specs.SparseCalls.{turn_times, is_told_timed, arrival_for, running_keys, is_on, running_time, keys_gone, sparse_comes}
 use Rattle.duration_metric.specs.SparseEntries.{entry_time, saved_time, entry_count, sparse_state, EntryStands, RowStands, OthersStand, KeysStand, entry_marks, started_entry}
 use Rattle.duration_metric.proofs.SparseKnownLemmas.{state_got, known-unlisted, known-listed, time-off, time-on}
@@ -285,8 +285,21 @@ module _ (it : SparseKeys) (spec : PredSpec) (calls : List DurationCall) (last :
         ∙ ap (option_and_then (λ key. option_map (λ (known : Known). known.truth) (last_known spec calls key)))
         (key_is row there)
 
+    -- whether it was told something is as the calls say
+    pub says_is : (row : Row) → slice_get it.table.rows place ≡ Some row → (now : Known)
+        → says row.1.known now ≡ was_told spec calls place now
+    says_is row there now =
+        let is = all_at (RowStands spec calls last) it.table.rows place row has.rows_are there in
+        ap (λ known. says known now) is.known_is
+        ∙ ap (λ found. option_map_or (λ key. says (last_known spec calls key) now) found false) (key_is row there)
+
     -- where no row is, no key is
     pub no_key_is : slice_get it.table.rows place ≡ None → None ≡ slice_get (inner_keys spec calls) place
     no_key_is none =
         sym (ap (λ ks. slice_get ks place) (keys_are spec calls it has.state_is)
         ∙ slice_get-map (λ (r : Row). r.0) it.table.rows place ∙ ap (option_map (λ (r : Row). r.0)) none)
+
+    -- and nothing was told
+    pub says_nothing : slice_get it.table.rows place ≡ None → (now : Known) → false ≡ was_told spec calls place now
+    says_nothing none now =
+        ap (λ found. option_map_or (λ key. says (last_known spec calls key) now) found false) (no_key_is none)

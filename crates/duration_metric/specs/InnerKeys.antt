@@ -8,9 +8,11 @@ use Rattle.bucket_meaning.specs.Guard.{is_among}
 use Rattle.bucket_meaning.specs.Marks.{Mark, Lost}
 use Rattle.config_types.specs.declared.parameters.PredSpec.{PredSpec}
 use Rattle.predicate_state.specs.declared.truth.Truth.{Truth}
+use Rattle.predicate_state.specs.contracts.truth.TruthPartialEq.TheImpl as truth_test
 use Rattle.predicate_state.specs.PredicateStates.{KeyEvent, PredicateState, predicate_after}
 use Rattle.predicate_state.specs.PredicateTable.{LeafKey, same_leaves}
 use Rattle.metric_producer.specs.Calls.{Call, Got, Learned, Demands}
+use Rattle.metric_kinds.specs.Keys.{is_same_key}
 use Rattle.duration_metric.specs.declared.change.InnerEvent.{InnerEvent}
 use Rattle.duration_metric.specs.declared.change.InnerChange.{InnerChange}
 use Rattle.duration_metric.specs.declared.change.InnerDelta.{InnerDelta}
@@ -40,6 +42,11 @@ known_by change = record { truth = change.truth; out = change.out }
 abbrev pub known_at : List InnerChange → Option ℕ → List Known
 known_at changes None = []
 known_at changes (Some place) = map known_by (filter (λ (change : InnerChange). change.place == place) changes)
+
+-- what was told says just this; nothing was said where nothing was told
+abbrev pub says : Option Known → Known → Bool
+says None now = false
+says (Some was) now = truth_test.ghosts.eq was.truth now.truth && is_same_key was.out now.out
 
 -- An inner key, once a call has come: whether it is listed, and what the call told of it.
 pub record KeySeen : Type 0 where
@@ -79,6 +86,11 @@ module _ (spec : PredSpec) where
   told_truth calls place =
       option_and_then (λ key. option_map (λ (known : Known). known.truth) (last_known calls key))
       (slice_get (inner_keys calls) place)
+
+  -- whether these calls told this last of the inner key at a place
+  abbrev pub was_told : List DurationCall → ℕ → Known → Bool
+  was_told calls place now =
+      option_map_or (λ key. says (last_known calls key) now) (slice_get (inner_keys calls) place) false
 
   -- the inner keys that an event turns away, since the table is at its bound
   abbrev pub inner_lost : {X : Type 0} → List DurationCall → ℕ → InnerEvent → List (Mark X)

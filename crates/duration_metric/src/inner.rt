@@ -8,7 +8,7 @@ ghost use Rattle.dim_table.specs.Table.{keys};
 ghost use Rattle.predicate_state.specs.declared.event.PredEvent.TheVariants.{Start, Stop, StopAll};
 ghost use Rattle.predicate_state.specs.PredicateStates.{count_after_start, count_after_stop, without_key, state_after_stop_all};
 ghost use Rattle.predicate_state.specs.PredicateTable.{LeafKey, same_leaves};
-ghost use Rattle.duration_metric.specs.InnerKeys.{DurationCall, inner_keys, told_truth};
+ghost use Rattle.duration_metric.specs.InnerKeys.{DurationCall, says, inner_keys, told_truth, was_told};
 ghost use Rattle.duration_metric.specs.InnerStands.{state_in, InnersStandFor, ChangesTo, ActsOn, SetsCount, ListsKey, TakesEvent, TakesDelta, TellsOne, TellsAll};
 
 use crate::{InnerChange, InnerDelta, InnerEvent};
@@ -222,6 +222,27 @@ impl InnerTable {
         };
         Some(known.truth)
     }
+
+    /// Whether this was told last of the inner key at a place.
+    pub(crate) fn was_told(&self, place: usize, truth: Truth, out: &MetricKey) -> bool
+        ensures { (spec : PredSpec) (calls : List DurationCall) → InnersStandFor self.now spec calls
+            → result ≡ was_told spec calls place (record { truth = truth; out = out.now }) }
+    {
+        let Some((_key, inner)) = self.keys.pair(place) else {
+            return false;
+        };
+        says(&inner.known, truth, out)
+    }
+}
+
+// Whether what was told says just this.
+pub(crate) fn says(known: &Option<Known>, truth: Truth, out: &MetricKey) -> bool
+    ensures { result ≡ says known.now (record { truth = truth; out = out.now }) }
+{
+    let Some(known) = known else {
+        return false;
+    };
+    known.truth == truth && known.out == *out
 }
 
 // A key's count after one more start.

@@ -5,13 +5,14 @@ ghost use Rattle.bucket_meaning.specs.Limits.{longest_bucket, time_limit, most_k
 ghost use Rattle.metric_producer.specs.Calls.{Got};
 ghost use Rattle.metric_producer.specs.Moves.{Moves};
 ghost use Rattle.predicate_state.specs.declared.event.PredEvent.TheVariants.{Start, Stop, StopAll};
-ghost use Rattle.duration_metric.specs.InnerKeys.{DurationParams, DurationCall, inner_keys, told_truth};
+ghost use Rattle.duration_metric.specs.InnerKeys.{DurationParams, DurationCall, inner_keys, told_truth, was_told};
 ghost use Rattle.duration_metric.specs.SparseStands.{SparseStandsFor, sparse_law};
 
+use crate::inner::says;
 use crate::sparse_books::SparseBooks;
 use crate::sparse_keys::SparseKeys;
 use crate::{Closed, InnerDelta, InnerEvent, Producer};
-use atom_record::DimKey;
+use atom_record::{DimKey, MetricKey};
 use bucket_clock::Crossings;
 use config_types::PredSpec;
 use predicate_state::{PredEvent, Truth};
@@ -70,6 +71,17 @@ impl MaxProducer {
             return None;
         };
         Some(known.truth)
+    }
+
+    /// Whether this was told last of the inner key at a place: its truth, and the key for which it counts.
+    pub fn was_told(&self, place: usize, truth: Truth, out: &MetricKey) -> bool
+        ensures { (params : DurationParams) (calls : List DurationCall) → SparseStandsFor self.now params calls
+            → result ≡ was_told params.spec calls place (record { truth = truth; out = out.now }) }
+    {
+        let Some((_key, entry)) = self.keys.table.pair(place) else {
+            return false;
+        };
+        says(&entry.known, truth, out)
     }
 
     // Starts an inner key once more.

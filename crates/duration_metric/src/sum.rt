@@ -11,7 +11,7 @@ ghost use Rattle.bucket_meaning.specs.Guard.{firsts};
 ghost use Rattle.metric_kinds.specs.Keys.{is_same_key};
 ghost use Rattle.metric_kinds.specs.Counts.{row_weight};
 ghost use Rattle.duration_metric.specs.SumCalls.{while_true, known_out};
-ghost use Rattle.duration_metric.specs.InnerKeys.{DurationParams, DurationCall, inner_keys, told_truth};
+ghost use Rattle.duration_metric.specs.InnerKeys.{DurationParams, DurationCall, inner_keys, told_truth, was_told};
 ghost use Rattle.duration_metric.specs.SumStands.{span_at, span_time, span_row, whole_row, whole_rows, SumStandsFor};
 ghost use Rattle.duration_metric.specs.SumSteps.{active_in, StepsAll, StepsOne, BeginsRun, BeginsAll, ClosesRows, Opens, out_for};
 
@@ -95,6 +95,14 @@ impl SumProducer {
             → SumStandsFor self.now params calls → result ≡ told_truth params.spec calls place }
     {
         self.inner.truth(place)
+    }
+
+    /// Whether this was told last of the inner key at a place: its truth, and the key for which it counts.
+    pub fn was_told(&self, place: usize, truth: Truth, out: &MetricKey) -> bool
+        ensures { (params : DurationParams) (calls : List DurationCall) → SumStandsFor self.now params calls
+            → result ≡ was_told params.spec calls place (record { truth = truth; out = out.now }) }
+    {
+        self.inner.was_told(place, truth, out)
     }
 
     // Closes the open part at a time: its rows are kept or counted, and its table is empty.

@@ -4,6 +4,7 @@ use Rattle.std.specs.Prelude.{nat_lt}
 use Rattle.std.proofs.lemmas.List.{append-nil}
 use Rattle.sd_base.specs.Outputs.{outputs, outputs_after}
 use Rattle.sd_base.proofs.OutputsLemmas.{outputs_after-append, outputs-push, outputs-through}
+use Rattle.atom_record.specs.declared.log.LogFrame.{LogFrame}
 use Rattle.bucket_meaning.specs.Ends.{Moment, ends_from, ends_at}
 use Rattle.bucket_meaning.specs.Marks.{Mark, Asked, Edges, edges_again, boundary, boundary_marks}
 use Rattle.bucket_meaning.specs.Rows.{report}
@@ -17,7 +18,7 @@ use Rattle.metric_meaning.specs.Histories.{What, Logged, Reported, Step, moment_
 use Rattle.metric_calls.specs.LaneSteps.{lane_step}
 use Rattle.metric_meaning.specs.StepMarks.{moments, crossed_at, cut_marks, marks_at, marks_of, marks_to}
 use Rattle.metric_meaning.specs.Ways.{shown_by_steps}
-use Rattle.metric_calls.specs.Askings.{Asking, AreSameEdges, steps_seen, asked_at, own_demands, calls_by_steps, AsksWell, marks_after, shown_by_calls, Agrees}
+use Rattle.metric_calls.specs.Askings.{Asking, AreSameEdges, steps_seen, asked_at, own_demands, calls_by_steps, calls_crossed, AsksWell, IsMadeFor, marks_after, shown_by_calls, Agrees}
 use Rattle.metric_calls.proofs.CrossedLemmas.{ends_at-neighbours}
 use Rattle.metric_calls.proofs.StepLemmas.{lane_step_after, told_by-steps}
 
@@ -137,14 +138,19 @@ module _ {Params News Event After X K C R : Type 0} (asking : Asking Params News
       cut_if before at (nat_lt 0 size) ∙ same_if (edges_after before) edges at (nat_lt 0 size) same
   cutting_marks before edges size false at same = refl
 
-  module _ (agrees : Agrees asking collecting) where
-    -- the calls of one step have the marks of the step
-    step_marks : (before : List Step) (at : ℕ) (what : What) (truths : List Bool)
-        → let step : Step = record { at = at; what = what; truths = truths } in
-        marks_after asking collecting (calls_by_steps asking collecting before) (calls_of_step before step)
+  -- The same stands at boundaries by calls and by steps.
+  module _ (edges : (before : List Step)
+      → AreSameEdges (edges_after (calls_by_steps asking collecting before)) (asking.way.shown.edges before)) where
+    -- the calls of a frame have the marks of its step, where what is asked has those that it brings
+    pub frame_marks : (before : List Step) (at : ℕ) (frame : LogFrame) (truths : List Bool)
+        → let step : Step = record { at = at; what = Logged frame; truths = truths } in
+        marks_after asking collecting (calls_crossed asking collecting before frame at)
+        (asked_at asking before frame at truths)
+        ≡ asking.way.shown.comes before step
+        → marks_after asking collecting (calls_by_steps asking collecting before) (calls_of_step before step)
         ≡ marks_at asking.way.shown (own_demands asking collecting).base (own_demands asking collecting).size before
         step
-    step_marks before at (Logged frame) truths =
+    frame_marks before at frame truths comes =
         let step : Step = record { at = at; what = Logged frame; truths = truths } in
         let base = (own_demands asking collecting).base in
         let size = (own_demands asking collecting).size in
@@ -162,18 +168,60 @@ module _ {Params News Event After X K C R : Type 0} (asking : Asking Params News
         let at_ends : marks_after asking collecting seen crossed
         ≡ boundary_marks (asking.way.shown.edges before) (crossed_at base size before step) =
         crossing_marks seen start size are.first are.count ends are.are
-        ∙ same_boundaries (edges_after seen) (asking.way.shown.edges before) ends (agrees.at_boundary before)
+        ∙ same_boundaries (edges_after seen) (asking.way.shown.edges before) ends (edges before)
         ∙ ap (boundary_marks (asking.way.shown.edges before)) before_is in
         outputs_after-append marks_of_call seen crossed asked
         ∙ ap (λ l. l ++ marks_after asking collecting (seen ++ crossed) asked) at_ends
-        ∙ ap (λ l. boundary_marks (asking.way.shown.edges before) (crossed_at base size before step) ++ l)
-        (agrees.at_frame before frame at truths)
-    step_marks before at (Reported include_current) truths =
+        ∙ ap (λ l. boundary_marks (asking.way.shown.edges before) (crossed_at base size before step) ++ l) comes
+
+    -- and those of a report those of its step
+    pub report_marks : (before : List Step) (at : ℕ) (include_current : Bool) (truths : List Bool)
+        → let step : Step = record { at = at; what = Reported include_current; truths = truths } in
+        marks_after asking collecting (calls_by_steps asking collecting before) (calls_of_step before step)
+        ≡ marks_at asking.way.shown (own_demands asking collecting).base (own_demands asking collecting).size before
+        step
+    report_marks before at include_current truths =
         let seen = calls_by_steps asking collecting before in
         let size = (own_demands asking collecting).size in
         outputs_after-append marks_of_call seen (cutting size include_current at) (Took ∷ [])
         ∙ ap (λ l. l ++ (Asked ∷ []))
-        (cutting_marks seen (asking.way.shown.edges before) size include_current at (agrees.at_boundary before))
+        (cutting_marks seen (asking.way.shown.edges before) size include_current at (edges before))
+
+    -- what is shown by calls is what is shown by steps, where the calls have the marks of the steps
+    pub shown_alike : IsMadeFor asking collecting → (steps : List Step) (include_current : Bool) (now : ℕ)
+        → marks_after asking collecting [] (calls_by_steps asking collecting steps)
+        ≡ marks_of asking.way.shown (own_demands asking collecting).base (own_demands asking collecting).size steps
+        → shown_by_calls asking collecting steps include_current now
+        ≡ shown_by_steps asking.way steps include_current now
+    shown_alike made steps include_current now marks =
+        let base = (own_demands asking collecting).base in
+        let size = (own_demands asking collecting).size in
+        let way = asking.way in
+        let calls = calls_by_steps asking collecting steps in
+        let cut : List (Call Event After) = cutting size include_current now in
+        ap (report (collecting.kind asking.params) (collecting.bound asking.params) base)
+        (outputs_after-append marks_of_call [] calls cut
+        ∙ ap (λ l. l ++ marks_after asking collecting calls cut) marks
+        ∙ ap (λ l. marks_of asking.way.shown base size steps ++ l)
+        (cutting_marks calls (asking.way.shown.edges steps) size include_current now (edges steps)))
+        ∙ ap (λ kind. report kind (collecting.bound asking.params) base
+        (marks_to asking.way.shown base size steps include_current now)) made.kind
+        ∙ ap (λ bound. report way.kind bound base (marks_to way.shown base size steps include_current now)) made.bound
+        ∙ ap (λ b. report way.kind way.bound b (marks_to way.shown b size steps include_current now)) made.base
+        ∙ ap (λ s. report way.kind way.bound way.base (marks_to way.shown way.base s steps include_current now))
+        made.size
+
+  module _ (agrees : Agrees asking collecting) where
+    -- the calls of one step have the marks of the step
+    step_marks : (before : List Step) (at : ℕ) (what : What) (truths : List Bool)
+        → let step : Step = record { at = at; what = what; truths = truths } in
+        marks_after asking collecting (calls_by_steps asking collecting before) (calls_of_step before step)
+        ≡ marks_at asking.way.shown (own_demands asking collecting).base (own_demands asking collecting).size before
+        step
+    step_marks before at (Logged frame) truths =
+        frame_marks agrees.at_boundary before at frame truths (agrees.at_frame before frame at truths)
+    step_marks before at (Reported include_current) truths =
+        report_marks agrees.at_boundary before at include_current truths
 
     -- opening calls and all calls have the marks of the beginning and of the steps
     pub calls-marks : (steps : List Step)
@@ -203,20 +251,4 @@ module _ {Params News Event After X K C R : Type 0} (asking : Asking Params News
         → shown_by_calls asking collecting steps include_current now
         ≡ shown_by_steps asking.way steps include_current now
     calls_mean_steps steps include_current now =
-        let base = (own_demands asking collecting).base in
-        let size = (own_demands asking collecting).size in
-        let made = agrees.made in
-        let way = asking.way in
-        let calls = calls_by_steps asking collecting steps in
-        let cut : List (Call Event After) = cutting size include_current now in
-        ap (report (collecting.kind asking.params) (collecting.bound asking.params) base)
-        (outputs_after-append marks_of_call [] calls cut
-        ∙ ap (λ l. l ++ marks_after asking collecting calls cut) (calls-marks steps)
-        ∙ ap (λ l. marks_of asking.way.shown base size steps ++ l)
-        (cutting_marks calls (asking.way.shown.edges steps) size include_current now (agrees.at_boundary steps)))
-        ∙ ap (λ kind. report kind (collecting.bound asking.params) base
-        (marks_to asking.way.shown base size steps include_current now)) made.kind
-        ∙ ap (λ bound. report way.kind bound base (marks_to way.shown base size steps include_current now)) made.bound
-        ∙ ap (λ b. report way.kind way.bound b (marks_to way.shown b size steps include_current now)) made.base
-        ∙ ap (λ s. report way.kind way.bound way.base (marks_to way.shown way.base s steps include_current now))
-        made.size
+        shown_alike agrees.at_boundary agrees.made steps include_current now (calls-marks steps)

@@ -6,4 +6,10 @@ pub mod CountCallsLemmas
 pub mod ValueCallsLemmas
 pub mod PushedGaugeCallsLemmas
 pub mod EventCallsLemmas
+pub mod InnerChangesLemmas
+pub mod QuietStepsLemmas
+pub mod InnerToldLemmas
+pub mod SumCallsLemmas
+pub mod TimelyLemmas
+pub mod LongestCallsLemmas
 mod WorkedAskings

@@ -5,3 +5,4 @@ pub mod CountCalls
 pub mod ValueCalls
 pub mod PushedGaugeCalls
 pub mod EventCalls
+pub mod DurationCalls

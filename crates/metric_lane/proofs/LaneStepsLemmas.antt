@@ -8,6 +8,7 @@ use Rattle.bucket_meaning.specs.Meaning.{report_by}
 use Rattle.bucket_clock.specs.Sound.{Times}
 use Rattle.bucket_clock.specs.Clock.{Told, Saw, IsNextEnd, ClockStandsFor, moments_told}
 use Rattle.metric_producer.specs.Calls.{Call, Demands, Standing, standing_of, clock_at}
+use Rattle.metric_producer.specs.Rules.{AreAdmitted}
 use Rattle.metric_producer.specs.LaneCalls.{coming, event_asks, LaneStep, Logged, Reported, told_by, crossing, cutting, calls_of, last_at, last_of, IsTimelyStep, AreTimely}
 use Rattle.metric_producer.proofs.RuleLemmas.{admits-front, admits-back}
 use Rattle.metric_producer.proofs.LaneReach.{told_by-frame, told_by-cut, told_by-report}
@@ -111,14 +112,17 @@ module _ {P Params Event After X K C Value : Type 0} (law : Law P Params Event A
   module _ {News : Type 0} (asks : List (LaneStep News) → Moment → News → List (Call Event After)) (params : Params)
       (steps : List (LaneStep News)) (fits : (demands_of law params).base < time_limit) where
     module _ (opening : List (Call Event After)) (opens : AreOpening (demands_of law params) opening) where
-      -- one more frame of a lane that was opened: what it crosses, and then what the kind asks
-      pub opened_logs : (old middle new : Lane P Event After Value) (moment : Moment) (news : News)
-          → GetsFrame law old middle moment → GetsCalls law middle new (asks steps moment news)
-          → OpenedStandsFor law asks opening old params steps
+      -- what one more frame of a lane that was opened crosses, and that what the kind asks may come then
+      pub opened_crosses : (old middle : Lane P Event After Value) (moment : Moment) (news : News)
+          → GetsFrame law old middle moment → OpenedStandsFor law asks opening old params steps
           → AreTimely (demands_of law params).base (steps ++ Logged moment news ∷ [])
           → AskWell (demands_of law params) asks opening [] (steps ++ Logged moment news ∷ [])
-          → OpenedStandsFor law asks opening new params (steps ++ Logged moment news ∷ [])
-      opened_logs old middle new moment news crosses tells has timely well =
+          → let demands = demands_of law params in
+          let before : List (Call Event After) = calls_with demands asks opening steps
+          ++ crossing demands.base demands.size (told_by steps) moment in
+          LaneHas law middle params (told_by steps ++ Saw moment ∷ []) before
+          × AreAdmitted demands before (asks steps moment news)
+      opened_crosses old middle moment news crosses has timely well =
           let step : LaneStep News = Logged moment news in
           let base = (demands_of law params).base in
           let in_time = last_step base steps step timely in
@@ -129,11 +133,27 @@ module _ {P Params Event After X K C Value : Type 0} (law : Law P Params Event A
           let own = asks steps moment news in
           let admitted = opened_step_admits (demands_of law params) fits opening opens asks steps step timely well in
           let may = may_cross (demands_of law params) steps (last_of base steps)
-          (standing_of (demands_of law params) before) along old.clock moment.at has.clock in_time.1.0 in_time.1.1 in
-          let middle_has = crosses params (told_by steps) before has may
-          (admits-front (demands_of law params) before crossed own admitted) in
-          let new_has = tells params (told_by steps ++ Saw moment ∷ []) (before ++ crossed) middle_has
-          (admits-back (demands_of law params) before crossed own admitted) in
+          (standing_of (demands_of law params) before) along old.clock moment.at has.clock in_time.1.0 in_time.1.1 in (
+            crosses params (told_by steps) before has may
+                (admits-front (demands_of law params) before crossed own admitted),
+            admits-back (demands_of law params) before crossed own admitted,
+          )
+
+      -- one more frame of a lane that was opened: what it crosses, and then what the kind asks
+      pub opened_logs : (old middle new : Lane P Event After Value) (moment : Moment) (news : News)
+          → GetsFrame law old middle moment → GetsCalls law middle new (asks steps moment news)
+          → OpenedStandsFor law asks opening old params steps
+          → AreTimely (demands_of law params).base (steps ++ Logged moment news ∷ [])
+          → AskWell (demands_of law params) asks opening [] (steps ++ Logged moment news ∷ [])
+          → OpenedStandsFor law asks opening new params (steps ++ Logged moment news ∷ [])
+      opened_logs old middle new moment news crosses tells has timely well =
+          let step : LaneStep News = Logged moment news in
+          let base = (demands_of law params).base in
+          let before = calls_with (demands_of law params) asks opening steps in
+          let crossed : List (Call Event After) = crossing base (demands_of law params).size (told_by steps) moment in
+          let own = asks steps moment news in
+          let both = opened_crosses old middle moment news crosses has timely well in
+          let new_has = tells params (told_by steps ++ Saw moment ∷ []) (before ++ crossed) both.0 both.1 in
           subst (λ told. LaneHas law new params told
           (calls_with (demands_of law params) asks opening (steps ++ step ∷ [])))
           (sym (told_by-frame steps moment news))

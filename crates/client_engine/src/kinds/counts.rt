@@ -32,7 +32,7 @@ use std::alloc::{AllocError, Global};
 const MOST_SHOWN: u64 = (1 << 63) - 1;
 
 /// Counts, as a report shows them.
-struct CountRows;
+pub struct CountRows;
 
 impl RowShape for CountRows {
     type Value = u64;

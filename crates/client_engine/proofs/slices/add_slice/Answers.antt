@@ -5,16 +5,15 @@ use Rattle.std.proofs.lemmas.Option.{slice_get_read, slice_get_past}
 use Rattle.std.proofs.lemmas.Result.{on_ok_weaker}
 use Rattle.std.specs.Prelude.{slice_get}
 use Rattle.state_slicer.specs.Slices.{slice_of}
-use Rattle.metric_meaning.specs.Readings.{atom_reading}
 use Rattle.client_engine.proofs.SliceLemmas.{slice_there, slice_past}
 use Rattle.client_engine.proofs.slices.add_slice.Goals as goal
 
 -- the state's slice
 pub returns-in_ok-key-in-Some : goal.returns-in_ok-key-in-Some
-returns-in_ok-key-in-Some c = λ log stands.
+returns-in_ok-key-in-Some g c = λ log stands.
     let states = c.args.states.now in
     let by = c.args.by.now in
-    let reading = atom_reading c.args.atom.now in
+    let reading = g.A.Asked.reading c.args.asked.now in
     let state = c.in-Some.state.now in
     let found = c.in-Some.ensures.lookup in
     let within = found.0 in
@@ -30,7 +29,7 @@ returns-in_ok-key-in-Some c = λ log stands.
 
 -- no state, no slice
 pub returns-in-None : goal.returns-in-None
-returns-in-None c = λ log stands.
+returns-in-None g c = λ log stands.
     sym (append-nil c.args.shown.now)
-    ∙ ap (λ l. c.args.shown.now ++ l) (slice_past c.args.states.now log (atom_reading c.args.atom.now) c.args.by.now
+    ∙ ap (λ l. c.args.shown.now ++ l) (slice_past c.args.states.now log (g.A.Asked.reading c.args.asked.now) c.args.by.now
     (slice_get_past c.args.states.now c.args.by.now.state c.in-None.ensures.lookup.3))

@@ -3,10 +3,9 @@ use Rattle.std.proofs.Common.{◌≡◌, ◌++◌, List, drop}
 use Rattle.atom_record.specs.declared.log.LogFrame.{LogFrame}
 use Rattle.state_slicer.specs.StateBooks.{StateBookStandsFor}
 use Rattle.metric_meaning.specs.StateSlices.{named_slices}
-use Rattle.metric_meaning.specs.Readings.{atom_reading}
 use Rattle.client_engine.proofs.slices.slices_of.Given as goal
 
 abbrev pub invariant-loop-by : goal.invariant-loop-by
-invariant-loop-by l = (log : List LogFrame) → StateBookStandsFor l.book log
-    → l.shown ++ named_slices l.states log (atom_reading l.atom) (drop l.by-index l.slices)
-    ≡ named_slices l.states log (atom_reading l.atom) l.slices
+invariant-loop-by g l = (log : List LogFrame) → StateBookStandsFor l.book log
+    → l.shown ++ named_slices l.states log (g.A.Asked.reading l.asked) (drop l.by-index l.slices)
+    ≡ named_slices l.states log (g.A.Asked.reading l.asked) l.slices

@@ -25,9 +25,9 @@ invariant_of-result c =
 pub returns-clause-fresh : goal.returns-clause-fresh
 returns-clause-fresh c = λ opening pulls states.
     fresh c.args.linked c.args.base _ refl c.in_ok-conditions.ensures.predicates refl refl refl
-    c.in_ok-conditions.ensures.knows c.in_ok-tracks.ensures opening
+    c.in_ok-conditions.ensures.knows c.in_ok-tracks.ensures c.requires.sound opening
 
 pub returns-clause-linked : goal.returns-clause-linked
 returns-clause-linked c =
     (fresh c.args.linked c.args.base _ refl c.in_ok-conditions.ensures.predicates refl refl refl
-    c.in_ok-conditions.ensures.knows c.in_ok-tracks.ensures []).linked
+    c.in_ok-conditions.ensures.knows c.in_ok-tracks.ensures c.requires.sound []).linked

@@ -1,0 +1,115 @@
+-- What is told of inner keys, one place after the other.
+use Rattle.std.proofs.Common.{◌≡◌, ℕ, zero, suc, ◌+◌, ◌≤◌, Bool, true, false, List, [], ◌∷◌, ◌++◌, drop, length, slice_get, Option, Some, None, if◌then◌else◌, refl, sym, ap, subst, ◌∙◌, arith, append-nil, append_assoc}
+use Rattle.std.specs.Option.{option_map_or}
+use Rattle.std.proofs.lemmas.List.{drop_all}
+use Rattle.atom_record.specs.declared.value.MetricKey.{MetricKey}
+use Rattle.field_select.specs.declared.leaf.FieldSet.{FieldSet}
+use Rattle.config_links.specs.declared.linked.LMetric.{LMetric}
+use Rattle.predicate_state.specs.declared.truth.Truth.{Truth}
+use Rattle.predicate_state.specs.PredicateTable.{LeafKey}
+use Rattle.duration_metric.specs.declared.change.InnerChange.{InnerChange}
+use Rattle.duration_metric.specs.declared.inner.Known.{Known}
+use Rattle.duration_metric.specs.InnerKeys.{says}
+use Rattle.metric_meaning.specs.Arrivals.{metric_key, holds_in}
+use Rattle.metric_meaning.specs.DurationSteps.{inner_fields}
+use Rattle.metric_meaning.specs.MetricConditions.{is_condition_true}
+use Rattle.metric_meaning.specs.Readings.{key_reading}
+use Rattle.metric_meaning.specs.Scenes.{Scene}
+use Rattle.metric_calls.specs.DurationCalls.{told_as, known_in, change_at, changes_from}
+use Rattle.client_engine.specs.Handed.{Handed, IsOfScene}
+use Rattle.client_engine.specs.InnerTold.{told_of_place}
+use Rattle.client_engine.proofs.ArrivingLemmas.{condition_there}
+
+-- what is handed has what is so of an inner key
+pub known_there : (given : Handed) (scene : Scene) (metric : LMetric) (fields : FieldSet) (key : LeafKey) (truth : Truth)
+    (out : MetricKey) → IsOfScene given scene
+    → fields ≡ inner_fields (slice_get given.known.predicates metric.what)
+    → truth ≡ told_as (is_condition_true given.known.predicates given.known.tables metric (key_reading fields key))
+    → out ≡ metric_key scene metric (key_reading fields key)
+    → let known : Known = record { truth = truth; out = out } in known ≡ known_in scene metric key
+known_there given scene metric fields key truth out found fields_are truth_is out_is =
+    let there : fields ≡ inner_fields (slice_get scene.linked.predicates metric.what) =
+    fields_are ∙ ap (λ ps. inner_fields (slice_get ps metric.what)) found.predicates in
+    ap (λ (t : Truth). let known : Known = record { truth = t; out = out } in known)
+    (truth_is ∙ ap told_as (condition_there given scene metric (key_reading fields key) found))
+    ∙ ap (λ (o : MetricKey). let known : Known = record {
+      truth = told_as (holds_in scene metric (key_reading fields key));
+      out = o;
+    } in known) out_is
+    ∙ ap (λ (f : FieldSet). let known : Known = record {
+      truth = told_as (holds_in scene metric (key_reading f key));
+      out = metric_key scene metric (key_reading f key);
+    } in known) there
+
+module _ (was : LeafKey → Option Known) (now : LeafKey → Known) where
+  -- nothing is told where no key is
+  pub none_there : (changes : List InnerChange) (place : ℕ) (found : Option LeafKey) → None ≡ found
+      → changes ≡ changes ++ told_of_place was now place found
+  none_there changes place found is =
+      sym (append-nil changes) ∙ ap (λ o. changes ++ told_of_place was now place o) is
+
+  -- nor of one of which this was told
+  pub told_there : (changes : List InnerChange) (place : ℕ) (found : Option LeafKey) (key : LeafKey) (known : Known)
+      (told : Bool) → Some key ≡ found → known ≡ now key
+      → told ≡ option_map_or (λ k. says (was k) known) found false → told ≡ true
+      → changes ≡ changes ++ told_of_place was now place found
+  told_there changes place found key known told is known_is told_is on =
+      let said : says (was key) (now key) ≡ true =
+      ap (says (was key)) (sym known_is) ∙ ap (λ o. option_map_or (λ k. says (was k) known) o false) is ∙ sym told_is
+      ∙ on in
+      sym (append-nil changes)
+      ∙ sym (ap (λ (b : Bool). changes ++ ((if b then []
+      else record { place = place; truth = (now key).truth; out = (now key).out } ∷ []) ++ [])) said)
+      ∙ ap (λ o. changes ++ told_of_place was now place o) is
+
+  -- of any other, what is so of it
+  pub new_there : (changes more : List InnerChange) (place : ℕ) (found : Option LeafKey) (key : LeafKey) (known : Known)
+      (told : Bool) → Some key ≡ found → known ≡ now key
+      → told ≡ option_map_or (λ k. says (was k) known) found false → told ≡ false
+      → more ≡ changes ++ record { place = place; truth = known.truth; out = known.out } ∷ []
+      → more ≡ changes ++ told_of_place was now place found
+  new_there changes more place found key known told is known_is told_is off more_is =
+      let said : says (was key) (now key) ≡ false =
+      ap (says (was key)) (sym known_is) ∙ ap (λ o. option_map_or (λ k. says (was k) known) o false) is ∙ sym told_is
+      ∙ off in
+      more_is
+      ∙ ap (λ (k : Known). changes ++ record { place = place; truth = k.truth; out = k.out } ∷ []) known_is
+      ∙ sym (ap (λ (b : Bool). changes ++ ((if b then []
+      else record { place = place; truth = (now key).truth; out = (now key).out } ∷ []) ++ [])) said)
+      ∙ ap (λ o. changes ++ told_of_place was now place o) is
+
+  -- what is told from a place on: what is told of the key there, and then of the others
+  place_splits : (keys : List LeafKey) (at place : ℕ)
+      → changes_from was now place (drop at keys)
+      ≡ told_of_place was now place (slice_get keys at) ++ changes_from was now (place + 1) (drop (suc at) keys)
+  place_splits [] zero place = refl
+  place_splits [] (suc at) place = refl
+  place_splits (key ∷ keys) zero place =
+      ap (λ l. l ++ changes_from was now (place + 1) keys) (sym (append-nil (change_at (was key) place (now key))))
+  place_splits (key ∷ keys) (suc at) place = place_splits keys at place
+
+  -- one place more
+  pub places_on : (keys : List LeafKey) (place : ℕ) (changes more all : List InnerChange)
+      → changes ++ changes_from was now place (drop place keys) ≡ all
+      → more ≡ changes ++ told_of_place was now place (slice_get keys place)
+      → more ++ changes_from was now (place + 1) (drop (place + 1) keys) ≡ all
+  places_on keys place changes more all before more_is =
+      let next : place + 1 ≡ suc place = omega arith in
+      let rest = changes_from was now (place + 1) (drop (suc place) keys) in
+      ap (λ n. more ++ changes_from was now (place + 1) (drop n keys)) next
+      ∙ ap (λ l. l ++ rest) more_is
+      ∙ append_assoc changes (told_of_place was now place (slice_get keys place)) rest
+      ∙ ap (λ l. changes ++ l) (sym (place_splits keys place place)) ∙ before
+
+  -- all places
+  pub places_all : (keys : List LeafKey) (place : ℕ) (changes all : List InnerChange) → length keys ≤ place
+      → changes ++ changes_from was now place (drop place keys) ≡ all → changes ≡ all
+  places_all keys place changes all past before =
+      sym (append-nil changes)
+      ∙ ap (λ l. changes ++ changes_from was now place l) (sym (drop_all place keys past)) ∙ before
+
+-- no keys, nothing is told
+pub no_places : (was : LeafKey → Option Known) (now : LeafKey → Known) (keys : List LeafKey) → length keys ≡ 0
+    → [] ≡ changes_from was now 0 keys
+no_places was now [] none = refl
+no_places was now (key ∷ keys) none = absurd (omega (arith, none))

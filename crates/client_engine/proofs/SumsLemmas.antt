@@ -1,0 +1,109 @@
+-- The lane of a metric that sums durations, one step more.
+use Rattle.std.proofs.Common.{◌≡◌, ℕ, ◌<◌, ◌≤◌, Bool, List, [], ◌∷◌, ◌++◌, length, slice_get, Option, Some, None, refl, sym, ap, subst, ◌∙◌}
+use Rattle.std.specs.Prelude.{is_some}
+use Rattle.atom_record.specs.declared.atom.Atom.{Atom}
+use Rattle.atom_record.specs.declared.log.LogFrame.{LogFrame}
+use Rattle.atom_record.specs.declared.log.LogFrame.TheVariants.{AtomAt}
+use Rattle.bucket_meaning.specs.Limits.{time_limit}
+use Rattle.config_types.specs.declared.parameters.PredSpec.{PredSpec}
+use Rattle.config_links.specs.declared.linked.LMetric.{LMetric}
+use Rattle.config_links.specs.declared.linked.LKind.TheVariants as kinds
+use Rattle.config_links.specs.SoundConfig.{IsSoundKind}
+use Rattle.metric_producer.specs.declared.row.Closed.{Closed}
+use Rattle.metric_producer.specs.LaneCalls.{coming}
+use Rattle.duration_metric.specs.declared.change.InnerEvent.{InnerEvent}
+use Rattle.duration_metric.specs.declared.change.InnerChange.{InnerChange}
+use Rattle.duration_metric.specs.InnerKeys.{DurationParams, DurationCall, inner_keys, last_known}
+use Rattle.duration_metric.specs.SumStands.{sum_law}
+use Rattle.report_writer.specs.declared.tree.MetricTree.{MetricTree}
+use Rattle.session_frames.specs.FrameReading.{log_time}
+use Rattle.metric_lane.specs.LaneStands.{LaneHas, GetsFrame, GetsCalls, GetsReport}
+use Rattle.metric_meaning.specs.Histories.{Step, Installation, moment_of}
+use Rattle.metric_meaning.specs.Scenes.{Scene}
+use Rattle.metric_meaning.specs.Reports.{metric_tree}
+use Rattle.metric_meaning.specs.DurationSteps.{sum_way}
+use Rattle.metric_calls.specs.DurationCalls.{event_in, known_in, changes_from, delta_with, learning, duration_params, sum_asking}
+use Rattle.metric_calls.proofs.InnerToldLemmas.{crossed_tell}
+use Rattle.metric_calls.proofs.SumCallsLemmas.{sums_agree, sums_ask_well}
+use Rattle.client_engine.proofs.AlongLemmas.{along_begins, along_reports}
+use Rattle.client_engine.specs.DurationsShown.{durations_shown_by}
+use Rattle.client_engine.specs.Handed.{Handed, IsOfScene}
+use Rattle.client_engine.specs.NextSteps.{TakesFrame, TakesReport}
+use Rattle.client_engine.specs.SoundMetrics.{IsSoundIn}
+use Rattle.client_engine.specs.SumsAlong.{SumLane, SumsAlong}
+use Rattle.client_engine.specs.declared.request.ReportRequest.{ReportRequest}
+use Rattle.client_engine.proofs.InnerLemmas.{IsOther, timed_well, no_calls, inner_takes, others_pass, atom_comes}
+
+-- a new lane has seen no step of what was installed at this clock, where the metric is sound
+pub sums_begin : (metric : LMetric) (spec : PredSpec) (installed : Installation) (base : ℕ) (lane : SumLane)
+    → installed.base ≡ base → IsSoundIn installed.linked metric → metric.kind ≡ kinds.SumDuration spec → base < time_limit
+    → LaneHas sum_law lane (duration_params base metric spec) [] [] → SumsAlong metric installed [] lane
+sums_begin metric spec installed base lane base_is sound is fits has =
+    let kind = subst (IsSoundKind installed.linked metric) is sound.sound.kind in
+    record {
+      spec = spec;
+      sums = is;
+      timed = timed_well installed metric spec sound kind.1;
+      along = along_begins (sum_asking installed metric spec) sum_law lane
+          (subst (λ b. b < time_limit) (sym base_is) fits)
+          (subst (λ b. LaneHas sum_law lane (duration_params b metric spec) [] []) (sym base_is) has);
+    }
+
+module _ (given : Handed) (metric : LMetric) (shown : LogFrame) (truths : List Bool)
+    (old crossed : SumLane) (crosses : GetsFrame sum_law old crossed (moment_of shown (log_time shown))) where
+  -- a frame that isn't an atom brings nothing
+  pub sums_pass : IsOther shown → TakesFrame (SumsAlong metric) given shown truths old crossed
+  sums_pass other installed steps frame has may =
+      let way = sum_way installed metric has.spec in
+      let well = sums_ask_well installed metric has.spec has.timed in
+      let tell = crossed_tell installed metric has.spec in
+      record {
+        spec = has.spec;
+        sums = has.sums;
+        timed = has.timed;
+        along = inner_takes sum_law metric has.spec installed way well refl tell has.timed shown frame truths given old
+            crossed crossed crossed None None steps crosses (no_calls sum_law crossed) (no_calls sum_law crossed)
+            (others_pass sum_law metric has.spec installed way well refl tell has.timed steps shown frame truths given
+            crossed.producer other may) may has.along;
+      }
+
+  -- an atom brings its event, and then what changed
+  pub sums_turn : (at : ℕ) (atom : Atom) → shown ≡ AtomAt at atom → (middle new : SumLane) (event : Option InnerEvent)
+      (changes : List InnerChange)
+      → GetsCalls sum_law crossed middle (coming (log_time shown) event)
+      → GetsCalls sum_law middle new (learning (log_time shown) (delta_with (is_some event) changes))
+      → event ≡ event_in (slice_get given.known.predicates metric.what) truths atom
+      → ((params : DurationParams) (calls : List DurationCall) (scene : Scene)
+      → sum_law.stands middle.producer params calls
+      → IsOfScene given scene
+      → changes ≡ changes_from (last_known params.spec calls) (known_in scene metric) 0 (inner_keys params.spec calls))
+      → TakesFrame (SumsAlong metric) given shown truths old new
+  sums_turn at atom is middle new event changes acts learns event_there changes_there installed steps frame has may =
+      let way = sum_way installed metric has.spec in
+      let well = sums_ask_well installed metric has.spec has.timed in
+      let tell = crossed_tell installed metric has.spec in
+      record {
+        spec = has.spec;
+        sums = has.sums;
+        timed = has.timed;
+        along = inner_takes sum_law metric has.spec installed way well refl tell has.timed shown frame truths given old
+            crossed middle new event (delta_with (is_some event) changes) steps crosses acts learns
+            (atom_comes sum_law metric has.spec installed way well refl tell has.timed steps shown frame truths given
+            middle.producer event changes at atom is event_there changes_there may) may has.along;
+      }
+
+-- what a lane hands out is what a report shows of the metric
+pub sums_report : (metric : LMetric) (base : ℕ) (request : ReportRequest) (old new : SumLane) (closed : Closed ℕ)
+    → GetsReport sum_law old new request.at request.include_current closed
+    → (tree : MetricTree) → tree ≡ durations_shown_by base metric closed
+    → TakesReport (SumsAlong metric) metric base request old new tree
+sums_report metric base request old new closed reports tree is installed steps has may =
+    let both = along_reports (sum_asking installed metric has.spec) sum_law
+    (sums_ask_well installed metric has.spec has.timed) steps (sums_agree installed metric has.spec has.timed)
+    request old new closed reports has.along may.in_time in (
+      record { spec = has.spec; sums = has.sums; timed = has.timed; along = both.0 },
+      is ∙ ap (λ b. durations_shown_by b metric closed) (sym may.base_is)
+          ∙ ap (durations_shown_by installed.base metric) both.1
+          ∙ ap (λ kind. metric_tree installed steps request.include_current request.at (record metric { kind = kind }))
+          (sym has.sums),
+    )

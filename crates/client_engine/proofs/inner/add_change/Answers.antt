@@ -1,0 +1,53 @@
+-- What is so of the key at the place is told, unless it was told last.
+use Rattle.std.proofs.Common.{[], ◌∷◌, ◌++◌, ap, ◌∙◌}
+use Rattle.std.proofs.lemmas.Result.{on_ok_weaker}
+use Rattle.duration_metric.specs.declared.change.InnerChange.{InnerChange}
+use Rattle.duration_metric.specs.InnerKeys.{inner_keys, last_known}
+use Rattle.metric_calls.specs.DurationCalls.{known_in}
+use Rattle.std.specs.Prelude.{slice_get}
+use Rattle.client_engine.specs.Bringing.{handed_with}
+use Rattle.client_engine.proofs.ChangesLemmas.{known_there, none_there, told_there, new_there}
+use Rattle.client_engine.proofs.inner.add_change.Goals as goal
+
+-- no key is there
+pub returns-in_default-clause-adds : goal.returns-in_default-clause-adds
+returns-in_default-clause-adds g c = λ params calls scene stands found fields shared.
+    none_there (last_known params.spec calls) (known_in scene c.args.asker.now.metric.now) c.args.changes.now
+    c.args.place (slice_get (inner_keys params.spec calls) c.args.place)
+    (rw (c.in_default.is) at (c.key.ensures params calls stands))
+
+-- this was told
+pub returns-then-was_told-clause-adds : goal.returns-then-was_told-clause-adds
+returns-then-was_told-clause-adds g c = λ params calls scene stands found fields shared.
+    let asker = c.args.asker.now in
+    let given = handed_with c.args.conditions.now asker.brought.now in
+    let there = rw (c.in-Some.is) at (c.key.ensures params calls stands) in
+    let is = known_there given scene asker.metric.now asker.fields.now c.in-Some.key.now c.in_ok-truth.truth
+    c.in_ok-out.out found fields (c.in_ok-truth.ensures.truth shared)
+    (c.in_ok-out.ensures c.args.conditions.now scene found) in
+    told_there (last_known params.spec calls) (known_in scene asker.metric.now) c.args.changes.now c.args.place
+    (slice_get (inner_keys params.spec calls) c.args.place) c.in-Some.key.now
+    (record { truth = c.in_ok-truth.truth; out = c.in_ok-out.out }) c.was_told.result there is
+    (c.was_told.ensures params calls stands) c.if-was_told.true
+
+-- it is told
+pub returns-clause-adds : goal.returns-clause-adds
+returns-clause-adds g c =
+    on_ok_weaker c.push.result
+    (λ added params calls scene stands found fields shared.
+    let asker = c.args.asker.now in
+    let given = handed_with c.args.conditions.now asker.brought.now in
+    let there = rw (c.in-Some.is) at (c.key.ensures params calls stands) in
+    let is = known_there given scene asker.metric.now asker.fields.now c.in-Some.key.now c.in_ok-truth.truth
+    c.in_ok-out.out found fields (c.in_ok-truth.ensures.truth shared)
+    (c.in_ok-out.ensures c.args.conditions.now scene found) in
+    new_there (last_known params.spec calls) (known_in scene asker.metric.now) c.args.changes.now c.push.new.self
+    c.args.place (slice_get (inner_keys params.spec calls) c.args.place) c.in-Some.key.now
+    (record { truth = c.in_ok-truth.truth; out = c.in_ok-out.out }) c.was_told.result there is
+    (c.was_told.ensures params calls stands) c.if-was_told.false
+    (added ∙ ap (λ n. let change : InnerChange = record {
+      place = n;
+      truth = c.in_ok-truth.truth;
+      out = c.in_ok-out.out;
+    } in c.args.changes.now ++ change ∷ []) c.in-Ok.ensures.1))
+    c.push.ensures.added

@@ -1,0 +1,64 @@
+-- One place after the other.
+use Rattle.std.proofs.Common.{◌≡◌, ◌++◌, length, slice_get, sym, ap, subst, ◌∙◌, arith}
+use Rattle.config_links.specs.SoundConfig.{MayBeWithin}
+use Rattle.duration_metric.specs.InnerKeys.{inner_keys, last_known}
+use Rattle.metric_calls.specs.DurationCalls.{known_in, changes_from}
+use Rattle.metric_meaning.specs.DurationSteps.{inner_fields}
+use Rattle.client_engine.specs.Bringing.{handed_with}
+use Rattle.client_engine.specs.Handed.{IsOfScene}
+use Rattle.client_engine.specs.Known.{Known}
+use Rattle.client_engine.specs.InnerTold.{HasShared}
+use Rattle.client_engine.proofs.ChangesLemmas.{places_on, places_all}
+use Rattle.client_engine.proofs.inner.changes_of.Goals as goal
+
+-- the condition is asked of the same predicates
+pub add_change-requires : goal.add_change-requires
+add_change-requires g c = record {
+  within = subst (λ (k : Known). MayBeWithin (length k.predicates) c.args.metric.now.condition)
+      (sym c.loop-place.invariant.1) c.requires.within;
+}
+
+-- nothing is told yet
+pub loop-place-init : goal.loop-place-init
+loop-place-init g c = (
+  λ params calls scene stands found.
+      ap (λ l. l ++ changes_from (last_known params.spec calls) (known_in scene c.args.metric.now) 0
+      (inner_keys params.spec calls)) c.new-changes.ensures,
+  c.in_ok-shared.ensures.known,
+)
+
+-- one more place
+pub loop-place-preserved : goal.loop-place-preserved
+loop-place-preserved g c =
+    let same = c.loop-place.invariant.1 in (
+      λ params calls scene stands found.
+          let was = last_known params.spec calls in
+          let now = known_in scene c.args.metric.now in
+          let keys = inner_keys params.spec calls in
+          places_on was now keys c.loop-place.place c.loop-place.changes c.add_change.new.changes
+          (changes_from was now 0 keys) (c.loop-place.invariant.0 params calls scene stands found)
+          (c.in_ok-add_change.ensures.adds params calls scene stands
+          (subst (λ (k : Known). IsOfScene (handed_with k c.args.brought.now) scene) (sym same) found)
+          (subst (λ (k : Known). c.in_ok-fields.fields ≡ inner_fields (slice_get k.predicates c.args.metric.now.what))
+          (sym same) c.in_ok-fields.ensures)
+          (subst (λ (k : Known). HasShared k c.args.metric.now c.in_ok-shared.shared) (sym same)
+          c.in_ok-shared.ensures.shared)),
+      c.in_ok-add_change.ensures.known ∙ same,
+    )
+
+-- without memory predicates know the same, too
+pub returns-in_err-add_change-clause-known : goal.returns-in_err-add_change-clause-known
+returns-in_err-add_change-clause-known g c = c.in_err-add_change.ensures.known ∙ c.loop-place.invariant.1
+
+-- all places
+pub returns-clause-changes : goal.returns-clause-changes
+returns-clause-changes g c = λ params calls scene stands found.
+    let ends = c.loop-place-test.false in
+    let len = c.len-count.ensures params calls stands in
+    places_all (last_known params.spec calls) (known_in scene c.args.metric.now) (inner_keys params.spec calls)
+    c.loop-place.place c.loop-place.changes
+    (changes_from (last_known params.spec calls) (known_in scene c.args.metric.now) 0 (inner_keys params.spec calls))
+    (omega (arith, ends, len)) (c.loop-place.invariant.0 params calls scene stands found)
+
+pub returns-clause-known : goal.returns-clause-known
+returns-clause-known g c = c.loop-place.invariant.1

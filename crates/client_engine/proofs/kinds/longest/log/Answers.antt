@@ -1,0 +1,33 @@
+-- The crossing, then the event, and then what changed.
+use Rattle.std.proofs.Common.{refl, sym, ◌∙◌}
+use Rattle.std.proofs.lemmas.Result.{on_ok_weaker}
+use Rattle.client_engine.specs.Bringing.{handed_with}
+use Rattle.client_engine.proofs.InnerLemmas.{is_other}
+use Rattle.client_engine.proofs.LongestLemmas.{longest_pass, longest_turn}
+use Rattle.client_engine.proofs.kinds.longest.log.Goals as goal
+
+-- a frame that isn't an atom brings nothing
+pub returns-in_default : goal.returns-in_default
+returns-in_default c =
+    let brought = c.args.brought.now in
+    let crosses = rw (c.comes_by_pull.ensures, c.time_of-at.ensures) at c.in_ok-cross.ensures in
+    record {
+      logs = longest_pass (handed_with c.args.conditions.now brought) c.args.metric.now brought.frame.now brought.matched.now
+          c.args.lane.now c.cross.new.self crosses (is_other brought.frame.now c.in_default.not-AtomAt);
+      known = refl;
+    }
+
+-- an atom acts, and what changed is told after it
+pub returns-clause-logs : goal.returns-clause-logs
+returns-clause-logs c =
+    let brought = c.args.brought.now in
+    let crosses = rw (c.comes_by_pull.ensures, c.time_of-at.ensures) at c.in_ok-cross.ensures in
+    let acts = rw c.time_of-at.ensures at c.in_ok-act.ensures in
+    on_ok_weaker c.learn.result
+    (λ learns. longest_turn (handed_with c.args.conditions.now brought) c.args.metric.now brought.frame.now
+    brought.matched.now c.args.lane.now c.cross.new.self crosses c.in-AtomAt.at c.in-AtomAt.atom c.in-AtomAt.is
+    c.act.new.lane c.learn.new.lane c.in_ok-event.event c.in_ok-changes.changes acts
+    (rw (c.time_of-at.ensures, c.delta_of.ensures, c.is_some-acts.ensures) at learns) c.in_ok-event.ensures
+    (λ params calls scene stands found.
+    c.in_ok-changes.ensures.changes params calls scene (rw (c.producer.ensures) stands) found))
+    c.learn.ensures

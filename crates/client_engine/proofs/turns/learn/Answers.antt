@@ -1,0 +1,5 @@
+use Rattle.client_engine.proofs.turns.learn.Goals as goal
+
+-- it is handed on
+pub returns-in-Some : goal.returns-in-Some
+returns-in-Some g c = rw c.in-Some.is c.condition.ensures

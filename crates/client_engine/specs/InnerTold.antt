@@ -1,0 +1,58 @@
+-- What is found of inner keys, one at a time: for private clauses.
+use Rattle.std.specs.Prelude.{◌≡◌, ℕ, Bool, List, [], ◌∷◌, ◌++◌, drop, slice_get, Option, Some, None}
+use Rattle.config_links.specs.declared.linked.LMetric.{LMetric}
+use Rattle.predicate_state.specs.declared.truth.Truth.{Truth}
+use Rattle.predicate_state.specs.PredicateTable.{LeafKey}
+use Rattle.duration_metric.specs.declared.change.InnerChange.{InnerChange}
+use Rattle.duration_metric.specs.declared.inner.Known.{Known}
+use Rattle.duration_metric.specs.InnerKeys.{DurationParams, DurationCall, inner_keys, last_known}
+use Rattle.metric_meaning.specs.DurationSteps.{inner_fields}
+use Rattle.metric_meaning.specs.MetricConditions.{is_condition_true}
+use Rattle.metric_meaning.specs.Readings.{LeafReading, key_reading}
+use Rattle.metric_meaning.specs.Scenes.{Scene}
+use Rattle.metric_calls.specs.DurationCalls.{told_as, known_in, changes_from}
+use Rattle.client_engine.specs.Known as known
+use Rattle.client_engine.specs.Handed.{IsOfScene}
+use Rattle.client_engine.specs.Bringing.{handed_with}
+use Rattle.client_engine.specs.declared.asked.InnerKey.{InnerKey}
+use Rattle.client_engine.specs.declared.brought.Brought.{Brought}
+use Rattle.client_engine.specs.declared.inner.Asker.{Asker}
+
+-- the truth of the condition is this, for whatever is read, if there is a truth for all
+abbrev pub HasShared : known.Known → LMetric → Option Bool → Type 0
+HasShared known metric None = Unit {0}
+HasShared known metric (Some holds) =
+    (reading : LeafReading) → holds ≡ is_condition_true known.predicates known.tables metric reading
+
+-- the truth that is told of an inner key's condition, where those that ask know what all have alike
+abbrev pub IsStanding : Asker → InnerKey → known.Known → Truth → Type 0
+IsStanding asker inner known truth =
+    HasShared known asker.metric.now asker.shared
+    → truth ≡ told_as (is_condition_true known.predicates known.tables asker.metric.now
+    (key_reading inner.fields.now inner.key.now))
+
+-- what is told of the key at a place, if there is one
+abbrev pub told_of_place : (LeafKey → Option Known) → (LeafKey → Known) → ℕ → Option LeafKey → List InnerChange
+told_of_place was now place None = changes_from was now place []
+told_of_place was now place (Some key) = changes_from was now place (key ∷ [])
+
+-- what is told of the inner key at a place is added, whatever the producer stands for
+abbrev pub AddsChange : {K : Type 0} → (K → DurationParams → List DurationCall → Type 0) → K → ℕ → Asker → known.Known
+    → List InnerChange → List InnerChange → Type 0
+AddsChange stands keys place asker known old new =
+    (params : DurationParams) (calls : List DurationCall) (scene : Scene) → stands keys params calls
+    → IsOfScene (handed_with known asker.brought.now) scene
+    → asker.fields.now ≡ inner_fields (slice_get known.predicates asker.metric.now.what)
+    → HasShared known asker.metric.now asker.shared
+    → new ≡ old ++ told_of_place (last_known params.spec calls) (known_in scene asker.metric.now) place
+    (slice_get (inner_keys params.spec calls) place)
+
+-- what is told of the keys before a place is there, whatever the producer stands for
+abbrev pub HasChanges : {K : Type 0} → (K → DurationParams → List DurationCall → Type 0) → K → LMetric → Brought
+    → known.Known → ℕ → List InnerChange → Type 0
+HasChanges stands keys metric brought known place changes =
+    (params : DurationParams) (calls : List DurationCall) (scene : Scene) → stands keys params calls
+    → IsOfScene (handed_with known brought) scene
+    → changes ++ changes_from (last_known params.spec calls) (known_in scene metric) place
+    (drop place (inner_keys params.spec calls))
+    ≡ changes_from (last_known params.spec calls) (known_in scene metric) 0 (inner_keys params.spec calls)

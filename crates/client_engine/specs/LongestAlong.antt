@@ -1,0 +1,26 @@
+-- The lane of a metric of longest durations: what it stands for.
+use Rattle.std.specs.Prelude.{◌≡◌, ℕ, List}
+use Rattle.config_types.specs.declared.parameters.PredSpec.{PredSpec}
+use Rattle.config_links.specs.declared.linked.LMetric.{LMetric}
+use Rattle.config_links.specs.declared.linked.LKind.TheVariants as kinds
+use Rattle.duration_metric.specs.declared.change.InnerEvent.{InnerEvent}
+use Rattle.duration_metric.specs.declared.change.InnerDelta.{InnerDelta}
+use Rattle.duration_metric.specs.declared.sparse.MaxProducer.{MaxProducer}
+use Rattle.duration_metric.specs.SparseStands.{sparse_law}
+use Rattle.metric_lane.specs.declared.lane.Lane.{Lane}
+use Rattle.metric_meaning.specs.Histories.{Step, Installation}
+use Rattle.metric_calls.specs.DurationCalls.{longest_asking, IsTimedWell}
+use Rattle.client_engine.specs.Along.{Along}
+
+-- a lane of a producer of longest durations
+abbrev pub LongestLane : Type 0
+LongestLane = Lane MaxProducer InnerEvent InnerDelta ℕ
+
+-- The metric shows longest durations, its inner keys are kept as it says, and the lane collects for it, after these
+-- steps of what was installed. What the last step told of each inner key is in the calls that the lane's producer got.
+pub record LongestAlong (metric : LMetric) (installed : Installation) (steps : List Step) (lane : LongestLane)
+    : Type 0 where
+  pub spec : PredSpec
+  pub longest : metric.kind ≡ kinds.MaxSparse spec
+  pub timed : IsTimedWell installed metric spec
+  pub along : Along (longest_asking installed metric spec) sparse_law steps lane

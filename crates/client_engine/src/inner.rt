@@ -1,0 +1,265 @@
+//! The inner keys of a metric of durations, which are the keys of the predicate that it times: what atoms do to them,
+//! and what is told of them.
+ghost use Rattle.std.specs.Prelude.{◌≡◌, [], List, length, slice_get, OnOk, IfOk};
+ghost use Rattle.std.specs.Option.{option_copied};
+ghost use Rattle.config_links.specs.SoundConfig.{MayBeWithin};
+ghost use Rattle.duration_metric.specs.InnerKeys.{DurationParams, DurationCall, inner_keys, last_known, was_told};
+ghost use Rattle.duration_metric.specs.SumStands.{SumStandsFor};
+ghost use Rattle.duration_metric.specs.SparseStands.{SparseStandsFor};
+ghost use Rattle.metric_meaning.specs.DurationSteps.{predicate_fields, inner_fields};
+ghost use Rattle.metric_meaning.specs.PredicateSteps.{atom_events};
+ghost use Rattle.metric_meaning.specs.Scenes.{Scene};
+ghost use Rattle.metric_calls.specs.DurationCalls.{first_event_of, delta_with, told_as, known_in, changes_from};
+ghost use Rattle.client_engine.specs.Bringing.{handed_with};
+ghost use Rattle.client_engine.specs.Handed.{IsOfScene};
+ghost use Rattle.client_engine.specs.InnerTold.{HasShared, IsStanding, AddsChange};
+
+use crate::arriving::key_in;
+use crate::asked::InnerKey;
+use crate::brought::Brought;
+use crate::conditions::Conditions;
+use crate::tables::event_by;
+use atom_record::{Atom, DimKey, MetricKey};
+use config_links::{LMetric, LPredBody};
+use duration_metric::{InnerChange, InnerDelta, InnerEvent, MaxProducer, SumProducer};
+use field_select::{FieldSet, key_of};
+use predicate_state::Truth;
+use sd_base::Seq;
+use std::alloc::{AllocError, Global};
+
+/// A producer of durations, as it is asked for its inner keys.
+pub trait Inners {
+    /// What a producer stands for that was made with these, and has got these calls.
+    ghost stands: { Self → DurationParams → List DurationCall → Type 0 };
+
+    /// The number of inner keys.
+    fn len(&self) -> usize
+        ensures { (params : DurationParams) (calls : List DurationCall) → stands self.now params calls
+            → result ≡ length (inner_keys params.spec calls) };
+
+    /// The inner key at a place.
+    fn key(&self, place: usize) -> Option<&DimKey>
+        ensures { (params : DurationParams) (calls : List DurationCall) → stands self.now params calls
+            → option_copied result ≡ slice_get (inner_keys params.spec calls) place };
+
+    /// Whether this was told last of the inner key at a place.
+    fn was_told(&self, place: usize, truth: Truth, out: &MetricKey) -> bool
+        ensures { (params : DurationParams) (calls : List DurationCall) → stands self.now params calls
+            → result ≡ was_told params.spec calls place (record { truth = truth; out = out.now }) };
+}
+
+impl Inners for SumProducer {
+    ghost stands = { SumStandsFor };
+
+    fn len(&self) -> usize {
+        self.inner_len()
+    }
+
+    fn key(&self, place: usize) -> Option<&DimKey> {
+        self.inner_key(place)
+    }
+
+    fn was_told(&self, place: usize, truth: Truth, out: &MetricKey) -> bool {
+        SumProducer::was_told(self, place, truth, out)
+    }
+}
+
+impl Inners for MaxProducer {
+    ghost stands = { SparseStandsFor };
+
+    fn len(&self) -> usize {
+        self.inner_len()
+    }
+
+    fn key(&self, place: usize) -> Option<&DimKey> {
+        self.inner_key(place)
+    }
+
+    fn was_told(&self, place: usize, truth: Truth, out: &MetricKey) -> bool {
+        MaxProducer::was_told(self, place, truth, out)
+    }
+}
+
+/// No fields.
+pub fn no_fields(alloc: Global) -> FieldSet
+    ensures { result ≡ record { atom_id = 0; leaves = [] } }
+{
+    FieldSet {
+        atom_id: 0,
+        leaves: Seq::new(alloc),
+    }
+}
+
+/// The fields whose values the keys of a predicate have.
+pub fn fields_in(alloc: Global, body: &LPredBody) -> Result<FieldSet, AllocError>
+    ensures { IfOk result (λ fields. fields ≡ predicate_fields body.now) }
+{
+    match body {
+        LPredBody::Simple { dims, .. } => Ok(FieldSet {
+            atom_id: dims.atom_id,
+            leaves: Seq::from_slice(alloc, dims.leaves.as_slice())?,
+        }),
+        LPredBody::Combo { .. } => Ok(no_fields(alloc)),
+    }
+}
+
+/// What an atom does to the keys of a predicate, if it does something.
+pub fn key_event(
+    alloc: Global,
+    body: &LPredBody,
+    atom: &Atom,
+    matched: &[bool],
+) -> Result<Option<InnerEvent>, AllocError>
+    ensures { IfOk result (λ event. event
+        ≡ first_event_of (atom_events body.now matched.now atom.now)) }
+{
+    match body {
+        LPredBody::Simple {
+            start,
+            stop,
+            stop_all,
+            dims,
+            spec: _,
+        } => match event_by(*start, *stop, *stop_all, matched) {
+            Some(event) => {
+                let key = key_of(alloc, dims, atom)?;
+                Ok(Some(InnerEvent { event, key }))
+            }
+            None => Ok(None),
+        },
+        LPredBody::Combo { .. } => Ok(None),
+    }
+}
+
+/// What inner keys are asked by: the metric, the fields whose values they have, what the frame brings, and the truth of
+/// their condition where it is the same for all.
+#[derive(Clone, Copy)]
+struct Asker<'a> {
+    metric: &'a LMetric,
+    fields: &'a FieldSet,
+    brought: &'a Brought<'a>,
+    shared: Option<bool>,
+}
+
+/// What is told of inner keys once a frame has come: of each whose truth or output key isn't what was told of it last.
+pub fn changes_of<K: Inners>(
+    alloc: Global,
+    keys: &K,
+    metric: &LMetric,
+    brought: &Brought<'_>,
+    conditions: &mut Conditions,
+) -> Result<Seq<InnerChange>, AllocError>
+    requires within { MayBeWithin (length conditions.old.predicates) metric.now.condition }
+    ensures changes { (params : DurationParams) (calls : List DurationCall) (scene : Scene)
+        → K.stands keys.now params calls → IsOfScene (handed_with conditions.old brought.now) scene
+        → IfOk result (λ changes. changes ≡ changes_from (last_known params.spec calls)
+        (known_in scene metric.now) 0 (inner_keys params.spec calls)) }
+    ensures known { conditions.new ≡ conditions.old }
+{
+    let mut changes = Seq::new(alloc);
+    let count = keys.len();
+    if count == 0 {
+        return Ok(changes);
+    }
+    let fields = conditions.fields_of(alloc, metric.what)?;
+    let shared = shared_truth(alloc, metric, conditions)?;
+    let asker = Asker {
+        metric,
+        fields: &fields,
+        brought,
+        shared,
+    };
+    for place in 0..count {
+        add_change(alloc, &mut changes, keys, place, &asker, conditions)?;
+    }
+    Ok(changes)
+}
+
+// Whether the condition is true of all inner keys alike. Where links ask by their values, there is no such truth.
+fn shared_truth(
+    alloc: Global,
+    metric: &LMetric,
+    conditions: &mut Conditions,
+) -> Result<Option<bool>, AllocError>
+    requires within { MayBeWithin (length conditions.old.predicates) metric.now.condition }
+    ensures shared { IfOk result (HasShared conditions.old metric.now) }
+    ensures known { conditions.new ≡ conditions.old }
+{
+    if !metric.links.is_empty() {
+        return Ok(None);
+    }
+    let fields = no_fields(alloc);
+    let key = Seq::new(alloc);
+    let none = InnerKey {
+        fields: &fields,
+        key: &key,
+    };
+    Ok(Some(conditions.holds(alloc, metric, &none)?))
+}
+
+// Adds what is told of the inner key at a place, unless it was told last.
+fn add_change<K: Inners>(
+    alloc: Global,
+    changes: &mut Seq<InnerChange>,
+    keys: &K,
+    place: usize,
+    asker: &Asker<'_>,
+    conditions: &mut Conditions,
+) -> Result<(), AllocError>
+    requires within { MayBeWithin (length conditions.old.predicates) asker.now.metric.now.condition }
+    ensures adds { OnOk result (AddsChange K.stands keys.now place asker.now
+        conditions.old changes.old changes.new) }
+    ensures known { conditions.new ≡ conditions.old }
+{
+    let Some(key) = keys.key(place) else {
+        return Ok(());
+    };
+    let inner = InnerKey {
+        fields: asker.fields,
+        key,
+    };
+    let truth = truth_of(alloc, asker, &inner, conditions)?;
+    let out = key_in(alloc, asker.metric, asker.brought, &inner)?;
+    if keys.was_told(place, truth, &out) {
+        return Ok(());
+    }
+    // There are fewer inner keys than fit.
+    let Ok(place) = u32::try_from(place) else {
+        return Err(AllocError);
+    };
+    changes.push(InnerChange { place, truth, out })
+}
+
+// The truth that is told of an inner key's condition.
+fn truth_of(
+    alloc: Global,
+    asker: &Asker<'_>,
+    inner: &InnerKey<'_>,
+    conditions: &mut Conditions,
+) -> Result<Truth, AllocError>
+    requires within { MayBeWithin (length conditions.old.predicates) asker.now.metric.now.condition }
+    ensures truth { IfOk result (IsStanding asker.now inner.now conditions.old) }
+    ensures known { conditions.new ≡ conditions.old }
+{
+    match asker.shared {
+        Some(holds) => Ok(truth_as(holds)),
+        None => Ok(truth_as(conditions.holds(alloc, asker.metric, inner)?)),
+    }
+}
+
+/// What is told with these changes: nothing without changes, where no event came.
+pub fn delta_of(acts: bool, changes: Seq<InnerChange>) -> Option<InnerDelta>
+    ensures { result ≡ delta_with acts changes }
+{
+    if !acts && changes.is_empty() {
+        return None;
+    }
+    Some(InnerDelta { changes })
+}
+
+// The truth that is told of a condition: that it is true, or that it isn't.
+fn truth_as(holds: bool) -> Truth
+    ensures { result ≡ told_as holds }
+{
+    if holds { Truth::True } else { Truth::False }
+}

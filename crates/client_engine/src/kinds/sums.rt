@@ -1,0 +1,81 @@
+//! Sums of durations.
+ghost use Rattle.std.specs.Prelude.{◌≡◌, ◌<◌, [], length, OnOk, IfOk};
+ghost use Rattle.bucket_meaning.specs.Limits.{time_limit};
+ghost use Rattle.config_types.specs.declared.parameters.PredSpec.{PredSpec};
+ghost use Rattle.config_links.specs.declared.linked.LKind.TheVariants as kinds;
+ghost use Rattle.config_links.specs.SoundConfig.{IsSize, IsBound, MayBeWithin};
+ghost use Rattle.metric_meaning.specs.Histories.{Installation};
+ghost use Rattle.report_writer.specs.Writable.{IsWritableMetric};
+ghost use Rattle.client_engine.specs.Bringing.{TakesBrought};
+ghost use Rattle.client_engine.specs.SumsAlong.{SumsAlong};
+ghost use Rattle.client_engine.specs.NextSteps.{TakesReport};
+ghost use Rattle.client_engine.specs.SoundMetrics.{IsSoundIn};
+
+use crate::brought::Brought;
+use crate::conditions::Conditions;
+use crate::inner::{changes_of, delta_of};
+use crate::kinds::durations::durations_tree;
+use crate::moments::comes_by_pull;
+use crate::request::ReportRequest;
+use crate::turns::{act, learn};
+use atom_record::LogFrame;
+use config_links::LMetric;
+use config_types::PredSpec;
+use duration_metric::SumProducer;
+use metric_lane::Lane;
+use report_writer::MetricTree;
+use session_frames::time_of;
+use std::alloc::{AllocError, Global};
+
+/// The lane of a metric that sums durations, which begins at `base` and keeps its inner keys so.
+pub fn begin(alloc: Global, base: u64, metric: &LMetric, spec: PredSpec) -> Lane<SumProducer>
+    requires fits { base < time_limit }
+    requires sized { IsSize metric.now.size }
+    requires bound { IsBound spec.bound }
+    ensures { (installed : Installation) → installed.base ≡ base → IsSoundIn installed.linked metric.now
+        → metric.now.kind ≡ kinds.SumDuration spec → SumsAlong metric.now installed [] result }
+{
+    let producer = SumProducer::new(alloc, base, metric.size, spec);
+    Lane::new(base, metric.size, producer)
+}
+
+/// A frame of the log comes. An atom acts on the inner keys, and what changed of them is told after it.
+pub fn log(
+    lane: &mut Lane<SumProducer>,
+    alloc: Global,
+    metric: &LMetric,
+    brought: &Brought<'_>,
+    conditions: &mut Conditions,
+) -> Result<(), AllocError>
+    requires within { MayBeWithin (length conditions.old.predicates) metric.now.condition }
+    ensures logs { OnOk result (TakesBrought (SumsAlong metric.now)
+        conditions.old brought.now lane.old lane.new) }
+    ensures known { conditions.new ≡ conditions.old }
+{
+    let at = time_of(brought.frame);
+    lane.cross(at, comes_by_pull(brought.frame))?;
+    let LogFrame::AtomAt { atom, .. } = brought.frame else {
+        return Ok(());
+    };
+    let event = conditions.inner_event(alloc, metric.what, atom, brought.matched)?;
+    let acts = event.is_some();
+    act(lane, at, event)?;
+    let changes = changes_of(alloc, lane.producer(), metric, brought, conditions)?;
+    learn(lane, at, delta_of(acts, changes))
+}
+
+/// A report, and what it shows of the metric.
+pub fn report(
+    lane: &mut Lane<SumProducer>,
+    alloc: Global,
+    metric: &LMetric,
+    base: u64,
+    request: ReportRequest,
+) -> Result<MetricTree, AllocError>
+    ensures reports { IfOk result (TakesReport (SumsAlong metric.now)
+        metric.now base request lane.old lane.new) }
+    ensures writable { IfOk result IsWritableMetric }
+{
+    let closed = lane.report(request.at, request.include_current)?;
+    durations_tree(alloc, base, metric, closed)
+}
