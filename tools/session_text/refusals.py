@@ -6,10 +6,8 @@ LIMIT, NO_ID, TWICE, NO_MATCHER, NO_PREDICATE, NO_STATE, MATCHER_CYCLE, PREDICAT
 KINDS = {1: MATCHER, 2: PREDICATE, 3: STATE, 4: METRIC}
 MOST = {1: 800, 2: 300, 3: 16, 4: 100}
 NOT = 3
-# What no program acts on yet: these metrics, and those of these whose atoms are pulled.
-WAITING, WAITING_PULLED = (), ("value_metric", "gauge_metric")
-# The ids of atoms that are pulled.
-PULLED = (range(10_000, 100_000), range(150_000, 200_000))
+# What no program acts on yet: these metrics.
+WAITING = ()
 
 CAUSES = {
     1: "a number of more than ten bytes",
@@ -220,25 +218,10 @@ def unsupported_words(path):
     return f"{words[-1]}{place} has another wire type than it may have, or a number that it may not have"
 
 
-def pulled_ids(config):
-    """The ids of matchers by which a value or a gauge is pulled: simple ones of atoms that are pulled."""
-    simple = [(one.get("id"), one.get("simple_atom_matcher", {})) for _, one in entities(config, MATCHER)]
-    return [one for one, body in simple if any(body.get("atom_id") in ids for ids in PULLED)]
-
-
-def waiting_words(field, metric, pulled):
-    """What of a metric isn't acted on yet, or None where it is; the ids are those of pulled matchers."""
-    if field in WAITING:
-        return field
-    return f"{field} of a pulled atom" if field in WAITING_PULLED and metric.get("what") in pulled else None
-
-
 def waiting_lines(content):
     """The metrics of a configuration that aren't acted on yet."""
-    config = tree(content)
-    pulled = pulled_ids(config)
-    found = [(one, waiting_words(field, one, pulled)) for field, one in entities(config, METRIC)]
-    return [f"metric {named(one)}: not acted on yet: {words}" for one, words in found if words]
+    metrics = entities(tree(content), METRIC)
+    return [f"metric {named(one)}: not acted on yet: {field}" for field, one in metrics if field in WAITING]
 
 
 def found_lines(line, content):

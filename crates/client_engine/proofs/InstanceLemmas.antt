@@ -3,17 +3,19 @@ use Rattle.std.proofs.Common.{◌≡◌, ℕ, ◌<◌, Bool, List, [], ◌∷◌
 use Rattle.std.specs.List.{list_all}
 use Rattle.std.proofs.lemmas.List.Concat.{flat_map-append}
 use Rattle.std.proofs.lemmas.List.Elements.{All-nil, All-cons, All-weaker}
+use Rattle.pull_book.specs.PullBooks.{PullBookStandsFor}
 use Rattle.state_slicer.specs.StateBooks.{StateBookStandsFor}
 use Rattle.atom_record.specs.declared.log.LogFrame.{LogFrame}
 use Rattle.bucket_meaning.specs.Limits.{time_limit}
 use Rattle.config_links.specs.declared.linked.Linked.{Linked}
 use Rattle.config_links.specs.declared.linked.LMatcher.{LMatcher}
+use Rattle.config_links.specs.declared.linked.LMatcher.TheVariants as linked_matchers
 use Rattle.config_links.specs.declared.linked.LState.{LState}
 use Rattle.config_links.specs.declared.linked.LMetric.{LMetric}
 use Rattle.config_links.specs.declared.linked.LPredicate.{LPredicate}
 use Rattle.config_links.specs.declared.linked.LPredBody.{LPredBody}
 use Rattle.config_links.specs.declared.linked.LPredBody.TheVariants.{Simple, Combo}
-use Rattle.config_links.specs.SoundConfig.{IsBound, IsSoundBody, IsSoundPredicate, IsSoundMetric, IsSoundConfig}
+use Rattle.config_links.specs.SoundConfig.{IsBound, IsSoundBody, IsSoundMatcher, IsSoundPredicate, IsSoundMetric, IsSoundConfig}
 use Rattle.config_links.proofs.SoundUses.{references_end}
 use Rattle.metric_producer.specs.LaneCalls.{IsTimelyStep, last_at}
 use Rattle.session_frames.specs.FrameReading.{log_time}
@@ -35,6 +37,8 @@ use Rattle.client_engine.specs.SoundMetrics.{IsSoundIn}
 use Rattle.client_engine.specs.Running.{Running, linked_of}
 use Rattle.client_engine.specs.InstanceParts.{tree_with, AreStateDrops}
 use Rattle.client_engine.specs.InstanceStands.{new_history, IsFresh, Logs, Reports}
+use Rattle.client_engine.specs.Finding.{MayAsk}
+use Rattle.client_engine.specs.declared.opening.Opening.{Opening}
 use Rattle.client_engine.specs.declared.parts.Drops.{Drops}
 use Rattle.client_engine.specs.declared.request.ReportRequest.{ReportRequest}
 
@@ -100,7 +104,7 @@ linked_stays matchers states now old metrics_now metrics_old predicates metrics 
 pub instance_logs : (old new : Running) (shown : LogFrame) (truths : List Bool) (book : BookOfStates)
     → new ≡ record old { known = new.known; tracks = new.tracks } → linked_of new ≡ linked_of old
     → KnowsStep (logged_step shown truths) old.known new.known
-    → TakesFrame AllStandFor (handed new.known old.states book) shown truths old.tracks new.tracks
+    → TakesFrame AllStandFor (handed new.known old.matchers old.states book) shown truths old.tracks new.tracks
     → log_time shown < time_limit → Logs old shown truths book new
 instance_logs old new shown truths book same stays knows_step steps_on fits history frame has later view shown_is book_is =
     let step = logged_step frame truths in
@@ -128,6 +132,7 @@ instance_logs old new shown truths book same stays knows_step steps_on fits hist
         found = record {
           predicates = predicates;
           tables = knows ∙ ap (λ ps. tables_after ps (history.steps ++ step ∷ [])) predicates;
+          matchers = ap (λ (l : Linked). l.matchers) has.linked;
           states = ap (λ (l : Linked). l.states) has.linked;
           book = subst (StateBookStandsFor book) (sym (log_after-push installed history.steps frame truths)) book_is;
         };
@@ -233,25 +238,47 @@ sound_kept linked sound =
           (λ predicate s. its_bound matchers many predicate.body s) linked.predicates sound.predicates;
     }
 
+-- the configuration of an instance of a sound one
+pub linked_whole : (linked : Linked) (it : Running) → it.matchers ≡ linked.matchers
+    → it.known.predicates ≡ linked.predicates → it.states ≡ linked.states
+    → map metric_in it.tracks ≡ linked.metrics → linked_of it ≡ linked
+linked_whole linked it matchers predicates states metrics =
+    ap (λ ms. record (linked_of it) { matchers = ms }) matchers
+    ∙ ap (λ ps. record linked { predicates = ps; states = it.states; metrics = map metric_in it.tracks }) predicates
+    ∙ ap (λ ss. record linked { states = ss; metrics = map metric_in it.tracks }) states
+    ∙ ap (λ ms. record linked { metrics = ms }) metrics
+
 -- an instance of a sound configuration, to which nothing has happened yet
-pub fresh : (linked : Linked) (base : ℕ) (it : Running) → it.matchers ≡ linked.matchers
-    → it.known.predicates ≡ linked.predicates → it.states ≡ linked.states → it.base ≡ base → it.last ≡ base
-    → KnowsAfter [] it.known → AreNew base linked.metrics it.tracks → IsSoundConfig linked → (opening : List LogFrame)
-    → IsFresh linked base opening it
-fresh linked base it matchers predicates states base_is last_is knows are sound opening = record {
-  linked = ap (λ ms. record (linked_of it) { matchers = ms }) matchers
-      ∙ ap (λ ps. record linked { predicates = ps; states = it.states; metrics = map metric_in it.tracks })
-      predicates
-      ∙ ap (λ ss. record linked { states = ss; metrics = map metric_in it.tracks }) states
-      ∙ ap (λ ms. record linked { metrics = ms }) are.metrics_are;
+pub fresh : (linked : Linked) (opening : Opening) (it : Running) → it.matchers ≡ linked.matchers
+    → it.known.predicates ≡ linked.predicates → it.states ≡ linked.states → it.base ≡ opening.base
+    → it.last ≡ opening.base → opening.matchers.now ≡ linked.matchers → KnowsAfter [] it.known
+    → AreNew opening it.known linked.metrics it.tracks → IsSoundConfig linked → (log : List LogFrame)
+    → PullBookStandsFor opening.pulls.now log → IsFresh linked opening.base log it
+fresh linked opening it matchers predicates states base_is last_is matchers_are knows are sound log pulls = record {
+  linked = linked_whole linked it matchers predicates states are.metrics_are;
   base = base_is;
   last = last_is;
   in_time = tt;
   knows = knows;
-  tracks = are.stand (new_history base opening linked).installed refl
-      (All-weaker (IsSoundMetric linked) (IsSoundIn linked)
+  tracks = are.stand (new_history opening.base log linked).installed (record {
+    base = refl;
+    matchers = sym matchers_are;
+    predicates = predicates;
+    knows = knows;
+    pulls = pulls;
+  }) (All-weaker (IsSoundMetric linked) (IsSoundIn linked)
       (λ metric s. record { leaves = (sound_kept linked sound).leaves; sound = s }) linked.metrics sound.metrics);
 }
+
+-- the matchers of a sound configuration may be asked
+each_askable : (count : ℕ) (matcher : LMatcher) → IsSoundMatcher count matcher → MayAsk matcher
+each_askable count (linked_matchers.Simple simple) sound = sound
+each_askable count (linked_matchers.Combo op children) sound = tt
+
+pub sound_askable : (linked : Linked) → IsSoundConfig linked → All MayAsk linked.matchers
+sound_askable linked sound =
+    All-weaker (IsSoundMatcher (length linked.matchers)) MayAsk (each_askable (length linked.matchers)) linked.matchers
+    sound.matchers
 
 -- the metrics of a sound configuration ask its predicates
 pub sound_asked : (linked : Linked) → IsSoundConfig linked

@@ -11,14 +11,14 @@ use Rattle.config_links.specs.declared.linked.LMetric.{LMetric}
 use Rattle.config_links.specs.declared.linked.LPredicate.{LPredicate}
 use Rattle.config_links.specs.SoundConfig.{MayBeWithin}
 use Rattle.condition_links.specs.Conditions.{predicate_truth, root_truth, condition_of, IsSoundTree, AreTables}
-use Rattle.condition_links.specs.ThreeValues.{is_true}
 use Rattle.predicate_state.specs.declared.bind.Bind.{Bind}
 use Rattle.predicate_state.specs.declared.truth.Truth.{Truth}
+use Rattle.predicate_state.specs.declared.truth.Truth.TheVariants.{True}
 use Rattle.predicate_state.specs.PredicateTable.{PredicateTable}
 use Rattle.report_writer.specs.declared.tree.Drop64.{Drop64}
 use Rattle.metric_meaning.specs.Histories.{Step}
 use Rattle.metric_meaning.specs.Readings.{LeafReading}
-use Rattle.metric_meaning.specs.MetricConditions.{metric_binds, condition_tree, is_condition_true}
+use Rattle.metric_meaning.specs.MetricConditions.{metric_binds, condition_tree, condition_truth}
 use Rattle.metric_meaning.specs.PredicateSteps.{table_spec, table_with, table_after, tables_after, atom_events, drop_above_zero}
 use Rattle.metric_meaning.proofs.PredicateStepsLemmas.{table_after-push, tables_after-idle}
 use Rattle.client_engine.specs.Known.{Known, KnowsStep, drops_in}
@@ -217,16 +217,16 @@ are_tables nodes tables asks binds kept are = record {
 
 -- without a condition all is counted
 pub no_condition : (predicates : List LPredicate) (tables : List PredicateTable) (metric : LMetric)
-    (reading : LeafReading) → metric.condition ≡ None → true ≡ is_condition_true predicates tables metric reading
+    (reading : LeafReading) → metric.condition ≡ None → True ≡ condition_truth predicates tables metric reading
 no_condition predicates tables metric reading none =
     let binds = metric_binds predicates metric reading in
-    sym (ap (λ root. is_true (root_truth (predicate_truth tables binds predicates) root)) none)
+    sym (ap (λ root. root_truth (predicate_truth tables binds predicates) root) none)
 
--- what was found is whether the condition holds
-pub condition_found : (predicates : List LPredicate) (tables : List PredicateTable) (metric : LMetric)
+-- what was found is the truth of the condition
+pub truth_found : (predicates : List LPredicate) (tables : List PredicateTable) (metric : LMetric)
     (reading : LeafReading) (truth : Truth) (binds : List (List Bind))
     → truth ≡ condition_of (condition_tree predicates metric) tables binds
     → binds ≡ metric_binds predicates metric reading
-    → is_true truth ≡ is_condition_true predicates tables metric reading
-condition_found predicates tables metric reading truth binds found asked =
-    ap is_true (found ∙ ap (condition_of (condition_tree predicates metric) tables) asked)
+    → truth ≡ condition_truth predicates tables metric reading
+truth_found predicates tables metric reading truth binds found asked =
+    found ∙ ap (condition_of (condition_tree predicates metric) tables) asked

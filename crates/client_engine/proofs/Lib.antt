@@ -9,8 +9,11 @@ pub mod AlongLemmas
 pub mod ArrivingLemmas
 pub mod CountsLemmas
 pub mod ValuesLemmas
+pub mod SnapshotsToldLemmas
+pub mod PulledValuesLemmas
 pub mod MessagesLemmas
 pub mod GaugesLemmas
+pub mod PulledGaugesLemmas
 pub mod EventsLemmas
 pub mod InnerLemmas
 pub mod ChangesLemmas

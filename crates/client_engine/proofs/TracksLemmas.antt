@@ -14,12 +14,17 @@ use Rattle.client_engine.specs.TrackStands.{TrackStandsFor}
 use Rattle.client_engine.specs.Known.{Known}
 use Rattle.client_engine.specs.Handed.{Handed}
 use Rattle.client_engine.specs.Tracks.{metric_in, AsksWithin, AreNew, AllStandFor, AllReport}
+use Rattle.client_engine.specs.Opens.{IsOpeningOf}
+use Rattle.client_engine.specs.declared.opening.Opening.{Opening}
 use Rattle.client_engine.specs.declared.track.Track.{Track}
 use Rattle.client_engine.specs.declared.request.ReportRequest.{ReportRequest}
 
 -- no metric has a track yet
-pub none_new : (base : ℕ) → AreNew base [] []
-none_new base = record { metrics_are = refl; stand = λ installed is sound. All-nil (TrackStandsFor installed []) }
+pub none_new : (opening : Opening) (known : Known) → AreNew opening known [] []
+none_new opening known = record {
+  metrics_are = refl;
+  stand = λ installed is sound. All-nil (TrackStandsFor installed []);
+}
 
 -- what is so of all is so of those before the last, and of the last
 all_before : {X : Type 0} (P : X → Type 0) (xs : List X) (x : X) → All P (xs ++ x ∷ []) → All P xs
@@ -33,12 +38,13 @@ the_last P xs x all =
     (all (length xs) x (omega (arith, length-append xs (x ∷ []))))
 
 -- one more metric has its track
-pub one_new : (base : ℕ) (metrics : List LMetric) (tracks : List Track) (metric : LMetric) (track : Track)
-    → AreNew base metrics tracks → track.metric ≡ metric
-    → ((installed : Installation) → installed.base ≡ base → IsSoundIn installed.linked metric
+pub one_new : (opening : Opening) (known : Known) (metrics : List LMetric) (tracks : List Track) (metric : LMetric)
+    (track : Track)
+    → AreNew opening known metrics tracks → track.metric ≡ metric
+    → ((installed : Installation) → IsOpeningOf installed opening known → IsSoundIn installed.linked metric
     → TrackStandsFor installed [] track)
-    → AreNew base (metrics ++ metric ∷ []) (tracks ++ track ∷ [])
-one_new base metrics tracks metric track are is stands = record {
+    → AreNew opening known (metrics ++ metric ∷ []) (tracks ++ track ∷ [])
+one_new opening known metrics tracks metric track are is stands = record {
   metrics_are = map-append metric_in tracks (track ∷ []) ∙ ap (λ l. l ++ track.metric ∷ []) are.metrics_are
       ∙ ap (λ m. metrics ++ m ∷ []) is;
   stand = λ installed same sound. All-push (TrackStandsFor installed []) tracks track

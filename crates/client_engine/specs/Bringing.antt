@@ -8,7 +8,7 @@ use Rattle.client_engine.specs.declared.brought.Brought.{Brought}
 
 -- what is handed to a metric, where predicates know this
 abbrev pub handed_with : Known → Brought → Handed
-handed_with known brought = handed known brought.states.now brought.book.now
+handed_with known brought = handed known brought.matchers.now brought.states.now brought.book.now
 
 -- the step of what is brought
 abbrev pub brought_step : Brought → Step

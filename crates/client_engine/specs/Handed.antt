@@ -2,6 +2,7 @@
 use Rattle.std.specs.Prelude.{◌≡◌, ℕ, ℤ, List}
 use Rattle.atom_record.specs.declared.value.Leaf.{Leaf}
 use Rattle.dim_table.specs.Table.{Table}
+use Rattle.config_links.specs.declared.linked.LMatcher.{LMatcher}
 use Rattle.config_links.specs.declared.linked.LState.{LState}
 use Rattle.state_slicer.specs.StateBooks.{StateBookStandsFor}
 use Rattle.metric_meaning.specs.Scenes.{Scene}
@@ -11,19 +12,23 @@ use Rattle.client_engine.specs.Known.{Known}
 abbrev pub BookOfStates : Type 0
 BookOfStates = Table ℕ (Table (List Leaf) ℤ)
 
--- Predicates with what they know, the states of the configuration, and the book of states, each after the frame.
+-- Predicates with what they know, the matchers and the states of the configuration, and the book of states, each after
+-- the frame.
 pub record Handed : Type 0 where
   pub known : Known
+  pub matchers : List LMatcher
   pub states : List LState
   pub book : BookOfStates
 
--- predicates that know this, the states of a configuration, and a book of states
-abbrev pub handed : Known → List LState → BookOfStates → Handed
-handed known states book = record { known = known; states = states; book = book }
+-- predicates that know this, the matchers and the states of a configuration, and a book of states
+abbrev pub handed : Known → List LMatcher → List LState → BookOfStates → Handed
+handed known matchers states book =
+    record { known = known; matchers = matchers; states = states; book = book }
 
 -- what is handed is what is found in the scene
 pub record IsOfScene (given : Handed) (scene : Scene) : Type 0 where
   pub predicates : given.known.predicates ≡ scene.linked.predicates
   pub tables : given.known.tables ≡ scene.tables
+  pub matchers : given.matchers ≡ scene.linked.matchers
   pub states : given.states ≡ scene.linked.states
   pub book : StateBookStandsFor given.book scene.log

@@ -5,11 +5,15 @@ pub mod Handed
 pub mod KeptPredicates
 pub mod NextSteps
 pub mod Bringing
+pub mod Opens
+pub mod Finding
 pub mod Along
 pub mod CountsAlong
 pub mod ValuesAlong
+pub mod PulledValuesAlong
 pub mod Messages
 pub mod GaugesAlong
+pub mod PulledGaugesAlong
 pub mod EventsAlong
 pub mod InnerTold
 pub mod DurationsShown

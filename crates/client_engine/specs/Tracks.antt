@@ -11,6 +11,8 @@ use Rattle.client_engine.specs.NextSteps.{MayReport, with_reported, requested_tr
 use Rattle.client_engine.specs.TrackStands.{TrackStandsFor}
 use Rattle.client_engine.specs.SoundMetrics.{IsSoundIn}
 use Rattle.client_engine.specs.Known.{Known}
+use Rattle.client_engine.specs.Opens.{IsOpeningOf}
+use Rattle.client_engine.specs.declared.opening.Opening.{Opening}
 use Rattle.client_engine.specs.declared.track.Track.{Track}
 use Rattle.client_engine.specs.declared.request.ReportRequest.{ReportRequest}
 
@@ -36,11 +38,11 @@ AllAskWithin known tracks = All (AsksWithin (length known.predicates)) (map metr
 abbrev pub AllStandFor : Installation → List Step → List Track → Type 0
 AllStandFor installed steps tracks = All (TrackStandsFor installed steps) tracks
 
--- tracks of just these metrics, which have seen no step
-pub record AreNew (base : ℕ) (metrics : List LMetric) (tracks : List Track) : Type 0 where
+-- tracks of just these metrics, which found this where they were installed, and have seen no step
+pub record AreNew (opening : Opening) (known : Known) (metrics : List LMetric) (tracks : List Track) : Type 0 where
   pub metrics_are : map metric_in tracks ≡ metrics
-  pub stand : (installed : Installation) → installed.base ≡ base → All (IsSoundIn installed.linked) metrics
-      → AllStandFor installed [] tracks
+  pub stand : (installed : Installation) → IsOpeningOf installed opening known
+      → All (IsSoundIn installed.linked) metrics → AllStandFor installed [] tracks
 
 -- a report of all: one step more, and what it shows of those that are shown
 pub record AllReport (base : ℕ) (request : ReportRequest) (old new : List Track) (trees : List MetricTree)

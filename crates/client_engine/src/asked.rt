@@ -3,6 +3,7 @@ ghost use Rattle.std.specs.Prelude.{◌≡◌, [], map, replicate, Some, OnOk, I
 ghost use Rattle.std.specs.List.{range_with_len};
 ghost use Rattle.metric_meaning.specs.Readings.{LeafReading, atom_reading, key_reading};
 ghost use Rattle.metric_meaning.specs.MetricConditions.{link_binds, binds_at};
+ghost use Rattle.metric_meaning.specs.SnapshotSteps.{nothing_read};
 
 use atom_record::{Atom, DimKey};
 use condition_links::{bind_atom, bind_key, read_key};
@@ -54,6 +55,18 @@ impl Asked for InnerKey<'_> {
 
     fn bind(&self, alloc: Global, link: &LLink) -> Result<BindList, AllocError> {
         bind_key(alloc, link, self.fields, self.key)
+    }
+}
+
+/// Nothing, as a pulled metric asks, which has no links.
+pub struct Nothing;
+
+impl Asked for Nothing {
+    ghost reading = { λ nothing. nothing_read };
+
+    fn bind(&self, alloc: Global, link: &LLink) -> Result<BindList, AllocError> {
+        let _link = link;
+        Ok(Seq::new(alloc))
     }
 }
 

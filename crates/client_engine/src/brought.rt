@@ -1,15 +1,17 @@
 //! What a frame of the log brings to each metric.
 
 use atom_record::LogFrame;
-use config_links::LState;
+use config_links::{LMatcher, LState};
 use state_slicer::StateBook;
 
-/// A frame of the log, once predicates and the book of states know of it, with the states of the configuration.
+/// A frame of the log, once predicates and the book of states know of it, with the matchers and the states of the
+/// configuration.
 #[derive(Clone, Copy)]
 pub struct Brought<'a> {
     pub frame: &'a LogFrame,
     /// For an atom the truth of each matcher, in config order, and else nothing.
     pub matched: &'a [bool],
+    pub matchers: &'a [LMatcher],
     pub states: &'a [LState],
     /// The states that the log gave, with this frame.
     pub book: &'a StateBook,

@@ -3,7 +3,7 @@ ghost use Rattle.std.specs.Prelude.{◌≡◌, [], length, slice_get, OnOk, IfOk
 ghost use Rattle.config_links.specs.SoundConfig.{MayBeWithin};
 ghost use Rattle.condition_links.specs.ThreeValues.{is_true};
 ghost use Rattle.metric_meaning.specs.DurationSteps.{inner_fields};
-ghost use Rattle.metric_meaning.specs.MetricConditions.{is_condition_true};
+ghost use Rattle.metric_meaning.specs.MetricConditions.{condition_truth, is_condition_true};
 ghost use Rattle.metric_calls.specs.DurationCalls.{event_in};
 ghost use Rattle.client_engine.specs.NextSteps.{logged_step};
 ghost use Rattle.client_engine.specs.Known.{KnowsAfter, KnowsStep, drops_in};
@@ -94,14 +94,29 @@ impl Conditions {
             ≡ is_condition_true self.old.predicates self.old.tables metric.now (A.reading asked.now)) }
         ensures known { self.new ≡ self.old }
     {
+        let truth = self.truth(alloc, metric, asked)?;
+        Ok(is_for_sure(truth))
+    }
+
+    /// The truth of a metric's condition for what its links read, by what predicates know now.
+    pub fn truth<A: Asked>(
+        &mut self,
+        alloc: Global,
+        metric: &LMetric,
+        asked: &A,
+    ) -> Result<Truth, AllocError>
+        requires within { MayBeWithin (length self.old.predicates) metric.now.condition }
+        ensures truth { IfOk result (λ truth. truth
+            ≡ condition_truth self.old.predicates self.old.tables metric.now (A.reading asked.now)) }
+        ensures known { self.new ≡ self.old }
+    {
         if metric.condition.is_none() {
-            return Ok(true);
+            return Ok(Truth::True);
         }
         let links = metric.links.as_slice();
         ask_all(alloc, links, asked, self.tree.nodes.len(), &mut self.binds)?;
         self.tree.root = metric.condition;
-        let truth = query(&self.tree, self.tables.as_slice(), self.binds.as_slice());
-        Ok(is_for_sure(truth))
+        Ok(query(&self.tree, self.tables.as_slice(), self.binds.as_slice()))
     }
 
     /// The fields whose values the keys of a predicate have; a combination has none, and what isn't there neither.

@@ -5,8 +5,8 @@ ghost use Rattle.metric_meaning.specs.Forms.{is_built, is_built_metric};
 
 use config_links::{LKind, LMetric, Linked};
 
-/// Whether a configuration is acted on: any matchers, predicates and states; metrics of events, those that count, and
-/// those of pushed values, pushed samples and durations, under any condition and sliced by any states.
+/// Whether a configuration is acted on: any matchers, predicates and states; metrics of events, those that count, durations,
+/// and those of values and of samples, pushed or pulled, under any condition and sliced by any states.
 pub fn built(linked: &Linked) -> bool
     ensures { result ≡ is_built linked.now }
 {
@@ -29,7 +29,9 @@ fn is_acted_on(metric: &LMetric) -> bool
         LKind::Event
             | LKind::Count
             | LKind::PushedValue { .. }
+            | LKind::PulledValue { .. }
             | LKind::PushedGauge { .. }
+            | LKind::PulledGauge { .. }
             | LKind::SumDuration { .. }
             | LKind::MaxSparse { .. }
     )

@@ -7,6 +7,7 @@ ghost use Rattle.client_engine.specs.Running.{linked_of};
 
 use crate::brought::Brought;
 use crate::conditions::Conditions;
+use crate::opening::Opening;
 use crate::parts::{Drops, log_all, report_all, tracks_of, tree_of};
 use crate::request::ReportRequest;
 use crate::state_drops::{dropped_atoms, state_drops};
@@ -46,6 +47,8 @@ impl Model for Instance {
     ghost use Rattle.std.specs.Coded.{codes};
     ghost use Rattle.config_types.specs.contracts.matcher.Test as test;
     ghost use Rattle.client_engine.specs.Running.{Running};
+    ghost use Rattle.std.specs.Prelude.{All};
+    ghost use Rattle.client_engine.specs.Finding.{MayAsk};
     ghost use Rattle.client_engine.specs.Tracks.{AllAskWithin};
 
     ghost Value = { Running };
@@ -61,7 +64,7 @@ impl Model for Instance {
       last = it.last;
     } };
 
-    ghost invariant = { λ it. AllAskWithin it.conditions it.tracks.items };
+    ghost invariant = { λ it. All MayAsk it.matchers × AllAskWithin it.conditions it.tracks.items };
 }
 
 impl Instance {
@@ -79,13 +82,13 @@ impl Instance {
         alloc: Global,
         linked: Linked,
         base: u64,
-        _pulls: &PullBook,
+        pulls: &PullBook,
         _states: &StateBook,
     ) -> Result<Instance, AllocError>
         requires sound { IsSoundConfig linked }
         requires built { is_built linked ≡ true }
         requires fits { base < time_limit }
-        ensures fresh { (opening : List LogFrame) → PullBookStandsFor _pulls.now opening
+        ensures fresh { (opening : List LogFrame) → PullBookStandsFor pulls.now opening
             → StateBookStandsFor _states.now opening → IfOk result (IsFresh linked base opening) }
         ensures linked { IfOk result (λ new. linked_of new ≡ linked) }
     {
@@ -95,8 +98,13 @@ impl Instance {
             states,
             metrics,
         } = linked;
-        let conditions = Conditions::new(alloc, predicates)?;
-        let tracks = tracks_of(alloc, base, metrics)?;
+        let mut conditions = Conditions::new(alloc, predicates)?;
+        let opening = Opening {
+            base,
+            matchers: matchers.as_slice(),
+            pulls,
+        };
+        let tracks = tracks_of(alloc, metrics, &opening, &mut conditions)?;
         Ok(Instance {
             alloc,
             matchers,
@@ -127,6 +135,7 @@ impl Instance {
         let brought = Brought {
             frame,
             matched: view.matched,
+            matchers: self.matchers.as_slice(),
             states: self.states.as_slice(),
             book: view.states,
         };

@@ -5,5 +5,7 @@ pub mod durations;
 pub mod events;
 pub mod gauges;
 pub mod longest;
+pub mod pulled_gauges;
+pub mod pulled_values;
 pub mod sums;
 pub mod values;

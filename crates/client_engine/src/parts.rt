@@ -1,13 +1,15 @@
 //! What an instance does with each of its parts.
-ghost use Rattle.std.specs.Prelude.{◌≡◌, ◌<◌, [], ◌∷◌, ◌++◌, map, if◌then◌else◌, OnOk, IfOk};
+ghost use Rattle.std.specs.Prelude.{◌≡◌, ◌<◌, [], ◌∷◌, ◌++◌, length, map, if◌then◌else◌, OnOk, IfOk};
 ghost use Rattle.std.specs.List.{All};
 ghost use Rattle.bucket_meaning.specs.Limits.{time_limit};
 ghost use Rattle.client_engine.specs.Bringing.{TakesBrought};
-ghost use Rattle.client_engine.specs.Tracks.{CanBeTracked, metric_in, AllAskWithin, AreNew, AllStandFor, AllReport};
+ghost use Rattle.client_engine.specs.Finding.{MayAsk, CanBeMatched};
+ghost use Rattle.client_engine.specs.Tracks.{CanBeTracked, metric_in, AsksWithin, AllAskWithin, AreNew, AllStandFor, AllReport};
 ghost use Rattle.client_engine.specs.InstanceParts.{tree_with};
 
 use crate::brought::Brought;
 use crate::conditions::Conditions;
+use crate::opening::Opening;
 use crate::request::ReportRequest;
 use crate::track::Track;
 use config_links::LMetric;
@@ -23,15 +25,23 @@ pub struct Drops {
     pub of_atoms: u64,
 }
 
-/// The tracks of metrics that are acted on, which begin at `base`.
-pub fn tracks_of(alloc: Global, base: u64, metrics: Seq<LMetric>) -> Result<Vec<Track>, AllocError>
-    requires fits { base < time_limit }
+/// The tracks of metrics that are acted on, which begin where they are installed.
+pub fn tracks_of(
+    alloc: Global,
+    metrics: Seq<LMetric>,
+    opening: &Opening<'_>,
+    conditions: &mut Conditions,
+) -> Result<Vec<Track>, AllocError>
+    requires fits { opening.now.base < time_limit }
     requires ready { All CanBeTracked metrics }
-    ensures { IfOk result (λ tracks. AreNew base metrics tracks.items) }
+    requires within { All (AsksWithin (length conditions.old.predicates)) metrics }
+    requires askable { All MayAsk opening.now.matchers.now }
+    ensures new { IfOk result (λ tracks. AreNew opening.now conditions.old metrics tracks.items) }
+    ensures known { conditions.new ≡ conditions.old }
 {
     let mut tracks = Vec::new(alloc);
     for metric in metrics.into_vec() {
-        tracks.push(Track::new(alloc, base, metric))?;
+        tracks.push(Track::new(alloc, metric, opening, conditions)?)?;
     }
     Ok(tracks)
 }
@@ -44,6 +54,7 @@ pub fn log_all(
     brought: &Brought<'_>,
 ) -> Result<(), AllocError>
     requires within { AllAskWithin conditions.old tracks.old.items }
+    requires matched { CanBeMatched brought.now }
     ensures logs { OnOk result (TakesBrought AllStandFor
         conditions.old brought.now tracks.old.items tracks.new.items) }
     ensures metrics { map metric_in tracks.new.items ≡ map metric_in tracks.old.items }

@@ -1,5 +1,5 @@
 //! A metric of a configuration, and the lane that collects for it.
-ghost use Rattle.std.specs.Prelude.{◌≡◌, ◌<◌, [], length, OnOk, IfOk};
+ghost use Rattle.std.specs.Prelude.{◌≡◌, ◌<◌, [], length, All, OnOk, IfOk};
 ghost use Rattle.bucket_meaning.specs.Limits.{time_limit};
 ghost use Rattle.config_links.specs.SoundConfig.{MayBeWithin};
 ghost use Rattle.metric_meaning.specs.Histories.{Installation};
@@ -7,21 +7,26 @@ ghost use Rattle.report_writer.specs.Writable.{IsWritableMetric};
 ghost use Rattle.client_engine.specs.NextSteps.{TakesReport};
 ghost use Rattle.client_engine.specs.SoundMetrics.{IsSoundIn};
 ghost use Rattle.client_engine.specs.Bringing.{TakesBrought};
+ghost use Rattle.client_engine.specs.Opens.{IsOpeningOf};
+ghost use Rattle.client_engine.specs.Finding.{MayAsk, CanBeMatched};
 ghost use Rattle.client_engine.specs.TrackStands.{LaneAlong, TrackStandsFor};
 ghost use Rattle.client_engine.specs.Tracks.{CanBeTracked};
 
 use crate::brought::Brought;
 use crate::conditions::Conditions;
-use crate::kinds::{counts, events, gauges, longest, sums, values};
+use crate::kinds::{
+    counts, events, gauges, longest, pulled_gauges, pulled_values, sums, values,
+};
+use crate::opening::Opening;
 use crate::request::ReportRequest;
 use config_links::{LKind, LMetric};
 use count_metric::CountProducer;
 use duration_metric::{MaxProducer, SumProducer};
-use gauge_metric::{EventProducer, PushedGauge};
+use gauge_metric::{EventProducer, PulledGauge, PushedGauge};
 use metric_lane::Lane;
 use report_writer::MetricTree;
 use std::alloc::{AllocError, Global};
-use value_metric::PushedValue;
+use value_metric::{PulledValue, PushedValue};
 
 /// The lane of a metric, by its kind.
 #[derive(Drop)]
@@ -30,8 +35,12 @@ pub enum MetricLane {
     Counts(Lane<CountProducer>),
     /// Of a metric of pushed values.
     Values(Lane<PushedValue>),
+    /// Of a metric of pulled values.
+    PulledValues(Lane<PulledValue>),
     /// Of a pushed gauge.
     Gauges(Lane<PushedGauge>),
+    /// Of a pulled gauge.
+    PulledGauges(Lane<PulledGauge>),
     /// Of a metric of events.
     Events(Lane<EventProducer>),
     /// Of a metric that sums durations.
@@ -48,16 +57,25 @@ pub struct Track {
 }
 
 impl Track {
-    /// The track of a metric that is acted on, with a lane that begins at `base`.
-    pub fn new(alloc: Global, base: u64, metric: LMetric) -> Track
-        requires fits { base < time_limit }
+    /// The track of a metric that is acted on, with a lane that begins where it is installed.
+    pub fn new(
+        alloc: Global,
+        metric: LMetric,
+        opening: &Opening<'_>,
+        conditions: &mut Conditions,
+    ) -> Result<Track, AllocError>
+        requires fits { opening.now.base < time_limit }
         requires tracked { CanBeTracked metric }
-        ensures metric { result.metric ≡ metric }
-        ensures stands { (installed : Installation) → installed.base ≡ base
-            → IsSoundIn installed.linked metric → TrackStandsFor installed [] result }
+        requires within { MayBeWithin (length conditions.old.predicates) metric.condition }
+        requires askable { All MayAsk opening.now.matchers.now }
+        ensures metric { IfOk result (λ track. track.metric ≡ metric) }
+        ensures stands { IfOk result (λ track. (installed : Installation)
+            → IsOpeningOf installed opening.now conditions.old → IsSoundIn installed.linked metric
+            → TrackStandsFor installed [] track) }
+        ensures known { conditions.new ≡ conditions.old }
     {
-        let lane = lane_of(alloc, base, &metric);
-        Track { metric, lane }
+        let lane = lane_of(alloc, &metric, opening, conditions)?;
+        Ok(Track { metric, lane })
     }
 
     /// A frame of the log comes.
@@ -68,6 +86,7 @@ impl Track {
         conditions: &mut Conditions,
     ) -> Result<(), AllocError>
         requires within { MayBeWithin (length conditions.old.predicates) self.old.metric.condition }
+        requires matched { CanBeMatched brought.now }
         ensures metric { self.new.metric ≡ self.old.metric }
         ensures logs { OnOk result (TakesBrought TrackStandsFor
             conditions.old brought.now self.old self.new) }
@@ -77,7 +96,13 @@ impl Track {
         match lane {
             MetricLane::Counts(lane) => counts::log(lane, alloc, metric, brought, conditions),
             MetricLane::Values(lane) => values::log(lane, alloc, metric, brought, conditions),
+            MetricLane::PulledValues(lane) => {
+                pulled_values::log(lane, alloc, metric, brought, conditions)
+            }
             MetricLane::Gauges(lane) => gauges::log(lane, alloc, metric, brought, conditions),
+            MetricLane::PulledGauges(lane) => {
+                pulled_gauges::log(lane, alloc, metric, brought, conditions)
+            }
             MetricLane::Events(lane) => events::log(lane, alloc, metric, brought, conditions),
             MetricLane::Sums(lane) => sums::log(lane, alloc, metric, brought, conditions),
             MetricLane::Longest(lane) => longest::log(lane, alloc, metric, brought, conditions),
@@ -100,7 +125,13 @@ impl Track {
         match lane {
             MetricLane::Counts(lane) => counts::report(lane, alloc, metric, base, request),
             MetricLane::Values(lane) => values::report(lane, alloc, metric, base, request),
+            MetricLane::PulledValues(lane) => {
+                pulled_values::report(lane, alloc, metric, base, request)
+            }
             MetricLane::Gauges(lane) => gauges::report(lane, alloc, metric, base, request),
+            MetricLane::PulledGauges(lane) => {
+                pulled_gauges::report(lane, alloc, metric, base, request)
+            }
             MetricLane::Events(lane) => events::report(lane, alloc, metric, base, request),
             MetricLane::Sums(lane) => sums::report(lane, alloc, metric, base, request),
             MetricLane::Longest(lane) => longest::report(lane, alloc, metric, base, request),
@@ -108,26 +139,45 @@ impl Track {
     }
 }
 
-// The lane of a metric that is acted on, by its kind, which begins at `base`.
-fn lane_of(alloc: Global, base: u64, metric: &LMetric) -> MetricLane
-    requires fits { base < time_limit }
+// The lane of a metric that is acted on, by its kind, which begins where it is installed.
+fn lane_of(
+    alloc: Global,
+    metric: &LMetric,
+    opening: &Opening<'_>,
+    conditions: &mut Conditions,
+) -> Result<MetricLane, AllocError>
+    requires fits { opening.now.base < time_limit }
     requires tracked { CanBeTracked metric.now }
-    ensures { (installed : Installation) → installed.base ≡ base
-        → IsSoundIn installed.linked metric.now → LaneAlong metric.now installed [] result }
+    requires within { MayBeWithin (length conditions.old.predicates) metric.now.condition }
+    requires askable { All MayAsk opening.now.matchers.now }
+    ensures stands { IfOk result (λ lane. (installed : Installation)
+        → IsOpeningOf installed opening.now conditions.old → IsSoundIn installed.linked metric.now
+        → LaneAlong metric.now installed [] lane) }
+    ensures known { conditions.new ≡ conditions.old }
 {
+    let base = opening.base;
     match &metric.kind {
-        LKind::Count => MetricLane::Counts(counts::begin(alloc, base, metric)),
+        LKind::Count => Ok(MetricLane::Counts(counts::begin(alloc, base, metric))),
         LKind::PushedValue { agg, .. } => {
-            MetricLane::Values(values::begin(alloc, base, metric, *agg))
+            Ok(MetricLane::Values(values::begin(alloc, base, metric, *agg)))
+        }
+        LKind::PulledValue { spec, .. } => {
+            let lane = pulled_values::begin(alloc, metric, *spec, opening, conditions)?;
+            Ok(MetricLane::PulledValues(lane))
         }
         LKind::PushedGauge { samples, .. } => {
-            MetricLane::Gauges(gauges::begin(alloc, base, metric, *samples))
+            Ok(MetricLane::Gauges(gauges::begin(alloc, base, metric, *samples)))
         }
-        LKind::Event => MetricLane::Events(events::begin(alloc, base, metric)),
-        LKind::SumDuration { spec } => MetricLane::Sums(sums::begin(alloc, base, metric, *spec)),
+        LKind::PulledGauge { samples, mode, .. } => {
+            let lane = pulled_gauges::begin(alloc, metric, *samples, *mode, opening, conditions)?;
+            Ok(MetricLane::PulledGauges(lane))
+        }
+        LKind::Event => Ok(MetricLane::Events(events::begin(alloc, base, metric))),
+        LKind::SumDuration { spec } => {
+            Ok(MetricLane::Sums(sums::begin(alloc, base, metric, *spec)))
+        }
         LKind::MaxSparse { spec } => {
-            MetricLane::Longest(longest::begin(alloc, base, metric, *spec))
+            Ok(MetricLane::Longest(longest::begin(alloc, base, metric, *spec)))
         }
-        _ => unreachable!(),
     }
 }

@@ -93,6 +93,31 @@ module _ {Params News Event After X K C R : Type 0} (asking : Asking Params News
       → AskWell (own_demands asking collecting) asking.asks asking.opens [] (steps_seen asking steps)
   asks_well well steps = asks_after well [] steps
 
+  -- What opening calls and all calls give is what the opening calls give, and then what each step does, where the calls
+  -- of one step give that.
+  pub calls-give : {B : Type 0} (gives : List (Call Event After) → Call Event After → List B)
+      (at_step : List Step → Step → List B)
+      → ((before : List Step) (step : Step)
+      → outputs_after gives (calls_by_steps asking collecting before) (calls_of_step before step)
+      ≡ at_step before step)
+      → (steps : List Step)
+      → outputs gives (calls_by_steps asking collecting steps)
+      ≡ outputs gives asking.opens ++ outputs at_step steps
+  calls-give {B} gives at_step one steps =
+      let behind : List (Call Event After) → Call Event After → List B =
+      λ seen call. gives (asking.opens ++ seen) call in
+      let calls = calls_of (own_demands asking collecting) asking.asks (steps_seen asking steps) in
+      outputs_after-append gives [] asking.opens calls
+      ∙ ap (λ l. outputs gives asking.opens ++ l)
+      (ap (outputs_after gives asking.opens) (calls_are steps)
+      ∙ ap (λ o. outputs_after gives o (outputs calls_of_step steps)) (sym (append-nil asking.opens))
+      ∙ outputs_after-front gives asking.opens [] (outputs calls_of_step steps)
+      ∙ outputs-through calls_of_step behind at_step
+      (λ before step. sym (outputs_after-front gives asking.opens (outputs calls_of_step before)
+      (calls_of_step before step))
+      ∙ ap (λ seen. outputs_after gives (asking.opens ++ seen) (calls_of_step before step)) (sym (calls_are before))
+      ∙ one before step) steps)
+
   -- the marks of a producer's call
   abbrev marks_of_call : List (Call Event After) → Call Event After → List (Mark X)
   marks_of_call = call_marks collecting asking.params
@@ -230,21 +255,9 @@ module _ {Params News Event After X K C R : Type 0} (asking : Asking Params News
     calls-marks steps =
         let base = (own_demands asking collecting).base in
         let size = (own_demands asking collecting).size in
-        let behind : List (Call Event After) → Call Event After → List (Mark X) =
-        λ seen call. marks_of_call (asking.opens ++ seen) call in
-        let calls = calls_of (own_demands asking collecting) asking.asks (steps_seen asking steps) in
-        outputs_after-append marks_of_call [] asking.opens calls
-        ∙ ap (λ l. l ++ outputs_after marks_of_call asking.opens calls) agrees.opens
-        ∙ ap (λ l. asking.way.shown.begins ++ l)
-        (ap (outputs_after marks_of_call asking.opens) (calls_are steps)
-        ∙ ap (λ o. outputs_after marks_of_call o (outputs calls_of_step steps)) (sym (append-nil asking.opens))
-        ∙ outputs_after-front marks_of_call asking.opens [] (outputs calls_of_step steps)
-        ∙ outputs-through calls_of_step behind (marks_at asking.way.shown base size)
-        (λ before step. sym (outputs_after-front marks_of_call asking.opens (outputs calls_of_step before)
-        (calls_of_step before step))
-        ∙ ap (λ seen. outputs_after marks_of_call (asking.opens ++ seen) (calls_of_step before step))
-        (sym (calls_are before))
-        ∙ step_marks before step.at step.what step.truths) steps)
+        calls-give marks_of_call (marks_at asking.way.shown base size)
+        (λ before step. step_marks before step.at step.what step.truths) steps
+        ∙ ap (λ l. l ++ outputs (marks_at asking.way.shown base size) steps) agrees.opens
 
     -- The law: what a report shows by the calls of these steps, up to its cut, is what it shows by the steps.
     pub calls_mean_steps : (steps : List Step) (include_current : Bool) (now : ℕ)

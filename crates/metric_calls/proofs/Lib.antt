@@ -12,4 +12,7 @@ pub mod InnerToldLemmas
 pub mod SumCallsLemmas
 pub mod TimelyLemmas
 pub mod LongestCallsLemmas
+pub mod SnapshotCallsLemmas
+pub mod PulledValueCallsLemmas
+pub mod PulledGaugeCallsLemmas
 mod WorkedAskings

@@ -6,3 +6,6 @@ pub mod ValueCalls
 pub mod PushedGaugeCalls
 pub mod EventCalls
 pub mod DurationCalls
+pub mod SnapshotCalls
+pub mod PulledValueCalls
+pub mod PulledGaugeCalls

@@ -81,3 +81,16 @@ module _ (installed : Installation) (metric : LMetric) (matcher : SimpleMatcher)
       found-push before step
       ∙ ap (option_map (atoms_meant matcher)) (snapshot_stays id log step.what other)
       ∙ sym (ap (option_and_then (atoms_pulled log)) is)
+
+  -- So does a pull of an id that isn't one that is pulled.
+  pub found-unpulled : (before : List Step) (step : Step) (at other : ℕ) (outcome : PullOutcome)
+      → step.what ≡ Logged (Pull at other outcome) → is_pull_id other ≡ false
+      → snapshot_found installed metric (before ++ step ∷ []) ≡ snapshot_found installed metric before
+  found-unpulled before step at other outcome what unpulled =
+      let log = log_after installed before in
+      found-push before step
+      ∙ ap (λ what. atoms_pulled (log ++ frames_at what) matcher) what
+      ∙ ap (option_map (atoms_meant matcher))
+      (snapshot_idle log (Pull at other outcome) id
+      (ap (λ (b : Bool). if b then (other, outcome) ∷ [] else []) unpulled))
+      ∙ sym (ap (option_and_then (atoms_pulled log)) is)

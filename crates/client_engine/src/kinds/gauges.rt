@@ -141,8 +141,8 @@ pub fn report(
     gauges_tree(alloc, base, metric, closed)
 }
 
-// A pushed gauge, with what a report shows of it.
-fn gauges_tree(
+/// A gauge, pushed or pulled, with what a report shows of it.
+pub fn gauges_tree(
     alloc: Global,
     base: u64,
     metric: &LMetric,

@@ -113,8 +113,8 @@ pub fn report(
     values_tree(alloc, base, metric, closed)
 }
 
-// A metric of values, with what a report shows of it.
-fn values_tree(
+/// A metric of values, pushed or pulled, with what a report shows of it.
+pub fn values_tree(
     alloc: Global,
     base: u64,
     metric: &LMetric,

@@ -14,6 +14,7 @@ log-requires c =
           c.loop-track.track-index _ c.loop-track.invariant.1 (omega arith) c.loop-track.invariant.0.metrics
           (subst (λ old. All (AsksWithin (length known.predicates)) (map metric_in old))
           (sym c.deref_mut-track-items.ensures.value) c.requires.within);
+      matched = c.requires.matched;
     }
 
 -- one more track took the frame

@@ -36,9 +36,12 @@ returns-clause-logs c =
     c.log_all.ensures.metrics)
     (subst (KnowsStep (logged_step frame truths) old.conditions) (sym c.log_all.ensures.known) c.in_ok-log.ensures.knows)
     (subst
-    (λ known. TakesFrame AllStandFor (handed known old.states book) frame truths old.tracks.items c.log_all.new.tracks.items)
+    (λ known. TakesFrame AllStandFor (handed known old.matchers old.states book) frame truths old.tracks.items
+    c.log_all.new.tracks.items)
     (sym c.log_all.ensures.known)
-    (subst (λ states. TakesFrame AllStandFor (handed c.log.new.self states book) frame truths old.tracks.items
-    c.log_all.new.tracks.items) c.as_slice.ensures logs))
+    (subst (λ states. TakesFrame AllStandFor (handed c.log.new.self old.matchers states book) frame truths
+    old.tracks.items c.log_all.new.tracks.items) c.as_slice-2.ensures
+    (subst (λ matchers. TakesFrame AllStandFor (handed c.log.new.self matchers c.as_slice-2.result.now book) frame
+    truths old.tracks.items c.log_all.new.tracks.items) c.as_slice.ensures logs)))
     (omega (arith, timely)))
     c.log_all.ensures.logs)

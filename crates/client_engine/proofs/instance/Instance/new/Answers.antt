@@ -1,8 +1,12 @@
 -- Whatever log the books stand for, the instance is a new one.
-use Rattle.std.proofs.Common.{[], refl, sym, subst, length, map}
+use Rattle.std.proofs.Common.{[], refl, sym, subst, length, map, ap, ◌∙◌}
 use Rattle.std.specs.List.{All}
-use Rattle.client_engine.specs.Tracks.{metric_in, AsksWithin}
-use Rattle.client_engine.proofs.InstanceLemmas.{sound_kept, all_tracked, sound_asked, fresh}
+use Rattle.client_engine.specs.Finding.{MayAsk}
+use Rattle.client_engine.specs.Known.{Known, KnowsAfter}
+use Rattle.client_engine.specs.Running.{Running}
+use Rattle.client_engine.specs.declared.opening.Opening.{Opening}
+use Rattle.client_engine.specs.Tracks.{metric_in, AsksWithin, AreNew}
+use Rattle.client_engine.proofs.InstanceLemmas.{sound_kept, all_tracked, sound_asked, sound_askable, linked_whole, fresh}
 use Rattle.client_engine.proofs.instance.Instance.new.Goals as goal
 
 -- the predicates can be kept
@@ -13,21 +17,61 @@ new-requires c = record { can_be_kept = sound_kept c.args.linked c.requires.soun
 pub tracks_of-requires-clause-ready : goal.tracks_of-requires-clause-ready
 tracks_of-requires-clause-ready c = all_tracked c.args.linked c.requires.sound c.requires.built
 
--- each metric asks for one of the predicates
+-- each asks for one of the predicates
+pub tracks_of-requires-clause-within : goal.tracks_of-requires-clause-within
+tracks_of-requires-clause-within c =
+    subst (λ ps. All (AsksWithin (length ps)) c.args.linked.metrics) (sym c.in_ok-conditions.ensures.predicates)
+    (sound_asked c.args.linked c.requires.sound)
+
+-- and the matchers may be asked
+pub tracks_of-requires-clause-askable : goal.tracks_of-requires-clause-askable
+tracks_of-requires-clause-askable c =
+    subst (All MayAsk) (sym c.as_slice.ensures) (sound_askable c.args.linked c.requires.sound)
+
+-- so it is of the instance
 pub invariant_of-result : goal.invariant_of-result
 invariant_of-result c =
-    let metrics = map metric_in c.in_ok-tracks.tracks.items in
-    subst (λ ps. All (AsksWithin (length ps)) metrics) (sym c.in_ok-conditions.ensures.predicates)
-    (subst (All (AsksWithin (length c.args.linked.predicates))) (sym c.in_ok-tracks.ensures.metrics_are)
-    (sound_asked c.args.linked c.requires.sound))
+    let known = c.tracks_of.new.conditions in
+    let metrics = map metric_in c.in_ok-tracks.tracks.items in (
+      sound_askable c.args.linked c.requires.sound,
+      subst (λ (k : Known). All (AsksWithin (length k.predicates)) metrics) (sym c.tracks_of.ensures.known)
+          (subst (λ ps. All (AsksWithin (length ps)) metrics) (sym c.in_ok-conditions.ensures.predicates)
+          (subst (All (AsksWithin (length c.args.linked.predicates))) (sym c.in_ok-tracks.ensures.new.metrics_are)
+          (sound_asked c.args.linked c.requires.sound))),
+    )
 
--- nothing has happened to any part yet
+-- what the tracks found is what predicates know
 pub returns-clause-fresh : goal.returns-clause-fresh
-returns-clause-fresh c = λ opening pulls states.
-    fresh c.args.linked c.args.base _ refl c.in_ok-conditions.ensures.predicates refl refl refl
-    c.in_ok-conditions.ensures.knows c.in_ok-tracks.ensures c.requires.sound opening
+returns-clause-fresh c = λ log pulls states.
+    let linked = c.args.linked in
+    let same = c.tracks_of.ensures.known in
+    let tracks = c.in_ok-tracks.tracks.items in
+    let opening : Opening = record { base = c.args.base; matchers = c.as_slice.result; pulls = c.args.pulls } in
+    let it : Running = record {
+      matchers = linked.matchers;
+      known = c.tracks_of.new.conditions;
+      states = linked.states;
+      tracks = tracks;
+      base = c.args.base;
+      last = c.args.base;
+    } in
+    fresh linked opening it refl
+    (ap (λ (known : Known). known.predicates) same ∙ c.in_ok-conditions.ensures.predicates) refl refl refl
+    c.as_slice.ensures (subst (KnowsAfter []) (sym same) c.in_ok-conditions.ensures.knows)
+    (subst (λ known. AreNew opening known linked.metrics tracks) (sym same) c.in_ok-tracks.ensures.new) c.requires.sound log pulls
 
+-- the configuration is the one that was installed
 pub returns-clause-linked : goal.returns-clause-linked
 returns-clause-linked c =
-    (fresh c.args.linked c.args.base _ refl c.in_ok-conditions.ensures.predicates refl refl refl
-    c.in_ok-conditions.ensures.knows c.in_ok-tracks.ensures c.requires.sound []).linked
+    let linked = c.args.linked in
+    let it : Running = record {
+      matchers = linked.matchers;
+      known = c.tracks_of.new.conditions;
+      states = linked.states;
+      tracks = c.in_ok-tracks.tracks.items;
+      base = c.args.base;
+      last = c.args.base;
+    } in
+    linked_whole linked it refl
+    (ap (λ (known : Known). known.predicates) c.tracks_of.ensures.known ∙ c.in_ok-conditions.ensures.predicates) refl
+    c.in_ok-tracks.ensures.new.metrics_are

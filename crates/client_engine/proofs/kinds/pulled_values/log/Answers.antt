@@ -1,0 +1,78 @@
+-- The crossing, and then what is told of the frame.
+use Rattle.std.proofs.Common.{arith}
+use Rattle.std.proofs.lemmas.Result.{on_ok_weaker}
+use Rattle.value_metric.specs.PulledStands.{pulled_law}
+use Rattle.metric_calls.specs.PulledValueCalls.{value_telling}
+use Rattle.client_engine.proofs.PulledValuesLemmas.{pulled_values_log}
+use Rattle.client_engine.specs.Bringing.{handed_with}
+use Rattle.client_engine.proofs.SnapshotsToldLemmas.{gets_none, tick_told, atom_told, pull_untold, pull_told}
+use Rattle.client_engine.proofs.kinds.pulled_values.log.Goals as goal
+
+-- of a tick nothing is told
+pub returns-in-Tick-clause-logs : goal.returns-in-Tick-clause-logs
+returns-in-Tick-clause-logs c =
+    let brought = c.args.brought.now in
+    let given = handed_with c.args.conditions.now brought in
+    let metric = c.args.metric.now in
+    let frame = brought.frame.now in
+    let truths = brought.matched.now in
+    let lane = c.cross.new.self in
+    let crosses = rw (c.comes_by_pull.ensures, c.time_of.ensures) at c.in_ok-cross.ensures in
+    pulled_values_log given metric frame truths c.args.lane.now lane lane crosses
+    (λ scene found source spec values.
+    tick_told pulled_law (value_telling metric source) given scene metric frame truths found lane c.in-Tick.at c.in-Tick.is)
+
+-- of an atom the condition after it is
+pub returns-in_ok-now-in-AtomAt-clause-logs : goal.returns-in_ok-now-in-AtomAt-clause-logs
+returns-in_ok-now-in-AtomAt-clause-logs c =
+    let brought = c.args.brought.now in
+    let given = handed_with c.args.conditions.now brought in
+    let metric = c.args.metric.now in
+    let frame = brought.frame.now in
+    let truths = brought.matched.now in
+    let lane = c.cross.new.self in
+    let crosses = rw (c.comes_by_pull.ensures, c.time_of.ensures) at c.in_ok-cross.ensures in
+    let new = c.condition.new.self in
+    on_ok_weaker c.condition.result
+    (λ learns. pulled_values_log given metric frame truths c.args.lane.now lane new crosses
+    (λ scene found source spec values.
+    atom_told pulled_law (value_telling metric source) given scene metric frame truths found lane new new c.in-AtomAt.at
+    c.in-AtomAt.atom c.in_ok-now-in-AtomAt.now c.in-AtomAt.is c.in_ok-now-in-AtomAt.ensures.truth learns
+    (gets_none pulled_law new)))
+    c.condition.ensures
+
+-- of a pull that isn't the metric's nothing is
+pub returns-then-not-is_told-clause-logs : goal.returns-then-not-is_told-clause-logs
+returns-then-not-is_told-clause-logs c =
+    let brought = c.args.brought.now in
+    let given = handed_with c.args.conditions.now brought in
+    let metric = c.args.metric.now in
+    let frame = brought.frame.now in
+    let truths = brought.matched.now in
+    let lane = c.cross.new.self in
+    let crosses = rw (c.comes_by_pull.ensures, c.time_of.ensures) at c.in_ok-cross.ensures in
+    let off = c.if-not-is_told.true in
+    let told = c.is_told.ensures in
+    pulled_values_log given metric frame truths c.args.lane.now lane lane crosses
+    (λ scene found source spec values.
+    pull_untold pulled_law (value_telling metric source) given scene metric frame truths found lane c.in-Pull.at c.in-Pull.id
+    c.in-Pull.outcome c.in-Pull.is (grind (arith, off, told)))
+
+-- of another one its snapshot is
+pub returns-else-not-is_told-clause-logs : goal.returns-else-not-is_told-clause-logs
+returns-else-not-is_told-clause-logs c =
+    let brought = c.args.brought.now in
+    let given = handed_with c.args.conditions.now brought in
+    let metric = c.args.metric.now in
+    let frame = brought.frame.now in
+    let truths = brought.matched.now in
+    let lane = c.cross.new.self in
+    let crosses = rw (c.comes_by_pull.ensures, c.time_of.ensures) at c.in_ok-cross.ensures in
+    let on = c.if-not-is_told.false in
+    let told = c.is_told.ensures in
+    on_ok_weaker c.pull.result
+    (λ gets. pulled_values_log given metric frame truths c.args.lane.now lane c.pull.new.lane crosses
+    (λ scene found source spec values.
+    pull_told pulled_law (value_telling metric source) given scene metric frame truths found lane c.pull.new.lane c.in-Pull.at c.in-Pull.id
+    c.in-Pull.outcome c.in-Pull.is (grind (arith, on, told)) (gets source spec values)))
+    c.pull.ensures
