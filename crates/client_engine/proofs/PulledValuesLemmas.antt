@@ -1,22 +1,17 @@
 -- The lane of a metric of pulled values, one step more.
-use Rattle.std.proofs.Common.{◌≡◌, ℕ, ◌+◌, ◌<◌, ℤ, Bool, true, false, List, [], ◌∷◌, ◌++◌, map, filter, length, drop, get_or, Option, Some, None, if◌then◌else◌, refl, sym, ap, subst, ◌∙◌, append_assoc}
-use Rattle.std.specs.List.{flat_map}
-use Rattle.std.specs.Option.{option_map}
-use Rattle.std.proofs.lemmas.List.{drop_more, append-nil, map-append}
+use Rattle.std.proofs.Common.{◌≡◌, ℕ, ◌+◌, ◌<◌, ℤ, Bool, true, false, List, [], ◌∷◌, ◌++◌, map, length, drop, get_or, if◌then◌else◌, refl, sym, ap, subst, ◌∙◌, append_assoc}
+use Rattle.std.proofs.lemmas.List.{drop_more, map-append}
 use Rattle.atom_record.specs.declared.atom.Atom.{Atom}
 use Rattle.atom_record.specs.declared.log.LogFrame.{LogFrame}
-use Rattle.atom_record.specs.declared.value.MetricKey.{MetricKey}
 use Rattle.bucket_meaning.specs.Limits.{time_limit}
 use Rattle.config_types.specs.declared.matcher.SimpleMatcher.{SimpleMatcher}
 use Rattle.config_types.specs.declared.parameters.DiffSpec.{DiffSpec}
 use Rattle.config_links.specs.declared.linked.LMetric.{LMetric}
-use Rattle.config_links.specs.declared.linked.LKind.{LKind}
-use Rattle.config_links.specs.declared.linked.LKind.TheVariants as kinds
 use Rattle.matcher_eval.specs.AtomTests.{matcher_holds}
 use Rattle.predicate_state.specs.declared.truth.Truth.{Truth}
 use Rattle.session_frames.specs.FrameReading.{log_time}
 use Rattle.report_writer.specs.declared.tree.MetricTree.{MetricTree}
-use Rattle.metric_producer.specs.Calls.{Call, Got, Learned}
+use Rattle.metric_producer.specs.Calls.{Got, Learned}
 use Rattle.metric_producer.specs.Collecting.{demands_of}
 use Rattle.metric_producer.specs.Moves.{Moves}
 use Rattle.metric_producer.specs.declared.row.Closed.{Closed}
@@ -26,7 +21,7 @@ use Rattle.value_metric.specs.declared.keyed_int.SnapInts.{SnapInts}
 use Rattle.value_metric.specs.declared.pulled_value.PulledValue.{PulledValue}
 use Rattle.value_metric.specs.PulledValues.{PulledValueParams, PulledValueCall}
 use Rattle.value_metric.specs.PulledStands.{pulled_law}
-use Rattle.metric_meaning.specs.Histories.{Step, Installation, moment_of}
+use Rattle.metric_meaning.specs.Histories.{Installation, moment_of}
 use Rattle.metric_meaning.specs.Scenes.{Scene, scene_after}
 use Rattle.metric_meaning.specs.ValueLeaves.{ValueLeaf, integer_in}
 use Rattle.metric_meaning.specs.SnapshotSteps.{snapshot_found, atoms_meant}

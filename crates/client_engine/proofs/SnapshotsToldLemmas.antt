@@ -1,5 +1,5 @@
 -- The lane of a pulled metric, one step more: what it tells of a frame that is shown is what the frame itself tells.
-use Rattle.std.proofs.Common.{◌≡◌, ℕ, ◌<◌, ◌==◌, Bool, true, false, ◌&&◌, List, [], ◌∷◌, ◌++◌, map, All, Option, Some, None, if◌then◌else◌, refl, sym, ap, subst, ◌∙◌}
+use Rattle.std.proofs.Common.{◌≡◌, ℕ, ◌<◌, ◌==◌, Bool, true, false, ◌&&◌, List, [], ◌∷◌, ◌++◌, map, Option, Some, None, refl, sym, ap, subst, ◌∙◌}
 use Rattle.std.specs.Option.{option_map, option_and_then, option_map_or}
 use Rattle.std.proofs.lemmas.Bool.Decides.{Decides-eqb}
 use Rattle.std.proofs.lemmas.List.{append-nil}
@@ -17,10 +17,8 @@ use Rattle.pull_book.specs.PullItems.{HoldsSoundAtoms}
 use Rattle.bucket_meaning.specs.Limits.{time_limit}
 use Rattle.config_types.specs.declared.matcher.SimpleMatcher.{SimpleMatcher}
 use Rattle.matcher_eval.specs.AtomTests.{number_set}
-use Rattle.config_links.specs.declared.linked.LMatcher.{LMatcher}
 use Rattle.config_links.specs.declared.linked.LMetric.{LMetric}
 use Rattle.predicate_state.specs.declared.truth.Truth.{Truth}
-use Rattle.condition_links.specs.LinkBinds.{bind_of}
 use Rattle.session_frames.specs.FrameReading.{log_time}
 use Rattle.session_frames.specs.Faultless.{IsOutcome, IsPulledAtom}
 use Rattle.metric_producer.specs.Calls.{Call, Got, Learned}
@@ -41,9 +39,9 @@ use Rattle.metric_meaning.specs.MetricConditions.{condition_truth}
 use Rattle.metric_meaning.specs.SnapshotSteps.{pulled_matcher, atoms_meant, snapshot_found, nothing_read}
 use Rattle.metric_meaning.specs.Ways.{Way}
 use Rattle.metric_meaning.proofs.SnapshotStepsLemmas.{found-pulled}
-use Rattle.metric_calls.specs.Askings.{own_demands, AsksWell}
+use Rattle.metric_calls.specs.Askings.{AsksWell}
 use Rattle.metric_calls.specs.SnapshotCalls.{means_pull, is_told_of, truth_in, Telling, pull_calls, calls_told, calls_brought, told_asking}
-use Rattle.client_engine.specs.Known.{Known, KnowsAfter}
+use Rattle.client_engine.specs.Known.{Known}
 use Rattle.client_engine.specs.Handed.{Handed, IsOfScene}
 use Rattle.client_engine.specs.Along.{Along}
 use Rattle.client_engine.specs.NextSteps.{logged_step, with_logged, ComeInTime, MayLog}

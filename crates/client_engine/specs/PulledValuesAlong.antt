@@ -1,6 +1,5 @@
 -- The lane of a metric of pulled values: what it stands for. A report shows what it hands out as it does of pushed ones.
 use Rattle.std.specs.Prelude.{◌≡◌, ℕ, ℤ, List, Option}
-use Rattle.std.specs.Option.{option_map}
 use Rattle.atom_record.specs.declared.atom.Atom.{Atom}
 use Rattle.config_types.specs.declared.parameters.DiffSpec.{DiffSpec}
 use Rattle.config_links.specs.declared.linked.LMatcher.{LMatcher}

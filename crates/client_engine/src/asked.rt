@@ -64,6 +64,11 @@ pub struct Nothing;
 impl Asked for Nothing {
     ghost reading = { λ nothing. nothing_read };
 
+    fn read(&self, alloc: Global, set: &FieldSet) -> Result<DimKey, AllocError> {
+        let _set = set;
+        Ok(Seq::new(alloc))
+    }
+
     fn bind(&self, alloc: Global, link: &LLink) -> Result<BindList, AllocError> {
         let _link = link;
         Ok(Seq::new(alloc))

@@ -14,9 +14,7 @@ ghost use Rattle.client_engine.specs.Tracks.{CanBeTracked};
 
 use crate::brought::Brought;
 use crate::conditions::Conditions;
-use crate::kinds::{
-    counts, events, gauges, longest, pulled_gauges, pulled_values, sums, values,
-};
+use crate::kinds::{counts, events, gauges, longest, pulled_gauges, pulled_values, sums, values};
 use crate::opening::Opening;
 use crate::request::ReportRequest;
 use config_links::{LKind, LMetric};

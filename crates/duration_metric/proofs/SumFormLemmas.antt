@@ -12,7 +12,7 @@ use Rattle.metric_producer.specs.RowItems.{IsRow}
 use Rattle.predicate_state.specs.PredicateItems.{flag_number}
 use Rattle.duration_metric.specs.declared.sum.SumProducer.{SumProducer}
 use Rattle.duration_metric.specs.InnerItems.{inner_items, span_items}
-use Rattle.duration_metric.specs.SumItems.{time_row_items, sum_items, IsSum, any_keys}
+use Rattle.duration_metric.specs.SumItems.{time_row_items, sum_producer_items, IsSumProducer, any_keys}
 use Rattle.duration_metric.specs.SumForm.{SumForm, sum_form, HasSumForm, RestoresSum}
 
 -- their items
@@ -28,7 +28,7 @@ IsSumForm = IsValidPair Anything (IsValidPair Anything (IsValidPair Anything (Is
     (IsValidPair (IsTable Anything Anything) (IsKeeping (IsRow Anything))))))))
 
 -- the parts of a sum may
-form_valid : (it : SumProducer) → IsSum it → IsSumForm (sum_form it)
+form_valid : (it : SumProducer) → IsSumProducer it → IsSumForm (sum_form it)
 form_valid it is = (tt, (tt, (tt, (tt, (is.inner, (any_keys it.active, (is.table, is.kept)))))))
 
 -- a flag has a number of its own
@@ -56,16 +56,16 @@ one_form one other e =
 module _ (items : List Item) (place : ℕ) where
   -- where no such parts stand, no sum does
   pub sum_parts_fail : (e : FlatError) → Builds IsSumForm sum_form_items items place (Err e)
-      → Builds IsSum sum_items items place (Err e)
-  sum_parts_fail e fails = laws.form_fails IsSumForm sum_form_items IsSum sum_items sum_form (λ it. refl) form_valid
+      → Builds IsSumProducer sum_producer_items items place (Err e)
+  sum_parts_fail e fails = laws.form_fails IsSumForm sum_form_items IsSumProducer sum_producer_items sum_form (λ it. refl) form_valid
       items place e fails
 
   module _ (form : SumForm) (next : ℕ) (one : IsBuilt IsSumForm sum_form_items items place form next) where
-    parts_are : (it : SumProducer) → IsSum it → StandsAt items place (sum_items it) → sum_form it ≡ form
+    parts_are : (it : SumProducer) → IsSumProducer it → StandsAt items place (sum_producer_items it) → sum_form it ≡ form
     parts_are it valid there = one.only (sum_form it) (form_valid it valid) there
 
     -- a sum is built from its parts
-    pub sum_made : (it : SumProducer) → HasSumForm form it → IsBuilt IsSum sum_items items place it next
+    pub sum_made : (it : SumProducer) → HasSumForm form it → IsBuilt IsSumProducer sum_producer_items items place it next
     sum_made it has =
         let mine = subst (λ f. IsBuilt IsSumForm sum_form_items items place f next) (sym has.is) one in
         record {
@@ -81,7 +81,7 @@ module _ (items : List Item) (place : ℕ) where
         }
 
     -- parts that no sum has aren't a sum
-    pub sum_unmade : (e : FlatError) → RestoresSum form (Err e) → Builds IsSum sum_items items place (Err e)
+    pub sum_unmade : (e : FlatError) → RestoresSum form (Err e) → Builds IsSumProducer sum_producer_items items place (Err e)
     sum_unmade Bad never = λ it valid there. never it valid (parts_are it valid there)
     sum_unmade Memory none = tt
 

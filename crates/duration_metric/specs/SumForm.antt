@@ -13,7 +13,7 @@ use Rattle.predicate_state.specs.PredicateItems.{flag_number}
 use Rattle.duration_metric.specs.declared.inner.Inner.{Inner}
 use Rattle.duration_metric.specs.declared.sum.Span.{Span}
 use Rattle.duration_metric.specs.declared.sum.SumProducer.{SumProducer}
-use Rattle.duration_metric.specs.SumItems.{IsSum}
+use Rattle.duration_metric.specs.SumItems.{IsSumProducer}
 
 -- Four numbers, the inner keys, the active keys, the spans and the kept rows.
 abbrev pub SumForm : Type 0
@@ -44,5 +44,5 @@ pub record HasSumForm (form : SumForm) (it : SumProducer) : Type 0 where
 -- a sum with these parts, or that none has them
 abbrev pub RestoresSum : SumForm → Result SumProducer FlatError → Type 0
 RestoresSum form (Ok it) = HasSumForm form it
-RestoresSum form (Err Bad) = (it : SumProducer) → IsSum it → ¬ (sum_form it ≡ form)
+RestoresSum form (Err Bad) = (it : SumProducer) → IsSumProducer it → ¬ (sum_form it ≡ form)
 RestoresSum form (Err Memory) = Unit {0}

@@ -39,13 +39,13 @@ sum_rest_items it =
 
 -- A sum is where its open part began, how many inner keys had found no room at the last report, whether starts are
 -- counted, whether keys that aren't listed are unknown, its inner keys, its active keys, its table and its kept rows.
-abbrev pub sum_items : SumProducer → List Item
-sum_items it =
+abbrev pub sum_producer_items : SumProducer → List Item
+sum_producer_items it =
     Num it.start ∷ Num it.reported ∷ Num (flag_number it.inner.nesting) ∷ Num (flag_number it.inner.unknown)
     ∷ sum_rest_items it
 
 -- its tables are some, no key is active twice, and its kept rows are within their bound
-pub record IsSum (it : SumProducer) : Type 0 where
+pub record IsSumProducer (it : SumProducer) : Type 0 where
   pub inner : IsTable Anything Anything it.inner.keys
   pub once : IsDistinct is_same_key it.active
   pub table : IsTable Anything Anything it.table
@@ -66,7 +66,8 @@ sum_entries it =
     + (table_entries key_items span_items it.table + kept_entries time_row_items it.kept))
 
 -- a head of fourteen items, and eight at most for each entry
-pub sum_bounded : (it : SumProducer) → IsSum it → length (sum_items it) ≤ most_items 14 (sum_entries it)
+pub sum_bounded : (it : SumProducer) → IsSumProducer it
+    → length (sum_producer_items it) ≤ most_items 14 (sum_entries it)
 sum_bounded it is =
     let inner = table_bounded dims_items inner_items Anything Anything it.inner.keys is.inner in
     let active = elements_bounded key_items it.active in
@@ -79,7 +80,7 @@ sum_bounded it is =
     omega arith
 
 -- an entry is an item at least
-pub sum_few : (it : SumProducer) → sum_entries it ≤ length (sum_items it)
+pub sum_few : (it : SumProducer) → sum_entries it ≤ length (sum_producer_items it)
 sum_few it =
     let inner = table_few dims_items inner_items it.inner.keys in
     let active = list_few key_items it.active in
@@ -97,7 +98,7 @@ any_keys [] = All-nil Anything
 any_keys (x ∷ xs) = All-cons Anything x xs tt (any_keys xs)
 
 -- the items of such a sum can be spelled
-pub sum_savable : (it : SumProducer) → IsSum it → IsSavableSum it → AreSavable (sum_items it)
+pub sum_savable : (it : SumProducer) → IsSumProducer it → IsSavableSum it → AreSavable (sum_producer_items it)
 sum_savable it is can =
     let inner = table_savable dims_items inner_items Anything Anything AreShortLeaves IsSavableInner dims_savable
     inner_savable it.inner.keys is.inner can.inner in

@@ -77,11 +77,11 @@ fn restore(alloc: Global, parts: Parts) -> Result<SumProducer, FlatError>
 }
 
 impl Flat for SumProducer {
-    ghost use Rattle.duration_metric.specs.SumItems.{sum_items, IsSum, IsSavableSum, sum_entries, sum_bounded, sum_few, sum_savable};
+    ghost use Rattle.duration_metric.specs.SumItems.{sum_producer_items, IsSumProducer, IsSavableSum, sum_entries, sum_bounded, sum_few, sum_savable};
 
-    ghost flat = { sum_items };
+    ghost flat = { sum_producer_items };
 
-    ghost valid = { IsSum };
+    ghost valid = { IsSumProducer };
 
     ghost savable = { IsSavableSum };
 

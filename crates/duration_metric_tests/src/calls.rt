@@ -274,10 +274,18 @@ fn turn_once<P: Timed>(
     }
     let step = at % keys;
     if (at / keys) % 2 == 0 {
-        return start_one(alloc, producer, at, step as u32);
+        return start_one(alloc, producer, at, small(step));
     }
     let last = keys.saturating_sub(1);
-    stop_one(alloc, producer, at, last.saturating_sub(step) as u32)
+    stop_one(alloc, producer, at, small(last.saturating_sub(step)))
+}
+
+/// The number of a key, of which there are far fewer than fit.
+fn small(number: u64) -> u32 {
+    let Ok(small) = u32::try_from(number) else {
+        return 0;
+    };
+    small
 }
 
 /// A key starts, as the last one, and is true for the output key 7.
@@ -320,6 +328,6 @@ fn give<P: Timed>(
     event: PredEvent,
     number: u32,
 ) -> Result<(), AllocError> {
-    let key = key_of(alloc, number as i32)?;
+    let key = key_of(alloc, number.cast_signed())?;
     producer.event(at, InnerEvent { event, key })
 }

@@ -29,7 +29,7 @@ fn is_bad(alloc: Global, items: &Items) -> bool {
 #[test]
 fn goes_on_after_it_was_rebuilt(rt: HostRuntime) -> Result<(), Fail> {
     let mut kept = KeptRows::new(rt.alloc());
-    kept.put(7, 16_383)?;
+    kept.put(7_u64, 16_383)?;
     let mut copy = rebuild(rt.alloc(), &kept)?;
     copy.put(8, 1)?;
     copy.put(9, 1)?;

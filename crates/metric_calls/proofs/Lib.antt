@@ -13,6 +13,7 @@ pub mod SumCallsLemmas
 pub mod TimelyLemmas
 pub mod LongestCallsLemmas
 pub mod SnapshotCallsLemmas
+pub mod PulledIntervalCallsLemmas
 pub mod PulledValueCallsLemmas
 pub mod PulledGaugeCallsLemmas
 mod WorkedAskings

@@ -7,7 +7,6 @@ use Rattle.std.proofs.lemmas.List.{append-nil}
 use Rattle.atom_record.specs.declared.atom.Atom.{Atom}
 use Rattle.atom_record.specs.declared.log.LogFrame.{LogFrame}
 use Rattle.atom_record.specs.declared.log.LogFrame.TheVariants.{Tick, AtomAt, Pull}
-use Rattle.atom_record.specs.declared.log.PullOutcome.{PullOutcome}
 use Rattle.atom_record.specs.declared.value.MetricKey.{MetricKey}
 use Rattle.field_select.specs.declared.leaf.FieldSet.{FieldSet}
 use Rattle.config_types.specs.declared.parameters.Sampling.{Sampling}
@@ -18,18 +17,18 @@ use Rattle.predicate_state.specs.declared.truth.Truth.{Truth}
 use Rattle.predicate_state.specs.declared.truth.Truth.TheVariants.{False, Unknown, True}
 use Rattle.condition_links.specs.ThreeValues.{is_true}
 use Rattle.metric_kinds.specs.PulledSamples.{KeyedAtoms, sample_marks}
-use Rattle.metric_producer.specs.Calls.{Call, Got, Learned, Crossed, CutAt, Took}
+use Rattle.metric_producer.specs.Calls.{Got, Learned, Crossed, CutAt, Took}
 use Rattle.metric_producer.specs.Rules.{AreTold}
 use Rattle.metric_producer.specs.LaneCalls.{AreAskedAt}
 use Rattle.gauge_metric.specs.declared.gauge.KeyedAtom.{KeyedAtom}
 use Rattle.gauge_metric.specs.declared.snapshot.SnapAtoms.{SnapAtoms}
 use Rattle.gauge_metric.specs.declared.snapshot.SnapAtoms.TheVariants.{Snapshot, Trigger}
 use Rattle.gauge_metric.specs.PulledSampling.{PulledGaugeCall, snapshots_in, truths_in, last_snapshot, last_condition, is_told_held, is_start_moment, is_told_moment, is_trigger_moment, keyed, moment_marks, marks_if, pulled_collecting}
-use Rattle.metric_meaning.specs.Histories.{Logged, Reported, Step, Installation}
+use Rattle.metric_meaning.specs.Histories.{Step, Installation}
 use Rattle.metric_meaning.specs.PredicateSteps.{named_truth}
 use Rattle.metric_meaning.specs.Scenes.{scene_after}
 use Rattle.metric_meaning.specs.SnapshotSteps.{snapshot_found}
-use Rattle.metric_meaning.specs.PulledIntervals.{Watch, becomes_true}
+use Rattle.metric_meaning.specs.PulledIntervals.{Watch}
 use Rattle.metric_meaning.specs.PulledGaugeSteps.{pulled_samples, watched_samples, is_moment, sampled_at_start, pulled_gauge_way}
 use Rattle.metric_calls.specs.Askings.{frame_step, asked_at, own_demands, calls_by_steps, calls_crossed, marks_after, AsksWell, Agrees}
 use Rattle.metric_calls.specs.Memories.{Memory, remembered, Follows}

@@ -1,7 +1,7 @@
 -- What a pulled metric tells follows its steps: lemmas on `specs/SnapshotCalls.antt`, for proofs of kinds and of
 -- instances.
-use Rattle.std.proofs.Common.{◌≡◌, ℕ, ◌==◌, Bool, true, false, ◌&&◌, List, [], ◌∷◌, ◌++◌, map, Option, Some, None, if◌then◌else◌, refl, sym, ap, subst, ◌∙◌, ⊎_elim}
-use Rattle.std.specs.Option.{option_map, option_and_then, option_map_or}
+use Rattle.std.proofs.Common.{◌≡◌, ℕ, ◌==◌, Bool, true, false, ◌&&◌, List, [], ◌∷◌, ◌++◌, map, Option, Some, None, refl, sym, ap, subst, ◌∙◌, ⊎_elim}
+use Rattle.std.specs.Option.{option_and_then, option_map_or}
 use Rattle.std.proofs.lemmas.Bool.{cases_Bool, true≢false}
 use Rattle.std.proofs.lemmas.Bool.Decides.{Decides-eqb}
 use Rattle.atom_record.specs.declared.atom.Atom.{Atom}
@@ -11,16 +11,15 @@ use Rattle.atom_record.specs.declared.log.PullOutcome.{PullOutcome}
 use Rattle.atom_record.specs.Pulled.{is_pull_id}
 use Rattle.config_types.specs.declared.matcher.SimpleMatcher.{SimpleMatcher}
 use Rattle.matcher_eval.specs.AtomTests.{number_set}
-use Rattle.config_links.specs.declared.linked.LMatcher.{LMatcher}
 use Rattle.config_links.specs.declared.linked.LMetric.{LMetric}
 use Rattle.config_links.specs.declared.linked.LPredicate.{LPredicate}
 use Rattle.predicate_state.specs.declared.truth.Truth.{Truth}
-use Rattle.metric_producer.specs.Calls.{Call, Got, Learned}
+use Rattle.metric_producer.specs.Calls.{Got}
 use Rattle.metric_meaning.specs.Histories.{What, Logged, Reported, Step, Installation, log_after}
 use Rattle.metric_meaning.specs.PredicateSteps.{events_at}
 use Rattle.metric_meaning.specs.Scenes.{scene_after}
 use Rattle.metric_meaning.specs.MetricConditions.{condition_truth}
-use Rattle.metric_meaning.specs.SnapshotSteps.{pulled_matcher, atoms_meant, atoms_pulled, snapshot_found, nothing_read}
+use Rattle.metric_meaning.specs.SnapshotSteps.{pulled_matcher, atoms_pulled, snapshot_found, nothing_read}
 use Rattle.metric_meaning.specs.Ways.{Way}
 use Rattle.metric_meaning.proofs.PredicateStepsLemmas.{tables_after-idle}
 use Rattle.metric_meaning.proofs.SnapshotStepsLemmas.{IsNoPullOf, found-stays, found-unpulled}

@@ -105,11 +105,16 @@ module _ (installed : Installation) (metric : LMetric) (spec : PredSpec) where
           let asked : List DurationCall = learning at (delta_with false told) in
           AreAskedAt demands at asked × AreTold demands calls asked
       by_changes [] is none = (tt, tt)
-      by_changes (first ∷ others) is none =
-          ((refl, tt), (ap (λ told. may_tell spec calls (record { changes = told })) (sym is)
-          ∙ changes_told calls before step
-          (subst (λ cs. KnowsActed installed metric spec cs before step) (append-nil calls)
-          (acted installed metric spec before step calls at None none tells)), tt))
+      by_changes (first ∷ others) is none = (
+        (refl, tt),
+        (
+          ap (λ told. may_tell spec calls (record { changes = told })) (sym is)
+              ∙ changes_told calls before step
+              (subst (λ cs. KnowsActed installed metric spec cs before step) (append-nil calls)
+              (acted installed metric spec before step calls at None none tells)),
+          tt,
+        ),
+      )
 
       by_event : (event : Option InnerEvent) → inner_event_at installed metric step ≡ event
           → let demands = duration_demands (duration_params installed.base metric spec) in
@@ -119,10 +124,17 @@ module _ (installed : Installation) (metric : LMetric) (spec : PredSpec) where
       by_event None is = by_changes (inner_changes installed metric spec before step) refl is
       by_event (Some event) is =
           let leaves : length event.key ≡ spec.leaves =
-          event_leaves (measured installed metric) step event is ∙ sym timed.leaves in
-          ((refl, grind (arith, leaves), tt, (refl, tt)),
-          (tt, (changes_told (calls ++ Got at event ∷ []) before step
-          (acted installed metric spec before step calls at (Some event) is tells), tt)))
+          event_leaves (measured installed metric) step event is ∙ sym timed.leaves in (
+            (refl, grind (arith, leaves), tt, (refl, tt)),
+            (
+              tt,
+              (
+                changes_told (calls ++ Got at event ∷ []) before step
+                    (acted installed metric spec before step calls at (Some event) is tells),
+                tt,
+              ),
+            ),
+          )
 
     -- what a metric that sums durations asks may come
     pub sums_ask_well : AsksWell (sum_asking installed metric spec) sum_collecting

@@ -1,5 +1,5 @@
 -- What a pulled gauge asks of its producer.
-use Rattle.std.specs.Prelude.{ℕ, Bool, List, [], ◌∷◌, map, Option, if◌then◌else◌}
+use Rattle.std.specs.Prelude.{ℕ, List, [], ◌∷◌, map, Option, if◌then◌else◌}
 use Rattle.std.specs.Option.{option_map}
 use Rattle.atom_record.specs.declared.atom.Atom.{Atom}
 use Rattle.atom_record.specs.declared.value.MetricKey.{MetricKey}

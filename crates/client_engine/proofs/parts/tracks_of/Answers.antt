@@ -1,6 +1,5 @@
 use Rattle.std.proofs.Common.{◌∙◌, [], subst}
 use Rattle.metric_meaning.specs.Histories.{Installation}
-use Rattle.client_engine.specs.Known.{Known}
 use Rattle.client_engine.specs.Opens.{IsOpeningOf}
 use Rattle.client_engine.specs.SoundMetrics.{IsSoundIn}
 use Rattle.client_engine.specs.TrackStands.{TrackStandsFor}

@@ -1,5 +1,5 @@
 -- The lane got the trigger, or nothing.
-use Rattle.std.proofs.Common.{◌≡◌, ◌∙◌, Bool, true, List, ap, subst, sym, arith}
+use Rattle.std.proofs.Common.{◌∙◌, true, ap, sym, arith}
 use Rattle.std.proofs.lemmas.Result.{on_ok_weaker}
 use Rattle.metric_meaning.specs.PredicateSteps.{named_truth}
 use Rattle.client_engine.proofs.PulledGaugesLemmas.{one_trigger, triggered}

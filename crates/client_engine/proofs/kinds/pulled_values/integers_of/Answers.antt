@@ -1,8 +1,8 @@
 -- One atom after the other.
-use Rattle.std.proofs.Common.{◌∙◌, ◌++◌, true, false, sym, ap, arith, append-nil}
+use Rattle.std.proofs.Common.{◌∙◌, ◌++◌, sym, ap, arith, append-nil}
 use Rattle.std.proofs.lemmas.List.{drop_all}
 use Rattle.metric_meaning.specs.ValueLeaves.{ValueLeaf}
-use Rattle.client_engine.proofs.PulledValuesLemmas.{integers_meant, integers_on}
+use Rattle.client_engine.proofs.PulledValuesLemmas.{integers_meant}
 use Rattle.client_engine.proofs.kinds.pulled_values.integers_of.Goals as goal
 
 -- all
