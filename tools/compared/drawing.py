@@ -78,12 +78,12 @@ def pull_body(atom_id, atoms):
 
 
 class Drawn:
-    """A session so far, and its replies. What is drawn has metrics of these kinds mostly."""
+    """A session so far, and its replies."""
 
-    def __init__(self, random, kinds, waiting):
-        self.random, self.kinds = random, kinds
+    def __init__(self, random):
+        self.random = random
         self.now = 0
-        self.answers = Session(waiting)
+        self.answers = Session()
         self.session, self.replies = [], []
 
     def frame(self, body):
@@ -98,11 +98,11 @@ class Drawn:
         self.frame(struct.pack("<Biq", kind, *client) + body)
 
     def config(self):
-        """A configuration that is taken mostly; now and then one of any kinds, or one that may have faults."""
+        """A configuration that is taken mostly; now and then one that may have faults."""
         drawn = self.random.random()
         if drawn < 0.03:
             return draw_tree(self.random)
-        return draw_config(self.random, KINDS if drawn < 0.1 else self.kinds)
+        return draw_config(self.random, KINDS)
 
     def install(self, client):
         """An install of some configuration."""
@@ -232,12 +232,12 @@ def mangled(random, content):
     return bytes(changed[: random.randrange(len(changed) + 1)] if random.random() < 0.1 else changed)
 
 
-def draw_mangled(random, kinds=KINDS, waiting=()):
+def draw_mangled(random):
     """A session of which one in ten is mangled, what it is answered, and its status."""
-    content, answered, status = draw(random, kinds, waiting)
+    content, answered, status = draw(random)
     if random.random() < 0.1:
         content = mangled(random, content)
-        answered, status, _ = replies(content, waiting)
+        answered, status, _ = replies(content)
     return content, answered, status
 
 
@@ -250,9 +250,9 @@ def draw_check(random):
     return content, line.encode(), 0 if line.startswith("ok ") else 1
 
 
-def draw(random, kinds=KINDS, waiting=()):
+def draw(random):
     """A session, its replies and its status: two clients, and a last report of all that is live."""
-    drawn = Drawn(random, kinds, waiting)
+    drawn = Drawn(random)
     for _ in range(random.choice([0, 0, 3])):
         drawn.log()
     drawn.install((10, 1))

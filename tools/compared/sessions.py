@@ -24,7 +24,6 @@ from session_text.layout import (
 
 from compared.atoms import MOST_ID, BadAtom, read_atom
 from compared.decoding import TooLarge, Unsupported, WireFault, decoded
-from compared.kinds import kinds_of
 from compared.meaning import Books, Instance
 from compared.verdict import Checked, line_of
 from compared.wire import replied
@@ -143,10 +142,10 @@ def next_frame(left):
 
 
 class Session:
-    """The clients of a session, and its replies so far. Kinds of metrics that wait make an install be refused."""
+    """The clients of a session, and its replies so far."""
 
-    def __init__(self, waiting=()):
-        self.books, self.live, self.waiting = Books(), {}, frozenset(waiting)
+    def __init__(self):
+        self.books, self.live = Books(), {}
 
     def refusal(self, client, content):
         """The reply to an install that is refused, without its client, or None; and else the tree."""
@@ -164,8 +163,6 @@ class Session:
             return CLIENT_FULL, struct.pack("<I", MOST_CONFIGS)
         for number, reason, value in Checked(tree).faults():
             return REFUSED, struct.pack("<BBBq", LINK, number, reason, value)
-        if self.waiting & kinds_of(tree):
-            return REFUSED, struct.pack("<BB", UNSUPPORTED, 0)
         return tree
 
     def install(self, frame):
@@ -201,9 +198,9 @@ class Session:
         return b""
 
 
-def replies(content, waiting=()):
+def replies(content):
     """The replies to a session, the status, and the note."""
-    session, at, written = Session(waiting), 0, []
+    session, at, written = Session(), 0, []
     while at < len(content):
         try:
             frame, size = next_frame(content[at : at + 4 + MOST_FRAME])

@@ -6,8 +6,6 @@ LIMIT, NO_ID, TWICE, NO_MATCHER, NO_PREDICATE, NO_STATE, MATCHER_CYCLE, PREDICAT
 KINDS = {1: MATCHER, 2: PREDICATE, 3: STATE, 4: METRIC}
 MOST = {1: 800, 2: 300, 3: 16, 4: 100}
 NOT = 3
-# What no program acts on yet: these metrics.
-WAITING = ()
 
 CAUSES = {
     1: "a number of more than ten bytes",
@@ -218,17 +216,11 @@ def unsupported_words(path):
     return f"{words[-1]}{place} has another wire type than it may have, or a number that it may not have"
 
 
-def waiting_lines(content):
-    """The metrics of a configuration that aren't acted on yet."""
-    metrics = entities(tree(content), METRIC)
-    return [f"metric {named(one)}: not acted on yet: {field}" for field, one in metrics if field in WAITING]
-
-
 def found_lines(line, content):
     """What the program's line on a checked configuration says, in words, below that line."""
     kind, *rest = line.split()
     if kind == "ok":
-        return ["  " + waiting for waiting in waiting_lines(content)]
+        return []
     what, *numbers = rest
     if what == "wire":
         return ["  " + wire_words(*map(int, numbers))]

@@ -44,12 +44,10 @@ def wire(cursor, _config):
     return f"wire {cause} {offset}", [refusals.wire_words(cause, offset)]
 
 
-def unsupported(cursor, config):
-    """A record that isn't supported. Its path is empty where the whole isn't of a form that is acted on."""
+def unsupported(cursor, _config):
+    """A record that isn't supported, and below it in words. Each has a path."""
     path = [cursor.number("I") for _ in range(cursor.number("B"))]
-    if path:
-        return f"unsupported {'.'.join(map(str, path))}", [refusals.unsupported_words(path)]
-    return "unsupported (not of a form that is acted on)", refusals.waiting_lines(config) if config else []
+    return f"unsupported {'.'.join(map(str, path))}", [refusals.unsupported_words(path)]
 
 
 def link(cursor, config):

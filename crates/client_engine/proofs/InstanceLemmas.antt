@@ -22,7 +22,6 @@ use Rattle.session_frames.specs.FrameReading.{log_time}
 use Rattle.metric_meaning.specs.Histories.{Step, What, Reported, Logged, Installation, frames_at, logged_frames, log_after, log_of_history}
 use Rattle.metric_meaning.specs.StateDrops.{drops_of_states, dropped_for}
 use Rattle.metric_meaning.specs.PredicateSteps.{table_spec, tables_after, predicate_drops, table_after, drop_above_zero}
-use Rattle.metric_meaning.specs.Forms.{is_built_metric, is_built}
 use Rattle.metric_meaning.specs.Reports.{report_of, last_report}
 use Rattle.metric_meaning.proofs.PredicateStepsLemmas.{tables_after-idle}
 use Rattle.report_writer.specs.declared.tree.MetricTree.{MetricTree}
@@ -287,18 +286,9 @@ sound_asked linked sound =
     All-weaker (IsSoundMetric linked) (AsksWithin (length linked.predicates)) (λ metric s. s.condition) linked.metrics
     sound.metrics
 
--- each metric of a configuration that is acted on is acted on
-each_built : (metrics : List LMetric) → list_all is_built_metric metrics ≡ true
-    → All (λ metric. is_built_metric metric ≡ true) metrics
-each_built [] all = All-nil (λ metric. is_built_metric metric ≡ true)
-each_built (metric ∷ metrics) all =
-    All-cons (λ metric. is_built_metric metric ≡ true) metric metrics (grind (arith, all))
-    (each_built metrics (grind (arith, all)))
-
--- the metrics of a sound configuration that is acted on can be tracked
-pub all_tracked : (linked : Linked) → IsSoundConfig linked → is_built linked ≡ true → All CanBeTracked linked.metrics
-all_tracked linked sound built = λ k d within. record {
-  built = each_built linked.metrics built k d within;
+-- the metrics of a sound configuration can be tracked
+pub all_tracked : (linked : Linked) → IsSoundConfig linked → All CanBeTracked linked.metrics
+all_tracked linked sound = λ k d within. record {
   linked = linked;
   sound = sound.metrics k d within;
 }

@@ -4,7 +4,6 @@ use Rattle.config_links.specs.SoundConfig.{IsSoundMetric, MayBeWithin}
 use Rattle.config_links.specs.declared.linked.Linked.{Linked}
 use Rattle.config_links.specs.declared.linked.LMetric.{LMetric}
 use Rattle.metric_meaning.specs.Histories.{Step, Installation}
-use Rattle.metric_meaning.specs.Forms.{is_built_metric}
 use Rattle.report_writer.specs.Writable.{IsWritableMetric}
 use Rattle.report_writer.specs.declared.tree.MetricTree.{MetricTree}
 use Rattle.client_engine.specs.NextSteps.{MayReport, with_reported, requested_tree}
@@ -16,9 +15,8 @@ use Rattle.client_engine.specs.declared.opening.Opening.{Opening}
 use Rattle.client_engine.specs.declared.track.Track.{Track}
 use Rattle.client_engine.specs.declared.request.ReportRequest.{ReportRequest}
 
--- A metric that is acted on, of a configuration in which it is sound.
+-- A metric is sound in a configuration.
 pub record CanBeTracked (metric : LMetric) : Type 0 where
-  pub built : is_built_metric metric ≡ true
   pub linked : Linked
   pub sound : IsSoundMetric linked metric
 

@@ -72,7 +72,6 @@ impl Instance {
     ghost use Rattle.config_links.specs.SoundConfig.{IsSoundConfig};
     ghost use Rattle.report_writer.specs.Writable.{IsWritableReport};
     ghost use Rattle.session_frames.specs.Faultless.{IsFaultlessLog};
-    ghost use Rattle.metric_meaning.specs.Forms.{is_built};
     ghost use Rattle.client_engine.specs.Known.{drops_in};
     ghost use Rattle.client_engine.specs.InstanceParts.{AreStateDrops};
     ghost use Rattle.client_engine.specs.InstanceStands.{IsFresh, Logs, Reports};
@@ -86,7 +85,6 @@ impl Instance {
         _states: &StateBook,
     ) -> Result<Instance, AllocError>
         requires sound { IsSoundConfig linked }
-        requires built { is_built linked ≡ true }
         requires fits { base < time_limit }
         ensures fresh { (opening : List LogFrame) → PullBookStandsFor pulls.now opening
             → StateBookStandsFor _states.now opening → IfOk result (IsFresh linked base opening) }

@@ -5,7 +5,6 @@ mod arriving;
 mod asked;
 mod brought;
 mod conditions;
-mod form;
 mod groups;
 mod inner;
 mod instance;
@@ -27,7 +26,6 @@ mod tables;
 mod track;
 mod turns;
 
-pub use form::built;
 pub use instance::{Instance, LogView};
 pub use live_id::LiveId;
 pub use request::ReportRequest;

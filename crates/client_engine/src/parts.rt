@@ -25,7 +25,7 @@ pub struct Drops {
     pub of_atoms: u64,
 }
 
-/// The tracks of metrics that are acted on, which begin where they are installed.
+/// The tracks of metrics, which begin where they are installed.
 pub fn tracks_of(
     alloc: Global,
     metrics: Seq<LMetric>,

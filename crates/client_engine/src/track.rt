@@ -55,7 +55,7 @@ pub struct Track {
 }
 
 impl Track {
-    /// The track of a metric that is acted on, with a lane that begins where it is installed.
+    /// The track of a metric, with a lane that begins where it is installed.
     pub fn new(
         alloc: Global,
         metric: LMetric,
@@ -137,7 +137,7 @@ impl Track {
     }
 }
 
-// The lane of a metric that is acted on, by its kind, which begins where it is installed.
+// The lane of a metric, by its kind, which begins where it is installed.
 fn lane_of(
     alloc: Global,
     metric: &LMetric,

@@ -1,4 +1,3 @@
-pub mod InstallReading
 pub mod LiveOrder
 pub mod BookStands
 pub mod FrameTruths

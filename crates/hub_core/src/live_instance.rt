@@ -3,10 +3,10 @@ ghost use Rattle.std.specs.Prelude.{◌≡◌, ◌<◌, ◌^◌, List, IfOk, OnO
 ghost use Rattle.atom_record.specs.declared.log.LogFrame.{LogFrame};
 ghost use Rattle.session_frames.specs.Faultless.{IsFaultlessLog};
 ghost use Rattle.report_writer.specs.Writable.{IsWritableReport};
+ghost use Rattle.config_links.specs.SoundConfig.{IsSoundConfig};
 ghost use Rattle.link_graph.specs.Links.{AreInRange, IsOrder};
 ghost use Rattle.matcher_truths.specs.MatcherTruths.{named_places, MayBeAsked};
 ghost use Rattle.matcher_truths.specs.QuestionCounts.{AreTicks};
-ghost use Rattle.hub_core.specs.InstallReading.{MayRun};
 ghost use Rattle.hub_core.specs.BookStands.{BooksStandFor};
 ghost use Rattle.hub_core.specs.FrameTruths.{truths_by, asked_by};
 ghost use Rattle.std.specs.List.{All};
@@ -56,7 +56,7 @@ impl LiveInstance {
         base: u64,
         books: &Books,
     ) -> Result<LiveInstance, AllocError>
-        requires may_run { MayRun linked }
+        requires sound { IsSoundConfig linked }
         requires timely { base < 2 ^ 63 }
         ensures { (opening : List LogFrame) → BooksStandFor books.now opening
             → IfOk result (IsFresh linked base opening) }

@@ -34,7 +34,7 @@ pub struct Lives {
 impl Lives {
     ghost use Rattle.session_frames.specs.Faultless.{IsFaultlessLog};
     ghost use Rattle.matcher_truths.specs.QuestionCounts.{AreTicks};
-    ghost use Rattle.hub_core.specs.InstallReading.{MayRun};
+    ghost use Rattle.config_links.specs.SoundConfig.{IsSoundConfig};
     ghost use Rattle.hub_core.specs.SlotLogs.{AllLog, asked_by_all};
     ghost use Rattle.hub_core.specs.Commands.{change, others, Installs, PutsIn, Removes, ReportsLive};
 
@@ -105,7 +105,7 @@ impl Lives {
         linked: Linked,
     ) -> Result<(Lives, ReplyBody), AllocError>
         requires timely { clock < 2 ^ 63 }
-        requires may_run { MayRun linked }
+        requires sound { IsSoundConfig linked }
         requires room { others name self < 10 }
         ensures { IfOk result (λ r. PutsIn clock books.now name linked (change self r.0 r.1)) }
     {

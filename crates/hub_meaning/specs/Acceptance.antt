@@ -1,5 +1,5 @@
 -- Whether a client's configuration is accepted, or how its install is answered.
-use Rattle.std.specs.Prelude.{ℕ, ℤ, ◌-◌, ◌^◌, min, nat_le, Bool, not, List, [], count_by, Option, Some, None, Result, Ok, Err, if◌then◌else◌}
+use Rattle.std.specs.Prelude.{ℕ, ℤ, ◌-◌, ◌^◌, min, nat_le, Bool, not, List, count_by, Option, Some, None, Result, Ok, Err, if◌then◌else◌}
 use Rattle.std.specs.Ordering.{int_eq}
 use Rattle.config_types.specs.declared.config.Config.{Config}
 use Rattle.config_decode.specs.ConfigFault as fault
@@ -12,7 +12,6 @@ use Rattle.session_frames.specs.declared.reply.ReplyBody.TheVariants.{Refused, C
 use Rattle.link_rules.specs.declared.fault.LinkFault.{LinkFault}
 use Rattle.config_links.specs.declared.linked.Linked.{Linked}
 use Rattle.config_links.specs.Verdict.{verdict, linked_form}
-use Rattle.metric_meaning.specs.Forms.{is_built}
 
 -- A live configuration: its id, what was decoded, and how many of the client's own frames came before its install.
 pub record LiveConfig : Type 0 where
@@ -38,23 +37,15 @@ refusal_of (fault.TooLarge size) = TooLarge (min size (2 ^ 32 - 1))
 refusal_of (fault.Wire wire) = Wire wire.cause wire.offset
 refusal_of (fault.Unsupported path) = Unsupported path
 
--- a configuration of a form that isn't acted on yet
-abbrev pub other_form : Refusal
-other_form = Unsupported []
-
 -- what was decoded, or the refusal of bytes that aren't a configuration
 abbrev pub config_read : Result Config ConfigFault → Result Config Refusal
 config_read (Ok config) = Ok config
 config_read (Err found) = Err (refusal_of found)
 
--- a linked form, if it has the form that is acted on
-abbrev pub form_read : Linked → Result Linked Refusal
-form_read linked = if is_built linked then Ok linked else Err other_form
-
--- a linked form, unless the references have a fault: they are judged first, and then the form
+-- a linked form, unless the references have a fault
 abbrev pub read_unless : Option LinkFault → Linked → Result Linked Refusal
 read_unless (Some found) linked = Err (Link found.number found.reason found.value)
-read_unless None linked = form_read linked
+read_unless None linked = Ok linked
 
 -- the linked form of a client's configuration, or its refusal
 abbrev pub linked_read : ℤ → Config → Result Linked Refusal

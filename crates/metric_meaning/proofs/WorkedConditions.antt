@@ -15,7 +15,6 @@ use Rattle.metric_producer.specs.declared.row.Row.{Row}
 use Rattle.metric_meaning.specs.Histories.{Step}
 use Rattle.metric_meaning.specs.PredicateSteps.{predicate_drops}
 use Rattle.metric_meaning.specs.CountSteps.{counts_shown}
-use Rattle.metric_meaning.specs.Forms.{is_built}
 use Rattle.metric_meaning.proofs.WorkedHistories.{logged, asked, under}
 
 -- no fields of an atom
@@ -175,12 +174,3 @@ missing_leaf :
     ∷ logged 5 (AtomAt 5 (bare 6)) (false ∷ false ∷ true ∷ []) ∷ []) true 5
     ≡ record { rows = row 5 1 ∷ []; not_kept = 0; dropped = 0; missing = 0 }
 missing_leaf = refl
-
--- a configuration with predicates and a condition has the form that is acted on
-form_with_condition : is_built (record {
-  matchers = [];
-  predicates = by_key ∷ [];
-  states = [];
-  metrics = counted (Some 0) (by_number ∷ []) ∷ [];
-}) ≡ true
-form_with_condition = refl

@@ -12,7 +12,6 @@ use Rattle.metric_producer.specs.declared.row.Row.{Row}
 use Rattle.metric_meaning.specs.Histories.{Logged, Reported, Step, Installation}
 use Rattle.metric_meaning.specs.CountSteps.{counts_shown}
 use Rattle.config_links.specs.declared.linked.Linked.{Linked}
-use Rattle.metric_meaning.specs.Forms.{is_built}
 use Rattle.report_writer.specs.declared.tree.LeafTree.{LeafTree}
 use Rattle.report_writer.specs.declared.tree.NumBucket.{NumBucket}
 use Rattle.report_writer.specs.declared.tree.MetricBody.TheVariants.{Counts}
@@ -114,14 +113,6 @@ truths_are_handed_in : counts_shown (under []) guarded
       missing = 0;
     }
 truths_are_handed_in = refl
-
--- the configuration of this one metric, with any matcher
-abbrev configured : Linked
-configured = record { matchers = []; predicates = []; states = []; metrics = guarded ∷ [] }
-
--- it has the form that is acted on
-form_is_built : is_built configured ≡ true
-form_is_built = refl
 
 -- a leaf with a text
 abbrev text_leaf : ℕ → LeafTree

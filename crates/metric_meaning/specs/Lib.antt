@@ -26,4 +26,3 @@ pub mod GaugeTrees
 pub mod Touched
 pub mod StateDrops
 pub mod Reports
-pub mod Forms

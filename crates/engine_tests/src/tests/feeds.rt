@@ -4,7 +4,7 @@ ghost use Rattle.bucket_meaning.specs.Limits.{time_limit};
 
 use crate::tests::shown::text_of;
 use atom_record::{LogFrame, PullOutcome, parse_atom};
-use client_engine::{Instance, LiveId, LogView, ReportRequest, built};
+use client_engine::{Instance, LiveId, LogView, ReportRequest};
 use config_decode::decode;
 use config_links::link;
 use pull_book::PullBook;
@@ -31,8 +31,8 @@ pub enum Step {
     Cut(u64, &'static str),
 }
 
-/// The instance of a configuration in hex, installed at a time when the log gave these states; none where it isn't
-/// acted on.
+/// The instance of a configuration in hex, installed at a time when the log gave these states; none where the hex is
+/// longer than rows have it.
 pub fn instance_of(
     alloc: Global,
     config: &str,
@@ -47,9 +47,6 @@ pub fn instance_of(
     }
     let config = decode(alloc, bytes.as_slice())?;
     let linked = link(alloc, config, 10)?;
-    if !built(&linked) {
-        return Ok(None);
-    }
     let pulls = PullBook::new(alloc);
     Ok(Some(Instance::new(alloc, linked, base, &pulls, states)?))
 }

@@ -58,7 +58,7 @@ fn has_first_buckets(keys: &[NumTree]) -> bool {
 fn keeps_16384_buckets_and_counts_the_next(rt: HostRuntime) -> Result<(), Fail> {
     let states = StateBook::new(rt.alloc());
     let Some(instance) = instance_of(rt.alloc(), COUNTS, 0, &states)? else {
-        return Err(Fail::new("not acted on"));
+        return Err(Fail::new("too long"));
     };
     let instance = feed_buckets(rt.alloc(), instance, KEPT + 1)?;
     let (_instance, tree) = instance.report(request(false, 16_385 * SECOND), &states)?;
@@ -106,7 +106,7 @@ fn is_counted_once(key: &NumTree, number: u32) -> bool {
 fn shows_16384_keys(rt: HostRuntime) -> Result<(), Fail> {
     let states = StateBook::new(rt.alloc());
     let Some(instance) = instance_of(rt.alloc(), BY_FIELD, 0, &states)? else {
-        return Err(Fail::new("not acted on"));
+        return Err(Fail::new("too long"));
     };
     let instance = feed_keys(rt.alloc(), instance, KEPT)?;
     let (_instance, tree) = instance.report(request(false, 6 * SECOND), &states)?;

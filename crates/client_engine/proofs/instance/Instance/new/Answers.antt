@@ -15,7 +15,7 @@ new-requires c = record { can_be_kept = sound_kept c.args.linked c.requires.soun
 
 -- the metrics can be tracked
 pub tracks_of-requires-clause-ready : goal.tracks_of-requires-clause-ready
-tracks_of-requires-clause-ready c = all_tracked c.args.linked c.requires.sound c.requires.built
+tracks_of-requires-clause-ready c = all_tracked c.args.linked c.requires.sound
 
 -- each asks for one of the predicates
 pub tracks_of-requires-clause-within : goal.tracks_of-requires-clause-within

@@ -11,14 +11,14 @@ use Rattle.hub_core.proofs.live_instance.LiveInstance.new.Goals as goal
 pub evaluation_order-requires-clause-in_range : goal.evaluation_order-requires-clause-in_range
 evaluation_order-requires-clause-in_range c =
     subst (λ ms. AreInRange (named_places ms)) (sym c.as_slice.ensures)
-    (references_end c.args.linked c.requires.may_run.sound).matchers_there
+    (references_end c.args.linked c.requires.sound).matchers_there
 
 pub evaluation_order-requires-clause-no_cycle : goal.evaluation_order-requires-clause-no_cycle
 evaluation_order-requires-clause-no_cycle c =
-    subst (λ ms. HasNoCycle (named_places ms)) (sym c.as_slice.ensures) c.requires.may_run.sound.matchers_end
+    subst (λ ms. HasNoCycle (named_places ms)) (sym c.as_slice.ensures) c.requires.sound.matchers_end
 
 pub invariant_of-result : goal.invariant_of-result
 invariant_of-result c =
     let order = subst (λ ms. IsOrder (named_places ms) c.in_ok-order.order) c.as_slice.ensures c.in_ok-order.ensures in
     subst (λ (l : Linked). CanBeJudged l c.in_ok-order.order) (sym c.in_ok-instance.ensures.linked)
-    (can_be_judged c.args.linked c.in_ok-order.order c.requires.may_run.sound order)
+    (can_be_judged c.args.linked c.in_ok-order.order c.requires.sound order)
