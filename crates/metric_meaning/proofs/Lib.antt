@@ -1,3 +1,10 @@
+pub mod PartedLemmas
+pub mod PartsBalance
+pub mod MarksBalance
+pub mod StepsBalance
+pub mod AmountsBalance
+pub mod NumbersBalance
+pub mod BalanceLemmas
 mod WorkedHistories
 mod WorkedConditions
 mod WorkedStates

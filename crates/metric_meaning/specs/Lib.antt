@@ -26,3 +26,4 @@ pub mod GaugeTrees
 pub mod Touched
 pub mod StateDrops
 pub mod Reports
+pub mod Balance

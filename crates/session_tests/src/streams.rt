@@ -92,15 +92,18 @@ pub fn streams_at(row: &Row<'_>, round: u64) -> Streams {
     }
 }
 
-/// The most bytes that a read gives: where a row speaks of no stream, enough in the first round, then 1, then 2.
+/// The most bytes that a read gives: where a row speaks of no stream, enough in the first round, then 1, then 3.
 fn piece_at(row: &Row<'_>, round: u64) -> usize {
     if row.has("piece") {
         return bytes_at(row, "piece", round).max(1);
     }
-    if has_streams(row) || round == 0 {
-        AMPLE
-    } else {
-        round as usize
+    if has_streams(row) {
+        return AMPLE;
+    }
+    match round {
+        0 => AMPLE,
+        1 => 1,
+        _ => 3,
     }
 }
 

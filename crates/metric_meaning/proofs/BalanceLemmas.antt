@@ -1,0 +1,193 @@
+-- The books of metrics that count, of events and of sums of durations balance.
+use Rattle.std.proofs.Common.{◌≡◌, ℕ, ◌+◌, ◌-◌, ◌^◌, ◌==◌, ◌<◌, ◌≤◌, min, Bool, true, false, List, [], ◌∷◌, ◌++◌, map, length, Option, Some, None, refl, sym, ap, subst, ◌∙◌, arith, option_to_list, if◌then◌else◌, nat_lt}
+use Rattle.std.specs.List.{flat_map, sum_by, sum}
+use Rattle.std.proofs.lemmas.List.{length-append, append-nil}
+use Rattle.std.proofs.lemmas.List.Concat.{length-flat_map}
+use Rattle.std.proofs.lemmas.List.Sums.{sum_by-cons, sum_by-append}
+use Rattle.sd_base.specs.Outputs.{outputs, outputs_after}
+use Rattle.atom_record.specs.Equal.{metric_key_exact}
+use Rattle.atom_record.specs.declared.atom.Atom.{Atom}
+use Rattle.atom_record.specs.declared.value.MetricKey.{MetricKey}
+use Rattle.bucket_meaning.specs.Marks.{Mark, Ends, Came, Lost, Missed, Asked, no_edges, boundary_marks}
+use Rattle.config_links.specs.declared.linked.LMetric.{LMetric}
+use Rattle.config_types.specs.declared.parameters.PredSpec.{PredSpec}
+use Rattle.metric_kinds.specs.Events.{EventAtom, event_row}
+use Rattle.metric_meaning.specs.Histories.{What, Logged, Reported, Step, Installation}
+use Rattle.metric_meaning.specs.Arrivals.{arriving}
+use Rattle.metric_meaning.specs.CountSteps.{arrival_at, arrival_mark, count_news, count_way}
+use Rattle.metric_meaning.specs.EventSteps.{event_marks, event_news, event_way}
+use Rattle.metric_meaning.specs.StepMarks.{StepNews, crossed_at, cut_marks, marks_at, marks_of}
+use Rattle.metric_meaning.specs.DurationSteps.{sum_way}
+use Rattle.metric_meaning.specs.Balance.{counted_keys, row_value, CountsBalance, event_atoms, row_events, EventsBalance, SumsBalance}
+use Rattle.metric_meaning.proofs.MarksBalance.{coming, coming_with, asks, lost_at}
+use Rattle.metric_meaning.proofs.StepsBalance.{IsQuietNews}
+use Rattle.metric_meaning.proofs.PartedLemmas.{sum_by-zero}
+use Rattle.metric_meaning.proofs.AmountsBalance.{amounts_balance}
+use Rattle.metric_meaning.proofs.NumbersBalance.{sum_by-ones, numbers_balance}
+
+-- no step brings more than one
+outputs-few : {A : Type 0} (gives : List Step → Step → Option A) (before steps : List Step)
+    → length (outputs_after (λ before step. option_to_list (gives before step)) before steps) ≤ length steps
+outputs-few gives before [] = omega arith
+outputs-few gives before (step ∷ steps) =
+    let rest = outputs-few gives (before ++ step ∷ []) steps in
+    let others = outputs_after (λ before step. option_to_list (gives before step)) (before ++ step ∷ []) steps in
+    by_case (gives before step) others rest where
+  by_case : {A : Type 0} (given : Option A) (others : List A) → length others ≤ length steps
+      → length (option_to_list given ++ others) ≤ length (step ∷ steps)
+  by_case None others rest = omega (arith, rest, length-append (step ∷ []) steps)
+  by_case (Some x) others rest =
+      omega (arith, rest, length-append (step ∷ []) steps, length-append (x ∷ []) others)
+
+-- where nothing stands at boundaries, nothing comes there, and nothing is lost
+quiet_ends : {X : Type 0} (f : Mark X → ℕ) → ((at : ℕ) → f (Ends at) ≡ 0) → (ends : List ℕ)
+    → sum_by f (boundary_marks no_edges ends) ≡ 0
+quiet_ends f none [] = refl
+quiet_ends f none (at ∷ ends) =
+    omega (arith, sum_by-cons f (Ends at) (boundary_marks no_edges ends), none at, quiet_ends f none ends)
+
+quiet_cut : {X : Type 0} (f : Mark X → ℕ) → ((at : ℕ) → f (Ends at) ≡ 0) → (size : ℕ) (cut : Bool) (at : ℕ)
+    → sum_by f (cut_marks no_edges size cut at) ≡ 0
+quiet_cut f none size false at = refl
+quiet_cut f none size true at = by_size (nat_lt 0 size) where
+  by_size : (b : Bool) → sum_by f (if b then Ends at ∷ [] else []) ≡ 0
+  by_size true = omega (arith, sum_by-cons f (Ends at) [], none at)
+  by_size false = refl
+
+-- Kinds at whose beginning and boundaries nothing stands, and to which at most one arrival comes at a step.
+module _ {X A : Type 0} (gives : List Step → Step → Option A) (marks : Step → Option A → List (Mark X))
+    (silent : (before : List Step) (at : ℕ) (cut : Bool) (truths : List Bool)
+    → gives before (record { at = at; what = Reported cut; truths = truths }) ≡ None)
+    (base size : ℕ) where
+  abbrev news : StepNews X
+  news = record { begins = []; edges = λ before. no_edges; comes = λ before step. marks step (gives before step) }
+
+  -- by a number of each mark, which is 0 at an end
+  module _ (f : Mark X → ℕ) (ends : (at : ℕ) → f (Ends at) ≡ 0) (asked : f Asked ≡ 0) (worth : ℕ)
+      (none : (step : Step) → sum_by f (marks step None) ≡ 0)
+      (some : (step : Step) (x : A) → sum_by f (marks step (Some x)) ≡ worth) where
+    one_step : (before : List Step) (at : ℕ) (what : What) (truths : List Bool)
+        → let step : Step = record { at = at; what = what; truths = truths } in
+        sum_by f (marks_at news base size before step) ≡ sum_by (λ (x : A). worth) (option_to_list (gives before step))
+    one_step before at (Logged frame) truths =
+        let step : Step = record { at = at; what = Logged frame; truths = truths } in
+        let crossed = crossed_at base size before step in
+        let apart = sum_by-append f (boundary_marks no_edges crossed) (marks step (gives before step)) in
+        let quiet = quiet_ends f ends crossed in
+        let here = by_case step (gives before step) in
+        omega (arith, apart, quiet, here) where
+      by_case : (step : Step) (given : Option A)
+          → sum_by f (marks step given) ≡ sum_by (λ (x : A). worth) (option_to_list given)
+      by_case step None = none step
+      by_case step (Some x) = some step x ∙ sym (sum_by-cons (λ (x : A). worth) x [] ∙ omega arith)
+    one_step before at (Reported cut) truths =
+        let step : Step = record { at = at; what = Reported cut; truths = truths } in
+        let cuts : List (Mark X) = cut_marks no_edges size cut at in
+        let apart = sum_by-append f cuts (Asked ∷ []) in
+        let last = sum_by-cons f Asked [] in
+        let nothing = ap (λ given. sum_by (λ (x : A). worth) (option_to_list given)) (silent before at cut truths) in
+        omega (arith, apart, quiet_cut f ends size cut at, last, asked, nothing)
+
+    all_steps : (before steps : List Step)
+        → sum_by f (outputs_after (marks_at news base size) before steps)
+        ≡ sum_by (λ (x : A). worth) (outputs_after (λ before step. option_to_list (gives before step)) before steps)
+    all_steps before [] = refl
+    all_steps before (step ∷ steps) =
+        let later = before ++ step ∷ [] in
+        let apart = sum_by-append f (marks_at news base size before step)
+        (outputs_after (marks_at news base size) later steps) in
+        let each = sum_by-append (λ (x : A). worth) (option_to_list (gives before step))
+        (outputs_after (λ before step. option_to_list (gives before step)) later steps) in
+        omega (arith, apart, each, one_step before step.at step.what step.truths, all_steps later steps)
+
+-- at a metric of counts
+module _ (installed : Installation) (metric : LMetric) where
+  counts_silent : (before : List Step) (at : ℕ) (cut : Bool) (truths : List Bool)
+      → arrival_at installed metric before (record { at = at; what = Reported cut; truths = truths }) ≡ None
+  counts_silent before at cut truths = refl
+
+  count_quiet : IsQuietNews (count_news installed metric)
+  count_quiet = record {
+    begins = refl;
+    edges = λ before. record { closing = λ at. refl; closing_again = λ at. refl; opening = λ at. refl };
+    comes = λ before step. by_case (arrival_at installed metric before step);
+  } where
+    by_case : (given : Option MetricKey) → sum_by asks (arrival_mark given) ≡ 0
+    by_case None = refl
+    by_case (Some key) = refl
+
+  -- its books balance
+  pub counts_balance : (steps : List Step) (now : ℕ) → length steps < 2 ^ 64 → CountsBalance installed metric steps now
+  counts_balance steps now fits =
+      let gives = arrival_at installed metric in
+      let marks = marks_of (count_news installed metric) installed.base metric.size steps in
+      let keys = counted_keys installed metric steps in
+      let came : length (coming_with marks) ≡ length keys =
+      length-flat_map coming marks
+      ∙ all_steps gives (λ step. arrival_mark) counts_silent installed.base metric.size
+      (λ mark. length (coming mark)) (λ at. refl) refl 1 (λ step. refl) (λ step key. refl) [] steps
+      ∙ sum_by-ones keys in
+      let lost : sum_by lost_at marks ≡ 0 =
+      all_steps gives (λ step. arrival_mark) counts_silent installed.base metric.size lost_at (λ at. refl) refl 0
+      (λ step. refl) (λ step key. refl) [] steps ∙ sum_by-zero keys in
+      let few = outputs-few gives [] steps in
+      sym came
+      ∙ numbers_balance (count_way installed metric) count_quiet metric_key_exact (λ start end others. refl)
+      (λ came end. refl) (λ came. refl) row_value count_row steps now (omega (arith, came, few, fits)) lost where
+    count_row : (start end : ℕ) (key : MetricKey) (ones : List ℕ) → length ones < 2 ^ 64
+        → sum_by row_value ((count_way installed metric).kind.row start end key ones) ≡ length ones
+    count_row start end key ones fits =
+        let n = min (length ones) (2 ^ 64 - 1) in
+        sum_by-cons row_value (record { key = key; start = start; end = end; value = n }) [] ∙ omega (arith, fits)
+
+  events_silent : (before : List Step) (at : ℕ) (cut : Bool) (truths : List Bool)
+      → arriving installed metric before (record { at = at; what = Reported cut; truths = truths }) ≡ None
+  events_silent before at cut truths = refl
+
+  event_quiet : IsQuietNews (event_news installed metric)
+  event_quiet = record {
+    begins = refl;
+    edges = λ before. record { closing = λ at. refl; closing_again = λ at. refl; opening = λ at. refl };
+    comes = λ before step. by_case step (arriving installed metric before step);
+  } where
+    by_case : (step : Step) (given : Option Atom) → sum_by asks (event_marks step.at given) ≡ 0
+    by_case step None = refl
+    by_case step (Some atom) = refl
+
+  -- the books of a metric of events balance
+  pub events_balance : (steps : List Step) (now : ℕ) → length steps < 2 ^ 64 → EventsBalance installed metric steps now
+  events_balance steps now fits =
+      let gives = arriving installed metric in
+      let marks = marks_of (event_news installed metric) installed.base 0 steps in
+      let atoms = event_atoms installed metric steps in
+      let came : length (coming_with marks) ≡ length atoms =
+      length-flat_map coming marks
+      ∙ all_steps gives (λ (step : Step). event_marks step.at) events_silent installed.base 0
+      (λ mark. length (coming mark)) (λ at. refl) refl 1 (λ step. refl) (λ step atom. refl) [] steps
+      ∙ sum_by-ones atoms in
+      let lost : sum_by lost_at marks ≡ 0 =
+      all_steps gives (λ (step : Step). event_marks step.at) events_silent installed.base 0 lost_at (λ at. refl) refl 0
+      (λ step. refl) (λ step atom. refl) [] steps ∙ sum_by-zero atoms in
+      let few = outputs-few gives [] steps in
+      sym came
+      ∙ numbers_balance (event_way installed metric) event_quiet metric_key_exact (λ start end others. refl)
+      (λ came end. refl) (λ came. refl) row_events event_rows steps now (omega (arith, came, few, fits)) lost where
+    event_rows : (start end : ℕ) (key : MetricKey) (events : List EventAtom) → length events < 2 ^ 64
+        → sum_by row_events ((event_way installed metric).kind.row start end key events) ≡ length events
+    event_rows start end key [] fits = refl
+    event_rows start end key (event ∷ events) fits =
+        let rest = event_rows start end key events (omega (arith, length-append (event ∷ []) events, fits)) in
+        omega (arith, sum_by-cons row_events (event_row event) (map event_row events), rest, length-append (event ∷ []) events)
+
+  -- the books of sums of durations balance
+  pub sums_balance : (spec : PredSpec) (steps : List Step) (now : ℕ) → SumsBalance installed metric spec steps now
+  sums_balance spec steps now =
+      amounts_balance (sum_way installed metric spec) metric_key_exact (λ start end others. refl) (λ time. time) row_value
+      (λ n. ⊤) (λ m n le fits. tt) time_row steps now tt where
+    time_row : (start end : ℕ) (key : MetricKey) (times : List ℕ) → ⊤
+        → sum_by row_value ((sum_way installed metric spec).kind.row start end key times) ≡ sum_by (λ time. time) times
+    time_row start end key times fits = by_case (sum times) (sum times == 0) refl where
+      by_case : (time : ℕ) (b : Bool) → (time == 0) ≡ b
+          → sum_by row_value (if b then [] else record { key = key; start = start; end = end; value = time } ∷ []) ≡ time
+      by_case time true is = omega (arith, is)
+      by_case time false is = sum_by-cons row_value (record { key = key; start = start; end = end; value = time }) [] ∙ omega arith
