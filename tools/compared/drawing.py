@@ -4,6 +4,7 @@ import struct
 from session_text.layout import ATOM, BITS, BOOL, INSTALL, INT, LONG, PULL, RAW, REMOVE, REPORT, STR, TICK
 
 from compared.atoms import EXCLUSIVE, PRIMARY, RESET, Atom, Entry, Value
+from compared.balance import unbalanced
 from compared.drawn_config import (
     ATOM_IDS,
     FIELDS,
@@ -260,6 +261,8 @@ def draw(random):
         drawn.step()
     if random.random() < 0.08:
         drawn.jump()
-    for client in list(drawn.answers.live):
+    for client, instance in drawn.answers.live.items():
         drawn.report(client, True)
+        if unbalanced(instance):
+            raise AssertionError(f"the books of the metrics {unbalanced(instance)} of {client} don't balance")
     return b"".join(drawn.session), b"".join(drawn.replies), CLEAN

@@ -59,16 +59,21 @@ def guarded(arrivals, bound):
 
 class Kept:
     """The rows that are kept between two reports: the first that together have room. After one that has none no row
-    is kept, and the others are counted."""
+    is kept, and the others are counted: each with how often it came."""
 
     def __init__(self):
-        self.rows, self.weight, self.not_kept, self.is_full = [], 0, 0, False
+        self.rows, self.weight, self.unkept, self.is_full = [], 0, [], False
+
+    @property
+    def not_kept(self):
+        """How many rows weren't kept."""
+        return sum(times for _, times in self.unkept)
 
     def add(self, row):
         """A row comes."""
         self.is_full = self.is_full or self.weight + row.weight > MOST_WEIGHT
         if self.is_full:
-            self.not_kept += 1
+            self.unkept.append((row, 1))
         else:
             self.rows.append(row)
             self.weight += row.weight
@@ -77,7 +82,7 @@ class Kept:
         """A part closes with these rows, and again as often as it comes."""
         for time in range(part.times if rows else 0):
             if self.is_full:
-                self.not_kept += len(rows) * (part.times - time)
+                self.unkept += [(row, part.times - time) for row in rows]
                 return
             later = time * (part.end - part.start)
             for row in rows:

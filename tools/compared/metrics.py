@@ -43,6 +43,7 @@ class Metric:
         self.slices = [config.states_by_id[one] for one in tree.get("slices", [])]
         self.state_links = {link["atom_id"]: fields_of(link["in_what"]) for link in tree.get("state_links", [])}
         self.told = []
+        self.reported = []
 
     def sliced(self, leaves_of):
         """The states of an atom or a key that has these leaves, in the order in which the metric names them; without

@@ -81,6 +81,7 @@ def shown_rows(kind, rows):
 def shown_metric(metric):
     """A metric in a report."""
     kind, shown = metric.field_number, metric.shown()
+    metric.reported.append(shown)
     content = number(1, metric.metric_id) + message(kind, shown_rows(kind, shown.kept.rows)) + number(9, metric.base)
     content += b"" if kind == EVENTS else number(10, metric.size)
     counts = (shown.dropped, shown.kept.not_kept, shown.missing)
