@@ -1,5 +1,5 @@
 -- The metrics of a configuration with their lanes, all together.
-use Rattle.std.specs.Prelude.{◌≡◌, ℕ, true, List, [], length, map, filter, All}
+use Rattle.std.specs.Prelude.{◌≡◌, ℕ, List, [], length, map, filter, All}
 use Rattle.config_links.specs.SoundConfig.{IsSoundMetric, MayBeWithin}
 use Rattle.config_links.specs.declared.linked.Linked.{Linked}
 use Rattle.config_links.specs.declared.linked.LMetric.{LMetric}

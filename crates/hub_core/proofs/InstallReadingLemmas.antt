@@ -1,5 +1,5 @@
 -- What was linked without a refusal.
-use Rattle.std.proofs.Common.{◌≡◌, ℤ, Option, Some, None, Ok, Err}
+use Rattle.std.proofs.Common.{◌≡◌, ℤ, Option, Some, None, Ok}
 use Rattle.config_types.specs.declared.config.Config.{Config}
 use Rattle.link_rules.specs.declared.fault.LinkFault.{LinkFault}
 use Rattle.config_links.specs.declared.linked.Linked.{Linked}

@@ -1,14 +1,15 @@
 -- The books of metrics that count, of events and of sums of durations balance.
-use Rattle.std.proofs.Common.{◌≡◌, ℕ, ◌+◌, ◌-◌, ◌^◌, ◌==◌, ◌<◌, ◌≤◌, min, Bool, true, false, List, [], ◌∷◌, ◌++◌, map, length, Option, Some, None, refl, sym, ap, subst, ◌∙◌, arith, option_to_list, if◌then◌else◌, nat_lt}
-use Rattle.std.specs.List.{flat_map, sum_by, sum}
-use Rattle.std.proofs.lemmas.List.{length-append, append-nil}
+use Rattle.std.proofs.Common.{◌≡◌, ℕ, ◌-◌, ◌^◌, ◌==◌, ◌<◌, ◌≤◌, min, Bool, true, false, List, [], ◌∷◌, ◌++◌, map, length, Option, Some, None, refl, sym, ap, ◌∙◌, arith, option_to_list, if◌then◌else◌, nat_lt}
+use Rattle.std.specs.List.{sum_by, sum}
+use Rattle.std.proofs.lemmas.Bool.Decides.{nat_tests}
+use Rattle.std.proofs.lemmas.List.{length-append}
 use Rattle.std.proofs.lemmas.List.Concat.{length-flat_map}
 use Rattle.std.proofs.lemmas.List.Sums.{sum_by-cons, sum_by-append}
-use Rattle.sd_base.specs.Outputs.{outputs, outputs_after}
+use Rattle.sd_base.specs.Outputs.{outputs_after}
 use Rattle.atom_record.specs.Equal.{metric_key_exact}
 use Rattle.atom_record.specs.declared.atom.Atom.{Atom}
 use Rattle.atom_record.specs.declared.value.MetricKey.{MetricKey}
-use Rattle.bucket_meaning.specs.Marks.{Mark, Ends, Came, Lost, Missed, Asked, no_edges, boundary_marks}
+use Rattle.bucket_meaning.specs.Marks.{Mark, Ends, Asked, no_edges, boundary_marks}
 use Rattle.config_links.specs.declared.linked.LMetric.{LMetric}
 use Rattle.config_types.specs.declared.parameters.PredSpec.{PredSpec}
 use Rattle.metric_kinds.specs.Events.{EventAtom, event_row}
@@ -33,11 +34,11 @@ outputs-few gives before (step ∷ steps) =
     let rest = outputs-few gives (before ++ step ∷ []) steps in
     let others = outputs_after (λ before step. option_to_list (gives before step)) (before ++ step ∷ []) steps in
     by_case (gives before step) others rest where
-  by_case : {A : Type 0} (given : Option A) (others : List A) → length others ≤ length steps
-      → length (option_to_list given ++ others) ≤ length (step ∷ steps)
-  by_case None others rest = omega (arith, rest, length-append (step ∷ []) steps)
-  by_case (Some x) others rest =
-      omega (arith, rest, length-append (step ∷ []) steps, length-append (x ∷ []) others)
+      by_case : {A : Type 0} (given : Option A) (others : List A) → length others ≤ length steps
+          → length (option_to_list given ++ others) ≤ length (step ∷ steps)
+      by_case None others rest = omega (arith, rest, length-append (step ∷ []) steps)
+      by_case (Some x) others rest =
+          omega (arith, rest, length-append (step ∷ []) steps, length-append (x ∷ []) others)
 
 -- where nothing stands at boundaries, nothing comes there, and nothing is lost
 quiet_ends : {X : Type 0} (f : Mark X → ℕ) → ((at : ℕ) → f (Ends at) ≡ 0) → (ends : List ℕ)
@@ -76,10 +77,10 @@ module _ {X A : Type 0} (gives : List Step → Step → Option A) (marks : Step 
         let quiet = quiet_ends f ends crossed in
         let here = by_case step (gives before step) in
         omega (arith, apart, quiet, here) where
-      by_case : (step : Step) (given : Option A)
-          → sum_by f (marks step given) ≡ sum_by (λ (x : A). worth) (option_to_list given)
-      by_case step None = none step
-      by_case step (Some x) = some step x ∙ sym (sum_by-cons (λ (x : A). worth) x [] ∙ omega arith)
+          by_case : (step : Step) (given : Option A)
+              → sum_by f (marks step given) ≡ sum_by (λ (x : A). worth) (option_to_list given)
+          by_case step None = none step
+          by_case step (Some x) = some step x ∙ sym (sum_by-cons (λ (x : A). worth) x [] ∙ omega arith)
     one_step before at (Reported cut) truths =
         let step : Step = record { at = at; what = Reported cut; truths = truths } in
         let cuts : List (Mark X) = cut_marks no_edges size cut at in
@@ -134,11 +135,11 @@ module _ (installed : Installation) (metric : LMetric) where
       sym came
       ∙ numbers_balance (count_way installed metric) count_quiet metric_key_exact (λ start end others. refl)
       (λ came end. refl) (λ came. refl) row_value count_row steps now (omega (arith, came, few, fits)) lost where
-    count_row : (start end : ℕ) (key : MetricKey) (ones : List ℕ) → length ones < 2 ^ 64
-        → sum_by row_value ((count_way installed metric).kind.row start end key ones) ≡ length ones
-    count_row start end key ones fits =
-        let n = min (length ones) (2 ^ 64 - 1) in
-        sum_by-cons row_value (record { key = key; start = start; end = end; value = n }) [] ∙ omega (arith, fits)
+        count_row : (start end : ℕ) (key : MetricKey) (ones : List ℕ) → length ones < 2 ^ 64
+            → sum_by row_value ((count_way installed metric).kind.row start end key ones) ≡ length ones
+        count_row start end key ones fits =
+            let n = min (length ones) (2 ^ 64 - 1) in
+            sum_by-cons row_value (record { key = key; start = start; end = end; value = n }) [] ∙ omega (arith, fits)
 
   events_silent : (before : List Step) (at : ℕ) (cut : Bool) (truths : List Bool)
       → arriving installed metric before (record { at = at; what = Reported cut; truths = truths }) ≡ None
@@ -172,22 +173,22 @@ module _ (installed : Installation) (metric : LMetric) where
       sym came
       ∙ numbers_balance (event_way installed metric) event_quiet metric_key_exact (λ start end others. refl)
       (λ came end. refl) (λ came. refl) row_events event_rows steps now (omega (arith, came, few, fits)) lost where
-    event_rows : (start end : ℕ) (key : MetricKey) (events : List EventAtom) → length events < 2 ^ 64
-        → sum_by row_events ((event_way installed metric).kind.row start end key events) ≡ length events
-    event_rows start end key [] fits = refl
-    event_rows start end key (event ∷ events) fits =
-        let rest = event_rows start end key events (omega (arith, length-append (event ∷ []) events, fits)) in
-        omega (arith, sum_by-cons row_events (event_row event) (map event_row events), rest, length-append (event ∷ []) events)
+        event_rows : (start end : ℕ) (key : MetricKey) (events : List EventAtom) → length events < 2 ^ 64
+            → sum_by row_events ((event_way installed metric).kind.row start end key events) ≡ length events
+        event_rows start end key [] fits = refl
+        event_rows start end key (event ∷ events) fits =
+            let rest = event_rows start end key events (omega (arith, length-append (event ∷ []) events, fits)) in
+            omega (arith, sum_by-cons row_events (event_row event) (map event_row events), rest, length-append (event ∷ []) events)
 
   -- the books of sums of durations balance
   pub sums_balance : (spec : PredSpec) (steps : List Step) (now : ℕ) → SumsBalance installed metric spec steps now
   sums_balance spec steps now =
       amounts_balance (sum_way installed metric spec) metric_key_exact (λ start end others. refl) (λ time. time) row_value
-      (λ n. ⊤) (λ m n le fits. tt) time_row steps now tt where
-    time_row : (start end : ℕ) (key : MetricKey) (times : List ℕ) → ⊤
-        → sum_by row_value ((sum_way installed metric spec).kind.row start end key times) ≡ sum_by (λ time. time) times
-    time_row start end key times fits = by_case (sum times) (sum times == 0) refl where
-      by_case : (time : ℕ) (b : Bool) → (time == 0) ≡ b
-          → sum_by row_value (if b then [] else record { key = key; start = start; end = end; value = time } ∷ []) ≡ time
-      by_case time true is = omega (arith, is)
-      by_case time false is = sum_by-cons row_value (record { key = key; start = start; end = end; value = time }) [] ∙ omega arith
+      (λ n. n ≡ n) (λ m n le fits. refl) time_row steps now refl where
+        time_row : (start end : ℕ) (key : MetricKey) (times : List ℕ) → sum_by (λ time. time) times ≡ sum_by (λ time. time) times
+            → sum_by row_value ((sum_way installed metric spec).kind.row start end key times) ≡ sum_by (λ time. time) times
+        time_row start end key times fits = by_case (sum times) (sum times == 0) refl where
+          by_case : (time : ℕ) (b : Bool) → (time == 0) ≡ b
+              → sum_by row_value (if b then [] else record { key = key; start = start; end = end; value = time } ∷ []) ≡ time
+          by_case time true is = grind (arith, nat_tests, is)
+          by_case time false is = sum_by-cons row_value (record { key = key; start = start; end = end; value = time }) [] ∙ omega arith

@@ -1,5 +1,5 @@
 -- The books balance in numbers of arrivals, for kinds in which each that comes is one arrival, with its key.
-use Rattle.std.proofs.Common.{◌≡◌, ℕ, ◌+◌, ◌-◌, ◌*◌, ◌^◌, min, ◌<◌, ◌≤◌, Bool, true, false, not, cond, List, [], ◌∷◌, ◌++◌, map, filter, length, count_by, refl, sym, ap, subst, ◌∙◌, arith, if◌then◌else◌}
+use Rattle.std.proofs.Common.{◌≡◌, ℕ, ◌+◌, ◌-◌, ◌^◌, min, ◌<◌, ◌≤◌, Bool, true, false, not, cond, List, [], ◌∷◌, ◌++◌, map, filter, length, count_by, refl, sym, ap, ◌∙◌, arith, if◌then◌else◌}
 use Rattle.std.specs.Bool.{Decides}
 use Rattle.std.specs.List.{flat_map, sum_by, sum}
 use Rattle.std.proofs.lemmas.List.{append-nil, map-append, length-append}
@@ -7,13 +7,13 @@ use Rattle.std.proofs.lemmas.List.Concat.{flat_map-append, length-flat_map}
 use Rattle.std.proofs.lemmas.List.Sums.{sum_by-cons, sum_by-append}
 use Rattle.sd_base.specs.Outputs.{outputs, outputs_after}
 use Rattle.bucket_meaning.specs.Guard.{is_among, arrival_key, admitted, dropped, turned_away}
-use Rattle.bucket_meaning.specs.Marks.{Mark, Part, Books}
-use Rattle.bucket_meaning.specs.Rows.{Kind, drops, rows_of}
+use Rattle.bucket_meaning.specs.Marks.{Part}
+use Rattle.bucket_meaning.specs.Rows.{drops}
 use Rattle.bucket_meaning.proofs.GuardLemmas.{dropped-grows}
 use Rattle.metric_meaning.specs.Histories.{What, Logged, Reported, Step}
 use Rattle.metric_meaning.specs.StepMarks.{marks_of}
 use Rattle.metric_meaning.specs.Ways.{Way}
-use Rattle.metric_meaning.specs.Balance.{part_until, books_after, books_told, told_parts, told_drops, drops_by, rows_in, shown_rows, unkept_rows, waiting_parts, all_parts, shown_by_reports, not_kept_by_reports, waiting_for_report, arrived_in, turned_away_in}
+use Rattle.metric_meaning.specs.Balance.{part_until, books_after, books_told, told_parts, told_drops, drops_by, waiting_parts, all_parts, shown_by_reports, not_kept_by_reports, waiting_for_report, arrived_in, turned_away_in}
 use Rattle.metric_meaning.proofs.MarksBalance.{coming_with, lost_at, all_that_came}
 use Rattle.metric_meaning.proofs.PartedLemmas.{sum_by-same}
 use Rattle.metric_meaning.proofs.AmountsBalance.{amounts_balance}
@@ -35,10 +35,10 @@ turned_away-count {K} {C} same keys (first ∷ arrivals) =
     let all = sum_by-cons (λ key. cond (not (is_among same key keys)) 1 0) first.0 (map arrival_key arrivals) in
     let here = by_case others (not (is_among same first.0 keys)) in
     omega (arith, rest, all, here) where
-  by_case : (others : List (K × C)) (b : Bool) → sum_by (λ (arrival : K × C). 1) (if b then first ∷ others else others)
-      ≡ cond b 1 0 + sum_by (λ (arrival : K × C). 1) others
-  by_case others true = sum_by-cons (λ (arrival : K × C). 1) first others
-  by_case others false = omega arith
+      by_case : (others : List (K × C)) (b : Bool) → sum_by (λ (arrival : K × C). 1) (if b then first ∷ others else others)
+          ≡ cond b 1 0 + sum_by (λ (arrival : K × C). 1) others
+      by_case others true = sum_by-cons (λ (arrival : K × C). 1) first others
+      by_case others false = omega arith
 
 module _ {K C R : Type 0} (way : Way (K × C) K C R) (quiet : IsQuietNews way.shown)
     (exact : (one other : K) → Decides (way.kind.same one other) (one ≡ other))

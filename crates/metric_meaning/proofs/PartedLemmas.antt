@@ -1,10 +1,10 @@
 -- Arrivals by the keys of some of them: lemmas on sums, for the balance of books.
-use Rattle.std.proofs.Common.{◌≡◌, ℕ, ◌+◌, ◌≤◌, Bool, true, false, not, cond, List, [], ◌∷◌, ◌++◌, map, filter, take, drop, length, refl, sym, ap, subst, ◌∙◌, arith, zero-add, if◌then◌else◌, ⊎_elim}
+use Rattle.std.proofs.Common.{◌≡◌, ℕ, ◌+◌, Bool, true, false, not, cond, List, [], ◌∷◌, filter, refl, sym, ap, subst, ◌∙◌, arith, zero-add, if◌then◌else◌, ⊎_elim}
 use Rattle.std.specs.Bool.{Decides}
 use Rattle.std.specs.List.{flat_map, sum_by, AllByRecursion, IsDistinct}
 use Rattle.std.proofs.lemmas.Bool.{cases_Bool}
-use Rattle.std.proofs.lemmas.List.Sums.{sum_by-cons, sum_by-append, sum_by-take-drop}
-use Rattle.bucket_meaning.specs.Guard.{is_among, of_key, arrival_key, admitted}
+use Rattle.std.proofs.lemmas.List.Sums.{sum_by-cons, sum_by-append}
+use Rattle.bucket_meaning.specs.Guard.{is_among, of_key}
 
 -- sums of the same terms are the same
 pub sum_by-same : {X : Type 0} (f g : X → ℕ) → ((x : X) → f x ≡ g x) → (xs : List X) → sum_by f xs ≡ sum_by g xs
@@ -98,8 +98,8 @@ module _ {K C : Type 0} (same : K → K → Bool) (exact : (one other : K) → D
       let all = sum_by-cons (λ (arrival : K × C). amount arrival.1) first arrivals in
       let chosen = by_case first others (is_among same first.0 keys) in
       omega (arith, each, both, here, rest, all, chosen) where
-    by_case : (first : K × C) (others : List (K × C)) (b : Bool)
-        → amounts (if not b then first ∷ others else others) + cond b (amount first.1) 0
-        ≡ amount first.1 + amounts others
-    by_case first others true = grind arith
-    by_case first others false = grind (arith, sum_by-cons (λ (arrival : K × C). amount arrival.1) first others)
+        by_case : (first : K × C) (others : List (K × C)) (b : Bool)
+            → amounts (if not b then first ∷ others else others) + cond b (amount first.1) 0
+            ≡ amount first.1 + amounts others
+        by_case first others true = grind arith
+        by_case first others false = grind (arith, sum_by-cons (λ (arrival : K × C). amount arrival.1) first others)

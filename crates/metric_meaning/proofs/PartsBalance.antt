@@ -1,10 +1,10 @@
 -- What a part's rows show, with what was turned away, is what arrived in it.
-use Rattle.std.proofs.Common.{◌≡◌, ℕ, ◌+◌, ◌-◌, ◌≤◌, Bool, true, false, not, cond, nat_le, List, [], ◌∷◌, ◌++◌, map, filter, take, drop, length, refl, sym, ap, subst, ◌∙◌, arith, zero-add, if◌then◌else◌}
+use Rattle.std.proofs.Common.{◌≡◌, ℕ, ◌+◌, ◌-◌, ◌≤◌, Bool, true, false, not, nat_le, List, [], ◌∷◌, ◌++◌, filter, take, drop, length, refl, ap, ◌∙◌, arith, if◌then◌else◌}
 use Rattle.std.specs.Bool.{Decides}
 use Rattle.std.specs.List.{flat_map, sum_by}
 use Rattle.std.proofs.lemmas.List.{append-nil}
 use Rattle.std.proofs.lemmas.List.Sums.{sum_by-cons, sum_by-append, sum_by-take-drop}
-use Rattle.bucket_meaning.specs.Guard.{is_among, of_key, arrival_key, admitted, turned_away}
+use Rattle.bucket_meaning.specs.Guard.{is_among, of_key, admitted, turned_away}
 use Rattle.bucket_meaning.specs.Kept.{kept}
 use Rattle.bucket_meaning.specs.Marks.{Part}
 use Rattle.bucket_meaning.specs.Rows.{Kind, row_of, rows_of}
@@ -19,13 +19,13 @@ of_key-le {K} {C} same amount key (first ∷ arrivals) =
     let rest = of_key-le same amount key arrivals in
     let all = sum_by-cons (λ (arrival : K × C). amount arrival.1) first arrivals in
     by_case (same first.0 key) rest all where
-  by_case : (b : Bool) → sum_by amount (of_key same key arrivals) ≤ sum_by (λ (arrival : K × C). amount arrival.1) arrivals
-      → sum_by (λ (arrival : K × C). amount arrival.1) (first ∷ arrivals)
-      ≡ amount first.1 + sum_by (λ (arrival : K × C). amount arrival.1) arrivals
-      → sum_by amount (if b then first.1 ∷ of_key same key arrivals else of_key same key arrivals)
-      ≤ sum_by (λ (arrival : K × C). amount arrival.1) (first ∷ arrivals)
-  by_case true rest all = omega (arith, rest, all, sum_by-cons amount first.1 (of_key same key arrivals))
-  by_case false rest all = omega (arith, rest, all)
+      by_case : (b : Bool) → sum_by amount (of_key same key arrivals) ≤ sum_by (λ (arrival : K × C). amount arrival.1) arrivals
+          → sum_by (λ (arrival : K × C). amount arrival.1) (first ∷ arrivals)
+          ≡ amount first.1 + sum_by (λ (arrival : K × C). amount arrival.1) arrivals
+          → sum_by amount (if b then first.1 ∷ of_key same key arrivals else of_key same key arrivals)
+          ≤ sum_by (λ (arrival : K × C). amount arrival.1) (first ∷ arrivals)
+      by_case true rest all = omega (arith, rest, all, sum_by-cons amount first.1 (of_key same key arrivals))
+      by_case false rest all = omega (arith, rest, all)
 
 -- what is kept is a front of all
 pub kept_front : {R : Type 0} (weight : R → ℕ) (room : ℕ) (rows : List R)

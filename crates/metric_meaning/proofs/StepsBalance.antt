@@ -1,17 +1,16 @@
 -- Each arrival is in one part, and what is dropped is told once: lemmas over the steps of a metric.
-use Rattle.std.proofs.Common.{◌≡◌, ℕ, ◌+◌, ◌≤◌, Bool, true, false, List, [], ◌∷◌, ◌++◌, refl, sym, ap, subst, ◌∙◌, arith, append_assoc, nat_lt, if◌then◌else◌}
+use Rattle.std.proofs.Common.{◌≡◌, ℕ, ◌+◌, Bool, true, false, List, [], ◌∷◌, ◌++◌, refl, sym, ap, subst, ◌∙◌, arith, append_assoc, nat_lt, if◌then◌else◌}
 use Rattle.std.specs.List.{flat_map, sum_by, sum}
 use Rattle.std.proofs.lemmas.List.{append-nil}
 use Rattle.std.proofs.lemmas.List.Concat.{flat_map-append}
 use Rattle.std.proofs.lemmas.List.Sums.{sum_by-cons, sum_by-append, sum_by_push}
-use Rattle.sd_base.specs.Outputs.{outputs, outputs_after}
+use Rattle.sd_base.specs.Outputs.{outputs}
 use Rattle.sd_base.proofs.OutputsLemmas.{outputs-push}
-use Rattle.atom_record.specs.declared.log.LogFrame.{LogFrame}
-use Rattle.bucket_meaning.specs.Marks.{Mark, Ends, Came, Lost, Missed, Asked, Edges, edges_again, boundary, boundary_marks, Part, Books, after, books_from, books_of}
+use Rattle.bucket_meaning.specs.Marks.{Mark, Ends, Asked, Edges, edges_again, boundary, boundary_marks, Part, Books, after, books_from, books_of}
 use Rattle.bucket_meaning.specs.Rows.{drops}
 use Rattle.bucket_meaning.proofs.MarksLemmas.{books-append}
 use Rattle.metric_meaning.specs.Histories.{What, Logged, Reported, Step}
-use Rattle.metric_meaning.specs.StepMarks.{StepNews, crossed_at, cut_marks, marks_at, marks_of, marks_to}
+use Rattle.metric_meaning.specs.StepMarks.{StepNews, crossed_at, cut_marks, marks_at, marks_of}
 use Rattle.metric_meaning.specs.Ways.{Way}
 use Rattle.metric_meaning.specs.Balance.{books_after, books_told, told_parts}
 use Rattle.metric_meaning.proofs.MarksBalance.{coming, coming_with, asks, HasNoReport, lost_at, all_that_came, marks_come, marks_drop}

@@ -1,5 +1,5 @@
 -- Worked histories and what reports show of them, by computing.
-use Rattle.std.proofs.Common.{◌≡◌, ℕ, ℤ, pos, Bool, true, false, List, [], ◌∷◌, Some, None, refl}
+use Rattle.std.proofs.Common.{◌≡◌, ℕ, ℤ, pos, Bool, true, false, List, [], ◌∷◌, ◌++◌, length, Some, None, refl}
 use Rattle.atom_record.specs.declared.value.Value.TheVariants.{Str}
 use Rattle.atom_record.specs.declared.value.Leaf.TheVariants.{Missing, One}
 use Rattle.atom_record.specs.declared.log.LogFrame.{LogFrame}
@@ -10,7 +10,8 @@ use Rattle.config_links.specs.declared.linked.LPredicate.{LPredicate}
 use Rattle.config_links.specs.declared.linked.LKind.TheVariants.{Count}
 use Rattle.metric_producer.specs.declared.row.Row.{Row}
 use Rattle.metric_meaning.specs.Histories.{Logged, Reported, Step, Installation}
-use Rattle.metric_meaning.specs.CountSteps.{counts_shown}
+use Rattle.metric_meaning.specs.CountSteps.{counts_shown, count_way}
+use Rattle.metric_meaning.specs.Balance.{counted_keys, row_value, shown_by_reports, drops_by, waiting_for_report}
 use Rattle.config_links.specs.declared.linked.Linked.{Linked}
 use Rattle.report_writer.specs.declared.tree.LeafTree.{LeafTree}
 use Rattle.report_writer.specs.declared.tree.NumBucket.{NumBucket}
@@ -114,6 +115,10 @@ truths_are_handed_in : counts_shown (under []) guarded
     }
 truths_are_handed_in = refl
 
+-- the configuration of this one metric, with any matcher
+abbrev configured : Linked
+configured = record { matchers = []; predicates = []; states = []; metrics = guarded ∷ [] }
+
 -- a leaf with a text
 abbrev text_leaf : ℕ → LeafTree
 text_leaf letter = record { place = 0; value = Some (Str (letter ∷ [])) }
@@ -152,3 +157,19 @@ two_buckets : report_of
     }
 unfolding report_of
 two_buckets = refl
+
+-- after a report of the crowd two arrivals wait in the open part: of seven in all three were shown, and two were dropped
+abbrev told_once : List Step
+told_once = crowd ++ asked 1000 false ∷ texted 1001 65 ∷ texted 1002 67 ∷ []
+
+seven_arrived : length (counted_keys (under []) guarded told_once) ≡ 7
+seven_arrived = refl
+
+three_shown : shown_by_reports (count_way (under []) guarded) row_value told_once ≡ 3
+three_shown = refl
+
+two_dropped : drops_by (count_way (under []) guarded) told_once ≡ 2
+two_dropped = refl
+
+two_wait : waiting_for_report (count_way (under []) guarded) row_value told_once 1002 ≡ 2
+two_wait = refl

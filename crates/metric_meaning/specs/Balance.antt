@@ -74,22 +74,27 @@ module _ {X K C R : Type 0} (way : Way X K C R) where
   abbrev pub all_parts : List Step → ℕ → List (Part X)
   all_parts steps now = outputs told_parts steps ++ waiting_parts steps now
 
-  -- what the rows come to that reports showed, those that weren't kept, and those that wait, by what a row comes to
+  -- by what a row comes to
   module _ (worth : R → ℕ) where
+    -- what the rows come to that reports showed
     abbrev pub shown_by_reports : List Step → ℕ
     shown_by_reports steps = sum_by worth (outputs shown_rows steps)
 
+    -- those that weren't kept
     abbrev pub not_kept_by_reports : List Step → ℕ
     not_kept_by_reports steps = sum_by worth (outputs unkept_rows steps)
 
+    -- and those that wait, with the open part as if it ended now
     abbrev pub waiting_for_report : List Step → ℕ → ℕ
     waiting_for_report steps now = sum_by worth (rows_in (waiting_parts steps now))
 
-  -- what the arrivals of a part come to, and those of them that were turned away, by what an arrival comes to
+  -- by what an arrival comes to
   module _ (amount : C → ℕ) where
+    -- what the arrivals of a part come to
     abbrev pub arrived_in : Part X → ℕ
     arrived_in part = sum_by (λ (arrival : K × C). amount arrival.1) (way.kind.arrivals part.came part.end)
 
+    -- and those of them that were turned away
     abbrev pub turned_away_in : Part X → ℕ
     turned_away_in part =
         sum_by (λ (arrival : K × C). amount arrival.1)

@@ -2,7 +2,6 @@
 //! session of its own and counts.
 #![tactic(auto)]
 
-mod balance;
 mod command;
 mod ending;
 mod isolation;
@@ -11,7 +10,6 @@ mod note;
 mod reply_len;
 mod top;
 
-pub use balance::books_balance;
 pub use command::Command;
 pub use ending::{
     Ending, STATUS_BAD_SESSION, STATUS_DONE, STATUS_NO_MEMORY, STATUS_READ_FAULT, STATUS_REFUSED,

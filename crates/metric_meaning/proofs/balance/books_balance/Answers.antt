@@ -1,6 +1,6 @@
 -- The laws of the definitions.
 use Rattle.metric_meaning.proofs.BalanceLemmas.{counts_balance, events_balance, sums_balance}
-use Rattle.statsd_cli.proofs.balance.books_balance.Goals as goal
+use Rattle.metric_meaning.proofs.balance.books_balance.Goals as goal
 
 pub returns-clause-counts : goal.returns-clause-counts
 returns-clause-counts c = λ installed metric steps now few. counts_balance installed metric steps now few
