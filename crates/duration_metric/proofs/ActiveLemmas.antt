@@ -23,7 +23,8 @@ use Rattle.duration_metric.specs.declared.inner.InnerTable.{InnerTable}
 use Rattle.duration_metric.specs.InnerKeys.{DurationCall, last_known}
 use Rattle.duration_metric.specs.InnerStands.{row_count, AreKnown, InnersStandFor}
 use Rattle.duration_metric.specs.SumCalls.{while_true, known_out, counted_out, active_after, active_told, active_since}
-use Rattle.duration_metric.specs.SumSteps.{out_for, row_out, active_in}
+use Rattle.duration_metric.specs.Tallies.{out_for, row_out}
+use Rattle.duration_metric.specs.SumSteps.{active_in}
 use Rattle.duration_metric.proofs.KnownLemmas.{last_or-append}
 
 -- the output keys of rows are those of what is known of their keys

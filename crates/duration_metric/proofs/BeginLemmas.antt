@@ -1,6 +1,5 @@
 -- Runs that begin at one time: their keys are admitted in order, or dropped and counted.
-use Rattle.std.proofs.Common.{◌≡◌, ◌⊎◌, ℕ, ◌+◌, ◌-◌, ◌<◌, ◌≤◌, Bool, true, false, not, ◌||◌, cond, if◌then◌else◌, List, [], ◌∷◌, ◌++◌, map, filter, length, slice_get, Contains, Some, refl, sym, ap, subst, ◌∙◌, arith, ⊎_elim, append-nil, append_assoc}
-use Rattle.std.specs.List.{list_any}
+use Rattle.std.proofs.Common.{◌≡◌, ℕ, ◌+◌, ◌<◌, ◌≤◌, Bool, true, false, not, ◌||◌, cond, if◌then◌else◌, List, [], ◌∷◌, ◌++◌, map, length, slice_get, Some, refl, sym, ap, subst, ◌∙◌, arith, ⊎_elim, append-nil, append_assoc}
 use Rattle.std.specs.Map.{keys_of}
 use Rattle.std.proofs.lemmas.Bool.{true≢false}
 use Rattle.std.proofs.lemmas.List.{map-append, length-map}
@@ -191,3 +190,50 @@ none_newly all (key ∷ keys) there =
 
 pub newly-same : (keys : List MetricKey) → newly is_same_key keys keys ≡ []
 newly-same keys = none_newly keys keys (λ key is. is)
+
+-- all keys are new where none was active
+newly-none : (keys : List MetricKey) → newly is_same_key [] keys ≡ keys
+newly-none [] = refl
+newly-none (key ∷ keys) = ap (λ l. key ∷ l) (newly-none keys)
+
+or_second : (b c : Bool) → c ≡ true → (b || c) ≡ true
+or_second true c is = refl
+or_second false c is = is
+
+-- a key that comes anew is active now, and wasn't before
+anew_first : (key other : MetricKey) (before ks : List MetricKey) (same absent later : Bool)
+    → is_same_key other key ≡ same → is_among is_same_key other before ≡ absent
+    → is_among is_same_key key (newly is_same_key before ks) ≡ later
+    → (later ≡ true → (is_among is_same_key key ks ≡ true) × (is_among is_same_key key before ≡ false))
+    → is_among is_same_key key (cond (not absent) (other ∷ newly is_same_key before ks) (newly is_same_key before ks)) ≡ true
+    → (is_among is_same_key key (other ∷ ks) ≡ true) × (is_among is_same_key key before ≡ false)
+anew_first key other before ks same true later same_is absent_is later_is rest there =
+    let all = rest (sym later_is ∙ there) in
+    (or_second (is_same_key other key) (is_among is_same_key key ks) all.0, all.1)
+anew_first key other before ks true false later same_is absent_is later_is rest there = (
+  ap (λ b. b || is_among is_same_key key ks) same_is,
+  subst (λ k. is_among is_same_key k before ≡ false) ((metric_key_exact other key).0 same_is) absent_is,
+)
+anew_first key other before ks false false later same_is absent_is later_is rest there =
+    let all = rest (sym later_is
+    ∙ sym (ap (λ b. b || is_among is_same_key key (newly is_same_key before ks)) same_is) ∙ there) in
+    (or_second (is_same_key other key) (is_among is_same_key key ks) all.0, all.1)
+
+among_newly : (key : MetricKey) (before ks : List MetricKey)
+    → is_among is_same_key key (newly is_same_key before ks) ≡ true
+    → (is_among is_same_key key ks ≡ true) × (is_among is_same_key key before ≡ false)
+among_newly key before [] there = absurd (true≢false (sym there))
+among_newly key before (other ∷ ks) there =
+    anew_first key other before ks (is_same_key other key) (is_among is_same_key other before)
+    (is_among is_same_key key (newly is_same_key before ks)) refl refl refl (among_newly key before ks) there
+
+-- where the new keys are admitted, those of all active keys that weren't active before are
+pub begins_newly : (old new : Table MetricKey Span) (before now fresh : List MetricKey) (at : ℕ)
+    → fresh ≡ newly is_same_key before now → BeginsAll old new [] fresh at → BeginsAll old new before now at
+begins_newly old new before now fresh at is begins bound span seen lost is_fresh has =
+    subst (λ ks. HasBegun new bound span seen ks lost) (newly-none fresh ∙ is)
+    (begins bound span seen lost
+    (λ key unseen there absent.
+    let both = among_newly key before now (subst (λ ks. is_among is_same_key key ks ≡ true) is there) in
+    is_fresh key unseen both.0 both.1)
+    has)

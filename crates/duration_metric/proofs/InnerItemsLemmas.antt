@@ -1,11 +1,12 @@
 -- For the builds of what is kept of inner keys and of spans: each is saved as its parts.
-use Rattle.std.proofs.Common.{◌≡◌, ℕ, ◌+◌, length, Option, Err, List, refl, sym, ap, subst, ◌∙◌, arith}
+use Rattle.std.proofs.Common.{◌≡◌, ℕ, Bool, true, false, Option, Err, List, refl, sym, ap, subst, arith}
 use Rattle.atom_record.specs.declared.value.MetricKey.{MetricKey}
 use Rattle.flat_form.specs.declared.item.Item.{Item}
 use Rattle.flat_form.specs.declared.flat_error.FlatError.{FlatError}
 use Rattle.flat_form.specs.declared.flat_error.FlatError.TheVariants.{Bad}
-use Rattle.flat_form.specs.Flat.{Anything, IsValidPair, IsMissingOr, StandsAt, IsBuilt, Builds, number_items, key_items, pair_items, option_items}
+use Rattle.flat_form.specs.Flat.{Anything, IsValidPair, IsMissingOr, IsBuilt, Builds, number_items, key_items, pair_items, option_items}
 use Rattle.flat_form.proofs.FlatLaws as laws
+use Rattle.predicate_state.specs.PredicateItems.{flag_number}
 use Rattle.predicate_state.specs.declared.truth.Truth.{Truth}
 use Rattle.predicate_state.specs.declared.truth.Truth.TheVariants.{False, Unknown, True}
 use Rattle.duration_metric.specs.declared.inner.Known.{Known}
@@ -24,6 +25,13 @@ same_truth Unknown True e = absurd (omega arith)
 same_truth True False e = absurd (omega arith)
 same_truth True Unknown e = absurd (omega arith)
 same_truth True True e = refl
+
+-- a flag has a number of its own
+pub same_flag : (one other : Bool) → flag_number one ≡ flag_number other → one ≡ other
+same_flag true true e = refl
+same_flag true false e = absurd (omega arith)
+same_flag false true e = absurd (omega arith)
+same_flag false false e = refl
 
 -- what was told, by its parts
 abbrev known_form : Known → ℕ × MetricKey
@@ -67,16 +75,16 @@ module _ (items : List Item) (place : ℕ) where
 
 -- an inner key by its parts
 abbrev pub InnerForm : Type 0
-InnerForm = ℕ × Option Known
+InnerForm = ℕ × (ℕ × Option Known)
 
 abbrev inner_form : Inner → InnerForm
-inner_form inner = (inner.count, inner.known)
+inner_form inner = (inner.count, (flag_number inner.tallied, inner.known))
 
 abbrev pub inner_form_items : InnerForm → List Item
-inner_form_items = pair_items number_items (option_items known_items)
+inner_form_items = pair_items number_items (pair_items number_items (option_items known_items))
 
 abbrev pub IsInnerForm : InnerForm → Type 0
-IsInnerForm = IsValidPair Anything (IsMissingOr Anything)
+IsInnerForm = IsValidPair Anything (IsValidPair Anything (IsMissingOr Anything))
 
 -- a timed inner key by its parts
 abbrev pub EntryForm : Type 0
@@ -110,18 +118,32 @@ module _ (items : List Item) (place : ℕ) where
   pub inner_fails : (e : FlatError) → Builds IsInnerForm inner_form_items items place (Err e)
       → Builds Anything inner_items items place (Err e)
   inner_fails e fails = laws.form_fails IsInnerForm inner_form_items Anything inner_items inner_form (λ inner. refl)
-      (λ inner is. (tt, missing_or_any inner.known)) items place e fails
+      (λ inner is. (tt, (tt, missing_or_any inner.known))) items place e fails
 
-  -- the inner key of the parts that stand there
-  pub inner_built : (form : InnerForm) (next : ℕ) → IsBuilt IsInnerForm inner_form_items items place form next
-      → IsBuilt Anything inner_items items place (record { count = form.0; known = form.1 }) next
-  inner_built form next one = record {
-    is_valid = tt;
-    stands = one.stands;
-    ends = one.ends;
-    only = λ other valid there. ap (λ (f : InnerForm). record { count = f.0; known = f.1 })
-        (one.only (inner_form other) (tt, missing_or_any other.known) there);
-  }
+  module _ (form : InnerForm) (next : ℕ) (one : IsBuilt IsInnerForm inner_form_items items place form next) where
+    -- the number that stands there is no flag's
+    pub inner_none : ((flag : Bool) → ¬ (flag_number flag ≡ form.1.0))
+        → Builds Anything inner_items items place (Err Bad)
+    inner_none never inner valid there =
+        never inner.tallied
+        (ap (λ (f : InnerForm). f.1.0) (one.only (inner_form inner) (tt, (tt, missing_or_any inner.known)) there))
+
+    -- the inner key of the parts that stand there
+    pub inner_built : (tallied : Bool) → flag_number tallied ≡ form.1.0
+        → IsBuilt Anything inner_items items place (record { count = form.0; known = form.1.1; tallied = tallied }) next
+    inner_built tallied is =
+        let same : form ≡ (form.0, (flag_number tallied, form.1.1)) =
+        ap (λ (n : ℕ). (form.0, (n, form.1.1))) (sym is) in
+        let mine = subst (λ f. IsBuilt IsInnerForm inner_form_items items place f next) same one in
+        record {
+          is_valid = tt;
+          stands = mine.stands;
+          ends = mine.ends;
+          only = λ other valid there.
+              let e = mine.only (inner_form other) (tt, (tt, missing_or_any other.known)) there in
+              let flags = same_flag other.tallied tallied (ap (λ (f : InnerForm). f.1.0) e) in
+              λ i. record { count = (e i).0; known = (e i).1.1; tallied = flags i };
+        }
 
   -- no such parts stand there, so no timed inner key does
   pub entry_fails : (e : FlatError) → Builds IsEntryForm entry_form_items items place (Err e)

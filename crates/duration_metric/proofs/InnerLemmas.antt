@@ -1,20 +1,24 @@
 -- A table of inner keys through an event: its counts are those of a predicate's table, and what was told stays.
 use Rattle.std.proofs.Common.{◌≡◌, ℕ, zero, suc, Bool, true, false, not, cond, nat_lt, if◌then◌else◌, List, [], ◌∷◌, ◌++◌, map, filter, length, slice_get, Contains, Option, Some, None, ◌+◌, refl, sym, ap, subst, ◌∙◌, arith, ⊎_elim}
-use Rattle.std.specs.Map.{keys_of, values_of}
+use Rattle.std.specs.List.{flat_map, IsDistinct}
+use Rattle.std.specs.Map.{keys_of, values_of, lookup}
 use Rattle.std.proofs.lemmas.Bool.{cases_Bool, lt-ltb, le-ltb}
 use Rattle.std.proofs.lemmas.List.{map-append, length-map}
 use Rattle.std.proofs.lemmas.Option.{same_Some}
+use Rattle.atom_record.specs.declared.value.MetricKey.{MetricKey}
 use Rattle.bucket_meaning.specs.Kept.{count_in_u64}
 use Rattle.dim_table.specs.declared.answer.Admit.{Admit}
 use Rattle.dim_table.specs.declared.answer.Admit.TheVariants.{At, Full}
-use Rattle.dim_table.specs.Table.{Table, keys, set_value_at, with_value_at, without, IsThere, IsNew, Admits}
+use Rattle.dim_table.specs.Table.{Table, keys, set_value_at, without, IsThere, IsNew, Admits}
 use Rattle.dim_table.proofs.KeyLemmas.{Contains-from_place}
-use Rattle.predicate_state.specs.PredicateStates.{PredicateState, without_key}
+use Rattle.predicate_state.specs.PredicateStates.{PredicateState, without_key, state_after_stop_all}
 use Rattle.predicate_state.specs.PredicateTable.{LeafKey, same_leaves}
 use Rattle.duration_metric.specs.declared.inner.Known.{Known}
 use Rattle.duration_metric.specs.declared.inner.Inner.{Inner}
 use Rattle.duration_metric.specs.declared.inner.InnerTable.{InnerTable}
-use Rattle.duration_metric.specs.InnerStands.{row_count, state_in, AreKnown, ChangesTo, SetsCount, ListsKey}
+use Rattle.duration_metric.specs.InnerStands.{row_count, state_in, AreKnown, ChangesTo, SetsCount, ListsKey, with_other}
+use Rattle.duration_metric.specs.Tallies.{row_tallied, left_key, IsTallied}
+use Rattle.duration_metric.proofs.TallyLemmas.{releases, lists_more, takes_tallied, clears_tallied}
 
 -- the keys with their counts are the keys
 pub keys_of-counts : (rows : List (LeafKey × Inner)) → keys_of (map row_count rows) ≡ keys_of rows
@@ -61,7 +65,7 @@ counts-filter key (row ∷ rows) = ⊎_elim
 
 module _ (known : LeafKey → Option Known) where
   -- a write that leaves what was told
-  known-set : (rows : List (LeafKey × Inner)) (place : ℕ) (was inner : Inner)
+  pub known-set : (rows : List (LeafKey × Inner)) (place : ℕ) (was inner : Inner)
       → slice_get (values_of rows) place ≡ Some was → inner.known ≡ was.known → AreKnown known rows
       → AreKnown known (set_value_at rows place inner)
   known-set [] place was inner at same all = tt
@@ -88,13 +92,20 @@ module _ (known : LeafKey → Option Known) where
   known-push [] row all one = (one, tt)
   known-push (first ∷ rows) row all one = (all.0, known-push rows row all.1 one)
 
+-- a table by its parts
+pub parts_are : (it : InnerTable) (one other : Table LeafKey Inner) (touched places : List ℕ)
+    (gone left : List MetricKey) → one ≡ other → touched ≡ places → gone ≡ left
+    → record it { keys = one; touched = touched; gone = gone } ≡ record it { keys = other; touched = places; gone = left }
+parts_are it one other touched places gone left keys_are touched_are gone_are =
+    λ i. record it { keys = keys_are i; touched = touched_are i; gone = gone_are i }
+
 -- a key has another count
 pub sets_count : (old new : InnerTable) (place count : ℕ) (was : Inner)
     → slice_get (values_of old.keys.rows) place ≡ Some was
-    → new ≡ record old { keys = with_value_at old.keys place (record was { count = count }) }
+    → new ≡ with_other old place was (record was { count = count; tallied = false })
     → SetsCount old new place count
 sets_count old new place count was at is =
-    let now : Inner = record was { count = count } in
+    let now : Inner = record was { count = count; tallied = false } in
     record {
       nesting_is = ap (λ (t : InnerTable). t.nesting) is;
       bound_is = ap (λ (t : InnerTable). t.keys.bound) is;
@@ -103,12 +114,18 @@ sets_count old new place count was at is =
       known_are = λ known absent all.
           subst (λ (t : InnerTable). AreKnown known t.keys.rows) (sym is)
           (known-set known old.keys.rows place was now at refl all);
+      tally_is = λ settled tally right. releases old new place was now at refl is tally right;
     }
 
--- a key is taken out
-pub takes_out : (old new : InnerTable) (key : LeafKey) → new ≡ record old { keys = without same_leaves old.keys key }
+-- a key is taken out, and what the tally counted for it is put down
+pub takes_out : (exact : (x y : LeafKey) → same_leaves x y ≡ true → x ≡ y) (old new : InnerTable) (key : LeafKey)
+    → IsDistinct same_leaves (keys_of old.keys.rows)
+    → new ≡ record old {
+      keys = without same_leaves old.keys key;
+      gone = old.gone ++ left_key (lookup (same_leaves key) old.keys.rows);
+    }
     → ChangesTo old new (without_key same_leaves (state_in old) key)
-takes_out old new key is = record {
+takes_out exact old new key distinct is = record {
   nesting_is = ap (λ (t : InnerTable). t.nesting) is;
   bound_is = ap (λ (t : InnerTable). t.keys.bound) is;
   state_is = ap state_in is
@@ -116,17 +133,36 @@ takes_out old new key is = record {
   known_are = λ known absent all.
       subst (λ (t : InnerTable). AreKnown known t.keys.rows) (sym is)
       (known-filter known (λ row. not (same_leaves key row.0)) old.keys.rows all);
+  tally_is = λ settled tally right. subst (λ (t : InnerTable). IsTallied t tally) (sym is)
+      (takes_tallied exact old key distinct settled.none_touched tally right);
+}
+
+-- all keys are, and none is unknown any more
+pub takes_all : (old new : InnerTable)
+    → new ≡ record old {
+      unknown = false;
+      keys = record old.keys { rows = [] };
+      gone = old.gone ++ flat_map row_tallied old.keys.rows;
+    }
+    → ChangesTo old new (state_after_stop_all (state_in old))
+takes_all old new is = record {
+  nesting_is = ap (λ (t : InnerTable). t.nesting) is;
+  bound_is = ap (λ (t : InnerTable). t.keys.bound) is;
+  state_is = ap state_in is;
+  known_are = λ known absent all. subst (λ (t : InnerTable). AreKnown known t.keys.rows) (sym is) tt;
+  tally_is = λ settled tally right. subst (λ (t : InnerTable). IsTallied t tally) (sym is)
+      (clears_tallied old false tally right);
 }
 
 -- a new key is listed, of which nothing was told, or it is counted
 pub lists_key : (old new : InnerTable) (table : Table LeafKey Inner) (key : LeafKey) (count : ℕ) (answer : Admit)
-    → ¬ Contains (keys old.keys) key → Admits old.keys table key (record { count = count; known = None }) answer
+    → ¬ Contains (keys old.keys) key → Admits old.keys table key (record { count = count; known = None; tallied = false }) answer
     → new ≡ record old { keys = table } → ListsKey old new key count
 lists_key old new table key count (At place) absent admits is = ⊎_elim
     (λ (there : IsThere old.keys table key place).
     absurd (absent (Contains-from_place (keys old.keys) place key there.at)))
-    (λ (added : IsNew old.keys table key (record { count = count; known = None }) place).
-    let row : LeafKey × Inner = (key, record { count = count; known = None }) in
+    (λ (added : IsNew old.keys table key (record { count = count; known = None; tallied = false }) place).
+    let row : LeafKey × Inner = (key, record { count = count; known = None; tallied = false }) in
     let now : InnerTable = record old { keys = record old.keys { rows = old.keys.rows ++ row ∷ [] } } in
     let new_is : new ≡ now = is ∙ ap (λ (t : Table LeafKey Inner). record old { keys = t }) added.added in
     let room : nat_lt (length (state_in old).counts) old.keys.bound ≡ true =
@@ -142,6 +178,8 @@ lists_key old new table key count (At place) absent admits is = ⊎_elim
       known_are = λ known none all.
           subst (λ (t : InnerTable). AreKnown known t.keys.rows) (sym new_is)
           (known-push known old.keys.rows row all (sym (none key absent)));
+      tally_is = λ settled tally right. subst (λ (t : InnerTable). IsTallied t tally) (sym new_is)
+          (lists_more old key count tally right);
     })
     admits
 lists_key old new table key count Full absent away is =
@@ -157,6 +195,8 @@ lists_key old new table key count Full absent away is =
           ∙ sym (ap (λ b. if b then record (state_in old) { counts = (state_in old).counts ++ (key, count) ∷ [] }
           else record (state_in old) { dropped = count_in_u64 (old.keys.dropped + 1) }) full);
       known_are = λ known none all. subst (λ (t : InnerTable). AreKnown known t.keys.rows) (sym new_is) all;
+      tally_is = λ settled tally right. subst (λ (t : InnerTable). IsTallied t tally) (sym new_is)
+          (record { all = right.all; steady = right.steady });
     }
 
 -- a state by another word for it

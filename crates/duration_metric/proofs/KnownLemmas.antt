@@ -16,7 +16,7 @@ use Rattle.sd_base.proofs.OutputsLemmas.{outputs-push}
 use Rattle.atom_record.specs.Equal.{leaf_exact}
 use Rattle.bucket_meaning.specs.Guard.{is_among}
 use Rattle.config_types.specs.declared.parameters.PredSpec.{PredSpec}
-use Rattle.dim_table.specs.Table.{keys, set_value_at, with_value_at}
+use Rattle.dim_table.specs.Table.{keys, set_value_at}
 use Rattle.dim_table.proofs.KeyLemmas.{not_among, keys_set_value_at}
 use Rattle.predicate_state.specs.declared.event.PredEvent.{PredEvent}
 use Rattle.predicate_state.specs.declared.event.PredEvent.TheVariants.{Start, Stop, StopAll}
@@ -32,8 +32,10 @@ use Rattle.duration_metric.specs.declared.inner.Known.{Known}
 use Rattle.duration_metric.specs.declared.inner.Inner.{Inner}
 use Rattle.duration_metric.specs.declared.inner.InnerTable.{InnerTable}
 use Rattle.duration_metric.specs.InnerKeys.{DurationCall, key_events, known_by, known_at, KeySeen, inner_state, inner_keys, told_to, key_seen, last_known, told_truth, says, was_told}
-use Rattle.duration_metric.specs.InnerStands.{state_in, kept_spec, AreKnown, InnersStandFor, ActsOn, TakesEvent, TakesDelta, TellsOne, TellsAll}
+use Rattle.duration_metric.specs.InnerStands.{state_in, kept_spec, AreKnown, InnersStandFor, ActsOn, TakesEvent, TakesDelta, TellsOne, TellsAll, told, with_other}
+use Rattle.duration_metric.specs.Tallies.{IsTallied}
 use Rattle.duration_metric.proofs.InnerLemmas.{keys_of-counts, counts-same}
+use Rattle.duration_metric.proofs.TallyLemmas.{after_set, releases}
 
 -- whether two inner keys are the same is decided
 pub leaves_exact : (one other : LeafKey) → Decides (same_leaves one other) (one ≡ other)
@@ -243,21 +245,6 @@ known_by_places known [] each = tt
 known_by_places known (row ∷ rows) each =
     (each zero row refl, known_by_places known rows (λ place. each (suc place)))
 
--- a row after a write to one: the one that was written, or one of the others
-after_set : (rows : List (LeafKey × Inner)) (place at : ℕ) (inner : Inner) (row : LeafKey × Inner)
-    → slice_get (set_value_at rows place inner) at ≡ Some row
-    → ((at ≡ place) × (row.1 ≡ inner)) ⊎ ((¬ (at ≡ place)) × (slice_get rows at ≡ Some row))
-after_set [] place at inner row is = absurd (none-some row is)
-after_set (first ∷ rows) zero zero inner row is =
-    inl (refl, sym (ap (λ (r : LeafKey × Inner). r.1) (same_Some (first.0, inner) row is)))
-after_set (first ∷ rows) zero (suc at) inner row is = inr ((λ e. omega (arith, e)), is)
-after_set (first ∷ rows) (suc place) zero inner row is = inr ((λ e. omega (arith, e)), is)
-after_set (first ∷ rows) (suc place) (suc at) inner row is = ⊎_elim
-    (λ (here : (at ≡ place) × (row.1 ≡ inner)). inl (ap suc here.0, here.1))
-    (λ (other : (¬ (at ≡ place)) × (slice_get rows at ≡ Some row)).
-    inr ((λ e. other.0 (omega (arith, e))), other.1))
-    (after_set rows place at inner row is)
-
 -- the key of the row at a place
 pub key_at : (rows : List (LeafKey × Inner)) (at : ℕ) (row : LeafKey × Inner) → slice_get rows at ≡ Some row
     → slice_get (keys_of rows) at ≡ Some row.0
@@ -336,12 +323,10 @@ module _ (first old new : InnerTable) (changes : List InnerChange) (change : Inn
 
   -- one change more tells of a row
   tells_there : (was : Inner) → slice_get (values_of old.keys.rows) change.place ≡ Some was
-      → new ≡ record old {
-        keys = with_value_at old.keys change.place (record was { known = Some (known_by change) });
-      }
+      → new ≡ with_other old change.place was (told was change)
       → TellsAll first new (changes ++ change ∷ [])
   tells_there was at is =
-      let now : Inner = record was { known = Some (known_by change) } in
+      let now : Inner = told was change in
       let rows = set_value_at old.keys.rows change.place now in
       record {
         nesting_is = ap (λ (t : InnerTable). t.nesting) is ∙ tells.nesting_is;
@@ -366,10 +351,12 @@ module _ (first old new : InnerTable) (changes : List InnerChange) (change : Inn
             (λ (other : (¬ (place ≡ change.place)) × (slice_get old.keys.rows place ≡ Some row)).
             untold known place row other.1 other.0 all)
             (after_set old.keys.rows change.place place now row there)));
+        tally_is = λ tally right. releases old new change.place was now at refl is tally (tells.tally_is tally right);
       }
 
   -- where no row is, none is told of
-  tells_nowhere : slice_get (values_of old.keys.rows) change.place ≡ None → new ≡ old
+  tells_nowhere : slice_get (values_of old.keys.rows) change.place ≡ None
+      → new ≡ old
       → TellsAll first new (changes ++ change ∷ [])
   tells_nowhere none is = record {
     nesting_is = ap (λ (t : InnerTable). t.nesting) is ∙ tells.nesting_is;
@@ -383,6 +370,8 @@ module _ (first old new : InnerTable) (changes : List InnerChange) (change : Inn
         (λ place row there. untold known place row there
         (λ e. no_row old.keys.rows change.place row none (subst (λ p. slice_get old.keys.rows p ≡ Some row) e there))
         all));
+    tally_is = λ tally right.
+        subst (λ (t : InnerTable). IsTallied t tally) (sym is) (tells.tally_is tally right);
   } where
     no_row : (rows : List (LeafKey × Inner)) (place : ℕ) (row : LeafKey × Inner)
         → slice_get (values_of rows) place ≡ None → slice_get rows place ≡ Some row → ⊥
@@ -407,6 +396,7 @@ tells_none it = record {
   known_are = λ known all. known_where known
       (λ key. last_or (known key) (known_at [] (position (same_leaves key) (keys it.keys)))) it.keys.rows
       (λ key among. nothing (known key) (position (same_leaves key) (keys it.keys))) all;
+  tally_is = λ tally right. right;
 } where
   nothing : (known : Option Known) (place : Option ℕ) → known ≡ last_or known (known_at [] place)
   nothing known None = refl

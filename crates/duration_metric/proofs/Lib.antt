@@ -1,9 +1,13 @@
+pub mod TallyLemmas
+pub mod TallyStepLemmas
 pub mod InnerLemmas
 pub mod KnownLemmas
 pub mod ActiveLemmas
 pub mod SpanLemmas
 pub mod BeginLemmas
 pub mod StepLemmas
+pub mod CountedLemmas
+pub mod RecountLemmas
 pub mod SumLemmas
 mod SumWorked
 pub mod SparseKnownLemmas

@@ -1,5 +1,5 @@
 -- For the build of longest durations: each is saved as its parts.
-use Rattle.std.proofs.Common.{◌≡◌, ℕ, ◌+◌, length, Bool, None, Err, List, ◌++◌, refl, sym, ap, subst, ◌∙◌, append_assoc, arith}
+use Rattle.std.proofs.Common.{◌≡◌, ℕ, None, Err, List, ◌++◌, refl, sym, ap, subst, ◌∙◌, append_assoc}
 use Rattle.flat_form.specs.declared.item.Item.{Item}
 use Rattle.flat_form.specs.declared.flat_error.FlatError.{FlatError}
 use Rattle.flat_form.specs.declared.flat_error.FlatError.TheVariants.{Bad}

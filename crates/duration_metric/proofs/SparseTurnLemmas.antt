@@ -1,5 +1,5 @@
 -- What starts and stops make of the inner keys of a longest duration, by what the code finds.
-use Rattle.std.proofs.Common.{subst, ◌≡◌, ℕ, zero, suc, ◌+◌, ◌^◌, ◌<◌, ◌≤◌, ◌==◌, nat_lt, Bool, true, false, not, ◌&&◌, if◌then◌else◌, List, [], ◌∷◌, ◌++◌, map, length, slice_get, position, Contains, Option, Some, None, ◌⊎◌, inl, inr, ⊎_elim, refl, sym, ap, ◌∙◌, append_assoc, append-nil, arith}
+use Rattle.std.proofs.Common.{subst, ◌≡◌, ℕ, zero, suc, ◌+◌, ◌^◌, ◌<◌, ◌≤◌, ◌==◌, nat_lt, Bool, true, false, not, ◌&&◌, if◌then◌else◌, List, [], ◌∷◌, ◌++◌, map, length, slice_get, position, Option, Some, None, ◌⊎◌, inl, inr, ⊎_elim, refl, sym, ap, ◌∙◌, append_assoc, append-nil, arith}
 use Rattle.std.specs.List.{flat_map}
 use Rattle.std.specs.Map.{keys_of, values_of, lookup}
 use Rattle.std.proofs.lemmas.Bool.{lt-ltb, le-ltb}
@@ -33,7 +33,7 @@ use Rattle.duration_metric.proofs.SparseRowLemmas.{Row, same_decides, keys_count
 use Rattle.duration_metric.proofs.SparseStepLemmas.{left_by, marks_are, recounted, passes, starts}
 use Rattle.duration_metric.proofs.SparseEventLemmas.{takes_nothing, looked_up, takes_set, takes_left, takes_added, takes_away, takes_all}
 use Rattle.duration_metric.proofs.SparseToldLemmas.{row_of_value, tells_none, tells_there, tells_nowhere}
-use Rattle.duration_metric.proofs.SparseBooksLemmas.{stays, then_more}
+use Rattle.duration_metric.proofs.SparseBooksLemmas.{then_more}
 
 -- the row of a key at a place
 row_of_key : (rows : List Row) (place : ℕ) (key : LeafKey) → slice_get (keys_of rows) place ≡ Some key

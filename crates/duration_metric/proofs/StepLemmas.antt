@@ -1,9 +1,9 @@
 -- One step of each loop of a producer of sums.
-use Rattle.std.proofs.Common.{◌≡◌, ◌⊎◌, ℕ, zero, suc, ◌+◌, ◌*◌, ◌-◌, ◌^◌, ◌<◌, ◌≤◌, Bool, true, false, not, ◌||◌, List, [], ◌∷◌, ◌++◌, map, take, length, get_or, slice_get, Option, Some, None, refl, sym, ap, subst, ◌∙◌, arith, ⊎_elim, append-nil, append_assoc}
+use Rattle.std.proofs.Common.{◌≡◌, ℕ, zero, suc, ◌+◌, ◌*◌, ◌-◌, ◌^◌, ◌<◌, ◌≤◌, Bool, true, false, ◌||◌, List, [], ◌∷◌, ◌++◌, map, take, length, get_or, slice_get, Option, Some, None, refl, sym, ap, subst, ◌∙◌, arith, ⊎_elim, append-nil, append_assoc}
 use Rattle.std.specs.List.{flat_map, list_any}
 use Rattle.std.specs.Map.{values_of}
 use Rattle.std.proofs.lemmas.Bool.{cases_Bool}
-use Rattle.std.proofs.lemmas.List.{map-append, length-append, length-map, take_more}
+use Rattle.std.proofs.lemmas.List.{length-append, length-map, take_more}
 use Rattle.std.proofs.Math.Nat.{mul-le-mul_right}
 use Rattle.std.proofs.lemmas.Grind.{flat_map-append}
 use Rattle.std.proofs.lemmas.Option.{none-some, same_Some, slice_get_within, get_or_from_slice_get}
@@ -21,7 +21,8 @@ use Rattle.predicate_state.specs.PredicateTable.{LeafKey}
 use Rattle.duration_metric.specs.declared.inner.Inner.{Inner}
 use Rattle.duration_metric.specs.declared.sum.Span.{Span}
 use Rattle.duration_metric.specs.SumStands.{span_at, span_row, whole_row, whole_rows}
-use Rattle.duration_metric.specs.SumSteps.{row_out, active_in, row_at, StepsOne}
+use Rattle.duration_metric.specs.Tallies.{row_out}
+use Rattle.duration_metric.specs.SumSteps.{active_in, row_when, StepsOne}
 use Rattle.duration_metric.proofs.ActiveLemmas.{walk_more}
 
 -- a key is among some by either order of the test
@@ -83,11 +84,11 @@ steps_whole next (suc n) (row ∷ rows) all =
     ap (λ l. (row.0, next row) ∷ l) (steps_whole next n rows (omega (arith, all)))
 
 -- the span of a row that is taken to a time
-abbrev pub next_span : List MetricKey → ℕ → MetricKey × Span → Span
-next_span active at row = (row_at active at row).1
+abbrev pub next_span : (MetricKey → Bool) → ℕ → MetricKey × Span → Span
+next_span is_active at row = (row_when is_active at row).1
 
 -- one row more
-pub steps_next : (first old new : Table MetricKey Span) (active : List MetricKey) (place at : ℕ)
+pub steps_next : (first old new : Table MetricKey Span) (active : MetricKey → Bool) (place at : ℕ)
     → old ≡ record first { rows = steps_to (next_span active at) place first.rows }
     → StepsOne old new active place at
     → new ≡ record first { rows = steps_to (next_span active at) (place + 1) first.rows }
@@ -116,14 +117,14 @@ value_there (first ∷ rows) zero row at = ap (λ (r : MetricKey × Span). Some 
 value_there (first ∷ rows) (suc place) row at = value_there rows place row at
 
 -- the row at a place was taken to a time
-pub steps_one : (old : Table MetricKey Span) (active : List MetricKey) (place at : ℕ) (row : MetricKey × Span)
+pub steps_one : (old : Table MetricKey Span) (active : MetricKey → Bool) (place at : ℕ) (row : MetricKey × Span)
     (span result : Span) (is_active : Bool) → slice_get old.rows place ≡ Some row
-    → slice_get (values_of old.rows) place ≡ Some span → is_active ≡ list_any (is_same_key row.0) active
+    → slice_get (values_of old.rows) place ≡ Some span → is_active ≡ active row.0
     → result ≡ span_at at is_active span → StepsOne old (with_value_at old place result) active place at
 steps_one old active place at row span result is_active found value active_is is = record {
   there = λ other there. ap (with_value_at old place)
-      (is ∙ ap (λ b. span_at at b span) (active_is ∙ among_is row.0 active)
-      ∙ ap (span_at at (is_among is_same_key row.0 active))
+      (is ∙ ap (λ b. span_at at b span) active_is
+      ∙ ap (span_at at (active row.0))
       (sym (same_Some row.1 span (sym (value_there old.rows place row found) ∙ value)))
       ∙ ap (next_span active at) (same_Some row other (sym found ∙ there)));
   nowhere = λ none. absurd (none-some row (sym none ∙ found));

@@ -1,6 +1,5 @@
 -- For the build of sums: a sum is saved as its parts.
-use Rattle.std.proofs.Common.{◌≡◌, ℕ, ◌+◌, length, Bool, true, false, Result, Ok, Err, List, ◌++◌, All, refl, sym, ap, subst, ◌∙◌, append_assoc, arith}
-use Rattle.atom_record.specs.declared.value.MetricKey.{MetricKey}
+use Rattle.std.proofs.Common.{◌≡◌, ℕ, Bool, true, false, Err, List, ◌++◌, All, refl, sym, ap, subst, ◌∙◌, append_assoc, arith}
 use Rattle.flat_form.specs.declared.item.Item.{Item}
 use Rattle.flat_form.specs.declared.flat_error.FlatError.{FlatError}
 use Rattle.flat_form.specs.declared.flat_error.FlatError.TheVariants.{Bad, Memory}
@@ -12,24 +11,41 @@ use Rattle.metric_producer.specs.RowItems.{IsRow}
 use Rattle.predicate_state.specs.PredicateItems.{flag_number}
 use Rattle.duration_metric.specs.declared.sum.SumProducer.{SumProducer}
 use Rattle.duration_metric.specs.InnerItems.{inner_items, span_items}
-use Rattle.duration_metric.specs.SumItems.{time_row_items, sum_producer_items, IsSumProducer, any_keys}
+use Rattle.duration_metric.specs.SumItems.{time_row_items, count_items, sum_producer_items, IsSumProducer, any_keys, any_counts}
 use Rattle.duration_metric.specs.SumForm.{SumForm, sum_form, HasSumForm, RestoresSum}
 
 -- their items
 abbrev pub sum_form_items : SumForm → List Item
 sum_form_items = pair_items number_items (pair_items number_items (pair_items number_items (pair_items number_items
-    (pair_items (table_items dims_items inner_items) (pair_items (list_items key_items)
-    (pair_items (table_items key_items span_items) (kept_items time_row_items)))))))
+    (pair_items (table_items dims_items inner_items) (pair_items (list_items number_items)
+    (pair_items (list_items key_items) (pair_items (list_items count_items)
+    (pair_items (table_items key_items span_items) (kept_items time_row_items)))))))))
 
 -- which parts may stand there
 abbrev pub IsSumForm : SumForm → Type 0
 IsSumForm = IsValidPair Anything (IsValidPair Anything (IsValidPair Anything (IsValidPair Anything
-    (IsValidPair (IsTable Anything Anything) (IsValidPair (All Anything)
-    (IsValidPair (IsTable Anything Anything) (IsKeeping (IsRow Anything))))))))
+    (IsValidPair (IsTable Anything Anything) (IsValidPair (All Anything) (IsValidPair (All Anything)
+    (IsValidPair (All (IsValidPair Anything Anything))
+    (IsValidPair (IsTable Anything Anything) (IsKeeping (IsRow Anything))))))))))
 
 -- the parts of a sum may
 form_valid : (it : SumProducer) → IsSumProducer it → IsSumForm (sum_form it)
-form_valid it is = (tt, (tt, (tt, (tt, (is.inner, (any_keys it.active, (is.table, is.kept)))))))
+form_valid it is = (
+  tt,
+  (
+    tt,
+    (
+      tt,
+      (
+        tt,
+        (
+          is.inner,
+          (any_keys it.inner.touched, (any_keys it.inner.gone, (any_counts it.tally, (is.table, is.kept)))),
+        ),
+      ),
+    ),
+  ),
+)
 
 -- a flag has a number of its own
 pub one_flag : (one other : Bool) → flag_number one ≡ flag_number other → one ≡ other
@@ -45,10 +61,16 @@ one_form one other e =
     let unknown = one_flag one.inner.unknown other.inner.unknown (ap (λ (f : SumForm). f.1.1.1.0) e) in
     λ i. record {
       start = (e i).0;
-      inner = record { nesting = nesting i; unknown = unknown i; keys = (e i).1.1.1.1.0 };
-      active = (e i).1.1.1.1.1.0;
-      table = (e i).1.1.1.1.1.1.0;
-      kept = (e i).1.1.1.1.1.1.1;
+      inner = record {
+        nesting = nesting i;
+        unknown = unknown i;
+        keys = (e i).1.1.1.1.0;
+        touched = (e i).1.1.1.1.1.0;
+        gone = (e i).1.1.1.1.1.1.0;
+      };
+      tally = (e i).1.1.1.1.1.1.1.0;
+      table = (e i).1.1.1.1.1.1.1.1.0;
+      kept = (e i).1.1.1.1.1.1.1.1.1;
       reported = (e i).1.0;
       memory = tt;
     }
@@ -72,8 +94,8 @@ module _ (items : List Item) (place : ℕ) where
           is_valid = record {
             inner = mine.is_valid.1.1.1.1.0;
             once = has.once;
-            table = mine.is_valid.1.1.1.1.1.1.0;
-            kept = mine.is_valid.1.1.1.1.1.1.1;
+            table = mine.is_valid.1.1.1.1.1.1.1.1.0;
+            kept = mine.is_valid.1.1.1.1.1.1.1.1.1;
           };
           stands = mine.stands;
           ends = mine.ends;

@@ -1,21 +1,23 @@
 -- A producer of sums holds its books through every call.
-use Rattle.std.proofs.Common.{◌≡◌, ℕ, zero, suc, ◌+◌, ◌*◌, ◌-◌, ◌^◌, ◌<◌, ◌≤◌, Bool, true, false, not, ◌&&◌, ◌==◌, if◌then◌else◌, nat_lt, List, [], ◌∷◌, ◌++◌, map, length, replicate, Option, Some, None, refl, sym, ap, subst, ◌∙◌, arith, ⊎_elim, append-nil}
+use Rattle.std.proofs.Common.{◌≡◌, ℕ, zero, suc, ◌+◌, ◌*◌, ◌-◌, ◌^◌, ◌<◌, ◌≤◌, Bool, true, false, not, ◌&&◌, ◌==◌, if◌then◌else◌, nat_lt, List, [], ◌∷◌, ◌++◌, map, filter, length, replicate, slice_get, Option, Some, None, Result, Ok, Err, OnOk, refl, sym, ap, subst, ◌∙◌, arith, ⊎_elim, append-nil}
 use Rattle.std.specs.List.{flat_map, IsDistinct}
 use Rattle.std.specs.Map.{lookup}
 use Rattle.std.specs.Cmp.Lexicographic.{pointwise, pointwise_decides}
 use Rattle.std.proofs.lemmas.Bool.{cases_Bool, true≢false}
 use Rattle.std.proofs.lemmas.Grind.{flat_map-append}
+use Rattle.std.proofs.lemmas.Option.{none-some}
 use Rattle.std.proofs.Math.Seq.{take-nil}
 use Rattle.atom_record.specs.Equal.{metric_key_exact}
 use Rattle.atom_record.specs.declared.value.MetricKey.{MetricKey}
 use Rattle.bucket_clock.specs.declared.crossings.Crossings.{Crossings}
 use Rattle.bucket_clock.specs.Clock.{last_end}
 use Rattle.bucket_meaning.specs.Ends.{ends_from}
-use Rattle.bucket_meaning.specs.Guard.{is_among, admitted, dropped}
+use Rattle.bucket_meaning.specs.Guard.{is_among, firsts, admitted, dropped}
 use Rattle.bucket_meaning.specs.Kept.{count_in_u64}
 use Rattle.bucket_meaning.specs.Marks.{Mark, Came, Lost, Part, Books, after, books_from, boundary_marks}
 use Rattle.bucket_meaning.specs.Meaning.{marks_on, books_by}
 use Rattle.bucket_meaning.specs.Rows.{drops, rows_of, closed_rows}
+use Rattle.bucket_meaning.proofs.GuardLemmas.{is_among-firsts}
 use Rattle.bucket_meaning.proofs.MeaningLemmas.{books_by-push}
 use Rattle.config_types.specs.declared.parameters.PredSpec.{PredSpec}
 use Rattle.dim_table.specs.Table.{Table}
@@ -38,18 +40,21 @@ use Rattle.metric_kinds.proofs.RunsLemmas.{run_keys-push}
 use Rattle.metric_kinds.proofs.FullBuckets.{active_from, full_parts, after_full, none_dropped_first, full_books, full_rows}
 use Rattle.duration_metric.specs.declared.change.InnerEvent.{InnerEvent}
 use Rattle.duration_metric.specs.declared.change.InnerDelta.{InnerDelta}
+use Rattle.duration_metric.specs.declared.inner.Inner.{Inner}
 use Rattle.duration_metric.specs.declared.inner.InnerTable.{InnerTable}
 use Rattle.duration_metric.specs.declared.sum.Span.{Span}
 use Rattle.duration_metric.specs.declared.sum.SumProducer.{SumProducer}
-use Rattle.duration_metric.specs.InnerKeys.{DurationParams, DurationCall, key_events, duration_demands, inner_state}
+use Rattle.duration_metric.specs.InnerKeys.{DurationParams, DurationCall, key_events, duration_demands, inner_state, last_known}
 use Rattle.duration_metric.specs.InnerStands.{InnersStandFor, TakesEvent, TakesDelta}
-use Rattle.duration_metric.specs.SumCalls.{active_after, active_since, sum_collecting}
+use Rattle.duration_metric.specs.SumCalls.{active_after, active_told, active_since, sum_collecting}
+use Rattle.duration_metric.specs.Tallies.{row_out, times, tally_at, is_counted, row_tallied, AreSteady, IsTallied, IsSettled, KeepsTally}
 use Rattle.duration_metric.specs.SumStands.{span_of, spans, span_row, whole_row, whole_rows, HoldsSums, HasSums, SumStandsFor, sum_law}
-use Rattle.duration_metric.specs.SumSteps.{active_in, row_at, HasSpans, HasBegun, StepsAll, BeginsAll, ClosesRows, Opens}
+use Rattle.duration_metric.specs.SumSteps.{active_in, row_at, HasSpans, HasBegun, StepsAll, BeginsAll, ClosesRows, Opens, fresh_in, Recounts, LowersAll}
 use Rattle.duration_metric.proofs.KnownLemmas.{inner_state-got, inner_state-other, takes_other}
 use Rattle.duration_metric.proofs.ActiveLemmas.{active_is, few_active, active_once, since-learned, since-other}
 use Rattle.duration_metric.proofs.SpanLemmas.{part_rows, spans-step, spans-steady, spans_fresh}
-use Rattle.duration_metric.proofs.BeginLemmas.{newly-same}
+use Rattle.duration_metric.proofs.BeginLemmas.{newly-same, begins_newly}
+use Rattle.duration_metric.proofs.TallyLemmas.{steady_outs, times-among}
 
 -- how far one call more comes
 standing-push : (params : DurationParams) (calls : List DurationCall) (call : DurationCall)
@@ -148,7 +153,6 @@ holds_on : (it : SumProducer) (inner : InnerTable) (bound : ℕ) (keys : List Me
 holds_on it inner bound keys last at others n books later holds = record {
   bound_is = holds.bound_is;
   start = holds.start;
-  active = holds.active;
   came_last = holds.came_last;
   few = holds.few;
   once = holds.once;
@@ -161,10 +165,25 @@ holds_on it inner bound keys last at others n books later holds = record {
   missing = holds.missing;
 }
 
+-- which keys the tally has stays with another call
+counted_on : (tally : List (MetricKey × ℕ)) (spec : PredSpec) (calls : List DurationCall) (call : DurationCall)
+    → active_told spec calls call ≡ []
+    → ((key : MetricKey) → is_among is_same_key key (active_since spec calls) ≡ is_counted tally key)
+    → (key : MetricKey) → is_among is_same_key key (active_since spec (calls ++ call ∷ [])) ≡ is_counted tally key
+counted_on tally spec calls call none counted key =
+    ap (is_among is_same_key key) (since-other spec calls call none) ∙ counted key
+
+-- what two facts of a success make
+pub on_ok_both : {T E : Type 0} {A B C : Type 0} (result : Result T E) → (A → B → C) → OnOk result A → OnOk result B
+    → OnOk result C
+on_ok_both (Ok x) f one other = f one other
+on_ok_both (Err e) f one other = tt
+
 -- an event came
 pub got : (it : SumProducer) (inner : InnerTable) (at : ℕ) (event : InnerEvent)
-    → TakesEvent it.inner inner event → Moves sum_law it (record it { inner = inner }) (Got at event)
-got it inner at event takes = moves_by it (record it { inner = inner }) (Got at event)
+    → TakesEvent it.inner inner event → KeepsTally it.inner inner
+    → Moves sum_law it (record it { inner = inner }) (Got at event)
+got it inner at event takes keeps = moves_by it (record it { inner = inner }) (Got at event)
     (λ params calls books has may.
     let spec = params.spec in
     let demands = duration_demands params in
@@ -183,6 +202,9 @@ got it inner at event takes = moves_by it (record it { inner = inner }) (Got at 
     (sym (lost_books (drops sum_kind spec.bound) more books))
     (record {
       inner = stands;
+      tally = keeps (has.settled may.0.settled).0 (tally_at it.tally) has.tally;
+      counted = counted_on it.tally spec calls call refl has.counted;
+      settled = λ none. absurd (none-some at (sym none ∙ ap (λ (s : Standing). s.owed) standing));
       others = has.others;
       reported = omega (arith, was, is, grows, has.reported);
       dropped = omega (arith, was, is, grows, has.reported, has.dropped);
@@ -225,7 +247,8 @@ record Turned (it : SumProducer) (bound : ℕ) (active : List MetricKey) (at oth
 
 module _ (it : SumProducer) (active : List MetricKey) (mid new : Table MetricKey Span) (at bound : ℕ)
     (keys : List MetricKey) (last others : ℕ) (books : Books (Active MetricKey))
-    (holds : HoldsSums it bound keys last others books) (later : last ≤ at) (steps : StepsAll it.table mid active at)
+    (holds : HoldsSums it bound keys last others books) (later : last ≤ at)
+    (steps : StepsAll it.table mid (λ key. is_among is_same_key key active) at)
     (begins : BeginsAll mid new keys active at) (few : length active ≤ bound) (once : IsDistinct is_same_key active)
   where
     abbrev came : List (Active MetricKey)
@@ -235,7 +258,7 @@ module _ (it : SumProducer) (active : List MetricKey) (mid new : Table MetricKey
     now = record { at = at; keys = active }
 
     abbrev turned_it : SumProducer
-    turned_it = record it { active = active; table = new }
+    turned_it = record it { table = new }
 
     -- the table after the step, by any spans that are the old ones taken to the time
     mid_has : (span : MetricKey → Span)
@@ -267,7 +290,6 @@ module _ (it : SumProducer) (active : List MetricKey) (mid new : Table MetricKey
           holds = record {
             bound_is = begun.has.bound_is;
             start = holds.start;
-            active = refl;
             came_last = holds.came_last ∙ same;
             few = few;
             once = once;
@@ -299,7 +321,6 @@ module _ (it : SumProducer) (active : List MetricKey) (mid new : Table MetricKey
           holds = record {
             bound_is = begun.has.bound_is;
             start = holds.start;
-            active = refl;
             came_last = keys-push [] came now;
             few = few;
             once = once;
@@ -329,58 +350,175 @@ module _ (it : SumProducer) (active : List MetricKey) (mid new : Table MetricKey
         (books_from (drops sum_kind bound) books (if b then [] else Came now ∷ []))) (sym other) turned_other)
         (cases_Bool (pointwise is_same_key keys active))
 
--- other inner keys, and the rest as it is
-other_inner : (it : SumProducer) (inner : InnerTable) (bound : ℕ) (keys : List MetricKey) (last others : ℕ)
-    (books : Books (Active MetricKey)) → HoldsSums it bound keys last others books
-    → HoldsSums (record it { inner = inner }) bound keys last others books
-other_inner it inner bound keys last others books holds =
-    holds_on it inner bound keys last last others books.dropped books (omega arith) holds
+-- other inner keys and another tally, and the rest as it is
+other_inner : (it : SumProducer) (inner : InnerTable) (tally : List (MetricKey × ℕ)) (bound : ℕ)
+    (keys : List MetricKey) (last others : ℕ) (books : Books (Active MetricKey))
+    → HoldsSums it bound keys last others books
+    → HoldsSums (record it { inner = inner; tally = tally }) bound keys last others books
+other_inner it inner tally bound keys last others books holds = record {
+  bound_is = holds.bound_is;
+  start = holds.start;
+  came_last = holds.came_last;
+  few = holds.few;
+  once = holds.once;
+  rises = holds.rises;
+  so_far = holds.so_far;
+  all_once = holds.all_once;
+  table = holds.table;
+  dropped = holds.dropped;
+  kept = holds.kept;
+  missing = holds.missing;
+}
+
+-- a state by its parts
+same_state : (unknown : Bool) {one other : List (LeafKey × ℕ)} {lost dropped : ℕ} → one ≡ other → lost ≡ dropped
+    → (let state : PredicateState LeafKey = record { unknown = unknown; counts = one; dropped = lost } in state)
+    ≡ record { unknown = unknown; counts = other; dropped = dropped }
+same_state unknown counts_are dropped_is =
+    λ i. record { unknown = unknown; counts = counts_are i; dropped = dropped_is i }
+
+-- what a condition makes of the inner keys and of the tally
+module _ (it : SumProducer) (inner : InnerTable) (rows : Table LeafKey Inner) (raised lowered : List (MetricKey × ℕ))
+    (fresh : List MetricKey) (params : DurationParams) (calls : List DurationCall) (at : ℕ) (delta : InnerDelta)
+    (takes : TakesDelta it.inner inner delta)
+    (keeps : (tally : MetricKey → ℕ) → IsTallied it.inner tally → IsTallied inner tally)
+    (finds : IsTallied inner (tally_at it.tally) → fresh ≡ fresh_in (tally_at it.tally) (active_in inner.keys.rows))
+    (recounts : Recounts inner.keys rows it.tally raised inner.touched [])
+    (lowers : LowersAll raised lowered inner.gone)
+    (stood : InnersStandFor it.inner params.spec calls) (right : IsTallied it.inner (tally_at it.tally)) where
+  abbrev spec : PredSpec
+  spec = params.spec
+
+  abbrev told : List DurationCall
+  told = calls ++ Learned at delta ∷ []
+
+  abbrev active : List MetricKey
+  active = active_in inner.keys.rows
+
+  abbrev new_inner : InnerTable
+  new_inner = record inner { touched = []; gone = []; keys = rows }
+
+  told_right : IsTallied inner (tally_at it.tally)
+  told_right = keeps (tally_at it.tally) right
+
+  active_now : active ≡ active_after spec told
+  active_now = active_is inner spec told (takes spec calls at stood)
+
+  -- the inner keys are those of the calls
+  new_stands : InnersStandFor new_inner spec told
+  new_stands =
+      let stands = takes spec calls at stood in
+      record {
+        nesting_is = stands.nesting_is;
+        bound_is = recounts.bound_is ∙ stands.bound_is;
+        state_is = same_state inner.unknown recounts.counts_are recounts.dropped_is ∙ stands.state_is;
+        known_are = recounts.known_are (last_known spec told) stands.known_are;
+      }
+
+  new_steady : AreSteady [] rows.rows
+  new_steady = recounts.steady told_right.steady
+
+  -- the tally counts the inner keys, and nothing else
+  new_counts : (key : MetricKey) → tally_at lowered key ≡ times key (flat_map row_tallied rows.rows)
+  new_counts = lowers (λ key. times key (flat_map row_tallied rows.rows))
+      (recounts.tally_is inner.gone told_right.all)
+
+  new_tally : IsTallied new_inner (tally_at lowered)
+  new_tally = record { all = λ key. omega (arith, new_counts key); steady = new_steady }
+
+  -- so it has the active keys
+  has_active : (key : MetricKey) → is_among is_same_key key active ≡ is_counted lowered key
+  has_active key =
+      is_among-firsts is_same_key metric_key_exact key [] (flat_map row_out inner.keys.rows)
+      ∙ sym (times-among key (flat_map row_out inner.keys.rows))
+      ∙ ap (λ l. nat_lt 0 (times key l)) (sym (steady_outs rows.rows new_steady ∙ recounts.outs_are))
+      ∙ ap (nat_lt 0) (sym (new_counts key))
+
+  -- and those that begin weren't active before
+  fresh_is : ((key : MetricKey) → is_among is_same_key key (active_since spec calls) ≡ is_counted it.tally key)
+      → fresh ≡ newly is_same_key (active_since spec calls) active
+  fresh_is counted =
+      let same : newly is_same_key (active_since spec calls) active ≡ fresh_in (tally_at it.tally) active =
+      λ i. filter (λ key. not (counted key i)) active in
+      finds told_right ∙ sym same
+
+-- nothing is touched or gone any more
+pub emptied : (it : SumProducer) (inner : InnerTable) (rows : Table LeafKey Inner) (tally : List (MetricKey × ℕ))
+    (table : Table MetricKey Span) (touched : List ℕ) (gone : List MetricKey) → [] ≡ touched → [] ≡ gone
+    → record it { inner = record inner { touched = []; gone = []; keys = rows }; tally = tally; table = table }
+    ≡ record it { inner = record inner { touched = touched; gone = gone; keys = rows }; tally = tally; table = table }
+emptied it inner rows tally table touched gone touched_is gone_is = λ i. record it {
+  inner = record inner { touched = touched_is i; gone = gone_is i; keys = rows };
+  tally = tally;
+  table = table;
+}
 
 -- a condition was told
-pub learned : (it : SumProducer) (inner : InnerTable) (active : List MetricKey) (mid new : Table MetricKey Span)
-    (at : ℕ) (delta : InnerDelta) → TakesDelta it.inner inner delta → active ≡ active_in inner.keys.rows
-    → length inner.keys.rows ≤ inner.keys.bound → StepsAll it.table mid active at
-    → BeginsAll mid new it.active active at
-    → Moves sum_law it (record it { inner = inner; active = active; table = new }) (Learned at delta)
-learned it inner active mid new at delta takes gathered fits steps begins =
-    moves_by it (record it { inner = inner; active = active; table = new }) (Learned at delta)
+pub learned : (it : SumProducer) (inner : InnerTable) (rows : Table LeafKey Inner)
+    (raised lowered : List (MetricKey × ℕ)) (fresh : List MetricKey) (mid new : Table MetricKey Span) (at : ℕ)
+    (delta : InnerDelta) → TakesDelta it.inner inner delta
+    → ((tally : MetricKey → ℕ) → IsTallied it.inner tally → IsTallied inner tally)
+    → (IsTallied inner (tally_at it.tally) → fresh ≡ fresh_in (tally_at it.tally) (active_in inner.keys.rows))
+    → Recounts inner.keys rows it.tally raised inner.touched [] → LowersAll raised lowered inner.gone
+    → length rows.rows ≤ rows.bound → StepsAll it.table mid (is_counted lowered) at → BeginsAll mid new [] fresh at
+    → Moves sum_law it
+    (record it { inner = record inner { touched = []; gone = []; keys = rows }; tally = lowered; table = new })
+    (Learned at delta)
+learned it inner rows raised lowered fresh mid new at delta takes keeps finds recounts lowers fits steps begins =
+    moves_by it
+    (record it { inner = record inner { touched = []; gone = []; keys = rows }; tally = lowered; table = new })
+    (Learned at delta)
     (λ params calls books has may.
     let spec = params.spec in
     let call : DurationCall = Learned at delta in
     let now = calls ++ call ∷ [] in
-    let stands = takes spec calls at has.inner in
-    let active_now : active ≡ active_after spec now = gathered ∙ active_is inner spec now stands in
-    let same_lost : inner.keys.dropped ≡ it.inner.keys.dropped =
-    same_drops inner spec now stands
+    let keys = active_since spec calls in
+    let active = active_in inner.keys.rows in
+    let next : InnerTable = record inner { touched = []; gone = []; keys = rows } in
+    let stands = new_stands it inner rows raised lowered fresh params calls at delta takes keeps finds recounts lowers
+    has.inner has.tally in
+    let active_now : active ≡ active_after spec now = active_is inner spec now (takes spec calls at has.inner) in
+    let member = has_active it inner rows raised lowered fresh params calls at delta takes keeps finds recounts lowers
+    has.inner has.tally in
+    let fresh_are = fresh_is it inner rows raised lowered fresh params calls at delta takes keeps finds recounts lowers
+    has.inner has.tally has.counted in
+    let same_lost : rows.dropped ≡ it.inner.keys.dropped =
+    same_drops next spec now stands
     ∙ ap (λ (s : PredicateState LeafKey). s.dropped) (inner_state-other spec calls call refl)
     ∙ sym (same_drops it.inner spec calls has.inner) in
+    let same_outs : active_in rows.rows ≡ active = ap (firsts is_same_key []) recounts.outs_are in
     let few : length active ≤ spec.bound =
-    omega (arith, few_active inner.keys.rows, ap length gathered, fits, stands.bound_is) in
-    let once : IsDistinct is_same_key active =
-    subst (IsDistinct is_same_key) (sym gathered) (active_once inner.keys.rows)
-    in
+    omega (arith, few_active rows.rows, ap length same_outs, fits, stands.bound_is) in
+    let once : IsDistinct is_same_key active = active_once inner.keys.rows in
     let standing = standing-push params calls call in
-    let turns = turned_by it active mid new at spec.bound (active_since spec calls)
-    (standing_of (duration_demands params) calls).last has.others books has.holds may.0.timely.not_before steps
-    (subst (λ ks. BeginsAll mid new ks active at) has.holds.active begins) few once in
-    let result = record it { inner = inner; active = active; table = new } in
+    let same : (λ (key : MetricKey). is_counted lowered key) ≡ (λ (key : MetricKey). is_among is_same_key key active) =
+    λ i key. sym (member key) i in
+    let turns = turned_by it active mid new at spec.bound keys
+    (standing_of (duration_demands params) calls).last has.others books has.holds may.0.timely.not_before
+    (subst (λ (f : MetricKey → Bool). StepsAll it.table mid f at) same steps)
+    (begins_newly mid new keys active fresh at fresh_are begins) few once in
+    let result = record it { inner = next; tally = lowered; table = new } in
+    let since : active ≡ active_since spec now = active_now ∙ sym (since-learned spec calls at delta) in
     subst (λ ks. HasSums result params now
-    (books_from (drops sum_kind spec.bound) books (turned at (active_since spec calls) ks))) active_now
+    (books_from (drops sum_kind spec.bound) books (turned at keys ks))) active_now
     (record {
       inner = stands;
+      tally = new_tally it inner rows raised lowered fresh params calls at delta takes keeps finds recounts lowers
+          has.inner has.tally;
+      counted = λ key. ap (is_among is_same_key key) (sym since) ∙ member key;
+      settled = λ none. (record { none_touched = refl; none_gone = refl }, same_outs ∙ since);
       others = has.others + turns.more;
       reported = omega (arith, same_lost, has.reported);
       dropped = omega (arith, same_lost, has.reported, has.dropped, turns.counted);
       in_bucket = λ sized. subst (λ (s : Standing). s.last ≤ s.next_end) (sym standing) (may.0.timely.in_bucket sized);
       holds = subst (λ (s : Standing). HoldsSums result spec.bound (active_since spec now) s.last
           (has.others + turns.more)
-          (books_from (drops sum_kind spec.bound) books (turned at (active_since spec calls) active))) (sym standing)
+          (books_from (drops sum_kind spec.bound) books (turned at keys active))) (sym standing)
           (subst (λ ks. HoldsSums result spec.bound ks at (has.others + turns.more)
-          (books_from (drops sum_kind spec.bound) books (turned at (active_since spec calls) active)))
-          (active_now ∙ sym (since-learned spec calls at delta))
-          (other_inner (record it { active = active; table = new }) inner spec.bound active at
+          (books_from (drops sum_kind spec.bound) books (turned at keys active))) since
+          (other_inner (record it { table = new }) next lowered spec.bound active at
           (has.others + turns.more)
-          (books_from (drops sum_kind spec.bound) books (turned at (active_since spec calls) active)) turns.holds));
+          (books_from (drops sum_kind spec.bound) books (turned at keys active)) turns.holds));
     }))
 
 -- the rows of all closed parts, with one part more
@@ -473,7 +611,6 @@ module _ (old mid : SumProducer) (kept : Keeping (Row ℕ)) (new : Table MetricK
   jumped_holds lost = record {
     bound_is = jumped_begun.has.bound_is;
     start = refl;
-    active = ap (λ (it : SumProducer). it.active) closes.same ∙ holds.active;
     came_last = refl;
     few = holds.few;
     once = holds.once;
@@ -514,10 +651,17 @@ module _ (old mid : SumProducer) (kept : Keeping (Row ℕ)) (new : Table MetricK
   pub jumps_dropped : (books_from (drops sum_kind bound) books all_marks).dropped ≡ books.dropped
   jumps_dropped = ap (λ (b : Books (Active MetricKey)). b.dropped) (jumped-are books.dropped jumped-drops)
 
+-- the tally of inner keys that stay is as right as before
+same_tally : (old new : SumProducer) → new.inner ≡ old.inner → new.tally ≡ old.tally
+    → IsTallied old.inner (tally_at old.tally) → IsTallied new.inner (tally_at new.tally)
+same_tally old new inner tally right =
+    subst (λ (t : InnerTable). IsTallied t (tally_at new.tally)) (sym inner)
+    (subst (λ t. IsTallied old.inner (tally_at t)) (sym tally) right)
+
 -- a report cut the open part
-pub cuts : (old mid new : SumProducer) (at : ℕ) → ClosesRows old mid at → Opens mid new
-    → Moves sum_law old new (CutAt at)
-cuts old mid new at closes opens = moves_by old new (CutAt at)
+pub cuts : (old mid new : SumProducer) (active : List MetricKey) (at : ℕ) → active ≡ active_in old.inner.keys.rows
+    → ClosesRows old mid at → Opens mid new active → Moves sum_law old new (CutAt at)
+cuts old mid new active at gathered closes opens = moves_by old new (CutAt at)
     (λ params calls books has may.
     let spec = params.spec in
     let call : DurationCall = CutAt at in
@@ -525,14 +669,16 @@ cuts old mid new at closes opens = moves_by old new (CutAt at)
     let keys = active_since spec calls in
     let standing = standing-push params calls call in
     let start : mid.start ≡ at = ap (λ (it : SumProducer). it.start) closes.same in
-    let active : mid.active ≡ keys = ap (λ (it : SumProducer). it.active) closes.same ∙ has.holds.active in
+    let are : active ≡ keys = gathered ∙ (has.settled may.0.settled).1 in
+    let tally : new.tally ≡ old.tally = ap (λ (it : SumProducer). it.tally) (opens.same ∙ ap (λ (it : SumProducer).
+    record it { table = new.table }) closes.same) in
     let inner : new.inner ≡ old.inner = ap (λ (it : SumProducer). it.inner) (opens.same ∙ ap (λ (it : SumProducer).
     record it { table = new.table }) closes.same) in
     let reported : new.reported ≡ old.reported = ap (λ (it : SumProducer). it.reported) (opens.same ∙ ap (λ (it :
     SumProducer). record it { table = new.table }) closes.same) in
     let begins : BeginsAll mid.table new.table [] keys at =
-    subst (λ ks. BeginsAll mid.table new.table [] ks at) active
-    (subst (BeginsAll mid.table new.table [] mid.active) start opens.begins) in
+    subst (λ ks. BeginsAll mid.table new.table [] ks at) are
+    (subst (BeginsAll mid.table new.table [] active) start opens.begins) in
     let none : AddsRows row_weight mid.kept mid.kept [] =
     λ all is. subst (λ rows. IsKept row_weight rows mid.kept) (sym (append-nil all)) is in
     let stops : at ≡ at + 0 * params.size = omega arith in
@@ -549,6 +695,14 @@ cuts old mid new at closes opens = moves_by old new (CutAt at)
     record {
       inner = subst (λ (t : InnerTable). InnersStandFor t spec now) (sym inner)
           (takes_other old.inner spec calls call refl (λ key. refl) has.inner);
+      tally = same_tally old new inner tally has.tally;
+      counted = counted_on new.tally spec calls call refl
+          (λ key. has.counted key ∙ ap (λ t. is_counted t key) (sym tally));
+      settled = λ none. (
+        subst IsSettled (sym inner) (has.settled may.0.settled).0,
+        ap (λ (t : InnerTable). active_in t.keys.rows) inner ∙ (has.settled may.0.settled).1
+            ∙ sym (since-other spec calls call refl),
+      );
       others = has.others;
       reported = omega (arith, has.reported, reported, ap (λ (t : InnerTable). t.keys.dropped) inner);
       dropped = omega (
@@ -567,13 +721,14 @@ cuts old mid new at closes opens = moves_by old new (CutAt at)
     })
 
 -- ends of buckets were crossed
-pub crosses : (old mid new : SumProducer) (kept : Keeping (Row ℕ)) (start : ℕ) (crossings : Crossings)
-    → ClosesRows old mid crossings.first_end
+pub crosses : (old mid new : SumProducer) (active : List MetricKey) (kept : Keeping (Row ℕ)) (start : ℕ)
+    (crossings : Crossings) → active ≡ active_in old.inner.keys.rows → ClosesRows old mid crossings.first_end
     → (last_end crossings < 2 ^ 63 → start ≡ last_end crossings)
     → (last_end crossings < 2 ^ 63 → AddsRows row_weight mid.kept kept
-    (whole_rows crossings.first_end crossings.size crossings.full_buckets mid.active))
-    → Opens (record mid { kept = kept; start = start }) new → Moves sum_law old new (Crossed crossings)
-crosses old mid new kept start crossings closes is_last adds opens = moves_by old new (Crossed crossings)
+    (whole_rows crossings.first_end crossings.size crossings.full_buckets active))
+    → Opens (record mid { kept = kept; start = start }) new active → Moves sum_law old new (Crossed crossings)
+crosses old mid new active kept start crossings gathered closes is_last adds opens =
+    moves_by old new (Crossed crossings)
     (λ params calls books has may.
     let spec = params.spec in
     let demands = duration_demands params in
@@ -586,15 +741,17 @@ crosses old mid new kept start crossings closes is_last adds opens = moves_by ol
     let fits = answer_fits demands (standing_of demands calls) crossings may.0 in
     let stops : start ≡ first + n * size = is_last fits in
     let standing = standing-push params calls call in
-    let active : mid.active ≡ keys = ap (λ (it : SumProducer). it.active) closes.same ∙ has.holds.active in
+    let are : active ≡ keys = gathered ∙ (has.settled may.0.settled).1 in
+    let tally : new.tally ≡ old.tally =
+    ap (λ (it : SumProducer). it.tally) opens.same ∙ ap (λ (it : SumProducer). it.tally) closes.same in
     let inner : new.inner ≡ old.inner =
     ap (λ (it : SumProducer). it.inner) opens.same ∙ ap (λ (it : SumProducer). it.inner) closes.same in
     let reported : new.reported ≡ old.reported =
     ap (λ (it : SumProducer). it.reported) opens.same ∙ ap (λ (it : SumProducer). it.reported) closes.same in
     let begins : BeginsAll mid.table new.table [] keys start =
-    subst (λ ks. BeginsAll mid.table new.table [] ks start) active opens.begins in
+    subst (λ ks. BeginsAll mid.table new.table [] ks start) are opens.begins in
     let added : AddsRows row_weight mid.kept kept (whole_rows first size n keys) =
-    subst (λ ks. AddsRows row_weight mid.kept kept (whole_rows first size n ks)) active (adds fits) in
+    subst (λ ks. AddsRows row_weight mid.kept kept (whole_rows first size n ks)) are (adds fits) in
     let sized : 0 < size = omega (arith, may.0.sized, may.0.answer.size) in
     let later : (standing_of demands calls).last ≤ first =
     omega (arith, has.in_bucket may.0.sized, may.0.answer.first_end) in
@@ -608,6 +765,14 @@ crosses old mid new kept start crossings closes is_last adds opens = moves_by ol
     record {
       inner = subst (λ (t : InnerTable). InnersStandFor t spec now) (sym inner)
           (takes_other old.inner spec calls call refl (λ key. refl) has.inner);
+      tally = same_tally old new inner tally has.tally;
+      counted = counted_on new.tally spec calls call refl
+          (λ key. has.counted key ∙ ap (λ t. is_counted t key) (sym tally));
+      settled = λ none. (
+        subst IsSettled (sym inner) (has.settled may.0.settled).0,
+        ap (λ (t : InnerTable). active_in t.keys.rows) inner ∙ (has.settled may.0.settled).1
+            ∙ sym (since-other spec calls call refl),
+      );
       others = has.others;
       reported = omega (arith, has.reported, reported, ap (λ (t : InnerTable). t.keys.dropped) inner);
       dropped = omega (
@@ -642,6 +807,12 @@ took it kept table reported none left is =
     let standing = standing-push params calls Took in
     record {
       inner = takes_other it.inner spec calls Took refl (λ key. refl) has.inner;
+      tally = has.tally;
+      counted = counted_on it.tally spec calls Took refl has.counted;
+      settled = λ none. (
+        (has.settled may.0).0,
+        (has.settled may.0).1 ∙ sym (since-other spec calls Took refl),
+      );
       others = 0;
       reported = omega (arith, is);
       dropped = omega (arith, is);
@@ -653,7 +824,6 @@ took it kept table reported none left is =
           (record {
             bound_is = ap (λ (t : Table MetricKey Span). t.bound) left ∙ has.holds.bound_is;
             start = has.holds.start;
-            active = has.holds.active;
             came_last = has.holds.came_last;
             few = has.holds.few;
             once = has.holds.once;
@@ -670,12 +840,23 @@ took it kept table reported none left is =
 -- a producer of no calls
 pub starts : (it : SumProducer) (params : DurationParams) → InnersStandFor it.inner params.spec []
     → it.table ≡ record { rows = []; bound = params.spec.bound; dropped = 0 } → it.start ≡ params.base
-    → it.active ≡ [] → ((weigh : Row ℕ → ℕ) → IsKept weigh [] it.kept) → it.reported ≡ 0 → SumStandsFor it params []
+    → it.tally ≡ [] → ((weigh : Row ℕ → ℕ) → IsKept weigh [] it.kept) → it.reported ≡ 0 → IsSettled it.inner
+    → it.inner.keys.rows ≡ [] → SumStandsFor it params []
 unfolding IsDistinct
-starts it params inner table start active kept reported =
+starts it params inner table start tally kept reported settled empty =
     let none = same_drops it.inner params.spec [] inner in
     record {
       inner = inner;
+      tally = record {
+        all = λ key.
+            let none = ap (λ t. tally_at t key) tally in
+            let rows = ap (λ l. times key (flat_map row_tallied l)) empty in
+            let gone = ap (times key) settled.none_gone in
+            omega (arith, none, rows, gone);
+        steady = λ at row there passes. absurd (none-some row (sym (ap (λ l. slice_get l at) empty) ∙ there));
+      };
+      counted = λ key. sym (ap (λ t. is_counted t key) tally);
+      settled = λ none. (settled, ap active_in empty);
       others = 0;
       reported = omega (arith, reported);
       dropped = omega (arith, none);
@@ -683,7 +864,6 @@ starts it params inner table start active kept reported =
       holds = record {
         bound_is = ap (λ (t : Table MetricKey Span). t.bound) table;
         start = start;
-        active = active;
         came_last = refl;
         few = omega arith;
         once = tt;

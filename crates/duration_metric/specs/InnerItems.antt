@@ -1,14 +1,14 @@
 -- The items of what is kept of inner keys and of spans.
-use Rattle.std.specs.Prelude.{ℕ, ◌+◌, ◌≤◌, List, [], ◌∷◌, ◌++◌, length, All, Option, Some, None}
+use Rattle.std.specs.Prelude.{ℕ, ◌≤◌, List, [], ◌∷◌, length, Option, Some, None}
 use Rattle.std.proofs.Common.{arith}
 use Rattle.std.proofs.lemmas.List.Elements.{All-nil, All-cons}
-use Rattle.atom_record.specs.declared.value.MetricKey.{MetricKey}
 use Rattle.flat_form.specs.declared.item.Item.{Item}
 use Rattle.flat_form.specs.declared.item.Item.TheVariants.{Num}
 use Rattle.flat_form.specs.Flat.{Anything, IsMissingOr, number_items, key_items, option_items}
 use Rattle.flat_form.specs.Savable.{AreSavable, IsShortKey}
 use Rattle.flat_form.specs.SavableLaws.{items_savable, number_savable, key_savable, option_savable}
 use Rattle.flat_form.specs.Weight.{most_items}
+use Rattle.predicate_state.specs.PredicateItems.{flag_number}
 use Rattle.predicate_state.specs.declared.truth.Truth.{Truth}
 use Rattle.predicate_state.specs.declared.truth.Truth.TheVariants.{False, Unknown, True}
 use Rattle.duration_metric.specs.declared.inner.Known.{Known}
@@ -49,23 +49,24 @@ few_known_items : (known : Option Known) → length (option_items known_items kn
 few_known_items None = omega arith
 few_known_items (Some known) = omega arith
 
--- an inner key is its count, and what was told of it
+-- an inner key is its count, whether it is in the tally, and what was told of it
 abbrev pub inner_items : Inner → List Item
-inner_items inner = Num inner.count ∷ option_items known_items inner.known
+inner_items inner = Num inner.count ∷ Num (flag_number inner.tallied) ∷ option_items known_items inner.known
 
 -- the output key that was told fits its counts
 abbrev pub IsSavableInner : Inner → Type 0
 IsSavableInner inner = IsMissingOr IsSavableKnown inner.known
 
--- a head of five items
-pub inner_bounded : (inner : Inner) → Anything inner → length (inner_items inner) ≤ most_items 5 0
+-- a head of six items
+pub inner_bounded : (inner : Inner) → Anything inner → length (inner_items inner) ≤ most_items 6 0
 inner_bounded inner valid = omega (arith, few_known_items inner.known)
 
 -- it can be spelled where its output key can
 pub inner_savable : (inner : Inner) → Anything inner → IsSavableInner inner → AreSavable (inner_items inner)
 inner_savable inner valid can =
-    items_savable (Num inner.count) (option_items known_items inner.known) tt
-    (option_savable known_items Anything IsSavableKnown known_savable inner.known (missing_or_any inner.known) can)
+    items_savable (Num inner.count) (Num (flag_number inner.tallied) ∷ option_items known_items inner.known) tt
+    (items_savable (Num (flag_number inner.tallied)) (option_items known_items inner.known) tt
+    (option_savable known_items Anything IsSavableKnown known_savable inner.known (missing_or_any inner.known) can))
 
 -- an inner key with its time is three numbers, and what was told of it
 abbrev pub entry_items : SparseEntry → List Item

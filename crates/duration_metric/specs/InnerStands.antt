@@ -1,7 +1,8 @@
 -- What a table of inner keys stands for.
-use Rattle.std.specs.Prelude.{◌≡◌, ℕ, List, [], ◌∷◌, ◌++◌, map, position, slice_get, Contains, Option, Some, None}
+use Rattle.std.specs.Prelude.{◌≡◌, ℕ, false, List, [], ◌∷◌, ◌++◌, map, position, slice_get, Contains, Option, Some, None}
 use Rattle.std.specs.List.{last_or}
 use Rattle.std.specs.Map.{values_of}
+use Rattle.atom_record.specs.declared.value.MetricKey.{MetricKey}
 use Rattle.config_types.specs.declared.parameters.PredSpec.{PredSpec}
 use Rattle.dim_table.specs.Table.{keys, set_value_at, with_value_at}
 use Rattle.predicate_state.specs.declared.event.PredEvent.{PredEvent}
@@ -15,6 +16,7 @@ use Rattle.duration_metric.specs.declared.inner.Known.{Known}
 use Rattle.duration_metric.specs.declared.inner.Inner.{Inner}
 use Rattle.duration_metric.specs.declared.inner.InnerTable.{InnerTable}
 use Rattle.duration_metric.specs.InnerKeys.{DurationCall, known_by, known_at, inner_state, last_known}
+use Rattle.duration_metric.specs.Tallies.{tallied_key, IsTallied, KeepsTally}
 
 -- a listed key with its count
 abbrev pub row_count : LeafKey × Inner → LeafKey × ℕ
@@ -53,6 +55,7 @@ pub record ChangesTo (old new : InnerTable) (state : PredicateState LeafKey) : T
   pub bound_is : new.keys.bound ≡ old.keys.bound
   pub state_is : state_in new ≡ state
   pub known_are : KeepsKnown old new
+  pub tally_is : KeepsTally old new
 
 -- an event acts on a key of a table as on one of a predicate, and tells nothing
 abbrev pub ActsOn : InnerTable → InnerTable → PredEvent → LeafKey → Type 0
@@ -81,12 +84,22 @@ TakesDelta old new delta =
     (spec : PredSpec) (calls : List DurationCall) (at : ℕ) → InnersStandFor old spec calls
     → InnersStandFor new spec (calls ++ Learned at delta ∷ [])
 
+-- a key was told this, and the tally isn't to count it as before
+abbrev pub told : Inner → InnerChange → Inner
+told inner change = record inner { known = Some (known_by change); tallied = false }
+
+-- the key at a place is another now, and what the tally counted for it is put down
+abbrev pub with_other : InnerTable → ℕ → Inner → Inner → InnerTable
+with_other it place was now = record it {
+  keys = with_value_at it.keys place now;
+  touched = it.touched ++ place ∷ [];
+  gone = it.gone ++ tallied_key was;
+}
+
 -- A change tells of the key at its place, if there is one.
 pub record TellsOne (old new : InnerTable) (change : InnerChange) : Type 0 where
   pub there : (inner : Inner) → slice_get (values_of old.keys.rows) change.place ≡ Some inner
-      → new ≡ record old {
-        keys = with_value_at old.keys change.place (record inner { known = Some (known_by change) });
-      }
+      → new ≡ with_other old change.place inner (told inner change)
   pub nowhere : slice_get (values_of old.keys.rows) change.place ≡ None → new ≡ old
 
 -- Each of some changes tells of the key at its place, the last one last.
@@ -97,3 +110,4 @@ pub record TellsAll (old new : InnerTable) (changes : List InnerChange) : Type 0
   pub known_are : (known : LeafKey → Option Known) → AreKnown known old.keys.rows
       → AreKnown (λ key. last_or (known key) (known_at changes (position (same_leaves key) (keys old.keys))))
       new.keys.rows
+  pub tally_is : (tally : MetricKey → ℕ) → IsTallied old tally → IsTallied new tally

@@ -1,6 +1,7 @@
 pub mod InnerKeys
-pub mod InnerStands
 pub mod SumCalls
+pub mod Tallies
+pub mod InnerStands
 pub mod SumStands
 pub mod SumSteps
 pub mod SparseCalls
@@ -8,7 +9,6 @@ pub mod SparseTimes
 pub mod SparseBooksStand
 pub mod SparseEntries
 pub mod SparseStands
-pub mod ActiveForm
 pub mod InnerItems
 pub mod SumItems
 pub mod SumForm

@@ -1,7 +1,7 @@
 -- Which books of a longest duration an object holds, and what a mark makes of them.
 use Rattle.std.specs.Prelude.{◌≡◌, ℕ, ◌+◌, [], List}
 use Rattle.atom_record.specs.declared.value.MetricKey.{MetricKey}
-use Rattle.bucket_meaning.specs.Marks.{Mark, Books, after, books_from}
+use Rattle.bucket_meaning.specs.Marks.{Mark, Books, books_from}
 use Rattle.bucket_meaning.specs.Kept.{count_in_u64, taken_of}
 use Rattle.bucket_meaning.specs.Rows.{drops, closed_rows}
 use Rattle.kept_rows.specs.KeptRows.{IsKept}

@@ -1,5 +1,5 @@
 -- The parts of which a producer of longest durations is built. Only a private clause cites this.
-use Rattle.std.specs.Prelude.{◌≡◌, ℕ, ◌<◌, ◌^◌, List, Option, Some, None}
+use Rattle.std.specs.Prelude.{◌≡◌, ℕ, ◌<◌, ◌^◌, Option, Some, None}
 use Rattle.atom_record.specs.declared.value.MetricKey.{MetricKey}
 use Rattle.dim_table.specs.Table.{Table}
 use Rattle.kept_rows.specs.KeptRows.{Keeping}

@@ -1,6 +1,7 @@
 -- The parts of which a producer of sums is built. Only a private clause cites this.
 use Rattle.std.specs.Prelude.{◌≡◌, ℕ, List, Result, Ok, Err}
 use Rattle.std.specs.List.{IsDistinct}
+use Rattle.std.specs.Map.{keys_of}
 use Rattle.atom_record.specs.declared.value.MetricKey.{MetricKey}
 use Rattle.dim_table.specs.Table.{Table}
 use Rattle.flat_form.specs.declared.flat_error.FlatError.{FlatError}
@@ -15,10 +16,10 @@ use Rattle.duration_metric.specs.declared.sum.Span.{Span}
 use Rattle.duration_metric.specs.declared.sum.SumProducer.{SumProducer}
 use Rattle.duration_metric.specs.SumItems.{IsSumProducer}
 
--- Four numbers, the inner keys, the active keys, the spans and the kept rows.
+-- Four numbers, the inner keys, what an event made of them, the active keys, the spans and the kept rows.
 abbrev pub SumForm : Type 0
 SumForm = ℕ × (ℕ × (ℕ × (ℕ × (Table LeafKey Inner
-    × (List MetricKey × (Table MetricKey Span × Keeping (Row ℕ)))))))
+    × (List ℕ × (List MetricKey × (List (MetricKey × ℕ) × (Table MetricKey Span × Keeping (Row ℕ)))))))))
 
 -- the parts of a sum
 abbrev pub sum_form : SumProducer → SumForm
@@ -30,7 +31,7 @@ sum_form it = (
       flag_number it.inner.nesting,
       (
         flag_number it.inner.unknown,
-        (it.inner.keys, (it.active, (it.table, it.kept))),
+        (it.inner.keys, (it.inner.touched, (it.inner.gone, (it.tally, (it.table, it.kept))))),
       ),
     ),
   ),
@@ -39,7 +40,7 @@ sum_form it = (
 -- the sum has these parts, and no key is active twice
 pub record HasSumForm (form : SumForm) (it : SumProducer) : Type 0 where
   pub is : sum_form it ≡ form
-  pub once : IsDistinct is_same_key it.active
+  pub once : IsDistinct is_same_key (keys_of it.tally)
 
 -- a sum with these parts, or that none has them
 abbrev pub RestoresSum : SumForm → Result SumProducer FlatError → Type 0

@@ -1,8 +1,8 @@
 -- What a producer of sums of durations stands for.
 use Rattle.std.specs.Prelude.{◌≡◌, ℕ, zero, suc, ◌+◌, ◌-◌, ◌<◌, ◌≤◌, Bool, true, false, List, [], ◌∷◌, ◌++◌, map, length, Option, Some, None}
-use Rattle.std.specs.List.{IsDistinct}
+use Rattle.std.specs.List.{flat_map, IsDistinct}
 use Rattle.atom_record.specs.declared.value.MetricKey.{MetricKey}
-use Rattle.bucket_meaning.specs.Guard.{is_among, admitted}
+use Rattle.bucket_meaning.specs.Guard.{is_among, firsts, admitted}
 use Rattle.bucket_meaning.specs.Kept.{count_in_u64}
 use Rattle.bucket_meaning.specs.Marks.{Books}
 use Rattle.bucket_meaning.specs.Meaning.{books_by}
@@ -21,6 +21,7 @@ use Rattle.duration_metric.specs.declared.sum.Span.{Span}
 use Rattle.duration_metric.specs.declared.sum.SumProducer.{SumProducer}
 use Rattle.duration_metric.specs.InnerKeys.{DurationParams, DurationCall, duration_demands}
 use Rattle.duration_metric.specs.InnerStands.{InnersStandFor}
+use Rattle.duration_metric.specs.Tallies.{tally_at, is_counted, row_out, IsTallied, IsSettled}
 use Rattle.duration_metric.specs.SumCalls.{active_since, sum_collecting}
 
 -- a span that goes on, or begins
@@ -78,7 +79,6 @@ pub record HoldsSums (it : SumProducer) (bound : ℕ) (keys : List MetricKey) (l
     (books : Books (Active MetricKey)) : Type 0 where
   pub bound_is : it.table.bound ≡ bound
   pub start : it.start ≡ books.start
-  pub active : it.active ≡ keys
   pub came_last : last_keys [] books.came ≡ keys
   pub few : length keys ≤ bound
   pub once : IsDistinct is_same_key keys
@@ -94,6 +94,12 @@ pub record HoldsSums (it : SumProducer) (bound : ℕ) (keys : List MetricKey) (l
 pub record HasSums (it : SumProducer) (params : DurationParams) (calls : List DurationCall)
     (books : Books (Active MetricKey)) : Type 0 where
   pub inner : InnersStandFor it.inner params.spec calls
+  pub tally : IsTallied it.inner (tally_at it.tally)
+  pub counted : (key : MetricKey)
+      → is_among is_same_key key (active_since params.spec calls) ≡ is_counted it.tally key
+  pub settled : (standing_of (duration_demands params) calls).owed ≡ None
+      → IsSettled it.inner
+      × (firsts is_same_key [] (flat_map row_out it.inner.keys.rows) ≡ active_since params.spec calls)
   pub others : ℕ
   pub reported : it.reported ≤ it.inner.keys.dropped
   pub dropped : books.dropped ≡ others + (it.inner.keys.dropped - it.reported)

@@ -1,5 +1,5 @@
 -- How the steps of a producer of sums change its table and its rows.
-use Rattle.std.specs.Prelude.{◌≡◌, ◌⊎◌, ℕ, ◌+◌, nat_lt, true, false, List, [], ◌++◌, map, slice_get, Option, Some, None, if◌then◌else◌}
+use Rattle.std.specs.Prelude.{◌≡◌, ◌⊎◌, Bool, ℕ, ◌+◌, nat_lt, true, false, not, List, [], ◌∷◌, ◌++◌, map, filter, slice_get, Option, Some, None}
 use Rattle.std.specs.List.{flat_map}
 use Rattle.atom_record.specs.declared.value.MetricKey.{MetricKey}
 use Rattle.bucket_meaning.specs.Guard.{is_among, firsts, admitted, dropped}
@@ -15,34 +15,31 @@ use Rattle.duration_metric.specs.declared.inner.Known.{Known}
 use Rattle.duration_metric.specs.declared.inner.Inner.{Inner}
 use Rattle.duration_metric.specs.declared.sum.Span.{Span}
 use Rattle.duration_metric.specs.declared.sum.SumProducer.{SumProducer}
-use Rattle.duration_metric.specs.SumCalls.{known_out}
+use Rattle.duration_metric.specs.InnerStands.{row_count, AreKnown}
+use Rattle.duration_metric.specs.Tallies.{row_out, tally_at, times, Raises, CountsAll, AreSteady}
 use Rattle.duration_metric.specs.SumStands.{span_at, span_row}
-
--- the output key for which an inner key counts that has this count, and was told this
-abbrev pub out_for : ℕ → Option Known → List MetricKey
-out_for count known = if nat_lt 0 count then known_out known else []
-
--- the output key for which the inner key of a row counts
-abbrev pub row_out : LeafKey × Inner → List MetricKey
-row_out row = out_for row.1.count row.1.known
 
 -- the active keys, by the rows of the inner keys
 abbrev pub active_in : List (LeafKey × Inner) → List MetricKey
 active_in rows = firsts is_same_key [] (flat_map row_out rows)
 
+-- a key's span from a time on, where it is told which keys are active
+abbrev pub row_when : (MetricKey → Bool) → ℕ → MetricKey × Span → MetricKey × Span
+row_when is_active at row = (row.0, span_at at (is_active row.0) row.1)
+
 -- a key's span from a time on, from which these keys are active
 abbrev pub row_at : List MetricKey → ℕ → MetricKey × Span → MetricKey × Span
-row_at active at row = (row.0, span_at at (is_among is_same_key row.0 active) row.1)
+row_at active at row = row_when (λ key. is_among is_same_key key active) at row
 
 -- The span at one place is taken to a time.
-pub record StepsOne (old new : Table MetricKey Span) (active : List MetricKey) (place at : ℕ) : Type 0 where
+pub record StepsOne (old new : Table MetricKey Span) (is_active : MetricKey → Bool) (place at : ℕ) : Type 0 where
   pub there : (row : MetricKey × Span) → slice_get old.rows place ≡ Some row
-      → new ≡ with_value_at old place (row_at active at row).1
+      → new ≡ with_value_at old place (row_when is_active at row).1
   pub nowhere : slice_get old.rows place ≡ None → new ≡ old
 
 -- all spans are taken to a time
-abbrev pub StepsAll : Table MetricKey Span → Table MetricKey Span → List MetricKey → ℕ → Type 0
-StepsAll old new active at = new ≡ record old { rows = map (row_at active at) old.rows }
+abbrev pub StepsAll : Table MetricKey Span → Table MetricKey Span → (MetricKey → Bool) → ℕ → Type 0
+StepsAll old new is_active at = new ≡ record old { rows = map (row_when is_active at) old.rows }
 
 -- a span that begins
 abbrev pub begun : ℕ → Span
@@ -85,7 +82,50 @@ pub record ClosesRows (old new : SumProducer) (end : ℕ) : Type 0 where
   pub same : new ≡ record old { start = end; table = record old.table { rows = [] }; kept = new.kept }
   pub adds : AddsRows row_weight old.kept new.kept (flat_map (span_row old.start end) old.table.rows)
 
--- The active keys began at the start of the open part.
-pub record Opens (old new : SumProducer) : Type 0 where
+-- These keys began at the start of the open part.
+pub record Opens (old new : SumProducer) (active : List MetricKey) : Type 0 where
   pub same : new ≡ record old { table = new.table }
-  pub begins : BeginsAll old.table new.table [] old.active old.start
+  pub begins : BeginsAll old.table new.table [] active old.start
+
+-- the output key for which the inner key of a row counts, where the tally has it not
+abbrev pub fresh_out : (MetricKey → ℕ) → LeafKey × Inner → List MetricKey
+fresh_out tally row = filter (λ key. not (nat_lt 0 (tally key))) (row_out row)
+
+-- those of some keys that the tally has not
+abbrev pub fresh_in : (MetricKey → ℕ) → List MetricKey → List MetricKey
+fresh_in tally keys = filter (λ key. not (nat_lt 0 (tally key))) keys
+
+-- that of a row, if there is one
+abbrev pub found_out : (MetricKey → ℕ) → Option (LeafKey × Inner) → List MetricKey
+found_out tally None = []
+found_out tally (Some row) = fresh_out tally row
+
+-- that of the row at a place
+abbrev pub fresh_at : (MetricKey → ℕ) → List (LeafKey × Inner) → ℕ → List MetricKey
+fresh_at tally rows place = found_out tally (slice_get rows place)
+
+-- What is taken into the tally where one place is looked at: nothing, or the key for which its row counts.
+abbrev pub CountsAt : Table LeafKey Inner → Table LeafKey Inner → List (MetricKey × ℕ) → List (MetricKey × ℕ) → ℕ → Type 0
+CountsAt old new before now place =
+    ((new ≡ old) × (now ≡ before) × ((row : LeafKey × Inner) → slice_get old.rows place ≡ Some row
+    → (row.1.tallied ≡ true) ⊎ ((row.1.tallied ≡ false) × (row_out row ≡ []))))
+    ⊎ ((row : LeafKey × Inner) × (key : MetricKey) × (slice_get old.rows place ≡ Some row) × (row.1.tallied ≡ false)
+    × (row_out row ≡ key ∷ []) × Raises before now key
+    × (new ≡ with_value_at old place (record row.1 { tallied = true })))
+
+-- The rows at some places are in the tally, but for those that are left.
+pub record Recounts (first last : Table LeafKey Inner) (before now : List (MetricKey × ℕ)) (places left : List ℕ) :
+    Type 0 where
+  pub bound_is : last.bound ≡ first.bound
+  pub dropped_is : last.dropped ≡ first.dropped
+  pub counts_are : map row_count last.rows ≡ map row_count first.rows
+  pub known_are : (known : LeafKey → Option Known) → AreKnown known first.rows → AreKnown known last.rows
+  pub outs_are : flat_map row_out last.rows ≡ flat_map row_out first.rows
+  pub tally_is : (gone : List MetricKey) → CountsAll (tally_at before) first.rows gone
+      → CountsAll (tally_at now) last.rows gone
+  pub steady : AreSteady places first.rows → AreSteady left last.rows
+
+-- whatever the tally counts besides some keys, it counts that alone
+abbrev pub LowersAll : List (MetricKey × ℕ) → List (MetricKey × ℕ) → List MetricKey → Type 0
+LowersAll old new keys = (rest : MetricKey → ℕ) → ((key : MetricKey) → tally_at old key ≡ rest key + times key keys)
+    → (key : MetricKey) → tally_at new key ≡ rest key

@@ -1,13 +1,11 @@
 //! The active keys of a sum.
 ghost use Rattle.std.specs.Prelude.{◌≡◌, [], OnOk};
-ghost use Rattle.std.specs.List.{list_any, IsDistinct};
+ghost use Rattle.std.specs.List.{IsDistinct};
 ghost use Rattle.bucket_meaning.specs.Guard.{with_key};
 ghost use Rattle.metric_kinds.specs.Keys.{is_same_key};
-ghost use Rattle.duration_metric.specs.ActiveForm.{MakesActive};
 
 use atom_record::MetricKey;
 use distinct::Distinct;
-use flat_form::FlatError;
 use std::alloc::{AllocError, Global};
 use std::marker::Model;
 
@@ -40,20 +38,6 @@ impl ActiveKeys {
         }
     }
 
-    /// These keys, or `Bad` where one stands there twice.
-    pub(crate) fn made_of(alloc: Global, keys: &[MetricKey]) -> Result<ActiveKeys, FlatError>
-        ensures { MakesActive keys.now result }
-    {
-        let mut active = ActiveKeys::new(alloc);
-        for key in keys {
-            if active.contains(key) {
-                return Err(FlatError::Bad);
-            }
-            active.list(key, alloc)?;
-        }
-        Ok(active)
-    }
-
     /// Lists a key, unless it is there.
     pub(crate) fn list(&mut self, key: &MetricKey, alloc: Global) -> Result<(), AllocError>
         ensures { OnOk result (self.new ≡ with_key is_same_key self.old key.now) }
@@ -63,13 +47,6 @@ impl ActiveKeys {
         }
         self.keys.add(key.clone_key(alloc)?)?;
         Ok(())
-    }
-
-    /// Whether a key is there.
-    pub(crate) fn contains(&self, key: &MetricKey) -> bool
-        ensures { result ≡ list_any (is_same_key key.now) self.now }
-    {
-        self.keys.contains(key)
     }
 
     /// The keys, in order.

@@ -100,9 +100,9 @@ impl Flat for Inner {
 
     ghost savable = { IsSavableInner };
 
-    ghost head = { 5 };
+    ghost head = { 6 };
 
-    ghost short = { short_head 5 refl };
+    ghost short = { short_head 6 refl };
 
     ghost bounded = { inner_bounded };
 
@@ -113,14 +113,22 @@ impl Flat for Inner {
     fn show_valid(&self) {}
 
     fn flatten(&self, alloc: Global, out: &mut Items) -> Result<(), AllocError> {
-        self.count.flatten(alloc, out)?;
+        (self.count, encode_flag(self.tallied)).flatten(alloc, out)?;
         Flat::flatten(&self.known, alloc, out)
     }
 
     fn build(alloc: Global, items: &Items, place: usize) -> Result<(Inner, usize), FlatError> {
-        let (form, next) = <(u64, Option<Known>)>::build(alloc, items, place)?;
-        let (count, known) = form;
-        Ok((Inner { count, known }, next))
+        let (form, next) = <(u64, (u64, Option<Known>))>::build(alloc, items, place)?;
+        let (count, (number, known)) = form;
+        let Some(tallied) = decode_flag(number) else {
+            return Err(FlatError::Bad);
+        };
+        let inner = Inner {
+            count,
+            known,
+            tallied,
+        };
+        Ok((inner, next))
     }
 }
 

@@ -1,7 +1,9 @@
 //! The inner keys of a metric of durations: which are listed, how often each was started, and what was told of each.
-ghost use Rattle.std.specs.Prelude.{◌≡◌, ◌<◌, ◌≤◌, ◌++◌, List, [], length, position, slice_get, OnOk, Contains, None, IfSome};
+ghost use Rattle.std.specs.Prelude.{◌≡◌, ℕ, ◌<◌, ◌≤◌, ◌++◌, List, [], length, position, slice_get, OnOk, IfOk, Contains, None, IfSome, option_to_list};
 ghost use Rattle.std.specs.Map.{keys_of, lookup};
+ghost use Rattle.std.specs.List.{flat_map};
 ghost use Rattle.std.specs.Option.{option_map, option_copied, option_and_then};
+ghost use Rattle.atom_record.specs.declared.value.MetricKey.{MetricKey};
 ghost use Rattle.bucket_meaning.specs.Limits.{most_keys};
 ghost use Rattle.config_types.specs.declared.parameters.PredSpec.{PredSpec};
 ghost use Rattle.dim_table.specs.Table.{keys};
@@ -10,14 +12,17 @@ ghost use Rattle.predicate_state.specs.PredicateStates.{count_after_start, count
 ghost use Rattle.predicate_state.specs.PredicateTable.{LeafKey, same_leaves};
 ghost use Rattle.duration_metric.specs.InnerKeys.{DurationCall, says, inner_keys, told_truth, was_told};
 ghost use Rattle.duration_metric.specs.InnerStands.{state_in, InnersStandFor, ChangesTo, ActsOn, SetsCount, ListsKey, TakesEvent, TakesDelta, TellsOne, TellsAll};
+ghost use Rattle.duration_metric.specs.Tallies.{tallied_key, freed_key, left_key, row_tallied, IsTallied, IsSettled, KeepsTally};
 
 use crate::{InnerChange, InnerDelta, InnerEvent};
 use atom_record::{DimKey, MetricKey};
 use config_types::PredSpec;
 use dim_table::Guarded;
+use indexmap::map::IntoIter;
 use predicate_state::{PredEvent, Truth};
 use sd_base::Seq;
 use std::alloc::{AllocError, Global};
+use std::mem;
 
 /// What was told last of an inner key.
 #[derive(Drop)]
@@ -32,6 +37,8 @@ pub(crate) struct Inner {
     /// The number of starts that no stop has met.
     pub(crate) count: u64,
     pub(crate) known: Option<Known>,
+    /// Whether the tally of active keys counts it, for the output key that was told.
+    pub(crate) tallied: bool,
 }
 
 /// The inner keys in order, up to a bound.
@@ -42,6 +49,10 @@ pub(crate) struct InnerTable {
     /// Whether keys that aren't listed are unknown.
     pub(crate) unknown: bool,
     pub(crate) keys: Guarded<DimKey, Inner>,
+    /// The places of keys that changed since the tally was right. None of them leaves before it is right again.
+    pub(crate) touched: Seq<u64>,
+    /// The output keys of inner keys that the tally counts still.
+    pub(crate) gone: Seq<MetricKey>,
 }
 
 impl InnerTable {
@@ -49,72 +60,95 @@ impl InnerTable {
     pub(crate) fn new(alloc: Global, spec: PredSpec) -> InnerTable
         requires least { 1 ≤ spec.bound }
         requires most { spec.bound ≤ most_keys }
-        ensures { InnersStandFor result spec [] }
+        ensures stands { InnersStandFor result spec [] }
+        ensures settled { IsSettled result }
+        ensures empty { result.keys.rows ≡ [] }
     {
         InnerTable {
             nesting: spec.nesting,
             unknown: spec.unknown,
             keys: Guarded::new(alloc, spec.bound as usize),
+            touched: Seq::new(alloc),
+            gone: Seq::new(alloc),
         }
     }
 
     /// Lets an event act on its key.
-    pub(crate) fn act(&mut self, ev: InnerEvent) -> Result<(), AllocError>
-        ensures { OnOk result (TakesEvent self.old self.new ev) }
+    pub(crate) fn act(&mut self, ev: InnerEvent, alloc: Global) -> Result<(), AllocError>
+        ensures calls { OnOk result (TakesEvent self.old self.new ev) }
+        ensures tally { OnOk result (KeepsTally self.old self.new) }
     {
         let InnerEvent { event, key } = ev;
-        self.apply(event, key)
+        self.apply(event, key, alloc)
     }
 
     // Lets an event act on a key.
-    fn apply(&mut self, event: PredEvent, key: DimKey) -> Result<(), AllocError>
+    fn apply(&mut self, event: PredEvent, key: DimKey, alloc: Global) -> Result<(), AllocError>
         ensures { OnOk result (ActsOn self.old self.new event key) }
     {
         match event {
-            PredEvent::Start => self.start(key),
-            PredEvent::Stop => self.stop(key),
-            PredEvent::StopAll => {
-                self.stop_all();
-                Ok(())
-            }
+            PredEvent::Start => self.start(key, alloc),
+            PredEvent::Stop => self.stop(key, alloc),
+            PredEvent::StopAll => self.stop_all(),
         }
     }
 
     // No key is listed any more, and none is unknown.
-    fn stop_all(&mut self)
-        ensures { ChangesTo self.old self.new (state_after_stop_all (state_in self.old)) }
+    fn stop_all(&mut self) -> Result<(), AllocError>
+        ensures { OnOk result
+            (ChangesTo self.old self.new (state_after_stop_all (state_in self.old))) }
     {
         self.unknown = false;
-        self.keys.clear();
+        let rows = self.keys.move_out();
+        self.leave_all(rows)
+    }
+
+    // The output keys of keys that left are put down.
+    fn leave_all(&mut self, rows: IntoIter<DimKey, Inner>) -> Result<(), AllocError>
+        ensures { OnOk result
+            (self.new ≡ record self.old { gone = self.old.gone ++ flat_map row_tallied rows }) }
+    {
+        for (_key, inner) in rows {
+            self.leave(freed(inner.tallied, inner.known))?;
+        }
+        Ok(())
+    }
+
+    // The output key of a key that left is put down, if the tally counts for it.
+    fn leave(&mut self, out: Option<MetricKey>) -> Result<(), AllocError>
+        ensures { OnOk result
+            (self.new ≡ record self.old { gone = self.old.gone ++ option_to_list out }) }
+    {
+        let Some(out) = out else {
+            return Ok(());
+        };
+        self.gone.push(out)
     }
 
     // Counts a start of a key.
-    fn start(&mut self, key: DimKey) -> Result<(), AllocError>
+    fn start(&mut self, key: DimKey, alloc: Global) -> Result<(), AllocError>
         ensures { OnOk result (ActsOn self.old self.new Start key) }
     {
         match self.row_of(&key) {
             Some((place, count)) => {
                 let more = add_start(self.nesting, count);
-                self.set_count(place, more);
-                Ok(())
+                self.set_count(place, more, alloc)
             }
             None => self.append(key, 1),
         }
     }
 
     // Counts a stop of a key.
-    fn stop(&mut self, key: DimKey) -> Result<(), AllocError>
+    fn stop(&mut self, key: DimKey, alloc: Global) -> Result<(), AllocError>
         ensures { OnOk result (ActsOn self.old self.new Stop key) }
     {
         match self.row_of(&key) {
             Some((place, count)) => {
                 let less = add_stop(self.nesting, count);
                 if less == 0 && !self.unknown {
-                    self.remove(&key);
-                    return Ok(());
+                    return self.remove(&key);
                 }
-                self.set_count(place, less);
-                Ok(())
+                self.set_count(place, less, alloc)
             }
             None => {
                 if !self.unknown {
@@ -126,10 +160,14 @@ impl InnerTable {
     }
 
     // Takes a key out; those after it move up.
-    fn remove(&mut self, key: &DimKey)
-        ensures { ChangesTo self.old self.new (without_key same_leaves (state_in self.old) key.now) }
+    fn remove(&mut self, key: &DimKey) -> Result<(), AllocError>
+        ensures { OnOk result
+            (ChangesTo self.old self.new (without_key same_leaves (state_in self.old) key.now)) }
     {
-        self.keys.remove(key);
+        // The keys are distinct, so that one row leaves.
+        let _len = self.keys.len();
+        let out = left(self.keys.remove(key));
+        self.leave(out)
     }
 
     // The place of a listed key, and its count.
@@ -146,14 +184,18 @@ impl InnerTable {
     }
 
     // Gives the key at a place another count.
-    fn set_count(&mut self, place: usize, count: u64)
+    fn set_count(&mut self, place: usize, count: u64, alloc: Global) -> Result<(), AllocError>
         requires { place < length (state_in self.old).counts }
-        ensures { SetsCount self.old self.new place count }
+        ensures { OnOk result (SetsCount self.old self.new place count) }
     {
         let Some(inner) = self.keys.value_at(place) else {
-            return;
+            return Ok(());
         };
+        let out = copy_out(inner, alloc)?;
         inner.count = count;
+        inner.tallied = false;
+        self.touched.push(place as u64)?;
+        self.leave(out)
     }
 
     // Lists a new key, or counts that it finds no room.
@@ -161,37 +203,49 @@ impl InnerTable {
         requires absent { ¬ Contains (keys self.old.keys) key }
         ensures { OnOk result (ListsKey self.old self.new key count) }
     {
-        self.keys.admit(key, Inner { count, known: None })?;
+        let inner = Inner {
+            count,
+            known: None,
+            tallied: false,
+        };
+        self.keys.admit(key, inner)?;
         Ok(())
     }
 
     /// Learns what changed.
-    pub(crate) fn tell(&mut self, delta: InnerDelta)
-        ensures { TakesDelta self.old self.new delta }
+    pub(crate) fn tell(&mut self, delta: InnerDelta) -> Result<(), AllocError>
+        ensures calls { OnOk result (TakesDelta self.old self.new delta) }
+        ensures tally { OnOk result
+            ((tally : MetricKey → ℕ) → IsTallied self.old tally → IsTallied self.new tally) }
     {
-        self.tell_all(delta.changes);
+        self.tell_all(delta.changes)
     }
 
     // Learns all changes, one after the other.
-    fn tell_all(&mut self, changes: Seq<InnerChange>)
-        ensures { TellsAll self.old self.new changes }
+    fn tell_all(&mut self, changes: Seq<InnerChange>) -> Result<(), AllocError>
+        ensures { OnOk result (TellsAll self.old self.new changes) }
     {
         // The keys are distinct, so that each change tells of one.
         let _len = self.keys.len();
         for change in changes.into_vec() {
-            self.tell_one(change);
+            self.tell_one(change)?;
         }
+        Ok(())
     }
 
     // Learns one change.
-    fn tell_one(&mut self, change: InnerChange)
-        ensures { TellsOne self.old self.new change }
+    fn tell_one(&mut self, change: InnerChange) -> Result<(), AllocError>
+        ensures { OnOk result (TellsOne self.old self.new change) }
     {
         let InnerChange { place, truth, out } = change;
         let Some(inner) = self.keys.value_at(place as usize) else {
-            return;
+            return Ok(());
         };
-        inner.known = Some(Known { truth, out });
+        let was = mem::replace(&mut inner.known, Some(Known { truth, out }));
+        let before = freed(inner.tallied, was);
+        inner.tallied = false;
+        self.touched.push(place as u64)?;
+        self.leave(before)
     }
 
     /// The number of inner keys.
@@ -233,6 +287,42 @@ impl InnerTable {
         };
         says(&inner.known, truth, out)
     }
+}
+
+// The output key that was told, where the tally counts for it.
+fn freed(tallied: bool, known: Option<Known>) -> Option<MetricKey>
+    ensures { option_to_list result ≡ freed_key tallied known }
+{
+    if !tallied {
+        return None;
+    }
+    let Some(known) = known else {
+        return None;
+    };
+    Some(known.out)
+}
+
+// The output key for which the tally counts a key that left.
+fn left(inner: Option<Inner>) -> Option<MetricKey>
+    ensures { option_to_list result ≡ left_key inner }
+{
+    let Some(inner) = inner else {
+        return None;
+    };
+    freed(inner.tallied, inner.known)
+}
+
+// A copy of the output key for which the tally counts a key.
+fn copy_out(inner: &Inner, alloc: Global) -> Result<Option<MetricKey>, AllocError>
+    ensures { IfOk result (λ out. option_to_list out ≡ tallied_key inner.now) }
+{
+    if !inner.tallied {
+        return Ok(None);
+    }
+    let Some(known) = &inner.known else {
+        return Ok(None);
+    };
+    Ok(Some(known.out.clone_key(alloc)?))
 }
 
 // Whether what was told says just this.

@@ -3,6 +3,7 @@
 
 mod active;
 mod change;
+mod counted;
 mod flat;
 mod inner;
 mod memory;
@@ -12,6 +13,7 @@ mod sparse_flat;
 mod sparse_keys;
 mod sum;
 mod sum_flat;
+mod tally;
 
 pub use change::{InnerChange, InnerDelta, InnerEvent};
 pub use metric_producer::{Closed, Producer, Row};

@@ -13,11 +13,14 @@ ghost use Rattle.metric_kinds.specs.Counts.{row_weight};
 ghost use Rattle.duration_metric.specs.SumCalls.{while_true, known_out};
 ghost use Rattle.duration_metric.specs.InnerKeys.{DurationParams, DurationCall, inner_keys, told_truth, was_told};
 ghost use Rattle.duration_metric.specs.SumStands.{span_at, span_time, span_row, whole_row, whole_rows, SumStandsFor};
-ghost use Rattle.duration_metric.specs.SumSteps.{active_in, StepsAll, StepsOne, BeginsRun, BeginsAll, ClosesRows, Opens, out_for};
+ghost use Rattle.duration_metric.specs.SumSteps.{active_in, StepsAll, StepsOne, BeginsRun, BeginsAll, ClosesRows, Opens};
+ghost use Rattle.duration_metric.specs.Tallies.{out_for, is_counted};
 
 use crate::active::ActiveKeys;
+use crate::counted::{count_all, fresh_keys, lower_all};
 use crate::inner::{Inner, InnerTable, Known};
 use crate::memory::Memory;
+use crate::tally::Tally;
 use crate::{Closed, InnerDelta, InnerEvent, Producer, Row};
 use atom_record::{DimKey, MetricKey};
 use bucket_clock::Crossings;
@@ -26,7 +29,9 @@ use dim_table::Guarded;
 use indexmap::map::IntoIter;
 use kept_rows::KeptRows;
 use predicate_state::Truth;
+use sd_base::Seq;
 use std::alloc::{AllocError, Global};
+use std::mem;
 
 /// For how long a key was active in the open part up to where it last ended, and since when it is active again.
 #[derive(Clone, Copy)]
@@ -40,8 +45,8 @@ pub(crate) struct Span {
 pub struct SumProducer {
     pub(crate) start: u64,
     pub(crate) inner: InnerTable,
-    /// The active keys since the last condition, in inner order.
-    pub(crate) active: ActiveKeys,
+    /// How many inner keys count for each active key since the last condition.
+    pub(crate) tally: Tally,
     pub(crate) table: Guarded<MetricKey, Span>,
     pub(crate) kept: KeptRows<Row<u64>>,
     /// How many inner keys had found no room at the last report.
@@ -64,7 +69,7 @@ impl SumProducer {
         SumProducer {
             start: base,
             inner: InnerTable::new(alloc, spec),
-            active: ActiveKeys::new(alloc),
+            tally: Tally::new(alloc),
             table: Guarded::new(alloc, spec.bound as usize),
             kept: KeptRows::new(alloc),
             reported: 0,
@@ -114,15 +119,13 @@ impl SumProducer {
         keep_all(&mut self.kept, start, end, self.table.move_out())
     }
 
-    // BeginsRun a part in which the active keys are active from its start on.
-    fn open(&mut self) -> Result<(), AllocError>
-        ensures { OnOk result (Opens self.old self.new) }
+    // Begins a part in which these keys are active from its start on.
+    fn open(&mut self, active: &ActiveKeys) -> Result<(), AllocError>
+        ensures { OnOk result (Opens self.old self.new active.now) }
     {
-        let none = ActiveKeys::new(self.memory.alloc());
         begin_all(
             &mut self.table,
-            &none,
-            &self.active,
+            active.as_slice(),
             self.start,
             self.memory.alloc(),
         )
@@ -147,42 +150,38 @@ fn step(at: u64, is_active: bool, span: Span) -> Span
 }
 
 // Takes the span of the key at a place to a time.
-fn step_at(table: &mut Guarded<MetricKey, Span>, active: &ActiveKeys, place: usize, at: u64)
-    ensures { StepsOne table.old table.new active.now place at }
+fn step_at(table: &mut Guarded<MetricKey, Span>, tally: &Tally, place: usize, at: u64)
+    ensures { StepsOne table.old table.new (is_counted tally.now) place at }
 {
     let Some((key, _span)) = table.pair(place) else {
         return;
     };
-    let is_active = active.contains(key);
+    let is_active = tally.count(key) > 0;
     let Some(span) = table.value_at(place) else {
         return;
     };
     *span = step(at, is_active, *span);
 }
 
-// Takes all spans to a time, from which on these keys are active.
-fn step_all(table: &mut Guarded<MetricKey, Span>, active: &ActiveKeys, at: u64)
-    ensures { StepsAll table.old table.new active.now at }
+// Takes all spans to a time, from which on the keys of a tally are active.
+fn step_all(table: &mut Guarded<MetricKey, Span>, tally: &Tally, at: u64)
+    ensures { StepsAll table.old table.new (is_counted tally.now) at }
 {
     let count = table.len();
     for place in 0..count {
-        step_at(table, active, place, at);
+        step_at(table, tally, place, at);
     }
 }
 
-// Admits a key whose run begins, unless it was active before.
+// Admits a key whose run begins.
 fn begin(
     table: &mut Guarded<MetricKey, Span>,
-    before: &ActiveKeys,
     key: &MetricKey,
     at: u64,
     alloc: Global,
 ) -> Result<(), AllocError>
-    ensures { OnOk result (BeginsRun table.old table.new before.now key.now at) }
+    ensures { OnOk result (BeginsRun table.old table.new [] key.now at) }
 {
-    if before.contains(key) {
-        return Ok(());
-    }
     let span = Span {
         sum: 0,
         since: Some(at),
@@ -191,18 +190,17 @@ fn begin(
     Ok(())
 }
 
-// Admits the keys that weren't active before, in order.
+// Admits the keys whose runs begin, in order.
 fn begin_all(
     table: &mut Guarded<MetricKey, Span>,
-    before: &ActiveKeys,
-    now: &ActiveKeys,
+    keys: &[MetricKey],
     at: u64,
     alloc: Global,
 ) -> Result<(), AllocError>
-    ensures { OnOk result (BeginsAll table.old table.new before.now now.now at) }
+    ensures { OnOk result (BeginsAll table.old table.new [] keys.now at) }
 {
-    for key in now.as_slice() {
-        begin(table, before, key, at, alloc)?;
+    for key in keys {
+        begin(table, key, at, alloc)?;
     }
     Ok(())
 }
@@ -374,40 +372,46 @@ impl Producer for SumProducer {
 
     fn event(&mut self, at: u64, ev: InnerEvent) -> Result<(), AllocError> {
         let _at = at;
-        self.inner.act(ev)
+        self.inner.act(ev, self.memory.alloc())
     }
 
     fn condition(&mut self, at: u64, now: InnerDelta) -> Result<(), AllocError> {
-        self.inner.tell(now);
-        let active = gather(&self.inner, self.memory.alloc())?;
-        step_all(&mut self.table, &active, at);
-        begin_all(
-            &mut self.table,
-            &self.active,
-            &active,
-            at,
-            self.memory.alloc(),
+        self.inner.tell(now)?;
+        let alloc = self.memory.alloc();
+        let fresh = fresh_keys(&self.inner, &self.tally, alloc)?;
+        // What begins is counted before what ends, so that a key whose count comes back has no break.
+        let touched = mem::replace(&mut self.inner.touched, Seq::new(alloc));
+        count_all(
+            &mut self.inner.keys,
+            &mut self.tally,
+            touched.as_slice(),
+            alloc,
         )?;
-        self.active = active;
-        Ok(())
+        let gone = mem::replace(&mut self.inner.gone, Seq::new(alloc));
+        lower_all(&mut self.tally, gone.as_slice())?;
+        let _len = self.inner.keys.len();
+        step_all(&mut self.table, &self.tally, at);
+        begin_all(&mut self.table, fresh.as_slice(), at, alloc)
     }
 
     fn cross(&mut self, crossings: Crossings) -> Result<(), AllocError> {
+        let active = gather(&self.inner, self.memory.alloc())?;
         self.close(crossings.first_end)?;
         keep_full(
             &mut self.kept,
-            self.active.as_slice(),
+            active.as_slice(),
             &crossings,
             self.memory.alloc(),
         )?;
         let full = crossings.full_buckets.saturating_mul(crossings.size);
         self.start = crossings.first_end.saturating_add(full);
-        self.open()
+        self.open(&active)
     }
 
     fn cut(&mut self, at: u64) -> Result<(), AllocError> {
+        let active = gather(&self.inner, self.memory.alloc())?;
         self.close(at)?;
-        self.open()
+        self.open(&active)
     }
 
     fn take(&mut self) -> Closed<u64> {

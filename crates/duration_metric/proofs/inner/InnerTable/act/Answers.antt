@@ -3,5 +3,9 @@ use Rattle.std.proofs.lemmas.Result.{on_ok_weaker}
 use Rattle.duration_metric.proofs.KnownLemmas.{takes_event}
 use Rattle.duration_metric.proofs.inner.InnerTable.act.Goals as goal
 
-pub returns : goal.returns
-returns c = on_ok_weaker c.apply.result (takes_event c.args.self.now c.apply.new.self c.args.ev) c.apply.ensures
+pub returns-clause-calls : goal.returns-clause-calls
+returns-clause-calls c =
+    on_ok_weaker c.apply.result (takes_event c.args.self.now c.apply.new.self c.args.ev) c.apply.ensures
+
+pub returns-clause-tally : goal.returns-clause-tally
+returns-clause-tally c = on_ok_weaker c.apply.result (λ acts. acts.tally_is) c.apply.ensures

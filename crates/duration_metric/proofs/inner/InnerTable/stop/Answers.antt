@@ -1,5 +1,6 @@
 -- A listed key that stays has the count after one more stop.
 use Rattle.std.proofs.Common.{◌≡◌, ◌==◌, ◌&&◌, not, false, ap}
+use Rattle.std.proofs.lemmas.Result.{on_ok_weaker}
 use Rattle.predicate_state.specs.PredicateTable.{PredicateTable}
 use Rattle.predicate_state.proofs.PredicateStateLemmas.{stopped, stays_above, stays_unknown}
 use Rattle.duration_metric.specs.InnerStands.{kept_spec, state_in}
@@ -17,8 +18,8 @@ returns-else-less-eq0 c =
           stays_unknown less c.args.self.now.unknown w.if-not-self.false
       | else-less-eq0-via-else-less-eq0 w ↦ stays_above less c.args.self.now.unknown w.if-less-eq0.false
     ] in
-    changes_by c.args.self.now c.set_count.new.self _ _
+    on_ok_weaker c.set_count.result (changes_by c.args.self.now c.set_count.new.self _ _
     (ap (λ (t : PredicateTable). t.state)
     (stopped table c.args.key c.in-Some.place c.in-Some.count c.in-Some.ensures.count c.in-Some.ensures.place less
-    c.add_stop-less.ensures stays))
+    c.add_stop-less.ensures stays)))
     c.set_count.ensures

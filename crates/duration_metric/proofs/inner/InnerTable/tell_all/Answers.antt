@@ -14,7 +14,7 @@ pub loop-change-preserved : goal.loop-change-preserved
 loop-change-preserved c =
     tells_more c.args.self.now c.loop-change.self c.tell_one.new.self c.loop-change.yielded c.in-Some.change
     (IsDistinct-from_AllPairs leaves_exact (keys c.args.self.now.keys) c.len-len.ensures.distinct)
-    c.loop-change.invariant c.tell_one.ensures
+    c.loop-change.invariant c.in_ok-tell_one.ensures
 
 -- all were told
 pub returns : goal.returns

@@ -1,6 +1,5 @@
 -- What a row was told last is what the calls told last of its key.
 use Rattle.std.proofs.Common.{sym, ◌∙◌}
-use Rattle.duration_metric.specs.declared.inner.Known.{Known}
 use Rattle.duration_metric.proofs.KnownLemmas.{says_is, says_nothing}
 use Rattle.duration_metric.proofs.inner.InnerTable.was_told.Goals as goal
 

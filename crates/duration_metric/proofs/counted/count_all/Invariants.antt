@@ -1,0 +1,8 @@
+-- The rows at the places so far are in the tally.
+use Rattle.std.proofs.Common.{drop}
+use Rattle.duration_metric.specs.SumSteps.{Recounts}
+use Rattle.duration_metric.proofs.counted.count_all.Given as goal
+
+abbrev pub invariant-loop-place : goal.invariant-loop-place
+invariant-loop-place l =
+    Recounts l.initial.keys l.keys l.initial.tally l.tally l.places (drop l.place-index l.places)

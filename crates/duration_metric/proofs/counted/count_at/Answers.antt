@@ -1,0 +1,26 @@
+-- A row that isn't in the tally is taken into it.
+use Rattle.std.proofs.Common.{inr, sym, ap, ◌∙◌, true}
+use Rattle.std.proofs.lemmas.Option.{same_Some}
+use Rattle.dim_table.specs.Table.{with_value_at}
+use Rattle.predicate_state.specs.PredicateTable.{LeafKey}
+use Rattle.duration_metric.specs.declared.inner.Inner.{Inner}
+use Rattle.duration_metric.proofs.RecountLemmas.{value_there}
+use Rattle.duration_metric.proofs.counted.count_at.Goals as goal
+
+pub returns : goal.returns
+returns c =
+    let keys = c.args.keys.now in
+    let place = c.args.place in
+    let row : LeafKey × Inner = (c.in-Some._key.now, c.in-Some.row.now) in
+    let there = sym c.in-Some.ensures in
+    inr (
+      row,
+      c.in-Some-counts_for.out.now,
+      there,
+      c.if-row.false,
+      sym c.in-Some-counts_for.ensures,
+      c.in_ok-raise.ensures,
+      ap (λ (i : Inner). with_value_at keys place (record i { tallied = true }))
+          (same_Some c.in-Some-value_at.inner.now c.in-Some.row.now
+          (c.in-Some-value_at.ensures.value ∙ value_there keys.rows place row there)),
+    )

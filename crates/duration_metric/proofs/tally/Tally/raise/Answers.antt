@@ -1,0 +1,23 @@
+-- A count that is taken out is put back one higher.
+use Rattle.std.proofs.Common.{◌≡◌, Some, arith, sym, ap, subst}
+use Rattle.std.specs.Option.{unwrap_or}
+use Rattle.std.proofs.lemmas.Map.Made.{lookup_key_same}
+use Rattle.atom_record.specs.Equal.{metric_key_exact}
+use Rattle.duration_metric.specs.Tallies.{tally_at, Raises}
+use Rattle.duration_metric.proofs.TallyStepLemmas.{raises_by, writes_again}
+use Rattle.duration_metric.proofs.tally.Tally.raise.Goals as goal
+
+pub returns : goal.returns
+returns c =
+    let old = c.self.inside.counts.entries in
+    let mid = c.swap_remove_entry.new.self.entries in
+    let new = c.insert-2.new.self.entries in
+    let key = c.args.key.now in
+    let own = c.in-Some.own in
+    let more = c.in-Some-checked_add.more in
+    let is : key ≡ own = lookup_key_same metric_key_exact key old own (sym c.in-Some.ensures.key) in
+    let count : c.in-Some.count ≡ tally_at old key = ap (λ found. unwrap_or found 0) c.in-Some.ensures.value in
+    subst (λ l. Raises l new key) c.self.view_is
+    (raises_by old new key (Some more)
+    (writes_again old mid new key own (Some more) is c.in-Some.ensures.updates.0 c.in_ok-insert-2.ensures.updates.0)
+    (omega (arith, count, c.in-Some-checked_add.ensures)))
