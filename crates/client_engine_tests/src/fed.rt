@@ -1,0 +1,150 @@
+//! An instance that is fed, and the book of states beside it.
+ghost use Rattle.session_frames.specs.Faultless.{IsFaultlessLog};
+
+use atom_record::{LogFrame, PullOutcome, parse_atom};
+use client_engine::{Instance, LiveId, LogView, ReportRequest, built};
+use config_decode::decode;
+use config_links::link;
+use pull_book::PullBook;
+use report_writer::ReportTree;
+use state_slicer::StateBook;
+use std::alloc::{AllocError, Global};
+
+/// Frames of the log come before this.
+const LATE: u64 = 1 << 63;
+
+/// The latest install of a row.
+const MOST_BASE: u64 = 1_000;
+
+/// The most bytes of a row's configuration.
+const MOST_BYTES: usize = 1_000;
+
+/// An instance and the states that the log gave. There is none before its install and after want of memory.
+#[derive(Drop)]
+pub struct Fed {
+    alloc: Global,
+    instance: Option<Instance>,
+    states: StateBook,
+}
+
+impl Fed {
+    pub fn new(alloc: Global) -> Fed {
+        Fed {
+            alloc,
+            instance: None,
+            states: StateBook::new(alloc),
+        }
+    }
+
+    /// Installs a configuration at a time. Answers whether it is acted on.
+    pub fn install(&mut self, config: &[u8], base: Option<u64>) -> Result<bool, AllocError> {
+        self.instance = match base {
+            Some(base) => installed(self.alloc, config, base, &self.states)?,
+            None => None,
+        };
+        Ok(self.instance.is_some())
+    }
+
+    /// The book of states takes the atom of a payload. Answers whether it did, as with the others.
+    pub fn tell(&mut self, payload: &[u8]) -> Result<bool, AllocError> {
+        let Ok(atom) = parse_atom(self.alloc, payload) else {
+            return Ok(false);
+        };
+        self.states.apply(&atom)?;
+        Ok(true)
+    }
+
+    /// The instance takes the atom of a payload, with the truth of each matcher.
+    pub fn atom(&mut self, at: u64, payload: &[u8], matched: &[bool]) -> Result<bool, AllocError> {
+        let Ok(atom) = parse_atom(self.alloc, payload) else {
+            return Ok(false);
+        };
+        if at >= LATE {
+            return Ok(false);
+        }
+        let frame = LogFrame::AtomAt { at, atom };
+        log(&mut self.instance, &self.states, &frame, matched)
+    }
+
+    pub fn tick(&mut self, at: u64) -> Result<bool, AllocError> {
+        if at >= LATE {
+            return Ok(false);
+        }
+        log(
+            &mut self.instance,
+            &self.states,
+            &LogFrame::Tick { at },
+            &[],
+        )
+    }
+
+    /// Takes a pull that failed.
+    pub fn failed_pull(&mut self, at: u64) -> Result<bool, AllocError> {
+        if at >= LATE {
+            return Ok(false);
+        }
+        let frame = LogFrame::Pull {
+            at,
+            id: 10_001,
+            outcome: PullOutcome::Failed,
+        };
+        log(&mut self.instance, &self.states, &frame, &[])
+    }
+
+    /// A report, which cuts the open part or leaves it.
+    pub fn report(&mut self, at: u64, is_cut: bool) -> Result<Option<ReportTree>, AllocError> {
+        if at >= LATE {
+            return Ok(None);
+        }
+        let Some(instance) = self.instance.take() else {
+            return Ok(None);
+        };
+        let request = ReportRequest {
+            name: LiveId { uid: 10, id: 7 },
+            include_current: is_cut,
+            at,
+        };
+        let (instance, tree) = instance.report(request, &self.states)?;
+        self.instance = Some(instance);
+        Ok(Some(tree))
+    }
+}
+
+/// The instance of a configuration that is installed at a time when the log gave these states, if it is acted on.
+fn installed(
+    alloc: Global,
+    config: &[u8],
+    base: u64,
+    states: &StateBook,
+) -> Result<Option<Instance>, AllocError> {
+    if config.len() > MOST_BYTES || base > MOST_BASE {
+        return Ok(None);
+    }
+    let Ok(config) = decode(alloc, config) else {
+        return Ok(None);
+    };
+    let Ok(linked) = link(alloc, config, 10) else {
+        return Ok(None);
+    };
+    if !built(&linked) {
+        return Ok(None);
+    }
+    let pulls = PullBook::new(alloc);
+    Ok(Some(Instance::new(alloc, linked, base, &pulls, states)?))
+}
+
+/// Gives an instance a frame. Answers whether there is one.
+fn log(
+    instance: &mut Option<Instance>,
+    states: &StateBook,
+    frame: &LogFrame,
+    matched: &[bool],
+) -> Result<bool, AllocError>
+    requires { IsFaultlessLog frame.now }
+{
+    let Some(old) = instance.take() else {
+        return Ok(false);
+    };
+    *instance = Some(old.log(frame, &LogView { matched, states })?);
+    Ok(true)
+}

@@ -1,0 +1,97 @@
+//! The rows: a hub under a judge, and what it is given and answers, a line after the other.
+use super::judges::{Counting, Nodder, Tallier};
+use super::tried::Tried;
+use matcher_eval::FieldJudge;
+use std::alloc::{AllocError, Global};
+use test_tools::{Row, Table, Tester, unsigned};
+
+/// The table of hubs.
+pub struct Hubs;
+
+impl Table for Hubs {
+    fn marks(&self) -> &'static str {
+        "judge > < asked"
+    }
+
+    fn run(&self, alloc: Global, tester: &mut Tester, row: &Row<'_>) -> Result<(), AllocError> {
+        match row.word("judge") {
+            "fields" => run_lines(alloc, tester, row, FieldJudge::new()),
+            "all" => run_lines(alloc, tester, row, Nodder { asked: 0 }),
+            "entries" => run_lines(alloc, tester, row, Tallier { asked: 0 }),
+            word => tester.differs("a judge that isn't known", word),
+        }
+    }
+}
+
+/// Runs the lines of a row, one after the other.
+fn run_lines<J: Counting>(
+    alloc: Global,
+    tester: &mut Tester,
+    row: &Row<'_>,
+    judge: J,
+) -> Result<(), AllocError> {
+    let mut tried = Tried::new(alloc, judge)?;
+    for line in row.block().lines() {
+        if line != row.name && !line.starts_with('#') {
+            run_line(alloc, tester, &mut tried, line)?;
+        }
+    }
+    Ok(())
+}
+
+/// Runs a line: frames, the replies to them, or how often the judge was asked so far.
+fn run_line<J: Counting>(
+    alloc: Global,
+    tester: &mut Tester,
+    tried: &mut Tried<J>,
+    line: &str,
+) -> Result<(), AllocError> {
+    let (mark, rest) = line.split_once(' ').unwrap_or((line, ""));
+    match mark {
+        "judge" => Ok(()),
+        ">" => take_frames(alloc, tester, tried, rest),
+        "<" => compare_replies(tester, tried, rest),
+        "asked" => compare_asked(tester, tried, rest),
+        _ => tester.differs("a line that isn't known", line),
+    }
+}
+
+/// Gives the hub the frames of a text.
+fn take_frames<J: Counting>(
+    alloc: Global,
+    tester: &mut Tester,
+    tried: &mut Tried<J>,
+    text: &str,
+) -> Result<(), AllocError> {
+    let Some(bytes) = tester.bytes(text)? else {
+        return Ok(());
+    };
+    let is_whole = tried.take(alloc, bytes)?;
+    tester.holds("a session that is read to its end", is_whole)
+}
+
+/// Compares the replies since they were compared last.
+fn compare_replies<J: Counting>(
+    tester: &mut Tester,
+    tried: &mut Tried<J>,
+    text: &str,
+) -> Result<(), AllocError> {
+    let Some(wanted) = tester.bytes(text)? else {
+        return Ok(());
+    };
+    tester.case();
+    tester.same_bytes("replies", wanted.as_slice(), tried.new_replies())
+}
+
+/// Compares how often the judge was asked so far.
+fn compare_asked<J: Counting>(
+    tester: &mut Tester,
+    tried: &Tried<J>,
+    text: &str,
+) -> Result<(), AllocError> {
+    tester.case();
+    match (unsigned(text), tried.asked()) {
+        (Some(wanted), Some(found)) => tester.same_number("questions", wanted, found),
+        _ => tester.differs("no number", text),
+    }
+}

@@ -1,0 +1,83 @@
+//! A hub that is tried, and what it has answered.
+use super::judges::Counting;
+use hub_core::Hub;
+use matcher_eval::Judge;
+use sd_io::{MemSink, MemSource};
+use session_frames::{FrameError, FrameReader, write_reply};
+use std::alloc::{AllocError, Global};
+
+/// More bytes than a row has.
+const AMPLE: usize = 65536;
+
+/// A hub, and its replies. There is none after want of memory.
+#[derive(Drop)]
+pub struct Tried<J: Judge> {
+    hub: Option<Hub<J>>,
+    replies: MemSink,
+    /// How many bytes of the replies were compared.
+    compared: usize,
+}
+
+impl<J: Judge> Tried<J> {
+    /// A hub under a judge.
+    pub fn new(alloc: Global, judge: J) -> Result<Tried<J>, AllocError> {
+        Ok(Tried {
+            replies: MemSink::new(alloc, AMPLE, Vec::new(alloc))?,
+            hub: Some(Hub::new(alloc, judge)),
+            compared: 0,
+        })
+    }
+
+    /// Gives the hub the frames of a session. Answers whether it was read to its end.
+    pub fn take(&mut self, alloc: Global, bytes: Vec<u8>) -> Result<bool, AllocError> {
+        let most = bytes.len();
+        let mut source = MemSource::new(bytes, AMPLE, Vec::new(alloc));
+        let mut reader = FrameReader::new(alloc);
+        for _ in 0..=most {
+            match self.step(reader, &mut source) {
+                Ok(Some(next)) => reader = next,
+                Ok(None) => return Ok(true),
+                Err(FrameError::Memory) => return Err(AllocError),
+                Err(_) => return Ok(false),
+            }
+        }
+        Ok(false)
+    }
+
+    /// Gives the hub the next frame. Answers the reader that goes on from there, or none at the end.
+    fn step(
+        &mut self,
+        reader: FrameReader,
+        source: &mut MemSource,
+    ) -> Result<Option<FrameReader>, FrameError> {
+        let (next, frame) = reader.next(source)?;
+        let Some(frame) = frame else {
+            return Ok(None);
+        };
+        let Some(hub) = self.hub.take() else {
+            return Ok(None);
+        };
+        let (hub, reply) = hub.step(frame)?;
+        self.hub = Some(hub);
+        if let Some(reply) = reply {
+            let _ = write_reply(&reply, &mut self.replies);
+        }
+        Ok(Some(next))
+    }
+
+    /// The replies since they were asked for last.
+    pub fn new_replies(&mut self) -> &[u8] {
+        let from = self.compared;
+        let all = self.replies.bytes();
+        self.compared = all.len();
+        all.get(from..).unwrap_or(&[])
+    }
+}
+
+impl<J: Counting> Tried<J> {
+    /// How often the judge was asked.
+    pub fn asked(&self) -> Option<u64> {
+        let hub = self.hub.as_ref()?;
+        Some(hub.judge().asked())
+    }
+}
