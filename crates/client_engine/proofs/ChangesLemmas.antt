@@ -1,5 +1,5 @@
 -- What is told of inner keys, one place after the other.
-use Rattle.std.proofs.Common.{◌≡◌, ℕ, zero, suc, ◌+◌, ◌≤◌, Bool, true, false, List, [], ◌∷◌, ◌++◌, drop, length, slice_get, Option, Some, None, if◌then◌else◌, refl, sym, ap, subst, ◌∙◌, arith, append-nil, append_assoc}
+use Rattle.std.proofs.Common.{◌≡◌, ℕ, zero, suc, ◌+◌, ◌≤◌, Bool, true, false, List, [], ◌∷◌, ◌++◌, drop, length, slice_get, Option, Some, None, if◌then◌else◌, refl, sym, ap, ◌∙◌, arith, append-nil, append_assoc}
 use Rattle.std.specs.Option.{option_map_or}
 use Rattle.std.proofs.lemmas.List.{drop_all}
 use Rattle.atom_record.specs.declared.value.MetricKey.{MetricKey}
@@ -17,21 +17,25 @@ use Rattle.metric_meaning.specs.Readings.{key_reading}
 use Rattle.metric_meaning.specs.Scenes.{Scene}
 use Rattle.metric_calls.specs.DurationCalls.{told_as, known_in, change_at, changes_from}
 use Rattle.client_engine.specs.Handed.{Handed, IsOfScene}
-use Rattle.client_engine.specs.InnerTold.{told_of_place}
+use Rattle.client_engine.specs.InnerTold.{told_of_place, reading_in}
 use Rattle.client_engine.proofs.ArrivingLemmas.{condition_there}
 
 -- what is handed has what is so of an inner key
 pub known_there : (given : Handed) (scene : Scene) (metric : LMetric) (fields : FieldSet) (key : LeafKey) (truth : Truth)
     (out : MetricKey) → IsOfScene given scene
     → fields ≡ inner_fields (slice_get given.known.predicates metric.what)
-    → truth ≡ told_as (is_condition_true given.known.predicates given.known.tables metric (key_reading fields key))
+    → truth ≡ told_as (is_condition_true given.known.predicates given.known.tables metric
+    (reading_in given.known metric key))
     → out ≡ metric_key scene metric (key_reading fields key)
     → let known : Known = record { truth = truth; out = out } in known ≡ known_in scene metric key
 known_there given scene metric fields key truth out found fields_are truth_is out_is =
     let there : fields ≡ inner_fields (slice_get scene.linked.predicates metric.what) =
     fields_are ∙ ap (λ ps. inner_fields (slice_get ps metric.what)) found.predicates in
     ap (λ (t : Truth). let known : Known = record { truth = t; out = out } in known)
-    (truth_is ∙ ap told_as (condition_there given scene metric (key_reading fields key) found))
+    (truth_is
+    ∙ ap (λ (f : FieldSet). told_as (is_condition_true given.known.predicates given.known.tables metric
+    (key_reading f key))) (sym fields_are)
+    ∙ ap told_as (condition_there given scene metric (key_reading fields key) found))
     ∙ ap (λ (o : MetricKey). let known : Known = record {
       truth = told_as (holds_in scene metric (key_reading fields key));
       out = o;

@@ -1,5 +1,5 @@
 -- Steps that come in time don't go back, for kinds whose marks hang on times.
-use Rattle.std.proofs.Common.{◌≡◌, ℕ, ◌≤◌, Bool, List, [], ◌∷◌, sym, subst, arith}
+use Rattle.std.proofs.Common.{ℕ, Bool, List, [], ◌∷◌, sym, subst, arith}
 use Rattle.metric_meaning.specs.Histories.{What, Logged, Reported, Step}
 use Rattle.metric_producer.specs.LaneCalls.{IsTimelyStep, last_at}
 use Rattle.metric_calls.proofs.TimelyLemmas.{DontGoBack, in_time-front}

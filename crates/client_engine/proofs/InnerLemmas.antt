@@ -1,6 +1,6 @@
 -- A lane of durations takes one more frame of the log: lemmas for those that sum and those that show the longest.
-use Rattle.std.proofs.Common.{◌≡◌, ℕ, Bool, false, List, [], ◌∷◌, ◌++◌, length, slice_get, Option, Some, None, refl, sym, ap, subst, ◌∙◌, append_assoc, append-nil, arith}
-use Rattle.std.specs.Prelude.{is_some, All}
+use Rattle.std.proofs.Common.{◌≡◌, ℕ, Bool, false, List, [], ◌∷◌, ◌++◌, length, slice_get, Option, Some, None, refl, sym, ap, subst, ◌∙◌, append_assoc, append-nil}
+use Rattle.std.specs.Prelude.{is_some}
 use Rattle.std.specs.Map.{keys_of}
 use Rattle.std.proofs.lemmas.Option.{none-some, slice_get_within, get_or_from_slice_get, same_Some}
 use Rattle.atom_record.specs.declared.atom.Atom.{Atom}
@@ -9,7 +9,6 @@ use Rattle.atom_record.specs.declared.log.LogFrame.TheVariants.{Tick, AtomAt, Pu
 use Rattle.bucket_meaning.specs.Ends.{Moment}
 use Rattle.bucket_clock.specs.Clock.{Saw}
 use Rattle.config_types.specs.declared.parameters.PredSpec.{PredSpec}
-use Rattle.config_links.specs.declared.linked.Linked.{Linked}
 use Rattle.config_links.specs.declared.linked.LMetric.{LMetric}
 use Rattle.config_links.specs.declared.linked.LPredicate.{LPredicate}
 use Rattle.config_links.specs.declared.linked.LPredBody.{LPredBody}
@@ -31,13 +30,15 @@ use Rattle.metric_lane.proofs.LaneStepsLemmas.{news_logs}
 use Rattle.duration_metric.specs.declared.change.InnerEvent.{InnerEvent}
 use Rattle.duration_metric.specs.declared.change.InnerChange.{InnerChange}
 use Rattle.duration_metric.specs.declared.change.InnerDelta.{InnerDelta}
-use Rattle.duration_metric.specs.InnerKeys.{DurationParams, DurationCall, inner_state, inner_keys, last_known}
+use Rattle.duration_metric.specs.InnerKeys.{DurationParams, DurationCall, inner_keys, last_known}
 use Rattle.metric_meaning.specs.Histories.{Step, Installation, moment_of, log_after}
 use Rattle.metric_meaning.specs.ShownFrames.{shown_as}
 use Rattle.metric_meaning.specs.Scenes.{Scene, scene_after}
 use Rattle.metric_meaning.specs.Ways.{Way}
 use Rattle.metric_meaning.specs.DurationSteps.{inner_fields, measured, inner_events}
-use Rattle.metric_calls.specs.Askings.{Asking, own_demands, steps_seen, calls_crossed, asked_at, AsksWell}
+use Rattle.metric_meaning.specs.Touched.{timed_predicate, is_touched}
+use Rattle.metric_meaning.proofs.TouchedDurations.{untouched_idle}
+use Rattle.metric_calls.specs.Askings.{Asking, own_demands, steps_seen, calls_crossed, AsksWell}
 use Rattle.metric_calls.specs.DurationCalls.{first_event_of, event_in, known_in, changes_from, delta_with, learning, InnerNews, inner_asks, duration_params, duration_asking, listed_after, known_after, told_after, inner_event_at, inner_changes, inner_news, IsTimedWell}
 use Rattle.metric_calls.proofs.InnerChangesLemmas.{changes_alike}
 use Rattle.metric_calls.proofs.InnerToldLemmas.{TellsInner, KnowsActed, acted, quiet_event, quiet_changes}
@@ -47,8 +48,10 @@ use Rattle.client_engine.specs.Handed.{Handed, IsOfScene}
 use Rattle.client_engine.specs.KeptPredicates.{HasItsLeaves, KeepsItsLeaves}
 use Rattle.client_engine.specs.NextSteps.{logged_step, with_logged, ComeInTime, MayLog}
 use Rattle.client_engine.specs.SoundMetrics.{IsSoundIn}
+use Rattle.client_engine.specs.Touchers.{tells_one}
 use Rattle.client_engine.proofs.AlongLemmas.{along_logs, along_crosses}
 use Rattle.client_engine.proofs.ShownLemmas.{shown_moment}
+use Rattle.client_engine.proofs.UntouchedLemmas.{shown_atom, nothing_changes}
 
 -- an inner table has as many leaves as the predicate that is timed has dimensions
 timed_leaves : (found : Option LPredicate) (timed : PredSpec)
@@ -202,6 +205,27 @@ module _ {P X K C V : Type 0} (law : Law P DurationParams InnerEvent InnerDelta 
         event_there = sym (quiet_event installed metric spec steps step quiet);
         delta_there = λ calls stands knows.
             sym (ap (delta_with false) (quiet_changes installed metric spec steps step quiet));
+      }
+
+  -- nor does an atom that neither touches the metric nor tells a state by which it is sliced
+  pub untouched_pass : (steps : List Step) (shown frame : LogFrame) (truths : List Bool) (given : Handed) (middle : P)
+      (at : ℕ) (atom : Atom) → shown ≡ AtomAt at atom → timed_predicate metric ≡ Some metric.what
+      → is_touched given.known.predicates metric truths ≡ false
+      → tells_one given.states atom.id metric.slices ≡ false
+      → MayLog installed steps given shown frame truths
+      → IsNewsAt steps frame truths middle None None
+  untouched_pass steps shown frame truths given middle at atom is times untouched untold may =
+      let frame_is = shown_atom (log_after installed steps) frame at atom (sym may.shown_is ∙ is) in
+      let untouched_there : is_touched installed.linked.predicates metric truths ≡ false =
+      sym (ap (λ ps. is_touched ps metric truths) may.found.predicates) ∙ untouched in
+      let untold_there : tells_one installed.linked.states atom.id metric.slices ≡ false =
+      sym (ap (λ states. tells_one states atom.id metric.slices) may.found.states) ∙ untold in
+      let idle = untouched_idle installed metric spec steps (logged_step frame truths) times untouched_there in
+      record {
+        event_there = sym (ap first_event_of idle);
+        delta_there = λ calls stands knows. sym (ap (delta_with false)
+            (subst (λ f. inner_changes installed metric spec steps (logged_step f truths) ≡ []) (sym frame_is)
+            (nothing_changes installed metric steps truths at atom untouched_there untold_there spec times)));
       }
 
   -- an atom brings the event that it makes, and the changes that are found once that came

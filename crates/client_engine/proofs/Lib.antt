@@ -2,6 +2,7 @@ pub mod GroupsLemmas
 pub mod LeavesLemmas
 pub mod MatchedLemmas
 pub mod KeptPredicatesLemmas
+pub mod TouchersLemmas
 pub mod ShownLemmas
 pub mod SliceLemmas
 pub mod StateDropsLemmas
@@ -15,6 +16,8 @@ pub mod MessagesLemmas
 pub mod GaugesLemmas
 pub mod PulledGaugesLemmas
 pub mod EventsLemmas
+pub mod StatesStayLemmas
+pub mod UntouchedLemmas
 pub mod InnerLemmas
 pub mod ChangesLemmas
 pub mod SumsLemmas

@@ -108,7 +108,7 @@ pub pulled_gauges_report : (metric : LMetric) (base : ℕ) (request : ReportRequ
 pulled_gauges_report metric base request old new closed reports tree is installed steps has may =
     let both = along_reports (pulled_gauge_asking installed metric has.fields has.samples has.mode has.trigger)
     pulled_law (pulled_gauges_ask_well installed metric has.fields has.samples has.mode has.trigger)
-    steps (pulled_gauges_agree installed metric has.fields has.samples has.mode has.trigger) request old new closed
+    steps (pulled_gauges_agree installed metric has.fields has.samples has.mode has.trigger has.gauge) request old new closed
     reports has.along may.in_time in (
       record {
         fields = has.fields;

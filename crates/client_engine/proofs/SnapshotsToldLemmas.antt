@@ -37,10 +37,11 @@ use Rattle.metric_meaning.specs.PredicateSteps.{tables_after}
 use Rattle.metric_meaning.specs.ShownFrames.{shown_as, shown_outcome}
 use Rattle.metric_meaning.specs.MetricConditions.{condition_truth}
 use Rattle.metric_meaning.specs.SnapshotSteps.{pulled_matcher, atoms_meant, snapshot_found, nothing_read}
+use Rattle.metric_meaning.specs.Touched.{is_touched}
 use Rattle.metric_meaning.specs.Ways.{Way}
 use Rattle.metric_meaning.proofs.SnapshotStepsLemmas.{found-pulled}
 use Rattle.metric_calls.specs.Askings.{AsksWell}
-use Rattle.metric_calls.specs.SnapshotCalls.{means_pull, is_told_of, truth_in, Telling, pull_calls, calls_told, calls_brought, told_asking}
+use Rattle.metric_calls.specs.SnapshotCalls.{means_pull, is_told_of, truth_in, Telling, pull_calls, atom_calls, calls_told, calls_brought, told_asking}
 use Rattle.client_engine.specs.Known.{Known}
 use Rattle.client_engine.specs.Handed.{Handed, IsOfScene}
 use Rattle.client_engine.specs.Along.{Along}
@@ -221,18 +222,35 @@ module _ {P Params Event X K C V : Type 0} (law : Law P Params Event Truth X K C
     tick_told lane at is =
         subst (λ f. GetsCalls law lane lane (calls_shown telling scene metric f truths)) (sym is) (gets_none lane)
 
-    -- of an atom the condition is told, and then what its matchers say
+    -- an atom touches the metric there as it does by what is handed
+    touched_there : is_touched given.known.predicates metric truths ≡ is_touched scene.linked.predicates metric truths
+    touched_there = ap (λ predicates. is_touched predicates metric truths) found.predicates
+
+    -- of an atom that doesn't touch the metric nothing is told
+    pub atom_untold : (lane : Lane P Event Truth V) (at : ℕ) (atom : Atom) → frame ≡ AtomAt at atom
+        → is_touched given.known.predicates metric truths ≡ false
+        → GetsCalls law lane lane (calls_shown telling scene metric frame truths)
+    atom_untold lane at atom is untouched =
+        let now = truth_in scene metric in
+        subst (λ f. GetsCalls law lane lane (calls_shown telling scene metric f truths)) (sym is)
+        (subst (λ told. GetsCalls law lane lane (atom_calls telling told at now truths))
+        (sym untouched ∙ touched_there) (gets_none lane))
+
+    -- of another one the condition is, and then what its matchers say
     pub atom_told : (old middle new : Lane P Event Truth V) (at : ℕ) (atom : Atom) (now : Truth) → frame ≡ AtomAt at atom
+        → is_touched given.known.predicates metric truths ≡ true
         → now ≡ condition_truth given.known.predicates given.known.tables metric nothing_read
         → GetsCall law old middle (Learned at now)
         → GetsCalls law middle new (map (λ event. Got at event) (telling.atom truths))
         → GetsCalls law old new (calls_shown telling scene metric frame truths)
-    atom_told old middle new at atom now is now_is learns others =
+    atom_told old middle new at atom now is touched now_is learns others =
         let more : List (Call Event Truth) = map (λ event. Got at event) (telling.atom truths) in
         subst (λ f. GetsCalls law old new (calls_shown telling scene metric f truths)) (sym is)
+        (subst (λ told. GetsCalls law old new (atom_calls telling told at (truth_in scene metric) truths))
+        (sym touched ∙ touched_there)
         (subst (λ (t : Truth). GetsCalls law old new (Learned at t ∷ more))
         (now_is ∙ truth_there given scene metric found)
-        (gets_both old middle new (Learned at now ∷ []) more learns others))
+        (gets_both old middle new (Learned at now ∷ []) more learns others)))
 
     -- of a pull that isn't the metric's nothing is told
     pub pull_untold : (lane : Lane P Event Truth V) (at id : ℕ) (outcome : PullOutcome) → frame ≡ Pull at id outcome

@@ -1,5 +1,5 @@
 -- The lane of a metric that sums durations, one step more.
-use Rattle.std.proofs.Common.{◌≡◌, ℕ, ◌<◌, ◌≤◌, Bool, List, [], ◌∷◌, ◌++◌, length, slice_get, Option, Some, None, refl, sym, ap, subst, ◌∙◌}
+use Rattle.std.proofs.Common.{◌≡◌, ℕ, ◌<◌, Bool, false, List, [], slice_get, Option, Some, None, refl, sym, ap, subst, ◌∙◌}
 use Rattle.std.specs.Prelude.{is_some}
 use Rattle.atom_record.specs.declared.atom.Atom.{Atom}
 use Rattle.atom_record.specs.declared.log.LogFrame.{LogFrame}
@@ -18,9 +18,10 @@ use Rattle.duration_metric.specs.SumStands.{sum_law}
 use Rattle.report_writer.specs.declared.tree.MetricTree.{MetricTree}
 use Rattle.session_frames.specs.FrameReading.{log_time}
 use Rattle.metric_lane.specs.LaneStands.{LaneHas, GetsFrame, GetsCalls, GetsReport}
-use Rattle.metric_meaning.specs.Histories.{Step, Installation, moment_of}
+use Rattle.metric_meaning.specs.Histories.{Installation, moment_of}
 use Rattle.metric_meaning.specs.Scenes.{Scene}
 use Rattle.metric_meaning.specs.Reports.{metric_tree}
+use Rattle.metric_meaning.specs.Touched.{timed_predicate, is_touched}
 use Rattle.metric_meaning.specs.DurationSteps.{sum_way}
 use Rattle.metric_calls.specs.DurationCalls.{event_in, known_in, changes_from, delta_with, learning, duration_params, sum_asking}
 use Rattle.metric_calls.proofs.InnerToldLemmas.{crossed_tell}
@@ -28,11 +29,12 @@ use Rattle.metric_calls.proofs.SumCallsLemmas.{sums_agree, sums_ask_well}
 use Rattle.client_engine.proofs.AlongLemmas.{along_begins, along_reports}
 use Rattle.client_engine.specs.DurationsShown.{durations_shown_by}
 use Rattle.client_engine.specs.Handed.{Handed, IsOfScene}
+use Rattle.client_engine.specs.Touchers.{tells_one}
 use Rattle.client_engine.specs.NextSteps.{TakesFrame, TakesReport}
 use Rattle.client_engine.specs.SoundMetrics.{IsSoundIn}
 use Rattle.client_engine.specs.SumsAlong.{SumLane, SumsAlong}
 use Rattle.client_engine.specs.declared.request.ReportRequest.{ReportRequest}
-use Rattle.client_engine.proofs.InnerLemmas.{IsOther, timed_well, no_calls, inner_takes, others_pass, atom_comes}
+use Rattle.client_engine.proofs.InnerLemmas.{IsOther, timed_well, no_calls, inner_takes, others_pass, untouched_pass, atom_comes}
 
 -- a new lane has seen no step of what was installed at this clock, where the metric is sound
 pub sums_begin : (metric : LMetric) (spec : PredSpec) (installed : Installation) (base : ℕ) (lane : SumLane)
@@ -65,6 +67,26 @@ module _ (given : Handed) (metric : LMetric) (shown : LogFrame) (truths : List B
             crossed crossed crossed None None steps crosses (no_calls sum_law crossed) (no_calls sum_law crossed)
             (others_pass sum_law metric has.spec installed way well refl tell has.timed steps shown frame truths given
             crossed.producer other may) may has.along;
+      }
+
+  -- nor does an atom that neither touches the metric nor tells a state by which it is sliced
+  pub sums_untouched : (at : ℕ) (atom : Atom) → shown ≡ AtomAt at atom
+      → is_touched given.known.predicates metric truths ≡ false → tells_one given.states atom.id metric.slices ≡ false
+      → TakesFrame (SumsAlong metric) given shown truths old crossed
+  sums_untouched at atom is untouched untold installed steps frame has may =
+      let way = sum_way installed metric has.spec in
+      let well = sums_ask_well installed metric has.spec has.timed in
+      let tell = crossed_tell installed metric has.spec in
+      let times : timed_predicate metric ≡ Some metric.what =
+      ap (λ kind. timed_predicate (record metric { kind = kind })) has.sums in
+      record {
+        spec = has.spec;
+        sums = has.sums;
+        timed = has.timed;
+        along = inner_takes sum_law metric has.spec installed way well refl tell has.timed shown frame truths given old
+            crossed crossed crossed None None steps crosses (no_calls sum_law crossed) (no_calls sum_law crossed)
+            (untouched_pass sum_law metric has.spec installed way well refl tell has.timed steps shown frame truths given
+            crossed.producer at atom is times untouched untold may) may has.along;
       }
 
   -- an atom brings its event, and then what changed

@@ -15,6 +15,7 @@ use Rattle.session_frames.specs.Faultless.{HasSoundAtoms}
 use Rattle.metric_producer.specs.Calls.{Call}
 use Rattle.metric_meaning.specs.Scenes.{Scene}
 use Rattle.metric_meaning.specs.SnapshotSteps.{pulled_matcher, atoms_meant}
+use Rattle.metric_meaning.specs.Touched.{is_touched}
 use Rattle.metric_calls.specs.SnapshotCalls.{is_told_of, truth_in, Telling, pull_calls, atom_calls}
 use Rattle.client_engine.specs.declared.brought.Brought.{Brought}
 use Rattle.client_engine.specs.declared.snapshots.Found.{Found}
@@ -47,7 +48,8 @@ found_among matchers metric atoms =
 abbrev pub calls_shown : {Event : Type 0} → Telling Event → Scene → LMetric → LogFrame → List Bool
     → List (Call Event Truth)
 calls_shown telling scene metric (Tick at) truths = []
-calls_shown telling scene metric (AtomAt at atom) truths = atom_calls telling at (truth_in scene metric) truths
+calls_shown telling scene metric (AtomAt at atom) truths =
+    atom_calls telling (is_touched scene.linked.predicates metric truths) at (truth_in scene metric) truths
 calls_shown telling scene metric (Pull at id outcome) truths =
     pull_calls telling (is_told_of scene.linked.matchers metric id) at
     (found_among scene.linked.matchers metric (atoms_in outcome))

@@ -14,7 +14,6 @@ use Rattle.metric_calls.specs.DurationCalls.{told_as, known_in, changes_from}
 use Rattle.client_engine.specs.Known as known
 use Rattle.client_engine.specs.Handed.{IsOfScene}
 use Rattle.client_engine.specs.Bringing.{handed_with}
-use Rattle.client_engine.specs.declared.asked.InnerKey.{InnerKey}
 use Rattle.client_engine.specs.declared.brought.Brought.{Brought}
 use Rattle.client_engine.specs.declared.inner.Asker.{Asker}
 
@@ -24,12 +23,16 @@ HasShared known metric None = Unit {0}
 HasShared known metric (Some holds) =
     (reading : LeafReading) → holds ≡ is_condition_true known.predicates known.tables metric reading
 
+-- what is read of a key of the predicate that a metric times
+abbrev pub reading_in : known.Known → LMetric → LeafKey → LeafReading
+reading_in known metric key = key_reading (inner_fields (slice_get known.predicates metric.what)) key
+
 -- the truth that is told of an inner key's condition, where those that ask know what all have alike
-abbrev pub IsStanding : Asker → InnerKey → known.Known → Truth → Type 0
-IsStanding asker inner known truth =
+abbrev pub IsStanding : Asker → LeafKey → known.Known → Truth → Type 0
+IsStanding asker key known truth =
     HasShared known asker.metric.now asker.shared
     → truth ≡ told_as (is_condition_true known.predicates known.tables asker.metric.now
-    (key_reading inner.fields.now inner.key.now))
+    (reading_in known asker.metric.now key))
 
 -- what is told of the key at a place, if there is one
 abbrev pub told_of_place : (LeafKey → Option Known) → (LeafKey → Known) → ℕ → Option LeafKey → List InnerChange
@@ -42,7 +45,6 @@ abbrev pub AddsChange : {K : Type 0} → (K → DurationParams → List Duration
 AddsChange stands keys place asker known old new =
     (params : DurationParams) (calls : List DurationCall) (scene : Scene) → stands keys params calls
     → IsOfScene (handed_with known asker.brought.now) scene
-    → asker.fields.now ≡ inner_fields (slice_get known.predicates asker.metric.now.what)
     → HasShared known asker.metric.now asker.shared
     → new ≡ old ++ told_of_place (last_known params.spec calls) (known_in scene asker.metric.now) place
     (slice_get (inner_keys params.spec calls) place)

@@ -3,6 +3,7 @@ pub mod Groups
 pub mod Known
 pub mod Handed
 pub mod KeptPredicates
+pub mod Touchers
 pub mod NextSteps
 pub mod Bringing
 pub mod Opens

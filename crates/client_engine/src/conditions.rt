@@ -1,20 +1,23 @@
 //! The predicates of a configuration: what atoms make of them, and what metrics ask of them.
-ghost use Rattle.std.specs.Prelude.{◌≡◌, [], length, slice_get, OnOk, IfOk};
+ghost use Rattle.std.specs.Prelude.{◌≡◌, [], Some, length, slice_get, OnOk, IfOk};
 ghost use Rattle.config_links.specs.SoundConfig.{MayBeWithin};
 ghost use Rattle.condition_links.specs.ThreeValues.{is_true};
 ghost use Rattle.metric_meaning.specs.DurationSteps.{inner_fields};
+ghost use Rattle.metric_meaning.specs.Readings.{key_reading};
 ghost use Rattle.metric_meaning.specs.MetricConditions.{condition_truth, is_condition_true};
+ghost use Rattle.metric_meaning.specs.Touched.{acts_below, is_touched};
 ghost use Rattle.metric_calls.specs.DurationCalls.{event_in};
 ghost use Rattle.client_engine.specs.NextSteps.{logged_step};
 ghost use Rattle.client_engine.specs.Known.{KnowsAfter, KnowsStep, drops_in};
 ghost use Rattle.client_engine.specs.KeptPredicates.{CanBeKept};
 
-use crate::asked::{Asked, ask_all};
-use crate::inner::{fields_in, key_event, no_fields};
+use crate::asked::{Asked, InnerKey, ask_all};
+use crate::inner::key_event;
 use crate::tables::{act_on_all, drops_of, new_tables};
-use atom_record::{Atom, LogFrame};
+use crate::touchers::{names_atom_itself, one_holds, timed_predicate, touchers_of_all};
+use atom_record::{Atom, DimKey, LogFrame};
 use condition_links::query;
-use config_links::{CondTree, LMetric, LPredicate};
+use config_links::{CondTree, LMetric, LPredBody, LPredicate};
 use duration_metric::InnerEvent;
 use field_select::FieldSet;
 use predicate_state::{BindList, PredTable, Truth};
@@ -30,19 +33,27 @@ pub struct Conditions {
     tree: CondTree,
     /// What each predicate knows, in config order.
     tables: Vec<PredTable>,
+    /// Of each predicate, the matchers that start or stop it, or one that is reached from it.
+    touchers: Seq<Seq<u32>>,
+    /// The fields of a combination.
+    no_fields: FieldSet,
     /// What a metric asks of each predicate. Only the room is kept from metric to metric.
     binds: Vec<BindList>,
 }
 
 impl Model for Conditions {
+    ghost use Rattle.std.specs.Prelude.{◌≡◌, []};
     ghost use Rattle.client_engine.specs.Known.{Known};
     ghost use Rattle.client_engine.specs.KeptPredicates.{AreKept};
+    ghost use Rattle.client_engine.specs.Touchers.{all_touchers};
 
     ghost Value = { Known };
 
     ghost view = { λ it. record { predicates = it.tree.nodes; tables = it.tables.items } };
 
-    ghost invariant = { λ it. AreKept it.tree.nodes it.tables.items };
+    ghost invariant = { λ it. AreKept it.tree.nodes it.tables.items
+        × (it.touchers ≡ all_touchers it.tree.nodes)
+        × (it.no_fields ≡ record { atom_id = 0; leaves = [] }) };
 }
 
 impl Conditions {
@@ -52,13 +63,20 @@ impl Conditions {
         ensures predicates { IfOk result (λ it. it.predicates ≡ predicates) }
         ensures knows { IfOk result (KnowsAfter []) }
     {
-        let tables = new_tables(alloc, predicates.as_slice())?;
+        let kept = predicates.as_slice();
+        let tables = new_tables(alloc, kept)?;
+        let touchers = touchers_of_all(alloc, kept)?;
         Ok(Conditions {
             tree: CondTree {
                 root: None,
                 nodes: predicates,
             },
             tables,
+            touchers,
+            no_fields: FieldSet {
+                atom_id: 0,
+                leaves: Seq::new(alloc),
+            },
             binds: Vec::new(alloc),
         })
     }
@@ -79,6 +97,36 @@ impl Conditions {
                 act_on_all(alloc, predicates, self.tables.as_mut_slice(), atom, matched)
             }
             _ => Ok(()),
+        }
+    }
+
+    /// Whether an atom with these truths of matchers touches a metric. One that doesn't leaves the truth of its condition,
+    /// and does nothing to what a duration times.
+    pub fn touches(&self, metric: &LMetric, matched: &[bool]) -> bool
+        ensures { result ≡ is_touched self.now.predicates metric.now matched.now }
+    {
+        names_atom_itself(metric, matched)
+            || self.acts_below(metric.condition, matched)
+            || self.acts_below(timed_predicate(metric), matched)
+    }
+
+    // Whether an atom acts on a predicate, if one is named, or on one that is reached from it.
+    fn acts_below(&self, root: Option<u32>, matched: &[bool]) -> bool
+        ensures { result ≡ acts_below self.now.predicates matched.now root }
+    {
+        match root {
+            Some(root) => self.touches_at(root, matched),
+            None => false,
+        }
+    }
+
+    // Whether an atom acts on the predicate at a place, or on one that is reached from it.
+    fn touches_at(&self, root: u32, matched: &[bool]) -> bool
+        ensures { result ≡ acts_below self.now.predicates matched.now (Some root) }
+    {
+        match self.touchers.get(root as usize) {
+            Some(matchers) => one_holds(matchers.as_slice(), matched),
+            None => false,
         }
     }
 
@@ -119,15 +167,36 @@ impl Conditions {
         Ok(query(&self.tree, self.tables.as_slice(), self.binds.as_slice()))
     }
 
-    /// The fields whose values the keys of a predicate have; a combination has none, and what isn't there neither.
-    pub fn fields_of(&self, alloc: Global, place: u32) -> Result<FieldSet, AllocError>
-        ensures { IfOk result (λ fields. fields
-            ≡ inner_fields (slice_get self.now.predicates place)) }
+    /// Whether a metric's condition is true for a key of the predicate that it times, by what predicates know now.
+    pub fn holds_for_key(
+        &mut self,
+        alloc: Global,
+        metric: &LMetric,
+        key: &DimKey,
+    ) -> Result<bool, AllocError>
+        requires within { MayBeWithin (length self.old.predicates) metric.now.condition }
+        ensures truth { IfOk result (λ truth. truth
+            ≡ is_condition_true self.old.predicates self.old.tables metric.now
+            (key_reading (inner_fields (slice_get self.old.predicates metric.now.what)) key.now)) }
+        ensures known { self.new ≡ self.old }
     {
-        match self.tree.nodes.get(place as usize) {
-            Some(predicate) => fields_in(alloc, &predicate.body),
-            None => Ok(no_fields(alloc)),
+        if metric.condition.is_none() {
+            return Ok(true);
         }
+        let links = metric.links.as_slice();
+        let nodes = self.tree.nodes.as_slice();
+        let fields = fields_at(nodes, &self.no_fields, metric.what);
+        let inner = InnerKey { fields, key };
+        ask_all(alloc, links, &inner, nodes.len(), &mut self.binds)?;
+        self.tree.root = metric.condition;
+        Ok(is_for_sure(query(&self.tree, self.tables.as_slice(), self.binds.as_slice())))
+    }
+
+    /// The fields whose values the keys of a predicate have; a combination has none, and what isn't there neither.
+    pub fn fields_of(&self, place: u32) -> &FieldSet
+        ensures { result.now ≡ inner_fields (slice_get self.now.predicates place) }
+    {
+        fields_at(self.tree.nodes.as_slice(), &self.no_fields, place)
     }
 
     /// What an atom does to the keys of a predicate, if it does something.
@@ -162,5 +231,19 @@ fn is_for_sure(truth: Truth) -> bool
     match truth {
         Truth::True => true,
         Truth::False | Truth::Unknown => false,
+    }
+}
+
+// The fields whose values the keys of the predicate at a place have, or none.
+fn fields_at<'a>(nodes: &'a [LPredicate], no_fields: &'a FieldSet, place: u32) -> &'a FieldSet
+    requires none { no_fields.now ≡ record { atom_id = 0; leaves = [] } }
+    ensures { result.now ≡ inner_fields (slice_get nodes.now place) }
+{
+    match nodes.get(place as usize) {
+        Some(predicate) => match &predicate.body {
+            LPredBody::Simple { dims, .. } => dims,
+            LPredBody::Combo { .. } => no_fields,
+        },
+        None => no_fields,
     }
 }

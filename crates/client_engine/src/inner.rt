@@ -1,28 +1,30 @@
 //! The inner keys of a metric of durations, which are the keys of the predicate that it times: what atoms do to them,
 //! and what is told of them.
-ghost use Rattle.std.specs.Prelude.{◌≡◌, [], List, length, slice_get, OnOk, IfOk};
+ghost use Rattle.std.specs.Prelude.{◌≡◌, ◌||◌, [], List, length, slice_get, OnOk, IfOk};
 ghost use Rattle.std.specs.Option.{option_copied};
 ghost use Rattle.config_links.specs.SoundConfig.{MayBeWithin};
 ghost use Rattle.duration_metric.specs.InnerKeys.{DurationParams, DurationCall, inner_keys, last_known, was_told};
 ghost use Rattle.duration_metric.specs.SumStands.{SumStandsFor};
 ghost use Rattle.duration_metric.specs.SparseStands.{SparseStandsFor};
-ghost use Rattle.metric_meaning.specs.DurationSteps.{predicate_fields, inner_fields};
 ghost use Rattle.metric_meaning.specs.PredicateSteps.{atom_events};
 ghost use Rattle.metric_meaning.specs.Scenes.{Scene};
+ghost use Rattle.metric_meaning.specs.Touched.{is_touched};
 ghost use Rattle.metric_calls.specs.DurationCalls.{first_event_of, delta_with, told_as, known_in, changes_from};
 ghost use Rattle.client_engine.specs.Bringing.{handed_with};
 ghost use Rattle.client_engine.specs.Handed.{IsOfScene};
 ghost use Rattle.client_engine.specs.InnerTold.{HasShared, IsStanding, AddsChange};
+ghost use Rattle.client_engine.specs.Touchers.{tells_one};
 
 use crate::arriving::key_in;
-use crate::asked::InnerKey;
+use crate::asked::{InnerKey, Nothing};
 use crate::brought::Brought;
 use crate::conditions::Conditions;
+use crate::slices::tells_one;
 use crate::tables::event_by;
 use atom_record::{Atom, DimKey, MetricKey};
 use config_links::{LMetric, LPredBody};
 use duration_metric::{InnerChange, InnerDelta, InnerEvent, MaxProducer, SumProducer};
-use field_select::{FieldSet, key_of};
+use field_select::key_of;
 use predicate_state::Truth;
 use sd_base::Seq;
 use std::alloc::{AllocError, Global};
@@ -80,29 +82,6 @@ impl Inners for MaxProducer {
     }
 }
 
-/// No fields.
-pub fn no_fields(alloc: Global) -> FieldSet
-    ensures { result ≡ record { atom_id = 0; leaves = [] } }
-{
-    FieldSet {
-        atom_id: 0,
-        leaves: Seq::new(alloc),
-    }
-}
-
-/// The fields whose values the keys of a predicate have.
-pub fn fields_in(alloc: Global, body: &LPredBody) -> Result<FieldSet, AllocError>
-    ensures { IfOk result (λ fields. fields ≡ predicate_fields body.now) }
-{
-    match body {
-        LPredBody::Simple { dims, .. } => Ok(FieldSet {
-            atom_id: dims.atom_id,
-            leaves: Seq::from_slice(alloc, dims.leaves.as_slice())?,
-        }),
-        LPredBody::Combo { .. } => Ok(no_fields(alloc)),
-    }
-}
-
 /// What an atom does to the keys of a predicate, if it does something.
 pub fn key_event(
     alloc: Global,
@@ -131,12 +110,26 @@ pub fn key_event(
     }
 }
 
-/// What inner keys are asked by: the metric, the fields whose values they have, what the frame brings, and the truth of
-/// their condition where it is the same for all.
+/// Whether an atom may change something of a duration: it touches it, or tells a state by which it is sliced.
+pub fn changes_with(
+    metric: &LMetric,
+    brought: &Brought<'_>,
+    atom: &Atom,
+    conditions: &Conditions,
+) -> bool
+    ensures { result
+        ≡ (is_touched conditions.now.predicates metric.now brought.now.matched.now
+        || tells_one brought.now.states.now atom.now.id metric.now.slices) }
+{
+    conditions.touches(metric, brought.matched)
+        || tells_one(brought.states, atom.id, metric.slices.as_slice())
+}
+
+/// What inner keys are asked by: the metric, what the frame brings, and the truth of their condition where it is the same
+/// for all.
 #[derive(Clone, Copy)]
 struct Asker<'a> {
     metric: &'a LMetric,
-    fields: &'a FieldSet,
     brought: &'a Brought<'a>,
     shared: Option<bool>,
 }
@@ -161,11 +154,9 @@ pub fn changes_of<K: Inners>(
     if count == 0 {
         return Ok(changes);
     }
-    let fields = conditions.fields_of(alloc, metric.what)?;
     let shared = shared_truth(alloc, metric, conditions)?;
     let asker = Asker {
         metric,
-        fields: &fields,
         brought,
         shared,
     };
@@ -188,13 +179,7 @@ fn shared_truth(
     if !metric.links.is_empty() {
         return Ok(None);
     }
-    let fields = no_fields(alloc);
-    let key = Seq::new(alloc);
-    let none = InnerKey {
-        fields: &fields,
-        key: &key,
-    };
-    Ok(Some(conditions.holds(alloc, metric, &none)?))
+    Ok(Some(conditions.holds(alloc, metric, &Nothing)?))
 }
 
 // Adds what is told of the inner key at a place, unless it was told last.
@@ -214,11 +199,11 @@ fn add_change<K: Inners>(
     let Some(key) = keys.key(place) else {
         return Ok(());
     };
+    let truth = truth_of(alloc, asker, key, conditions)?;
     let inner = InnerKey {
-        fields: asker.fields,
+        fields: conditions.fields_of(asker.metric.what),
         key,
     };
-    let truth = truth_of(alloc, asker, &inner, conditions)?;
     let out = key_in(alloc, asker.metric, asker.brought, &inner)?;
     if keys.was_told(place, truth, &out) {
         return Ok(());
@@ -234,16 +219,16 @@ fn add_change<K: Inners>(
 fn truth_of(
     alloc: Global,
     asker: &Asker<'_>,
-    inner: &InnerKey<'_>,
+    key: &DimKey,
     conditions: &mut Conditions,
 ) -> Result<Truth, AllocError>
     requires within { MayBeWithin (length conditions.old.predicates) asker.now.metric.now.condition }
-    ensures truth { IfOk result (IsStanding asker.now inner.now conditions.old) }
+    ensures truth { IfOk result (IsStanding asker.now key.now conditions.old) }
     ensures known { conditions.new ≡ conditions.old }
 {
     match asker.shared {
         Some(holds) => Ok(truth_as(holds)),
-        None => Ok(truth_as(conditions.holds(alloc, asker.metric, inner)?)),
+        None => Ok(truth_as(conditions.holds_for_key(alloc, asker.metric, key)?)),
     }
 }
 

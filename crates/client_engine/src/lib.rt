@@ -23,6 +23,7 @@ mod slices;
 mod snapshots;
 mod state_drops;
 mod tables;
+mod touchers;
 mod track;
 mod turns;
 

@@ -1,8 +1,9 @@
 //! The slices by states of what is read.
-ghost use Rattle.std.specs.Prelude.{◌≡◌, ◌++◌, List, OnOk, IfOk};
+ghost use Rattle.std.specs.Prelude.{◌≡◌, ◌++◌, List, slice_get, OnOk, IfOk};
 ghost use Rattle.atom_record.specs.declared.log.LogFrame.{LogFrame};
 ghost use Rattle.state_slicer.specs.StateBooks.{StateBookStandsFor};
 ghost use Rattle.metric_meaning.specs.StateSlices.{state_key, named_slice, named_slices};
+ghost use Rattle.client_engine.specs.Touchers.{is_told_by, tells_one};
 
 use crate::asked::Asked;
 use atom_record::{DimKey, Slice};
@@ -62,5 +63,22 @@ fn state_key<A: Asked>(
     match in_what {
         Some(set) => asked.read(alloc, set),
         None => Ok(Seq::new(alloc)),
+    }
+}
+
+/// Whether one of the states that these slices name is told by atoms of this id.
+pub fn tells_one(states: &[LState], id: u32, slices: &[LSlice]) -> bool
+    ensures { result ≡ tells_one states.now id slices.now }
+{
+    slices.iter().any(|by| tells(states, id, by))
+}
+
+// Whether the state that a slice names is told by atoms of this id.
+fn tells(states: &[LState], id: u32, by: &LSlice) -> bool
+    ensures { result ≡ is_told_by id (slice_get states.now by.now.state) }
+{
+    match states.get(by.state as usize) {
+        Some(state) => id == state.atom_id,
+        None => false,
     }
 }

@@ -12,6 +12,7 @@ use Rattle.field_select.specs.declared.leaf.FieldSet.{FieldSet}
 use Rattle.config_types.specs.declared.parameters.Sampling.{Sampling}
 use Rattle.config_types.specs.declared.parameters.Sampling.TheVariants.{AtStart, AtChange, AtTrigger}
 use Rattle.config_links.specs.declared.linked.LMetric.{LMetric}
+use Rattle.config_links.specs.declared.linked.LKind.TheVariants.{PulledGauge}
 use Rattle.bucket_meaning.specs.Marks.{Mark}
 use Rattle.predicate_state.specs.declared.truth.Truth.{Truth}
 use Rattle.predicate_state.specs.declared.truth.Truth.TheVariants.{False, Unknown, True}
@@ -30,10 +31,12 @@ use Rattle.metric_meaning.specs.Scenes.{scene_after}
 use Rattle.metric_meaning.specs.SnapshotSteps.{snapshot_found}
 use Rattle.metric_meaning.specs.PulledIntervals.{Watch}
 use Rattle.metric_meaning.specs.PulledGaugeSteps.{pulled_samples, watched_samples, is_moment, sampled_at_start, pulled_gauge_way}
+use Rattle.metric_meaning.specs.Touched.{is_touched}
+use Rattle.metric_meaning.proofs.PulledStepsLemmas.{no_sample_comes}
 use Rattle.metric_calls.specs.Askings.{frame_step, asked_at, own_demands, calls_by_steps, calls_crossed, marks_after, AsksWell, Agrees}
 use Rattle.metric_calls.specs.Memories.{Memory, remembered, Follows}
 use Rattle.metric_calls.specs.PushedGaugeCalls.{handed_sample}
-use Rattle.metric_calls.specs.SnapshotCalls.{is_told_of, truth_in, pull_calls}
+use Rattle.metric_calls.specs.SnapshotCalls.{is_told_of, truth_in, pull_calls, atom_calls}
 use Rattle.metric_calls.specs.PulledGaugeCalls.{sample_spec, pulled_gauge_params, handed_samples, gauge_telling, pulled_gauge_asking}
 use Rattle.metric_calls.proofs.MemoriesLemmas.{remembered-append, remembered-is, remembered-crossed}
 use Rattle.metric_calls.proofs.SnapshotCallsLemmas.{truth_stays, found_kept, truth_and, TakesTold, told_follows}
@@ -252,30 +255,20 @@ module _ (installed : Installation) (metric : LMetric) (fields : Option FieldSet
       ap (λ moment. if moment then sample_marks (watch.found (before ++ frame_step frame at truths ∷ [])) else [])
       (no_moment mode trigger watch before at frame truths (ap is_true stays) none)
 
-  -- what is asked at a frame has the marks that the frame brings
-  gauge_marks : (before : List Step) (frame : LogFrame) (at : ℕ) (truths : List Bool)
-      → let asking = pulled_gauge_asking installed metric fields samples mode trigger in
+  -- what is told of an atom has the marks that it brings
+  atom_marks : metric.kind ≡ PulledGauge fields samples mode trigger → (before : List Step) (at when : ℕ) (atom : Atom)
+      (truths : List Bool) (touched : Bool) → is_touched installed.linked.predicates metric truths ≡ touched
+      → let frame : LogFrame = AtomAt when atom in
+      let step = frame_step frame at truths in
+      let asking = pulled_gauge_asking installed metric fields samples mode trigger in
       marks_after asking pulled_collecting (calls_crossed asking pulled_collecting before frame at)
-      (asked_at asking before frame at truths)
-      ≡ asking.way.shown.comes before (frame_step frame at truths)
-  gauge_marks before (Tick when) at truths =
-      sym (idle_marks before at (Tick when) truths
-      (truth_stays installed metric before (frame_step (Tick when) at truths) (λ predicate. refl)) refl)
-  gauge_marks before (Pull when id outcome) at truths =
-      by (is_told_of installed.linked.matchers metric id)
-      ∙ sym (idle_marks before at (Pull when id outcome) truths
-      (truth_stays installed metric before (frame_step (Pull when id outcome) at truths) (λ predicate. refl)) refl)
-    where
-      by : (told : Bool)
-          → let asking = pulled_gauge_asking installed metric fields samples mode trigger in
-          marks_after asking pulled_collecting
-          (calls_crossed asking pulled_collecting before (Pull when id outcome) at)
-          (pull_calls (gauge_telling metric fields trigger) told at
-          (snapshot_found installed metric (before ++ frame_step (Pull when id outcome) at truths ∷ [])))
-          ≡ []
-      by true = refl
-      by false = refl
-  gauge_marks before (AtomAt when atom) at truths =
+      (atom_calls (gauge_telling metric fields trigger) touched at
+      (truth_in (scene_after installed (before ++ step ∷ [])) metric) truths)
+      ≡ asking.way.shown.comes before step
+  atom_marks gauge before at when atom truths false untouched =
+      sym (no_sample_comes installed metric fields samples mode trigger before
+      (frame_step (AtomAt when atom) at truths) gauge untouched)
+  atom_marks gauge before at when atom truths true touched =
       let frame : LogFrame = AtomAt when atom in
       let step = frame_step frame at truths in
       let asking = pulled_gauge_asking installed metric fields samples mode trigger in
@@ -317,14 +310,41 @@ module _ (installed : Installation) (metric : LMetric) (fields : Option FieldSet
           (condition_is after (Some now, Some found) is)
           ∙ ap (marks_if (is_trigger_moment mode (Some now))) (snapshot_is after (Some now, Some found) is)
 
+  -- what is asked at a frame has the marks that the frame brings
+  gauge_marks : metric.kind ≡ PulledGauge fields samples mode trigger → (before : List Step) (frame : LogFrame) (at : ℕ) (truths : List Bool)
+      → let asking = pulled_gauge_asking installed metric fields samples mode trigger in
+      marks_after asking pulled_collecting (calls_crossed asking pulled_collecting before frame at)
+      (asked_at asking before frame at truths)
+      ≡ asking.way.shown.comes before (frame_step frame at truths)
+  gauge_marks gauge before (Tick when) at truths =
+      sym (idle_marks before at (Tick when) truths
+      (truth_stays installed metric before (frame_step (Tick when) at truths) (λ predicate. refl)) refl)
+  gauge_marks gauge before (Pull when id outcome) at truths =
+      by (is_told_of installed.linked.matchers metric id)
+      ∙ sym (idle_marks before at (Pull when id outcome) truths
+      (truth_stays installed metric before (frame_step (Pull when id outcome) at truths) (λ predicate. refl)) refl)
+    where
+      by : (told : Bool)
+          → let asking = pulled_gauge_asking installed metric fields samples mode trigger in
+          marks_after asking pulled_collecting
+          (calls_crossed asking pulled_collecting before (Pull when id outcome) at)
+          (pull_calls (gauge_telling metric fields trigger) told at
+          (snapshot_found installed metric (before ++ frame_step (Pull when id outcome) at truths ∷ [])))
+          ≡ []
+      by true = refl
+      by false = refl
+  gauge_marks gauge before (AtomAt when atom) at truths =
+      atom_marks gauge before at when atom truths (is_touched installed.linked.predicates metric truths) refl
+
   -- calls and steps agree for pulled gauges
-  pub pulled_gauges_agree : Agrees (pulled_gauge_asking installed metric fields samples mode trigger) pulled_collecting
-  pulled_gauges_agree = record {
+  pub pulled_gauges_agree : metric.kind ≡ PulledGauge fields samples mode trigger
+      → Agrees (pulled_gauge_asking installed metric fields samples mode trigger) pulled_collecting
+  pulled_gauges_agree gauge = record {
     made = record { base = refl; size = refl; bound = refl; kind = refl };
     opens = append-nil (marks_if (is_told_moment mode None (truth_in (scene_after installed []) metric))
         (handed_samples (watch.found [])))
         ∙ first_marks mode trigger watch (truth_in (scene_after installed []) metric) refl;
-    at_frame = λ before frame at truths. gauge_marks before frame at truths;
+    at_frame = λ before frame at truths. gauge_marks gauge before frame at truths;
     at_boundary = λ before.
         let calls = calls_by_steps (pulled_gauge_asking installed metric fields samples mode trigger) pulled_collecting
         before in
@@ -355,17 +375,19 @@ module _ (installed : Installation) (metric : LMetric) (fields : Option FieldSet
         × AreTold demands (calls_crossed asking pulled_collecting before frame at)
         (asked_at asking before frame at truths)
     by before at truths (Tick when) = (tt, tt)
-    by before at truths (AtomAt when atom) = triggers (named_truth trigger truths) where
-      triggers : (matches : Bool)
-          → let asking = pulled_gauge_asking installed metric fields samples mode trigger in
-          let demands = own_demands asking pulled_collecting in
-          let now = truth_in (scene_after installed (before ++ frame_step (AtomAt when atom) at truths ∷ [])) metric in
-          let calls : List PulledGaugeCall =
-          Learned at now ∷ map (λ event. Got at event) (if matches then Trigger ∷ [] else []) in
-          AreAskedAt demands at calls
-          × AreTold demands (calls_crossed asking pulled_collecting before (AtomAt when atom) at) calls
-      triggers true = ((refl, (refl, refl, tt, tt)), (refl, (tt, tt)))
-      triggers false = ((refl, tt), (refl, tt))
+    by before at truths (AtomAt when atom) =
+        told (is_touched installed.linked.predicates metric truths) (named_truth trigger truths) where
+          told : (touched matches : Bool)
+              → let asking = pulled_gauge_asking installed metric fields samples mode trigger in
+              let demands = own_demands asking pulled_collecting in
+              let now = truth_in (scene_after installed (before ++ frame_step (AtomAt when atom) at truths ∷ [])) metric in
+              let calls : List PulledGaugeCall = if touched
+              then Learned at now ∷ map (λ event. Got at event) (if matches then Trigger ∷ [] else []) else [] in
+              AreAskedAt demands at calls
+              × AreTold demands (calls_crossed asking pulled_collecting before (AtomAt when atom) at) calls
+          told true true = ((refl, (refl, refl, tt, tt)), (refl, (tt, tt)))
+          told true false = ((refl, tt), (refl, tt))
+          told false matches = (tt, tt)
     by before at truths (Pull when id outcome) = told (is_told_of installed.linked.matchers metric id) where
       told : (is_told : Bool)
           → let asking = pulled_gauge_asking installed metric fields samples mode trigger in

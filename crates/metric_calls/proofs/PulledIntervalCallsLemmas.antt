@@ -34,16 +34,17 @@ use Rattle.metric_meaning.specs.ValueLeaves.{ValueLeaf}
 use Rattle.metric_meaning.specs.SnapshotSteps.{snapshot_found}
 use Rattle.metric_meaning.specs.PulledIntervals.{Watch, seen_after, part_starts, begun_if, becomes_true, begun_with_parts, begun_by_step, all_begun, open_interval, open_before}
 use Rattle.metric_meaning.specs.PulledValueSteps.{pulled_integers, watched_integers, pulled_value_way}
+use Rattle.metric_meaning.specs.Touched.{is_touched}
 use Rattle.metric_calls.specs.Askings.{frame_step, steps_seen, asked_at, calls_by_steps, calls_crossed}
 use Rattle.metric_calls.specs.Memories.{Memory, remembered}
 use Rattle.metric_calls.specs.ValueCalls.{keyed_int}
-use Rattle.metric_calls.specs.SnapshotCalls.{is_told_of, truth_in, pull_calls}
+use Rattle.metric_calls.specs.SnapshotCalls.{is_told_of, truth_in, pull_calls, atom_calls}
 use Rattle.metric_calls.specs.PulledValueCalls.{pulled_value_params, snap_ints, value_telling, pulled_value_asking}
 use Rattle.metric_calls.proofs.CrossedLemmas.{ends_at-neighbours}
 use Rattle.metric_calls.proofs.StepLemmas.{told_by-steps}
 use Rattle.metric_calls.proofs.AskingsLemmas.{calls_of_step, calls-give}
 use Rattle.metric_calls.proofs.MemoriesLemmas.{remembered-append, remembered-is, remembered-crossed}
-use Rattle.metric_calls.proofs.SnapshotCallsLemmas.{truth_stays, found_kept, truth_and, TakesTold, told_follows}
+use Rattle.metric_calls.proofs.SnapshotCallsLemmas.{truth_stays, untouched_truth, found_kept, truth_and, TakesTold, told_follows}
 
 -- integers that were handed over are what they were
 handed_ints : (integers : KeyedInts) → keyed_ints (map keyed_int integers) ≡ integers
@@ -270,15 +271,18 @@ module _ (installed : Installation) (metric : LMetric) (source : ValueLeaf) (spe
       sym (ap (λ truth. begun_if watch (is_true truth && not (watch.holds before)) (before ++ step ∷ [])) stays
       ∙ ap (λ truth. if truth then found ∷ [] else []) (never_both (watch.holds before)))
 
-  -- what is asked at a frame begins what the frame itself begins
-  asked_begins : (before : List Step) (frame : LogFrame) (at : ℕ) (truths : List Bool) (calls : List PulledValueCall)
-      → memory_of calls ≡ stands_now before
-      → outputs_after begun_at calls (asked_at (pulled_value_asking installed metric source spec) before frame at truths)
-      ≡ begun_by_step watch before (frame_step frame at truths)
-  asked_begins before (Tick when) at truths calls is =
-      let step = frame_step (Tick when) at truths in
-      stays_begun before step (truth_stays installed metric before step (λ predicate. refl))
-  asked_begins before (AtomAt when atom) at truths calls is =
+  -- what is told of an atom begins what the atom itself begins
+  atom_begins : (before : List Step) (at when : ℕ) (atom : Atom) (truths : List Bool) (calls : List PulledValueCall)
+      → memory_of calls ≡ stands_now before → (touched : Bool)
+      → is_touched installed.linked.predicates metric truths ≡ touched
+      → let step = frame_step (AtomAt when atom) at truths in
+      outputs_after begun_at calls (atom_calls (value_telling metric source) touched at
+      (truth_in (scene_after installed (before ++ step ∷ [])) metric) truths)
+      ≡ begun_by_step watch before step
+  atom_begins before at when atom truths calls is false untouched =
+      let step = frame_step (AtomAt when atom) at truths in
+      stays_begun before step (untouched_truth installed metric before step untouched)
+  atom_begins before at when atom truths calls is true touched =
       let step = frame_step (AtomAt when atom) at truths in
       let now = truth_in (scene_after installed (before ++ step ∷ [])) metric in
       let call : PulledValueCall = Learned at now in
@@ -298,6 +302,17 @@ module _ (installed : Installation) (metric : LMetric) (source : ValueLeaf) (spe
       (held_is calls before is)
       ∙ ap (λ found. if becomes_true watch before step then found ∷ [] else [])
       (found_is after (before ++ step ∷ []) told_now)
+
+  -- what is asked at a frame begins what the frame itself begins
+  asked_begins : (before : List Step) (frame : LogFrame) (at : ℕ) (truths : List Bool) (calls : List PulledValueCall)
+      → memory_of calls ≡ stands_now before
+      → outputs_after begun_at calls (asked_at (pulled_value_asking installed metric source spec) before frame at truths)
+      ≡ begun_by_step watch before (frame_step frame at truths)
+  asked_begins before (Tick when) at truths calls is =
+      let step = frame_step (Tick when) at truths in
+      stays_begun before step (truth_stays installed metric before step (λ predicate. refl))
+  asked_begins before (AtomAt when atom) at truths calls is =
+      atom_begins before at when atom truths calls is (is_touched installed.linked.predicates metric truths) refl
   asked_begins before (Pull when id outcome) at truths calls is =
       let step = frame_step (Pull when id outcome) at truths in
       by (is_told_of installed.linked.matchers metric id)

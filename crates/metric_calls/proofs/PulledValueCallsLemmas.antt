@@ -4,6 +4,7 @@ use Rattle.std.proofs.Common.{◌≡◌, ℕ, Bool, true, false, List, [], ◌�
 use Rattle.std.specs.List.{flat_map, last_or}
 use Rattle.std.specs.Option.{option_map}
 use Rattle.std.proofs.lemmas.List.{append-nil}
+use Rattle.atom_record.specs.declared.atom.Atom.{Atom}
 use Rattle.atom_record.specs.declared.log.LogFrame.{LogFrame}
 use Rattle.atom_record.specs.declared.log.LogFrame.TheVariants.{Tick, AtomAt, Pull}
 use Rattle.config_types.specs.declared.parameters.DiffSpec.{DiffSpec}
@@ -23,10 +24,11 @@ use Rattle.metric_meaning.specs.ValueLeaves.{ValueLeaf}
 use Rattle.metric_meaning.specs.SnapshotSteps.{snapshot_found}
 use Rattle.metric_meaning.specs.PulledIntervals.{Watch, seen_after, begun_with_parts, all_begun, open_interval, open_before, ended_by_step}
 use Rattle.metric_meaning.specs.PulledValueSteps.{pulled_integers, watched_integers}
+use Rattle.metric_meaning.specs.Touched.{is_touched}
 use Rattle.metric_calls.specs.Askings.{frame_step, asked_at, own_demands, calls_by_steps, calls_crossed, marks_after, AsksWell, Agrees}
-use Rattle.metric_calls.specs.SnapshotCalls.{is_told_of, truth_in, pull_calls}
+use Rattle.metric_calls.specs.SnapshotCalls.{is_told_of, truth_in, pull_calls, atom_calls}
 use Rattle.metric_calls.specs.PulledValueCalls.{pulled_value_params, value_telling, pulled_value_asking}
-use Rattle.metric_calls.proofs.SnapshotCallsLemmas.{truth_stays, found_kept}
+use Rattle.metric_calls.proofs.SnapshotCallsLemmas.{truth_stays, untouched_truth, found_kept}
 use Rattle.metric_calls.proofs.PulledIntervalCallsLemmas.{same_truth, remembered_now, remembered_crossed, found_is, seen_is, open_is, open_crossed}
 
 module _ (installed : Installation) (metric : LMetric) (source : ValueLeaf) (spec : DiffSpec) where
@@ -47,6 +49,40 @@ module _ (installed : Installation) (metric : LMetric) (source : ValueLeaf) (spe
             → (if held then [] else ended_with (if held then last else None) found) ≡ []
         by true last found = refl
         by false last found = refl
+
+  -- what is told of an atom has the marks that it brings
+  atom_marks : (before : List Step) (at when : ℕ) (atom : Atom) (truths : List Bool) (touched : Bool)
+      → is_touched installed.linked.predicates metric truths ≡ touched
+      → let frame : LogFrame = AtomAt when atom in
+      let step = frame_step frame at truths in
+      let asking = pulled_value_asking installed metric source spec in
+      marks_after asking pulled_collecting (calls_crossed asking pulled_collecting before frame at)
+      (atom_calls (value_telling metric source) touched at
+      (truth_in (scene_after installed (before ++ step ∷ [])) metric) truths)
+      ≡ asking.way.shown.comes before step
+  atom_marks before at when atom truths false untouched =
+      let step = frame_step (AtomAt when atom) at truths in
+      sym (ap (flat_map (interval_marks spec))
+      (ends_none before step (untouched_truth installed metric before step untouched)))
+  atom_marks before at when atom truths true touched =
+      let frame : LogFrame = AtomAt when atom in
+      let step = frame_step frame at truths in
+      let asking = pulled_value_asking installed metric source spec in
+      let crossed = calls_crossed asking pulled_collecting before frame at in
+      let now = truth_in (scene_after installed (before ++ step ∷ [])) metric in
+      let gives = flat_map (interval_marks spec) in
+      let stays = found_kept installed metric before step refl in
+      let found_now : last_found crossed ≡ watch.found (before ++ step ∷ []) =
+      found_is installed metric source spec crossed before (remembered_crossed installed metric source spec before frame at)
+      ∙ ap (option_map (pulled_integers metric source)) (sym stays) in
+      append-nil (gives (ended_at_moment (open_by_calls crossed)
+      (record { holds = is_truth now; found = last_found crossed })))
+      ∙ ap (λ holds. gives (ended_at_moment (open_by_calls crossed)
+      (record { holds = holds; found = last_found crossed }))) (same_truth now)
+      ∙ ap (λ found. gives (ended_at_moment (open_by_calls crossed)
+      (record { holds = watch.holds (before ++ step ∷ []); found = found }))) found_now
+      ∙ ap (λ going. gives (ended_at_moment going (seen_after watch (before ++ step ∷ []))))
+      (open_crossed installed metric source spec before frame at truths)
 
   -- what is asked at a frame has the marks that the frame brings
   asked_marks : (before : List Step) (frame : LogFrame) (at : ℕ) (truths : List Bool)
@@ -75,24 +111,7 @@ module _ (installed : Installation) (metric : LMetric) (source : ValueLeaf) (spe
         by true = refl
         by false = refl
   asked_marks before (AtomAt when atom) at truths =
-      let frame : LogFrame = AtomAt when atom in
-      let step = frame_step frame at truths in
-      let asking = pulled_value_asking installed metric source spec in
-      let crossed = calls_crossed asking pulled_collecting before frame at in
-      let now = truth_in (scene_after installed (before ++ step ∷ [])) metric in
-      let gives = flat_map (interval_marks spec) in
-      let stays = found_kept installed metric before step refl in
-      let found_now : last_found crossed ≡ watch.found (before ++ step ∷ []) =
-      found_is installed metric source spec crossed before (remembered_crossed installed metric source spec before frame at)
-      ∙ ap (option_map (pulled_integers metric source)) (sym stays) in
-      append-nil (gives (ended_at_moment (open_by_calls crossed)
-      (record { holds = is_truth now; found = last_found crossed })))
-      ∙ ap (λ holds. gives (ended_at_moment (open_by_calls crossed)
-      (record { holds = holds; found = last_found crossed }))) (same_truth now)
-      ∙ ap (λ found. gives (ended_at_moment (open_by_calls crossed)
-      (record { holds = watch.holds (before ++ step ∷ []); found = found }))) found_now
-      ∙ ap (λ going. gives (ended_at_moment going (seen_after watch (before ++ step ∷ []))))
-      (open_crossed installed metric source spec before frame at truths)
+      atom_marks before at when atom truths (is_touched installed.linked.predicates metric truths) refl
 
   -- calls and steps agree for pulled values
   pub pulled_values_agree : Agrees (pulled_value_asking installed metric source spec) pulled_collecting
@@ -139,7 +158,16 @@ module _ (installed : Installation) (metric : LMetric) (source : ValueLeaf) (spe
         × AreTold demands (calls_crossed asking pulled_collecting before frame at)
         (asked_at asking before frame at truths)
     by before at truths (Tick when) = (tt, tt)
-    by before at truths (AtomAt when atom) = ((refl, tt), (refl, tt))
+    by before at truths (AtomAt when atom) = told (is_touched installed.linked.predicates metric truths) where
+      told : (touched : Bool)
+          → let asking = pulled_value_asking installed metric source spec in
+          let demands = own_demands asking pulled_collecting in
+          let now = truth_in (scene_after installed (before ++ frame_step (AtomAt when atom) at truths ∷ [])) metric in
+          let calls : List PulledValueCall = atom_calls (value_telling metric source) touched at now truths in
+          AreAskedAt demands at calls
+          × AreTold demands (calls_crossed asking pulled_collecting before (AtomAt when atom) at) calls
+      told true = ((refl, tt), (refl, tt))
+      told false = (tt, tt)
     by before at truths (Pull when id outcome) = told (is_told_of installed.linked.matchers metric id) where
       told : (is_told : Bool)
           → let asking = pulled_value_asking installed metric source spec in

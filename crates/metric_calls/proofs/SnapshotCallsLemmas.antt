@@ -20,12 +20,14 @@ use Rattle.metric_meaning.specs.PredicateSteps.{events_at}
 use Rattle.metric_meaning.specs.Scenes.{scene_after}
 use Rattle.metric_meaning.specs.MetricConditions.{condition_truth}
 use Rattle.metric_meaning.specs.SnapshotSteps.{pulled_matcher, atoms_pulled, snapshot_found, nothing_read}
+use Rattle.metric_meaning.specs.Touched.{is_touched}
 use Rattle.metric_meaning.specs.Ways.{Way}
 use Rattle.metric_meaning.proofs.PredicateStepsLemmas.{tables_after-idle}
 use Rattle.metric_meaning.proofs.SnapshotStepsLemmas.{IsNoPullOf, found-stays, found-unpulled}
+use Rattle.metric_meaning.proofs.TouchedLemmas.{condition_stays}
 use Rattle.metric_calls.specs.Askings.{frame_step}
 use Rattle.metric_calls.specs.Memories.{Memory, remembered, Follows}
-use Rattle.metric_calls.specs.SnapshotCalls.{means_pull, is_told_of, truth_in, Telling, pull_calls, told_asking}
+use Rattle.metric_calls.specs.SnapshotCalls.{means_pull, is_told_of, truth_in, Telling, pull_calls, atom_calls, told_asking}
 
 -- of two truths the second isn't so, where the first is and both aren't
 second_not : (first second : Bool) → first ≡ true → (first && second) ≡ false → second ≡ false
@@ -39,6 +41,12 @@ module _ (installed : Installation) (metric : LMetric) where
   truth_stays before step idle =
       ap (λ tables. condition_truth installed.linked.predicates tables metric nothing_read)
       (tables_after-idle installed.linked.predicates before step idle)
+
+  -- and after one that doesn't touch the metric
+  pub untouched_truth : (before : List Step) (step : Step)
+      → is_touched installed.linked.predicates metric step.truths ≡ false
+      → truth_in (scene_after installed (before ++ step ∷ [])) metric ≡ truth_in (scene_after installed before) metric
+  untouched_truth before step untouched = condition_stays installed metric before step untouched nothing_read
 
   -- what is told of a step's pull, if it is one
   abbrev pub tells_pull : What → Bool
@@ -143,6 +151,24 @@ module _ {Params Event X K C R S : Type 0} (way : Way X K C R) (params : Params)
       sym (now_stays before step (truth_stays installed metric before step (λ predicate. refl))
       (found_kept installed metric before step is))
 
+  -- what an atom makes of it, told or not
+  atom_makes : (before : List Step) (at when : ℕ) (atom : Atom) (truths : List Bool) (touched : Bool)
+      → is_touched installed.linked.predicates metric truths ≡ touched
+      → let step = frame_step (AtomAt when atom) at truths in
+      remembered (truth_and takes) (told_now before)
+      (atom_calls telling touched at (truth_in (scene_after installed (before ++ step ∷ [])) metric) truths)
+      ≡ told_now (before ++ step ∷ [])
+  atom_makes before at when atom truths true is =
+      let step = frame_step (AtomAt when atom) at truths in
+      let now = truth_in (scene_after installed (before ++ step ∷ [])) metric in
+      told.atom (shows (snapshot_found installed metric before)) at truths (Some now)
+      ∙ ap (λ (f : Option (List Atom)). let both : Option Truth × S = (Some now, shows f) in both)
+      (sym (found_kept installed metric before step refl))
+  atom_makes before at when atom truths false is =
+      let step = frame_step (AtomAt when atom) at truths in
+      sym (now_stays before step (untouched_truth installed metric before step is)
+      (found_kept installed metric before step refl))
+
   -- what is told makes of it what stands after the step
   pub told_follows : (first : S)
       → Follows (told_asking way params telling installed metric) (truth_and takes) (None, first) told_now
@@ -164,10 +190,6 @@ module _ {Params Event X K C R S : Type 0} (way : Way X K C R) (params : Params)
         sym (now_stays before step (truth_stays installed metric before step (λ predicate. refl))
         (found_kept installed metric before step refl))
     by before at truths (AtomAt when atom) =
-        let step = frame_step (AtomAt when atom) at truths in
-        let now = truth_in (scene_after installed (before ++ step ∷ [])) metric in
-        told.atom (shows (snapshot_found installed metric before)) at truths (Some now)
-        ∙ ap (λ (f : Option (List Atom)). let both : Option Truth × S = (Some now, shows f) in both)
-        (sym (found_kept installed metric before step refl))
+        atom_makes before at when atom truths (is_touched installed.linked.predicates metric truths) refl
     by before at truths (Pull when id outcome) =
         pull_makes before at when id outcome truths (is_told_of installed.linked.matchers metric id) refl

@@ -1,5 +1,5 @@
 -- What a pulled metric asks of its producer, for every kind of it: it tells the snapshot of a pull of its id, and after
--- an atom how the condition stands. Both are told once at the beginning, as they stand there.
+-- an atom that touches it how the condition stands. Both are told once at the beginning, as they stand there.
 use Rattle.std.specs.Prelude.{ℕ, ◌==◌, Bool, false, ◌&&◌, List, [], ◌∷◌, ◌++◌, map, Option, if◌then◌else◌}
 use Rattle.std.specs.Option.{option_map_or}
 use Rattle.atom_record.specs.declared.atom.Atom.{Atom}
@@ -17,6 +17,7 @@ use Rattle.metric_meaning.specs.Histories.{What, Logged, Step, Installation}
 use Rattle.metric_meaning.specs.Scenes.{Scene, scene_after}
 use Rattle.metric_meaning.specs.MetricConditions.{condition_truth}
 use Rattle.metric_meaning.specs.SnapshotSteps.{pulled_matcher, snapshot_found, nothing_read}
+use Rattle.metric_meaning.specs.Touched.{is_touched}
 use Rattle.metric_meaning.specs.Ways.{Way}
 use Rattle.metric_calls.specs.Askings.{Asking}
 
@@ -43,9 +44,10 @@ module _ {Event : Type 0} (telling : Telling Event) where
   abbrev pub pull_calls : Bool → ℕ → Option (List Atom) → List (Call Event Truth)
   pull_calls told at found = if told then Got at (telling.snapshot found) ∷ [] else []
 
-  -- what is told of an atom: the condition after it, and then what its matchers say
-  abbrev pub atom_calls : ℕ → Truth → List Bool → List (Call Event Truth)
-  atom_calls at now truths = Learned at now ∷ map (λ event. Got at event) (telling.atom truths)
+  -- what is told of an atom, if it touches the metric: the condition after it, and then what its matchers say
+  abbrev pub atom_calls : Bool → ℕ → Truth → List Bool → List (Call Event Truth)
+  atom_calls touched at now truths =
+      if touched then Learned at now ∷ map (λ event. Got at event) (telling.atom truths) else []
 
   module _ (installed : Installation) (metric : LMetric) where
     -- what is told at the beginning: the last snapshot, and the condition
@@ -62,7 +64,8 @@ module _ {Event : Type 0} (telling : Telling Event) where
           pull_calls (is_told_of installed.linked.matchers metric id) step.at
           (snapshot_found installed metric (before ++ step ∷ []))
       of_what (Logged (AtomAt at atom)) =
-          atom_calls step.at (truth_in (scene_after installed (before ++ step ∷ [])) metric) step.truths
+          atom_calls (is_touched installed.linked.predicates metric step.truths) step.at
+          (truth_in (scene_after installed (before ++ step ∷ [])) metric) step.truths
       of_what _ = []
 
 -- a lane to which a step brings calls asks for these

@@ -98,6 +98,10 @@ pub fn log(
     match brought.frame {
         LogFrame::Tick { .. } => Ok(()),
         LogFrame::AtomAt { at, .. } => {
+            // An atom that doesn't touch the gauge leaves its condition, and isn't one of its trigger.
+            if !conditions.touches(metric, brought.matched) {
+                return Ok(());
+            }
             let now = conditions.truth(alloc, metric, &Nothing)?;
             lane.condition(*at, now)?;
             trigger(lane, metric, brought, *at)

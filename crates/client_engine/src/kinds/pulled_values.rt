@@ -88,6 +88,10 @@ pub fn log(
     match brought.frame {
         LogFrame::Tick { .. } => Ok(()),
         LogFrame::AtomAt { at, .. } => {
+            // An atom that doesn't touch the metric leaves its condition.
+            if !conditions.touches(metric, brought.matched) {
+                return Ok(());
+            }
             let now = conditions.truth(alloc, metric, &Nothing)?;
             lane.condition(*at, now)
         }

@@ -13,7 +13,7 @@ ghost use Rattle.client_engine.specs.SoundMetrics.{IsSoundIn};
 
 use crate::brought::Brought;
 use crate::conditions::Conditions;
-use crate::inner::{changes_of, delta_of};
+use crate::inner::{changes_of, changes_with, delta_of};
 use crate::kinds::durations::durations_tree;
 use crate::moments::comes_by_pull;
 use crate::request::ReportRequest;
@@ -39,7 +39,8 @@ pub fn begin(alloc: Global, base: u64, metric: &LMetric, spec: PredSpec) -> Lane
     Lane::new(base, metric.size, producer)
 }
 
-/// A frame of the log comes. An atom acts on the inner keys, and what changed of them is told after it.
+/// A frame of the log comes. An atom acts on the inner keys, and what changed of them is told after it. One that neither
+/// touches the metric nor tells a state by which it is sliced does nothing.
 pub fn log(
     lane: &mut Lane<SumProducer>,
     alloc: Global,
@@ -57,6 +58,9 @@ pub fn log(
     let LogFrame::AtomAt { atom, .. } = brought.frame else {
         return Ok(());
     };
+    if !changes_with(metric, brought, atom, conditions) {
+        return Ok(());
+    }
     let event = conditions.inner_event(alloc, metric.what, atom, brought.matched)?;
     let acts = event.is_some();
     act(lane, at, event)?;

@@ -5,25 +5,29 @@ use Rattle.duration_metric.specs.declared.change.InnerChange.{InnerChange}
 use Rattle.duration_metric.specs.InnerKeys.{inner_keys, last_known}
 use Rattle.metric_calls.specs.DurationCalls.{known_in}
 use Rattle.std.specs.Prelude.{slice_get}
+use Rattle.metric_meaning.specs.DurationSteps.{inner_fields}
 use Rattle.client_engine.specs.Bringing.{handed_with}
+use Rattle.client_engine.specs.Known.{Known}
 use Rattle.client_engine.proofs.ChangesLemmas.{known_there, none_there, told_there, new_there}
 use Rattle.client_engine.proofs.inner.add_change.Goals as goal
 
 -- no key is there
 pub returns-in_default-clause-adds : goal.returns-in_default-clause-adds
-returns-in_default-clause-adds g c = λ params calls scene stands found fields shared.
+returns-in_default-clause-adds g c = λ params calls scene stands found shared.
     none_there (last_known params.spec calls) (known_in scene c.args.asker.now.metric.now) c.args.changes.now
     c.args.place (slice_get (inner_keys params.spec calls) c.args.place)
     (rw (c.in_default.is) at (c.key.ensures params calls stands))
 
 -- this was told
 pub returns-then-was_told-clause-adds : goal.returns-then-was_told-clause-adds
-returns-then-was_told-clause-adds g c = λ params calls scene stands found fields shared.
+returns-then-was_told-clause-adds g c = λ params calls scene stands found shared.
     let asker = c.args.asker.now in
     let given = handed_with c.args.conditions.now asker.brought.now in
     let there = rw (c.in-Some.is) at (c.key.ensures params calls stands) in
-    let is = known_there given scene asker.metric.now asker.fields.now c.in-Some.key.now c.in_ok-truth.truth
-    c.in_ok-out.out found fields (c.in_ok-truth.ensures.truth shared)
+    let fields_are = c.fields_of.ensures
+    ∙ ap (λ (k : Known). inner_fields (slice_get k.predicates asker.metric.now.what)) c.in_ok-truth.ensures.known in
+    let is = known_there given scene asker.metric.now c.fields_of.result.now c.in-Some.key.now c.in_ok-truth.truth
+    c.in_ok-out.out found fields_are (c.in_ok-truth.ensures.truth shared)
     (c.in_ok-out.ensures c.args.conditions.now scene found) in
     told_there (last_known params.spec calls) (known_in scene asker.metric.now) c.args.changes.now c.args.place
     (slice_get (inner_keys params.spec calls) c.args.place) c.in-Some.key.now
@@ -34,12 +38,14 @@ returns-then-was_told-clause-adds g c = λ params calls scene stands found field
 pub returns-clause-adds : goal.returns-clause-adds
 returns-clause-adds g c =
     on_ok_weaker c.push.result
-    (λ added params calls scene stands found fields shared.
+    (λ added params calls scene stands found shared.
     let asker = c.args.asker.now in
     let given = handed_with c.args.conditions.now asker.brought.now in
     let there = rw (c.in-Some.is) at (c.key.ensures params calls stands) in
-    let is = known_there given scene asker.metric.now asker.fields.now c.in-Some.key.now c.in_ok-truth.truth
-    c.in_ok-out.out found fields (c.in_ok-truth.ensures.truth shared)
+    let fields_are = c.fields_of.ensures
+    ∙ ap (λ (k : Known). inner_fields (slice_get k.predicates asker.metric.now.what)) c.in_ok-truth.ensures.known in
+    let is = known_there given scene asker.metric.now c.fields_of.result.now c.in-Some.key.now c.in_ok-truth.truth
+    c.in_ok-out.out found fields_are (c.in_ok-truth.ensures.truth shared)
     (c.in_ok-out.ensures c.args.conditions.now scene found) in
     new_there (last_known params.spec calls) (known_in scene asker.metric.now) c.args.changes.now c.push.new.self
     c.args.place (slice_get (inner_keys params.spec calls) c.args.place) c.in-Some.key.now

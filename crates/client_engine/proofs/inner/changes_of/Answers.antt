@@ -1,9 +1,8 @@
 -- One place after the other.
-use Rattle.std.proofs.Common.{◌≡◌, ◌++◌, length, slice_get, sym, ap, subst, ◌∙◌, arith}
+use Rattle.std.proofs.Common.{◌++◌, length, sym, ap, subst, ◌∙◌, arith}
 use Rattle.config_links.specs.SoundConfig.{MayBeWithin}
 use Rattle.duration_metric.specs.InnerKeys.{inner_keys, last_known}
 use Rattle.metric_calls.specs.DurationCalls.{known_in, changes_from}
-use Rattle.metric_meaning.specs.DurationSteps.{inner_fields}
 use Rattle.client_engine.specs.Bringing.{handed_with}
 use Rattle.client_engine.specs.Handed.{IsOfScene}
 use Rattle.client_engine.specs.Known.{Known}
@@ -39,8 +38,6 @@ loop-place-preserved g c =
           (changes_from was now 0 keys) (c.loop-place.invariant.0 params calls scene stands found)
           (c.in_ok-add_change.ensures.adds params calls scene stands
           (subst (λ (k : Known). IsOfScene (handed_with k c.args.brought.now) scene) (sym same) found)
-          (subst (λ (k : Known). c.in_ok-fields.fields ≡ inner_fields (slice_get k.predicates c.args.metric.now.what))
-          (sym same) c.in_ok-fields.ensures)
           (subst (λ (k : Known). HasShared k c.args.metric.now c.in_ok-shared.shared) (sym same)
           c.in_ok-shared.ensures.shared)),
       c.in_ok-add_change.ensures.known ∙ same,

@@ -17,7 +17,7 @@ returns-in-AtomAt-clause-knows c =
     let truths = c.args.matched.now in
     let new = c.act_on_all.new.tables in
     let kept = subst (λ ps. HaveTheirSpecs ps new) c.as_slice-predicates.ensures c.act_on_all.ensures.specs in
-    let many = as_many nodes new kept ∙ sym (as_many nodes tables.items c.self.invariant.specs) in
+    let many = as_many nodes new kept ∙ sym (as_many nodes tables.items c.self.invariant.0.specs) in
     rw (c.in-AtomAt.is, ← c.self.view_is)
     (on_ok_weaker c.act_on_all.result
     (λ acted. knows_atom nodes tables.items _ c.in-AtomAt.at atom truths

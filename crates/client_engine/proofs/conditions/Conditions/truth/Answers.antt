@@ -9,7 +9,7 @@ pub query-requires-clause-tables : goal.query-requires-clause-tables
 query-requires-clause-tables g c =
     let asks = binds_at c.as_slice-links.result.now (g.A.Asked.reading c.args.asked.now) in
     rw (c.as_slice.ensures.value, c.as_slice-2.ensures.value)
-    (are_tables c.self.inside.tree.nodes c.self.inside.tables.items asks _ c.self.invariant
+    (are_tables c.self.inside.tree.nodes c.self.inside.tables.items asks _ c.self.invariant.0
     (c.in_ok-ask_all.ensures ∙ ap (λ n. map asks (range_with_len 0 n)) c.len.ensures))
 
 -- what was found is the truth of the condition

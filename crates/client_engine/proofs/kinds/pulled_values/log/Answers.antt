@@ -5,7 +5,7 @@ use Rattle.value_metric.specs.PulledStands.{pulled_law}
 use Rattle.metric_calls.specs.PulledValueCalls.{value_telling}
 use Rattle.client_engine.proofs.PulledValuesLemmas.{pulled_values_log}
 use Rattle.client_engine.specs.Bringing.{handed_with}
-use Rattle.client_engine.proofs.SnapshotsToldLemmas.{gets_none, tick_told, atom_told, pull_untold, pull_told}
+use Rattle.client_engine.proofs.SnapshotsToldLemmas.{gets_none, tick_told, atom_untold, atom_told, pull_untold, pull_told}
 use Rattle.client_engine.proofs.kinds.pulled_values.log.Goals as goal
 
 -- of a tick nothing is told
@@ -22,7 +22,24 @@ returns-in-Tick-clause-logs c =
     (λ scene found source spec values.
     tick_told pulled_law (value_telling metric source) given scene metric frame truths found lane c.in-Tick.at c.in-Tick.is)
 
--- of an atom the condition after it is
+-- nor of an atom that doesn't touch the metric
+pub returns-then-not-touches-clause-logs : goal.returns-then-not-touches-clause-logs
+returns-then-not-touches-clause-logs c =
+    let brought = c.args.brought.now in
+    let given = handed_with c.args.conditions.now brought in
+    let metric = c.args.metric.now in
+    let frame = brought.frame.now in
+    let truths = brought.matched.now in
+    let lane = c.cross.new.self in
+    let crosses = rw (c.comes_by_pull.ensures, c.time_of.ensures) at c.in_ok-cross.ensures in
+    let off = c.if-not-touches.true in
+    let touches = c.touches.ensures in
+    pulled_values_log given metric frame truths c.args.lane.now lane lane crosses
+    (λ scene found source spec values.
+    atom_untold pulled_law (value_telling metric source) given scene metric frame truths found lane c.in-AtomAt.at
+    c.in-AtomAt.atom c.in-AtomAt.is (grind (arith, off, touches)))
+
+-- of another one the condition after it is
 pub returns-in_ok-now-in-AtomAt-clause-logs : goal.returns-in_ok-now-in-AtomAt-clause-logs
 returns-in_ok-now-in-AtomAt-clause-logs c =
     let brought = c.args.brought.now in
@@ -33,11 +50,14 @@ returns-in_ok-now-in-AtomAt-clause-logs c =
     let lane = c.cross.new.self in
     let crosses = rw (c.comes_by_pull.ensures, c.time_of.ensures) at c.in_ok-cross.ensures in
     let new = c.condition.new.self in
+    let on = c.if-not-touches.false in
+    let touches = c.touches.ensures in
     on_ok_weaker c.condition.result
     (λ learns. pulled_values_log given metric frame truths c.args.lane.now lane new crosses
     (λ scene found source spec values.
     atom_told pulled_law (value_telling metric source) given scene metric frame truths found lane new new c.in-AtomAt.at
-    c.in-AtomAt.atom c.in_ok-now-in-AtomAt.now c.in-AtomAt.is c.in_ok-now-in-AtomAt.ensures.truth learns
+    c.in-AtomAt.atom c.in_ok-now-in-AtomAt.now c.in-AtomAt.is (grind (arith, on, touches))
+    c.in_ok-now-in-AtomAt.ensures.truth learns
     (gets_none pulled_law new)))
     c.condition.ensures
 

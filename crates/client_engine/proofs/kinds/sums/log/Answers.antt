@@ -1,9 +1,10 @@
 -- The crossing, then the event, and then what changed.
-use Rattle.std.proofs.Common.{refl, sym, ◌∙◌}
+use Rattle.std.proofs.Common.{refl, sym, ◌∙◌, arith}
 use Rattle.std.proofs.lemmas.Result.{on_ok_weaker}
+use Rattle.metric_meaning.proofs.TouchedLemmas.{neither}
 use Rattle.client_engine.specs.Bringing.{handed_with}
 use Rattle.client_engine.proofs.InnerLemmas.{is_other}
-use Rattle.client_engine.proofs.SumsLemmas.{sums_pass, sums_turn}
+use Rattle.client_engine.proofs.SumsLemmas.{sums_pass, sums_untouched, sums_turn}
 use Rattle.client_engine.proofs.kinds.sums.log.Goals as goal
 
 -- a frame that isn't an atom brings nothing
@@ -17,7 +18,22 @@ returns-in_default c =
       known = refl;
     }
 
--- an atom acts, and what changed is told after it
+-- nor does an atom that changes nothing
+pub returns-then-not-changes_with : goal.returns-then-not-changes_with
+returns-then-not-changes_with c =
+    let brought = c.args.brought.now in
+    let crosses = rw (c.comes_by_pull.ensures, c.time_of-at.ensures) at c.in_ok-cross.ensures in
+    let off = c.if-not-changes_with.true in
+    let says = c.changes_with.ensures in
+    let both = neither _ _ (sym says ∙ grind (arith, off)) in
+    record {
+      logs = sums_untouched (handed_with c.args.conditions.now brought) c.args.metric.now brought.frame.now
+          brought.matched.now c.args.lane.now c.cross.new.self crosses c.in-AtomAt.at c.in-AtomAt.atom c.in-AtomAt.is both.0
+          both.1;
+      known = refl;
+    }
+
+-- another one acts, and what changed is told after it
 pub returns-clause-logs : goal.returns-clause-logs
 returns-clause-logs c =
     let brought = c.args.brought.now in

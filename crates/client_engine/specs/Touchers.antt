@@ -1,0 +1,51 @@
+-- The matchers that touch a predicate, and the atoms that change a state of a metric: for private clauses.
+use Rattle.std.specs.Prelude.{ℕ, ◌==◌, Bool, false, List, [], ◌∷◌, ◌++◌, length, map, slice_get, Option, Some, None, if◌then◌else◌}
+use Rattle.std.specs.List.{flat_map, list_any, range_with_len}
+use Rattle.std.specs.Option.{option_map_or}
+use Rattle.config_links.specs.declared.linked.LPredicate.{LPredicate}
+use Rattle.config_links.specs.declared.linked.LPredBody.{LPredBody}
+use Rattle.config_links.specs.declared.linked.LPredBody.TheVariants.{Simple, Combo}
+use Rattle.config_links.specs.declared.linked.LSlice.{LSlice}
+use Rattle.config_links.specs.declared.linked.LState.{LState}
+use Rattle.config_links.specs.MetricLinks.{is_reached}
+use Rattle.metric_meaning.specs.Histories.{truth_at}
+
+-- the place that is named, if one is
+abbrev pub place_named : Option ℕ → List ℕ
+place_named None = []
+place_named (Some place) = place ∷ []
+
+-- the matchers that start or stop a predicate; a combination has none of its own
+abbrev pub own_matchers : LPredBody → List ℕ
+own_matchers (Simple start stop stop_all dims spec) = place_named stop_all ++ (place_named stop ++ place_named start)
+own_matchers (Combo op children) = []
+
+-- those of the predicate that is found at a place
+abbrev pub matchers_found : Option LPredicate → List ℕ
+matchers_found None = []
+matchers_found (Some predicate) = own_matchers predicate.body
+
+-- those of the predicate at a place, if it is the one at the root or is reached from it
+abbrev pub matchers_below : List LPredicate → ℕ → ℕ → List ℕ
+matchers_below predicates root place =
+    if is_reached predicates (Some root) place then matchers_found (slice_get predicates place) else []
+
+-- the matchers that start or stop the predicate at the root, or one that is reached from it
+abbrev pub touchers : List LPredicate → ℕ → List ℕ
+touchers predicates root = flat_map (matchers_below predicates root) (range_with_len 0 (length predicates))
+
+-- the same of each predicate
+abbrev pub all_touchers : List LPredicate → List (List ℕ)
+all_touchers predicates = map (touchers predicates) (range_with_len 0 (length predicates))
+
+-- one of these matchers holds
+abbrev pub one_holds : List Bool → List ℕ → Bool
+one_holds truths matchers = list_any (λ matcher. truth_at matcher truths) matchers
+
+-- a state that was found is told by atoms of this id
+abbrev pub is_told_by : ℕ → Option LState → Bool
+is_told_by id found = option_map_or (λ (state : LState). id == state.atom_id) found false
+
+-- one of the states that these slices name is
+abbrev pub tells_one : List LState → ℕ → List LSlice → Bool
+tells_one states id slices = list_any (λ (slice : LSlice). is_told_by id (slice_get states slice.state)) slices
