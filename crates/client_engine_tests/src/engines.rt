@@ -21,7 +21,7 @@ impl Table for Engines {
         tell_before(alloc, tester, &mut fed, row.word("before"))?;
         let base = unsigned(row.line("base").unwrap_or("0"));
         if !fed.install(bytes.as_slice(), base)? {
-            return tester.differs("not acted on", row.word("base"));
+            return tester.differs("not installed", row.word("base"));
         }
         run_row(alloc, tester, &mut fed, row)
     }

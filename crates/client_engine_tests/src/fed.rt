@@ -2,7 +2,7 @@
 ghost use Rattle.session_frames.specs.Faultless.{IsFaultlessLog};
 
 use atom_record::{LogFrame, PullOutcome, parse_atom};
-use client_engine::{Instance, LiveId, LogView, ReportRequest, built};
+use client_engine::{Instance, LiveId, LogView, ReportRequest};
 use config_decode::decode;
 use config_links::link;
 use pull_book::PullBook;
@@ -36,7 +36,7 @@ impl Fed {
         }
     }
 
-    /// Installs a configuration at a time. Answers whether it is acted on.
+    /// Installs a configuration at a time. Answers whether it has no fault.
     pub fn install(&mut self, config: &[u8], base: Option<u64>) -> Result<bool, AllocError> {
         self.instance = match base {
             Some(base) => installed(self.alloc, config, base, &self.states)?,
@@ -110,7 +110,7 @@ impl Fed {
     }
 }
 
-/// The instance of a configuration that is installed at a time when the log gave these states, if it is acted on.
+/// The instance of a configuration that is installed at a time when the log gave these states, if it has no fault.
 fn installed(
     alloc: Global,
     config: &[u8],
@@ -126,9 +126,6 @@ fn installed(
     let Ok(linked) = link(alloc, config, 10) else {
         return Ok(None);
     };
-    if !built(&linked) {
-        return Ok(None);
-    }
     let pulls = PullBook::new(alloc);
     Ok(Some(Instance::new(alloc, linked, base, &pulls, states)?))
 }
