@@ -1,5 +1,6 @@
 -- The books of metrics that count, of events and of sums of durations balance.
-use Rattle.std.proofs.Common.{◌≡◌, ℕ, ◌-◌, ◌^◌, ◌==◌, ◌<◌, ◌≤◌, min, Bool, true, false, List, [], ◌∷◌, ◌++◌, map, length, Option, Some, None, refl, sym, ap, ◌∙◌, arith, option_to_list, if◌then◌else◌, nat_lt}
+use Rattle.std.proofs.Common.{◌≡◌, ℕ, ◌-◌, ◌^◌, ◌==◌, ◌<◌, ◌≤◌, min, Bool, true, false, List, [], ◌∷◌, ◌++◌, map, length, Option, Some, None, refl, sym, ap, ◌∙◌, arith, option_to_list, if◌then◌else◌, nat_lt, suc, replicate}
+use Rattle.std.specs.Cmp.Lexicographic.{pointwise}
 use Rattle.std.specs.List.{sum_by, sum}
 use Rattle.std.proofs.lemmas.Bool.Decides.{nat_tests}
 use Rattle.std.proofs.lemmas.List.{length-append}
@@ -9,19 +10,22 @@ use Rattle.sd_base.specs.Outputs.{outputs_after}
 use Rattle.atom_record.specs.Equal.{metric_key_exact}
 use Rattle.atom_record.specs.declared.atom.Atom.{Atom}
 use Rattle.atom_record.specs.declared.value.MetricKey.{MetricKey}
-use Rattle.bucket_meaning.specs.Marks.{Mark, Ends, Asked, no_edges, boundary_marks}
+use Rattle.bucket_meaning.specs.Marks.{Mark, Ends, Came, Lost, Asked, no_edges, boundary_marks}
 use Rattle.config_links.specs.declared.linked.LMetric.{LMetric}
 use Rattle.config_types.specs.declared.parameters.PredSpec.{PredSpec}
+use Rattle.metric_kinds.specs.Durations.{turned}
 use Rattle.metric_kinds.specs.Events.{EventAtom, event_row}
+use Rattle.metric_kinds.specs.Keys.{is_same_key}
+use Rattle.metric_kinds.specs.Runs.{Active}
 use Rattle.metric_meaning.specs.Histories.{What, Logged, Reported, Step, Installation}
 use Rattle.metric_meaning.specs.Arrivals.{arriving}
 use Rattle.metric_meaning.specs.CountSteps.{arrival_at, arrival_mark, count_news, count_way}
 use Rattle.metric_meaning.specs.EventSteps.{event_marks, event_news, event_way}
 use Rattle.metric_meaning.specs.StepMarks.{StepNews, crossed_at, cut_marks, marks_at, marks_of}
-use Rattle.metric_meaning.specs.DurationSteps.{sum_way}
-use Rattle.metric_meaning.specs.Balance.{counted_keys, row_value, CountsBalance, event_atoms, row_events, EventsBalance, SumsBalance}
-use Rattle.metric_meaning.proofs.MarksBalance.{coming, coming_with, asks, lost_at}
-use Rattle.metric_meaning.proofs.StepsBalance.{IsQuietNews}
+use Rattle.metric_meaning.specs.DurationSteps.{inner_after, active_keys, inner_drops, sum_news, sum_way}
+use Rattle.metric_meaning.specs.Balance.{coming, counted_keys, row_value, CountsBalance, event_atoms, row_events, EventsBalance, SumsBalance}
+use Rattle.metric_meaning.proofs.MarksBalance.{coming_with, asks, lost_at, HasNoReport}
+use Rattle.metric_meaning.proofs.StepsBalance.{IsQuietNews, both_quiet, all_in_parts}
 use Rattle.metric_meaning.proofs.PartedLemmas.{sum_by-zero}
 use Rattle.metric_meaning.proofs.AmountsBalance.{amounts_balance}
 use Rattle.metric_meaning.proofs.NumbersBalance.{sum_by-ones, numbers_balance}
@@ -180,11 +184,35 @@ module _ (installed : Installation) (metric : LMetric) where
             let rest = event_rows start end key events (omega (arith, length-append (event ∷ []) events, fits)) in
             omega (arith, sum_by-cons row_events (event_row event) (map event_row events), rest, length-append (event ∷ []) events)
 
+  sum_quiet : (spec : PredSpec) → IsQuietNews (sum_news installed metric spec)
+  sum_quiet spec = record {
+    begins = refl;
+    edges = λ before. record { closing = λ at. refl; closing_again = λ at. refl; opening = λ at. refl };
+    comes = λ before step.
+        both_quiet (inner_drops installed metric spec before step)
+        (turned step.at (active_keys installed metric spec before) (active_keys installed metric spec (before ++ step ∷ [])))
+        (lost_quiet ((inner_after installed metric spec (before ++ step ∷ [])).dropped
+        - (inner_after installed metric spec before).dropped))
+        (turn_quiet step.at (active_keys installed metric spec (before ++ step ∷ []))
+        (pointwise is_same_key (active_keys installed metric spec before)
+        (active_keys installed metric spec (before ++ step ∷ []))));
+  } where
+    lost_quiet : (n : ℕ) → HasNoReport {Active MetricKey} (replicate n Lost)
+    lost_quiet 0 = refl
+    lost_quiet (suc n) = sum_by-cons asks Lost (replicate n Lost) ∙ lost_quiet n
+
+    turn_quiet : (at : ℕ) (keys : List MetricKey) (same : Bool)
+        → HasNoReport (if same then [] else Came (record { at = at; keys = keys }) ∷ [])
+    turn_quiet at keys true = refl
+    turn_quiet at keys false = refl
+
   -- the books of sums of durations balance
   pub sums_balance : (spec : PredSpec) (steps : List Step) (now : ℕ) → SumsBalance installed metric spec steps now
-  sums_balance spec steps now =
-      amounts_balance (sum_way installed metric spec) metric_key_exact (λ start end others. refl) (λ time. time) row_value
-      (λ n. n ≡ n) (λ m n le fits. refl) time_row steps now refl where
+  sums_balance spec steps now = record {
+    parts = all_in_parts (sum_way installed metric spec) (sum_quiet spec) steps now;
+    times = amounts_balance (sum_way installed metric spec) metric_key_exact (λ start end others. refl) (λ time. time)
+        row_value (λ n. n ≡ n) (λ m n le fits. refl) time_row steps now refl;
+  } where
         time_row : (start end : ℕ) (key : MetricKey) (times : List ℕ) → sum_by (λ time. time) times ≡ sum_by (λ time. time) times
             → sum_by row_value ((sum_way installed metric spec).kind.row start end key times) ≡ sum_by (λ time. time) times
         time_row start end key times fits = by_case (sum times) (sum times == 0) refl where

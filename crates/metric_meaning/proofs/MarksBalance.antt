@@ -5,15 +5,7 @@ use Rattle.std.proofs.lemmas.List.{append-nil}
 use Rattle.std.proofs.lemmas.List.Concat.{flat_map-append}
 use Rattle.std.proofs.lemmas.List.Sums.{sum_by-cons, sum_by_push}
 use Rattle.bucket_meaning.specs.Marks.{Mark, Ends, Came, Lost, Missed, Asked, Part, Books, after, books_from}
-use Rattle.metric_meaning.specs.Balance.{part_until}
-
--- what comes with a mark
-abbrev pub coming : {X : Type 0} → Mark X → List X
-coming (Ends at) = []
-coming (Came what) = what ∷ []
-coming Lost = []
-coming Missed = []
-coming Asked = []
+use Rattle.metric_meaning.specs.Balance.{coming, part_until}
 
 -- what comes with these marks
 abbrev pub coming_with : {X : Type 0} → List (Mark X) → List X

@@ -12,8 +12,8 @@ use Rattle.bucket_meaning.proofs.MarksLemmas.{books-append}
 use Rattle.metric_meaning.specs.Histories.{What, Logged, Reported, Step}
 use Rattle.metric_meaning.specs.StepMarks.{StepNews, crossed_at, cut_marks, marks_at, marks_of}
 use Rattle.metric_meaning.specs.Ways.{Way}
-use Rattle.metric_meaning.specs.Balance.{books_after, books_told, told_parts}
-use Rattle.metric_meaning.proofs.MarksBalance.{coming, coming_with, asks, HasNoReport, lost_at, all_that_came, marks_come, marks_drop}
+use Rattle.metric_meaning.specs.Balance.{coming, part_until, books_after, books_told, told_parts, waiting_parts, IsAllInParts}
+use Rattle.metric_meaning.proofs.MarksBalance.{coming_with, asks, HasNoReport, lost_at, all_that_came, marks_come, marks_drop}
 
 -- Reports are only made by reports: no mark of what stands at boundaries is one.
 pub record HasQuietEdges {X : Type 0} (edges : Edges X) : Type 0 where
@@ -28,7 +28,7 @@ pub record IsQuietNews {X : Type 0} (news : StepNews X) : Type 0 where
   pub comes : (before : List Step) (step : Step) → HasNoReport (news.comes before step)
 
 -- marks without a report, and more of them
-both_quiet : {X : Type 0} (marks more : List (Mark X)) → HasNoReport marks → HasNoReport more → HasNoReport (marks ++ more)
+pub both_quiet : {X : Type 0} (marks more : List (Mark X)) → HasNoReport marks → HasNoReport more → HasNoReport (marks ++ more)
 both_quiet marks more one other = sum_by-append asks marks more ∙ ap (λ n. n + sum_by asks more) one ∙ omega (arith, other)
 
 one_boundary : {X : Type 0} (edges : Edges X) → HasQuietEdges edges → (at : ℕ) → HasNoReport (boundary edges at)
@@ -146,6 +146,18 @@ module _ {X K C R : Type 0} (way : Way X K C R) (quiet : IsQuietNews way.shown) 
       (marks_come (drops way.kind way.bound)
       (record { start = way.base; came = []; closed = []; dropped = 0; missing = 0 })
       (way.shown.begins ++ []) (both_quiet way.shown.begins [] quiet.begins refl))
+
+  -- and all parts are those that were told, and those that wait
+  pub all_in_parts : (steps : List Step) (now : ℕ) → IsAllInParts way steps now
+  all_in_parts steps now =
+      let books = books_after way steps in
+      let told = outputs (told_parts way) steps in
+      let came : Part X → List X = λ part. part.came in
+      flat_map-append came told (waiting_parts way steps now)
+      ∙ ap (λ l. flat_map came told ++ l)
+      (flat_map-append came books.closed (part_until books now ∷ [])
+      ∙ ap (λ l. flat_map came books.closed ++ l) (append-nil books.came))
+      ∙ all_came steps
 
   -- how many arrivals the books have as dropped where a step is a report
   abbrev pub drops_at : List Step → Step → List ℕ

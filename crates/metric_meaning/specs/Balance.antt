@@ -6,7 +6,7 @@ use Rattle.sd_base.specs.Outputs.{outputs}
 use Rattle.atom_record.specs.declared.atom.Atom.{Atom}
 use Rattle.atom_record.specs.declared.value.MetricKey.{MetricKey}
 use Rattle.bucket_meaning.specs.Guard.{turned_away}
-use Rattle.bucket_meaning.specs.Marks.{Part, Books, books_of}
+use Rattle.bucket_meaning.specs.Marks.{Mark, Ends, Came, Lost, Missed, Asked, Part, Books, books_of}
 use Rattle.bucket_meaning.specs.Rows.{drops, rows_of}
 use Rattle.config_links.specs.declared.linked.LMetric.{LMetric}
 use Rattle.config_types.specs.declared.parameters.PredSpec.{PredSpec}
@@ -18,6 +18,14 @@ use Rattle.metric_meaning.specs.DurationSteps.{sum_way}
 use Rattle.metric_meaning.specs.EventSteps.{event_way}
 use Rattle.metric_meaning.specs.StepMarks.{marks_of, marks_to}
 use Rattle.metric_meaning.specs.Ways.{Way, shown_by_steps}
+
+-- what comes with a mark
+abbrev pub coming : {X : Type 0} → Mark X → List X
+coming (Ends at) = []
+coming (Came what) = what ∷ []
+coming Lost = []
+coming Missed = []
+coming Asked = []
 
 -- an open part, as if it ended now
 abbrev pub part_until : {X : Type 0} → Books X → ℕ → Part X
@@ -73,6 +81,14 @@ module _ {X K C R : Type 0} (way : Way X K C R) where
   -- all parts since the installation, each of which is told by one report, or waits
   abbrev pub all_parts : List Step → ℕ → List (Part X)
   all_parts steps now = outputs told_parts steps ++ waiting_parts steps now
+
+  -- all that came by these steps, in order
+  abbrev pub came_by : List Step → List X
+  came_by steps = flat_map coming (marks_of way.shown way.base way.size steps)
+
+  -- all of it is in these parts, in order, each once
+  abbrev pub IsAllInParts : List Step → ℕ → Type 0
+  IsAllInParts steps now = flat_map (λ (part : Part X). part.came) (all_parts steps now) ≡ came_by steps
 
   -- by what a row comes to
   module _ (worth : R → ℕ) where
@@ -133,12 +149,14 @@ EventsBalance installed metric steps now =
     ≡ shown_by_reports way row_events steps + not_kept_by_reports way row_events steps + drops_by way steps
     + waiting_for_report way row_events steps now
 
--- Of summed durations: the time of all runs, as far as the parts go, was shown, or not kept, or is that of runs that were
--- turned away, or waits.
-abbrev pub SumsBalance : Installation → LMetric → PredSpec → List Step → ℕ → Type 0
-SumsBalance installed metric spec steps now =
-    let way = sum_way installed metric spec in
-    let time : ℕ → ℕ = λ time. time in
-    sum_by (arrived_in way time) (all_parts way steps now)
-    ≡ shown_by_reports way row_value steps + not_kept_by_reports way row_value steps
-    + sum_by (turned_away_in way time) (all_parts way steps now) + waiting_for_report way row_value steps now
+-- Of summed durations: wherever the active keys changed, it is told in one of the parts; and the time of all runs in these
+-- parts was shown, or not kept, or is that of runs that were turned away, or waits.
+pub record SumsBalance (installed : Installation) (metric : LMetric) (spec : PredSpec) (steps : List Step) (now : ℕ)
+    : Type 0 where
+  pub parts : IsAllInParts (sum_way installed metric spec) steps now
+  pub times :
+      let way = sum_way installed metric spec in
+      let time : ℕ → ℕ = λ time. time in
+      sum_by (arrived_in way time) (all_parts way steps now)
+      ≡ shown_by_reports way row_value steps + not_kept_by_reports way row_value steps
+      + sum_by (turned_away_in way time) (all_parts way steps now) + waiting_for_report way row_value steps now
