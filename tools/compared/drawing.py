@@ -202,7 +202,7 @@ class Drawn:
 
     def step(self):
         """A command, or a frame of the log."""
-        client = self.random.choice([10, 10, 20]), self.random.choice([1, 1, 2])
+        client = self.random.choice([10, 10, 20, 30]), self.random.choice([1, 1, 2])
         drawn = self.random.random()
         if drawn < 0.02:
             self.install(client)
@@ -252,7 +252,7 @@ def draw_check(random):
 
 
 def draw(random):
-    """A session, its replies and its status: two clients, and a last report of all that is live."""
+    """A session, its replies and its status: three clients, and a last report of all that is live."""
     drawn = Drawn(random)
     for _ in range(random.choice([0, 0, 3])):
         drawn.log()

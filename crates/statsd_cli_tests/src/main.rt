@@ -1,6 +1,7 @@
 //! Whole sessions through the engine's top call: the rows of a table on standard input.
 #![tactic(auto)]
 
+mod faults;
 mod notes;
 mod outcomes;
 mod sessions;

@@ -1,4 +1,5 @@
 //! The rows: sessions and configurations, and what they leave.
+use super::faults::run_faults;
 use super::notes::run_note;
 use super::outcomes::{compare, outcome_of, words_of};
 use super::std_streams::std_outcome_of;
@@ -12,7 +13,7 @@ pub struct Sessions;
 
 impl Table for Sessions {
     fn marks(&self) -> &'static str {
-        "> < words config line status note len piece failed_read room failed_put note_room reader writer write"
+        "> < words config line status note len piece failed_read room failed_put note_room failed_note each_fault reader writer write"
     }
 
     fn run(&self, alloc: Global, tester: &mut Tester, row: &Row<'_>) -> Result<(), AllocError> {
@@ -36,6 +37,7 @@ fn run_session(alloc: Global, tester: &mut Tester, row: &Row<'_>) -> Result<(), 
     if row.has("reader") || row.has("writer") {
         return run_std(alloc, tester, row, input.as_slice(), &wanted);
     }
+    run_faults(alloc, tester, row, input.as_slice(), &wanted)?;
     for round in 0..rounds(row, input.len()) {
         run_round(alloc, tester, row, input.as_slice(), &wanted, round)?;
     }

@@ -22,6 +22,21 @@ pub struct Streams {
     pub failed_put: Option<u64>,
     /// The bytes that the notes take.
     pub note_room: usize,
+    /// The number of the put of notes that fails, from 0.
+    pub failed_note: Option<u64>,
+}
+
+impl Streams {
+    /// Those of a run in which nothing fails and nothing ends.
+    pub const AMPLE: Streams = Streams {
+        len: AMPLE,
+        piece: AMPLE,
+        failed_read: None,
+        room: AMPLE,
+        failed_put: None,
+        note_room: AMPLE,
+        failed_note: None,
+    };
 }
 
 /// The marks of streams. Each has a number, or the first and the last of some, of which each round of runs takes one.
@@ -32,7 +47,11 @@ const MARKS: &[&str] = &[
     "room",
     "failed_put",
     "note_room",
+    "failed_note",
 ];
+
+/// The mark of a row of which each call of a stream fails in turn, with how many are tried.
+const EACH_FAULT: &str = "each_fault";
 
 /// The first number of a mark and the last one.
 fn range_of(row: &Row<'_>, mark: &str) -> Option<(u64, u64)> {
@@ -41,12 +60,23 @@ fn range_of(row: &Row<'_>, mark: &str) -> Option<(u64, u64)> {
     Some((unsigned(first)?, unsigned(last)?))
 }
 
+/// How many calls of a stream fail in turn.
+pub fn faults_of(row: &Row<'_>) -> u64 {
+    match range_of(row, EACH_FAULT) {
+        Some((_first, last)) => last,
+        None => 0,
+    }
+}
+
 /// The first mark of a stream whose numbers can't be read.
 pub fn misspelled(row: &Row<'_>) -> Option<&'static str> {
     for &mark in MARKS {
         if row.has(mark) && range_of(row, mark).is_none() {
             return Some(mark);
         }
+    }
+    if row.has(EACH_FAULT) && faults_of(row) == 0 {
+        return Some(EACH_FAULT);
     }
     None
 }
@@ -89,6 +119,7 @@ pub fn streams_at(row: &Row<'_>, round: u64) -> Streams {
         room: bytes_at(row, "room", round),
         failed_put: number_at(row, "failed_put", round),
         note_room: bytes_at(row, "note_room", round),
+        failed_note: number_at(row, "failed_note", round),
     }
 }
 
