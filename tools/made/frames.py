@@ -1,7 +1,7 @@
 """Frames of a session as bytes: docs/SESSION.md has the form."""
 import struct
 
-from session_text.layout import ATOM, INSTALL, INT, PULL, REMOVE, REPORT, STR, TICK
+from session_text.layout import ATOM, INSTALL, INT, LONG, PULL, REMOVE, REPORT, STR, TICK
 
 CONFIG_ID = 1
 
@@ -34,6 +34,11 @@ def tick(at):
 def integers(*values):
     """Entries of integers in the fields from 1 on."""
     return b"".join(struct.pack("<BBBBBi", place, 0, 0, 0, INT, value) for place, value in enumerate(values, 1))
+
+
+def longs(*values):
+    """Entries of long integers in the fields from 1 on."""
+    return b"".join(struct.pack("<BBBBBq", place, 0, 0, 0, LONG, value) for place, value in enumerate(values, 1))
 
 
 def atom_of(at, atom_id, entries):

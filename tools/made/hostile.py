@@ -3,7 +3,7 @@
 A shape writes the frames of its log up to a count; the client installs the configuration first, and asks for a report
 with a cut at the end.
 """
-from .frames import CONFIG_ID, atom, atom_of, install, integers, pull, remove, report, text, tick
+from .frames import CONFIG_ID, atom, atom_of, install, integers, longs, pull, remove, report, text, tick
 
 CLIENT = 10
 KEYS = 3000
@@ -197,6 +197,36 @@ def replaced():
     return matchers(*range(1, 801)) + "".join(metric("count_metric", 1000 + place, place) for place in each)
 
 
+def colliding():
+    """A count by two numbers."""
+    return matchers(5) + metric("count_metric", 100, 1, fields("dimensions_in_what", 5, 1, 2), f"bound: {KEYS}")
+
+
+MULTIPLIER = 0x9E3779B97F4A7C15
+FIRST_STATE = 0x243F6A8885A308D3
+
+
+def hashed(state, number):
+    """The state of the hasher of tables after eight bytes more: the seed is fixed, so anybody can compute it."""
+    product = (state ^ number) * (MULTIPLIER ^ 16)
+    return product % 2**64 ^ product >> 64
+
+
+def colliding_pair(first):
+    """Two numbers whose key has the same hash, whatever the first is: the second brings the hasher's state to 0."""
+    state = FIRST_STATE
+    for number in (2, 1, 1, first, 1, 1):  # two leaves; one value, a Long; the number; one value, a Long
+        state = hashed(state, number)
+    return first, state - 2**64 if state >= 2**63 else state
+
+
+def keys_that_collide(out, count):
+    """Atoms of 4,000 keys that have one hash."""
+    entries = [longs(*colliding_pair(first)) for first in range(4000)]
+    for done in range(count):
+        out.write(atom_of(done, 5, entries[done % len(entries)]))
+
+
 def many_installs(config):
     """The same configuration is installed, replaced and removed."""
 
@@ -231,6 +261,7 @@ SHAPES = [
     ("a chain of 800 matchers", deep_matchers, values_of_five, 20_000),
     ("a chain of 298 predicates", deep_predicates, values_of_five, 20_000),
     ("keys of 127 texts", long_keys, keys_of_many_leaves, 20_000),
+    ("keys that collide", colliding, keys_that_collide, 20_000),
     ("silence with 100 open sums", a_hundred_open, silence, 20_000),
     ("a report after each atom", counted, with_reports, 40_000),
 ]
