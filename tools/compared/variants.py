@@ -64,14 +64,34 @@ def with_a_stranger(session, random):
     return b"".join(changed)
 
 
+def varint(number):
+    """A number as a varint; one below 0 has ten bytes."""
+    number %= 2**64
+    written = []
+    while number > 127:
+        written.append(number & 127 | 128)
+        number >>= 7
+    return bytes(written + [number])
+
+
+def key_of(uid, config_id):
+    """What a report begins with: the client and the configuration."""
+    key = b"\x08" + varint(uid) + b"\x10" + varint(config_id)
+    return b"\x0a" + varint(len(key)) + key
+
+
 def renamed(frames, head, is_one):
-    """Frames in which clients and configurations have other names, where these are told."""
+    """Frames in which clients and configurations have other names, where these are told; a report has them once more."""
     for frame in frames:
-        if is_one(frame):
-            size, kind, uid, config_id = head.unpack_from(frame)
-            yield head.pack(size, kind, -3 * uid - 1, config_id ^ -(2**40)) + frame[head.size :]
-        else:
+        if not is_one(frame):
             yield frame
+            continue
+        size, kind, *old = head.unpack_from(frame)
+        new = -3 * old[0] - 1, old[1] ^ -(2**40)
+        rest = frame[head.size :]
+        if rest.startswith(key_of(*old)):
+            rest = key_of(*new) + rest[len(key_of(*old)) :]
+        yield head.pack(size + len(rest) - len(frame[head.size :]), kind, *new) + rest
 
 
 def in_pieces(out, session, piece):
