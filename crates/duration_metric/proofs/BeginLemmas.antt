@@ -20,7 +20,7 @@ use Rattle.duration_metric.specs.declared.sum.Span.{Span}
 use Rattle.duration_metric.specs.SumSteps.{begun, BeginsRun, HasSpans, HasBegun, BeginsAll}
 
 -- the keys of rows by key
-keys_of-spans : (span : MetricKey → Span) (ks : List MetricKey) → keys_of (map (λ key. (key, span key)) ks) ≡ ks
+pub keys_of-spans : (span : MetricKey → Span) (ks : List MetricKey) → keys_of (map (λ key. (key, span key)) ks) ≡ ks
 keys_of-spans span [] = refl
 keys_of-spans span (key ∷ ks) = ap (λ l. key ∷ l) (keys_of-spans span ks)
 
@@ -205,7 +205,8 @@ anew_first : (key other : MetricKey) (before ks : List MetricKey) (same absent l
     → is_same_key other key ≡ same → is_among is_same_key other before ≡ absent
     → is_among is_same_key key (newly is_same_key before ks) ≡ later
     → (later ≡ true → (is_among is_same_key key ks ≡ true) × (is_among is_same_key key before ≡ false))
-    → is_among is_same_key key (cond (not absent) (other ∷ newly is_same_key before ks) (newly is_same_key before ks)) ≡ true
+    → is_among is_same_key key (cond (not absent) (other ∷ newly is_same_key before ks) (newly is_same_key before ks))
+    ≡ true
     → (is_among is_same_key key (other ∷ ks) ≡ true) × (is_among is_same_key key before ≡ false)
 anew_first key other before ks same true later same_is absent_is later_is rest there =
     let all = rest (sym later_is ∙ there) in

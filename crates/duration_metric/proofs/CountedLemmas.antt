@@ -18,11 +18,11 @@ use Rattle.metric_kinds.specs.Keys.{is_same_key}
 use Rattle.predicate_state.specs.PredicateTable.{LeafKey}
 use Rattle.duration_metric.specs.declared.inner.Inner.{Inner}
 use Rattle.duration_metric.specs.declared.inner.InnerTable.{InnerTable}
-use Rattle.duration_metric.specs.Tallies.{row_out, row_tallied, times, is_touched, IsTallied}
+use Rattle.duration_metric.specs.Tallies.{row_out, row_tallied, how_often, was_touched, IsTallied}
 use Rattle.duration_metric.specs.SumSteps.{active_in, fresh_in, fresh_out, found_out, fresh_at}
 use Rattle.duration_metric.proofs.ActiveLemmas.{firsts-append}
 use Rattle.duration_metric.proofs.StepLemmas.{next_got, past_all}
-use Rattle.duration_metric.proofs.TallyLemmas.{times-append, times-among}
+use Rattle.duration_metric.proofs.TallyLemmas.{how_often-append, how_often-among}
 
 module _ (tally : MetricKey → ℕ) where
   abbrev is_new : MetricKey → Bool
@@ -113,19 +113,19 @@ Rises low [] = Unit {0}
 Rises low (place ∷ places) = (low ≤ place) × Rises place places
 
 -- none of them is below it
-below_all : (low at : ℕ) (places : List ℕ) → Rises low places → at < low → is_touched places at ≡ false
+below_all : (low at : ℕ) (places : List ℕ) → Rises low places → at < low → was_touched places at ≡ false
 below_all low at [] rises below = refl
 below_all low at (place ∷ places) rises below =
     let differs : (place == at) ≡ false = grind (arith, rises.0, below) in
-    ap (λ b. b || is_touched places at) differs
+    ap (λ b. b || was_touched places at) differs
     ∙ below_all place at places rises.1 (omega (arith, rises.0, below))
 
 -- another place is touched by those after the first
-after_first : (place at : ℕ) (places : List ℕ) → ¬ (at ≡ place) → is_touched places at ≡ false
-    → is_touched (place ∷ places) at ≡ false
+after_first : (place at : ℕ) (places : List ℕ) → ¬ (at ≡ place) → was_touched places at ≡ false
+    → was_touched (place ∷ places) at ≡ false
 after_first place at places differs none =
     let other : (place == at) ≡ false = grind (arith, differs) in
-    ap (λ b. b || is_touched places at) other ∙ none
+    ap (λ b. b || was_touched places at) other ∙ none
 
 module _ (tally : MetricKey → ℕ) (rows : List (LeafKey × Inner)) where
   -- the new keys of the first so many rows
@@ -184,7 +184,7 @@ module _ (tally : MetricKey → ℕ) (rows : List (LeafKey × Inner)) where
 
   -- the rows at places that rise, and no others, have new keys
   walk : (places : List ℕ) (low n : ℕ) → Rises low places
-      → ((at : ℕ) → n ≤ at → is_touched places at ≡ false → fresh_at tally rows at ≡ [])
+      → ((at : ℕ) → n ≤ at → was_touched places at ≡ false → fresh_at tally rows at ≡ [])
       → firsts is_same_key (so_far n) (flat_map (fresh_at tally rows) places)
       ≡ firsts is_same_key [] (flat_map (fresh_out tally) rows)
   walk [] low n rises none =
@@ -238,25 +238,25 @@ none_new tally (key ∷ keys) has =
 
 -- a row's share of what is counted
 row_share : (key : MetricKey) (rows : List (LeafKey × Inner)) (at : ℕ) (row : LeafKey × Inner)
-    → slice_get rows at ≡ Some row → times key (row_tallied row) ≤ times key (flat_map row_tallied rows)
+    → slice_get rows at ≡ Some row → how_often key (row_tallied row) ≤ how_often key (flat_map row_tallied rows)
 row_share key [] at row there = absurd (none-some row there)
 row_share key (first ∷ rows) zero row there =
-    let is = ap (λ (r : LeafKey × Inner). times key (row_tallied r)) (same_Some first row there) in
-    omega (arith, is, times-append key (row_tallied first) (flat_map row_tallied rows))
+    let is = ap (λ (r : LeafKey × Inner). how_often key (row_tallied r)) (same_Some first row there) in
+    omega (arith, is, how_often-append key (row_tallied first) (flat_map row_tallied rows))
 row_share key (first ∷ rows) (suc at) row there =
-    omega (arith, row_share key rows at row there, times-append key (row_tallied first) (flat_map row_tallied rows))
+    omega (arith, row_share key rows at row there, how_often-append key (row_tallied first) (flat_map row_tallied rows))
 
 -- a row that wasn't touched has no new key
 untouched : (it : InnerTable) (tally : MetricKey → ℕ) → IsTallied it tally → (at : ℕ) (found : Option (LeafKey × Inner))
-    → slice_get it.keys.rows at ≡ found → is_touched it.touched at ≡ false → found_out tally found ≡ []
+    → slice_get it.keys.rows at ≡ found → was_touched it.touched at ≡ false → found_out tally found ≡ []
 untouched it tally right at None none free = refl
 untouched it tally right at (Some row) there free =
     let steady = right.steady at row there
     (ap (λ b. row.1.tallied || not b) free ∙ or_true row.1.tallied) in
     none_new tally (row_out row)
     (λ key among.
-    let own : nat_lt 0 (times key (row_tallied row)) ≡ true =
-    ap (λ l. nat_lt 0 (times key l)) steady ∙ times-among key (row_out row) ∙ among in
+    let own : nat_lt 0 (how_often key (row_tallied row)) ≡ true =
+    ap (λ l. nat_lt 0 (how_often key l)) steady ∙ how_often-among key (row_out row) ∙ among in
     let share = row_share key it.keys.rows at row there in
     let counts = right.all key in
     grind (arith, own, share, counts)) where

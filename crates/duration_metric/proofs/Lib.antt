@@ -8,6 +8,12 @@ pub mod BeginLemmas
 pub mod StepLemmas
 pub mod CountedLemmas
 pub mod RecountLemmas
+pub mod ChangedLemmas
+pub mod InnerBoundLemmas
+pub mod SumMovesLemmas
+pub mod SumTurnLemmas
+pub mod SumToldLemmas
+pub mod SumJumpLemmas
 pub mod SumLemmas
 mod SumWorked
 pub mod SparseKnownLemmas

@@ -12,7 +12,7 @@ use Rattle.predicate_state.specs.PredicateTable.{LeafKey}
 use Rattle.duration_metric.specs.declared.inner.Known.{Known}
 use Rattle.duration_metric.specs.declared.inner.Inner.{Inner}
 use Rattle.duration_metric.specs.SumCalls.{while_true, known_out}
-use Rattle.duration_metric.specs.Tallies.{out_for, row_out, one, times, tally_at, Raises, Lowers, known_key, freed_key, tallied_key, is_touched}
+use Rattle.duration_metric.specs.Tallies.{out_for, row_out, one, how_often, tally_at, Raises, Lowers, known_key, freed_key, tallied_key, was_touched}
 use Rattle.duration_metric.specs.SumSteps.{CountsAt, Recounts}
 use Rattle.duration_metric.proofs.InnerLemmas.{counts-same, known-set}
 use Rattle.duration_metric.proofs.TallyLemmas.{tallied-set, after_set}
@@ -48,10 +48,10 @@ told_out true (Some known) key is = by known.truth is where
 
 -- a place that was looked at, or another
 looked : (place at : ℕ) (rest : List ℕ) (tallied : Bool) → ¬ (at ≡ place)
-    → (tallied || not (is_touched rest at)) ≡ true → (tallied || not (is_touched (place ∷ rest) at)) ≡ true
+    → (tallied || not (was_touched rest at)) ≡ true → (tallied || not (was_touched (place ∷ rest) at)) ≡ true
 looked place at rest tallied differs passes =
     let other : (place == at) ≡ false = grind (arith, differs) in
-    ap (λ b. tallied || not (b || is_touched rest at)) other ∙ passes
+    ap (λ b. tallied || not (b || was_touched rest at)) other ∙ passes
 
 module _ (first mid last : Table LeafKey Inner) (before some now : List (MetricKey × ℕ)) (places rest : List ℕ)
     (place : ℕ) (so_far : Recounts first mid before some places (place ∷ rest)) where
@@ -66,6 +66,7 @@ module _ (first mid last : Table LeafKey Inner) (before some now : List (MetricK
     known_are = so_far.known_are;
     outs_are = so_far.outs_are;
     tally_is = so_far.tally_is;
+    grows = so_far.grows;
     steady = λ all at row there passes.
         let was = so_far.steady all at row there in
         ⊎_elim
@@ -73,12 +74,12 @@ module _ (first mid last : Table LeafKey Inner) (before some now : List (MetricK
         let here : at ≡ place = grind (arith, same) in
         ⊎_elim
         (λ (on : row.1.tallied ≡ true).
-        was (ap (λ b. b || not (is_touched (place ∷ rest) at)) on))
+        was (ap (λ b. b || not (was_touched (place ∷ rest) at)) on))
         (λ (off : (row.1.tallied ≡ false) × (row_out row ≡ [])).
         ap (λ b. freed_key b row.1.known) off.0 ∙ sym off.1)
         (sure row (subst (λ p. slice_get mid.rows p ≡ Some row) here there)))
         (λ (differs : (place == at) ≡ false).
-        was (ap (λ b. row.1.tallied || not (b || is_touched rest at)) differs ∙ passes))
+        was (ap (λ b. row.1.tallied || not (b || was_touched rest at)) differs ∙ passes))
         (cases_Bool (place == at));
   }
 
@@ -100,9 +101,10 @@ module _ (first mid last : Table LeafKey Inner) (before some now : List (MetricK
         tally_is = λ gone all other.
             let was = so_far.tally_is gone all other in
             let writes = tallied-set other mid.rows place row.1 fresh at in
-            let none = ap (λ b. times other (freed_key b row.1.known)) off in
-            let more = ap (times other) told in
+            let none = ap (λ b. how_often other (freed_key b row.1.known)) off in
+            let more = ap (how_often other) told in
             omega (arith, was, writes, none, more, raises other);
+        grows = λ other. omega (arith, so_far.grows other, raises other);
         steady = λ all other that found passes. ⊎_elim
             (λ (here : (other ≡ place) × (that.1 ≡ fresh)).
             ap tallied_key here.1 ∙ told ∙ sym out
@@ -135,11 +137,12 @@ recounts_none it tally places = record {
   known_are = λ known all. all;
   outs_are = refl;
   tally_is = λ gone all. all;
+  grows = λ key. omega arith;
   steady = λ all. all;
 }
 
 -- one key more was taken out
 pub lowers_more : (old new : List (MetricKey × ℕ)) (key : MetricKey) (keys : List MetricKey) (rest : MetricKey → ℕ)
-    → ((other : MetricKey) → tally_at old other ≡ rest other + times other (key ∷ keys)) → Lowers old new key
-    → (other : MetricKey) → tally_at new other ≡ rest other + times other keys
+    → ((other : MetricKey) → tally_at old other ≡ rest other + how_often other (key ∷ keys)) → Lowers old new key
+    → (other : MetricKey) → tally_at new other ≡ rest other + how_often other keys
 lowers_more old new key keys rest so_far lowers other = omega (arith, so_far other, lowers other)

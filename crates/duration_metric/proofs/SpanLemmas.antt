@@ -125,7 +125,7 @@ spans-step came now (key ∷ keys) =
     ∙ ap (λ rows. (key, span_of (came ++ now ∷ []) key) ∷ rows) (spans-step came now keys)
 
 -- taken to a second time with the same key active or not, a span stays
-span_again : (at later : ℕ) (is_active : Bool) (total : ℕ) (since : Option ℕ)
+pub span_again : (at later : ℕ) (is_active : Bool) (total : ℕ) (since : Option ℕ)
     → span_at later is_active (span_at at is_active (record { sum = total; since = since }))
     ≡ span_at at is_active (record { sum = total; since = since })
 span_again at later true total None = refl
@@ -133,7 +133,7 @@ span_again at later true total (Some since) = refl
 span_again at later false total None = refl
 span_again at later false total (Some since) = refl
 
-span_steady : (key : MetricKey) (later : ℕ) (before : List MetricKey) (span : Span) (came : List (Active MetricKey))
+pub span_steady : (key : MetricKey) (later : ℕ) (before : List MetricKey) (span : Span) (came : List (Active MetricKey))
     → span_at later (is_among is_same_key key before) span ≡ span
     → span_at later (is_among is_same_key key (last_keys before came)) (span_from key span came)
     ≡ span_from key span came
@@ -154,11 +154,11 @@ spans-steady came at active (key ∷ keys) is =
     ∙ ap (λ rows. (key, span_of came key) ∷ rows) (spans-steady came at active keys is)
 
 -- of two tests the first fails, so both do where the second does
-first_fails : (first second : Bool) → (first || second) ≡ false → first ≡ false
+pub first_fails : (first second : Bool) → (first || second) ≡ false → first ≡ false
 first_fails true second none = none
 first_fails false second none = refl
 
-second_fails : (first second : Bool) → (first || second) ≡ false → second ≡ false
+pub second_fails : (first second : Bool) → (first || second) ≡ false → second ≡ false
 second_fails true second none = absurd (true≢false none)
 second_fails false second none = none
 

@@ -1,7 +1,6 @@
 -- One step of each loop of a producer of sums.
 use Rattle.std.proofs.Common.{◌≡◌, ℕ, zero, suc, ◌+◌, ◌*◌, ◌-◌, ◌^◌, ◌<◌, ◌≤◌, Bool, true, false, ◌||◌, List, [], ◌∷◌, ◌++◌, map, take, length, get_or, slice_get, Option, Some, None, refl, sym, ap, subst, ◌∙◌, arith, ⊎_elim, append-nil, append_assoc}
 use Rattle.std.specs.List.{flat_map, list_any}
-use Rattle.std.specs.Map.{values_of}
 use Rattle.std.proofs.lemmas.Bool.{cases_Bool}
 use Rattle.std.proofs.lemmas.List.{length-append, length-map, take_more}
 use Rattle.std.proofs.Math.Nat.{mul-le-mul_right}
@@ -11,7 +10,6 @@ use Rattle.atom_record.specs.Equal.{metric_key_exact}
 use Rattle.atom_record.specs.declared.value.MetricKey.{MetricKey}
 use Rattle.bucket_meaning.specs.Guard.{is_among, firsts}
 use Rattle.bucket_meaning.specs.Kept.{count_in_u64}
-use Rattle.dim_table.specs.Table.{Table, with_value_at, set_value_at}
 use Rattle.kept_rows.specs.KeptRows.{Keeping, IsKept, AddsRows}
 use Rattle.metric_producer.specs.declared.row.Row.{Row}
 use Rattle.metric_producer.proofs.KeysLemmas.{other_way}
@@ -20,9 +18,9 @@ use Rattle.metric_kinds.specs.Counts.{row_weight}
 use Rattle.predicate_state.specs.PredicateTable.{LeafKey}
 use Rattle.duration_metric.specs.declared.inner.Inner.{Inner}
 use Rattle.duration_metric.specs.declared.sum.Span.{Span}
-use Rattle.duration_metric.specs.SumStands.{span_at, span_row, whole_row, whole_rows}
+use Rattle.duration_metric.specs.SumStands.{span_row, whole_row, whole_rows}
 use Rattle.duration_metric.specs.Tallies.{row_out}
-use Rattle.duration_metric.specs.SumSteps.{active_in, row_when, StepsOne}
+use Rattle.duration_metric.specs.SumSteps.{active_in}
 use Rattle.duration_metric.proofs.ActiveLemmas.{walk_more}
 
 -- a key is among some by either order of the test
@@ -52,83 +50,6 @@ pub past_all : {X : Type 0} (xs : List X) (i : ℕ) → slice_get xs i ≡ None 
 past_all [] i none = omega arith
 past_all (x ∷ xs) zero none = absurd (none-some x (sym none))
 past_all (x ∷ xs) (suc i) none = omega (arith, past_all xs i none)
-
--- the first so many rows were taken to a time
-abbrev pub steps_to : (MetricKey × Span → Span) → ℕ → List (MetricKey × Span) → List (MetricKey × Span)
-steps_to next zero rows = rows
-steps_to next (suc n) [] = []
-steps_to next (suc n) (row ∷ rows) = (row.0, next row) ∷ steps_to next n rows
-
-steps_set : (next : MetricKey × Span → Span) (n : ℕ) (rows : List (MetricKey × Span)) (row : MetricKey × Span)
-    → slice_get (steps_to next n rows) n ≡ Some row
-    → set_value_at (steps_to next n rows) n (next row) ≡ steps_to next (suc n) rows
-steps_set next zero [] row at = refl
-steps_set next zero (first ∷ rows) row at =
-    ap (λ (r : MetricKey × Span). (first.0, next r) ∷ rows) (sym (same_Some first row at))
-steps_set next (suc n) [] row at = refl
-steps_set next (suc n) (first ∷ rows) row at = ap (λ l. (first.0, next first) ∷ l) (steps_set next n rows row at)
-
-steps_past : (next : MetricKey × Span → Span) (n : ℕ) (rows : List (MetricKey × Span))
-    → slice_get (steps_to next n rows) n ≡ None → steps_to next n rows ≡ steps_to next (suc n) rows
-steps_past next zero [] none = refl
-steps_past next zero (row ∷ rows) none = absurd (none-some row (sym none))
-steps_past next (suc n) [] none = refl
-steps_past next (suc n) (row ∷ rows) none = ap (λ l. (row.0, next row) ∷ l) (steps_past next n rows none)
-
-pub steps_whole : (next : MetricKey × Span → Span) (n : ℕ) (rows : List (MetricKey × Span)) → length rows ≤ n
-    → steps_to next n rows ≡ map (λ (row : MetricKey × Span). (row.0, next row)) rows
-steps_whole next zero [] all = refl
-steps_whole next zero (row ∷ rows) all = absurd (omega (arith, all))
-steps_whole next (suc n) [] all = refl
-steps_whole next (suc n) (row ∷ rows) all =
-    ap (λ l. (row.0, next row) ∷ l) (steps_whole next n rows (omega (arith, all)))
-
--- the span of a row that is taken to a time
-abbrev pub next_span : (MetricKey → Bool) → ℕ → MetricKey × Span → Span
-next_span is_active at row = (row_when is_active at row).1
-
--- one row more
-pub steps_next : (first old new : Table MetricKey Span) (active : MetricKey → Bool) (place at : ℕ)
-    → old ≡ record first { rows = steps_to (next_span active at) place first.rows }
-    → StepsOne old new active place at
-    → new ≡ record first { rows = steps_to (next_span active at) (place + 1) first.rows }
-steps_next first old new active place at is one = by (slice_get old.rows place) refl where
-  rows_at : ℕ → Table MetricKey Span
-  rows_at n = record first { rows = steps_to (next_span active at) n first.rows }
-
-  one_on : suc place ≡ place + 1
-  one_on = omega arith
-
-  by : (found : Option (MetricKey × Span)) → slice_get old.rows place ≡ found → new ≡ rows_at (place + 1)
-  by None none = one.nowhere none ∙ is
-      ∙ ap (λ rows. record first { rows = rows }) (steps_past (next_span active at) place first.rows
-      (sym (ap (λ (t : Table MetricKey Span). slice_get t.rows place) is) ∙ none))
-      ∙ ap rows_at one_on
-  by (Some row) found = one.there row found
-      ∙ ap (λ (t : Table MetricKey Span). with_value_at t place (next_span active at row)) is
-      ∙ ap (λ rows. record first { rows = rows }) (steps_set (next_span active at) place first.rows row
-      (sym (ap (λ (t : Table MetricKey Span). slice_get t.rows place) is) ∙ found))
-      ∙ ap rows_at one_on
-
-value_there : (rows : List (MetricKey × Span)) (place : ℕ) (row : MetricKey × Span) → slice_get rows place ≡ Some row
-    → slice_get (values_of rows) place ≡ Some row.1
-value_there [] place row at = absurd (none-some row at)
-value_there (first ∷ rows) zero row at = ap (λ (r : MetricKey × Span). Some r.1) (same_Some first row at)
-value_there (first ∷ rows) (suc place) row at = value_there rows place row at
-
--- the row at a place was taken to a time
-pub steps_one : (old : Table MetricKey Span) (active : MetricKey → Bool) (place at : ℕ) (row : MetricKey × Span)
-    (span result : Span) (is_active : Bool) → slice_get old.rows place ≡ Some row
-    → slice_get (values_of old.rows) place ≡ Some span → is_active ≡ active row.0
-    → result ≡ span_at at is_active span → StepsOne old (with_value_at old place result) active place at
-steps_one old active place at row span result is_active found value active_is is = record {
-  there = λ other there. ap (with_value_at old place)
-      (is ∙ ap (λ b. span_at at b span) active_is
-      ∙ ap (span_at at (active row.0))
-      (sym (same_Some row.1 span (sym (value_there old.rows place row found) ∙ value)))
-      ∙ ap (next_span active at) (same_Some row other (sym found ∙ there)));
-  nowhere = λ none. absurd (none-some row (sym none ∙ found));
-}
 
 -- a walk over the inner keys, one more
 pub gathers : (rows : List (LeafKey × Inner)) (place : ℕ) (row : LeafKey × Inner) (old new : List MetricKey)

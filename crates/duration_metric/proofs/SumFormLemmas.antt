@@ -11,14 +11,14 @@ use Rattle.metric_producer.specs.RowItems.{IsRow}
 use Rattle.predicate_state.specs.PredicateItems.{flag_number}
 use Rattle.duration_metric.specs.declared.sum.SumProducer.{SumProducer}
 use Rattle.duration_metric.specs.InnerItems.{inner_items, span_items}
-use Rattle.duration_metric.specs.SumItems.{time_row_items, count_items, sum_producer_items, IsSumProducer, any_keys, any_counts}
+use Rattle.duration_metric.specs.SumItems.{time_row_items, counted_items, sum_producer_items, IsSumProducer, any_keys, any_counts}
 use Rattle.duration_metric.specs.SumForm.{SumForm, sum_form, HasSumForm, RestoresSum}
 
 -- their items
 abbrev pub sum_form_items : SumForm → List Item
 sum_form_items = pair_items number_items (pair_items number_items (pair_items number_items (pair_items number_items
     (pair_items (table_items dims_items inner_items) (pair_items (list_items number_items)
-    (pair_items (list_items key_items) (pair_items (list_items count_items)
+    (pair_items (list_items key_items) (pair_items (list_items counted_items)
     (pair_items (table_items key_items span_items) (kept_items time_row_items)))))))))
 
 -- which parts may stand there

@@ -14,29 +14,29 @@ use Rattle.duration_metric.specs.declared.inner.Inner.{Inner}
 use Rattle.duration_metric.specs.declared.inner.InnerTable.{InnerTable}
 use Rattle.duration_metric.specs.InnerStands.{with_other}
 use Rattle.duration_metric.specs.SumCalls.{known_out}
-use Rattle.duration_metric.specs.Tallies.{row_out, times, freed_key, tallied_key, row_tallied, left_key, is_touched, AreSteady, IsTallied}
+use Rattle.duration_metric.specs.Tallies.{row_out, how_often, freed_key, tallied_key, row_tallied, left_key, was_touched, AreSteady, IsTallied}
 
 -- a key in two lists
-pub times-append : (key : MetricKey) (some more : List MetricKey)
-    → times key (some ++ more) ≡ times key some + times key more
-times-append key [] more = omega arith
-times-append key (other ∷ some) more = omega (arith, times-append key some more)
+pub how_often-append : (key : MetricKey) (some more : List MetricKey)
+    → how_often key (some ++ more) ≡ how_often key some + how_often key more
+how_often-append key [] more = omega arith
+how_often-append key (other ∷ some) more = omega (arith, how_often-append key some more)
 
 -- a write to a row changes what it is counted for
 pub tallied-set : (key : MetricKey) (rows : List (LeafKey × Inner)) (place : ℕ) (was now : Inner)
     → slice_get (values_of rows) place ≡ Some was
-    → times key (flat_map row_tallied (set_value_at rows place now)) + times key (tallied_key was)
-    ≡ times key (flat_map row_tallied rows) + times key (tallied_key now)
+    → how_often key (flat_map row_tallied (set_value_at rows place now)) + how_often key (tallied_key was)
+    ≡ how_often key (flat_map row_tallied rows) + how_often key (tallied_key now)
 tallied-set key [] place was now at = absurd (none-some was at)
 tallied-set key (row ∷ rows) zero was now at =
     let is : row.1 ≡ was = same_Some row.1 was at in
-    let mine = ap (λ (i : Inner). times key (tallied_key i)) is in
-    let before = times-append key (row_tallied row) (flat_map row_tallied rows) in
-    let after = times-append key (tallied_key now) (flat_map row_tallied rows) in
+    let mine = ap (λ (i : Inner). how_often key (tallied_key i)) is in
+    let before = how_often-append key (row_tallied row) (flat_map row_tallied rows) in
+    let after = how_often-append key (tallied_key now) (flat_map row_tallied rows) in
     omega (arith, mine, before, after)
 tallied-set key (row ∷ rows) (suc place) was now at =
-    let before = times-append key (row_tallied row) (flat_map row_tallied rows) in
-    let after = times-append key (row_tallied row) (flat_map row_tallied (set_value_at rows place now)) in
+    let before = how_often-append key (row_tallied row) (flat_map row_tallied rows) in
+    let after = how_often-append key (row_tallied row) (flat_map row_tallied (set_value_at rows place now)) in
     omega (arith, before, after, tallied-set key rows place was now at)
 
 -- a row after a write to one: the one that was written, or one of the others
@@ -61,12 +61,12 @@ less_touched false true more passes = passes
 less_touched false false more passes = refl
 
 touched-push : (touched : List ℕ) (place at : ℕ)
-    → is_touched (touched ++ place ∷ []) at ≡ (is_touched touched at || is_touched (place ∷ []) at)
+    → was_touched (touched ++ place ∷ []) at ≡ (was_touched touched at || was_touched (place ∷ []) at)
 touched-push touched place at = list_any-append (λ other. other == at) touched (place ∷ [])
 
-touched_itself : (touched : List ℕ) (place at : ℕ) → at ≡ place → is_touched (touched ++ place ∷ []) at ≡ true
+touched_itself : (touched : List ℕ) (place at : ℕ) → at ≡ place → was_touched (touched ++ place ∷ []) at ≡ true
 touched_itself touched place at is =
-    touched-push touched place at ∙ last (is_touched touched at) (place == at) (grind (arith, is)) where
+    touched-push touched place at ∙ last (was_touched touched at) (place == at) (grind (arith, is)) where
       last : (b c : Bool) → c ≡ true → (b || (c || false)) ≡ true
       last true c is = refl
       last false true is = refl
@@ -76,24 +76,26 @@ touched_itself touched place at is =
 pub touches : (rows : List (LeafKey × Inner)) (touched : List ℕ) (place : ℕ) → AreSteady touched rows
     → AreSteady (touched ++ place ∷ []) rows
 touches rows touched place steady at row there passes = steady at row there
-    (less_touched row.1.tallied (is_touched touched at) (is_touched (place ∷ []) at)
+    (less_touched row.1.tallied (was_touched touched at) (was_touched (place ∷ []) at)
     (subst (λ b. (row.1.tallied || not b) ≡ true) (touched-push touched place at) passes))
 
 -- an inner key that isn't in the tally any more is put down
-pub releases : (old new : InnerTable) (place : ℕ) (was now : Inner) → slice_get (values_of old.keys.rows) place ≡ Some was
+pub releases : (old new : InnerTable) (place : ℕ) (was now : Inner)
+    → slice_get (values_of old.keys.rows) place ≡ Some was
     → now.tallied ≡ false → new ≡ with_other old place was now → (tally : MetricKey → ℕ) → IsTallied old tally
     → IsTallied new tally
 releases old new place was now at off is tally right = subst (λ (t : InnerTable). IsTallied t tally) (sym is) (record {
   all = λ key.
       let writes = tallied-set key old.keys.rows place was now at in
-      let none = ap (λ b. times key (freed_key b now.known)) off in
-      let more = times-append key old.gone (tallied_key was) in
+      let none = ap (λ b. how_often key (freed_key b now.known)) off in
+      let more = how_often-append key old.gone (tallied_key was) in
       omega (arith, right.all key, writes, none, more);
   steady = λ other row there passes. ⊎_elim
       (λ (here : (other ≡ place) × (row.1 ≡ now)).
       absurd (false≢true
       (sym (ap not (touched_itself old.touched place other here.0)) ∙
-      sym (ap (λ b. b || not (is_touched (old.touched ++ place ∷ []) other)) (ap (λ (i : Inner). i.tallied) here.1 ∙ off))
+      sym (ap (λ b. b || not (was_touched (old.touched ++ place ∷ []) other))
+      (ap (λ (i : Inner). i.tallied) here.1 ∙ off))
       ∙ passes)))
       (λ (apart : (¬ (other ≡ place)) × (slice_get old.keys.rows other ≡ Some row)).
       touches old.keys.rows old.touched place right.steady other row apart.1 passes)
@@ -131,7 +133,8 @@ lists_more old key count tally right =
     let last : LeafKey × Inner = (key, record { count = count; known = None; tallied = false }) in
     record {
       all = λ other.
-          let more = ap (times other) (tallied-push old.keys.rows last ∙ append-nil (flat_map row_tallied old.keys.rows)) in
+          let more = ap (how_often other)
+          (tallied-push old.keys.rows last ∙ append-nil (flat_map row_tallied old.keys.rows)) in
           omega (arith, right.all other, more);
       steady = λ at row there passes. ⊎_elim
           (λ (old_one : slice_get old.keys.rows at ≡ Some row). right.steady at row old_one passes)
@@ -162,7 +165,8 @@ each_steady touched (first ∷ rows) all (suc at) row there passes =
     each_steady [] rows all.1 at row there (passes_all row.1.tallied)
 
 -- so they are in the tally for the keys for which they count
-pub steady_outs : (rows : List (LeafKey × Inner)) → AreSteady [] rows → flat_map row_tallied rows ≡ flat_map row_out rows
+pub steady_outs : (rows : List (LeafKey × Inner)) → AreSteady [] rows
+    → flat_map row_tallied rows ≡ flat_map row_out rows
 steady_outs rows steady = by rows (steady_each rows steady) where
   by : (rows : List (LeafKey × Inner)) → AllSteady rows → flat_map row_tallied rows ≡ flat_map row_out rows
   by [] all = refl
@@ -184,37 +188,37 @@ steady-filter test (row ∷ rows) all = ⊎_elim
 -- where no other row has the key, the rows without it are all
 kept-all : (out : MetricKey) (key : LeafKey) (rows : List (LeafKey × Inner))
     → AllByRecursion (λ other. same_leaves key other ≡ false) (keys_of rows)
-    → times out (flat_map row_tallied (filter (λ row. not (same_leaves key row.0)) rows))
-    ≡ times out (flat_map row_tallied rows)
+    → how_often out (flat_map row_tallied (filter (λ row. not (same_leaves key row.0)) rows))
+    ≡ how_often out (flat_map row_tallied rows)
 kept-all out key [] none = refl
 kept-all out key (row ∷ rows) none =
     let others = filter (λ (r : LeafKey × Inner). not (same_leaves key r.0)) rows in
-    let stays = ap (λ b. times out (flat_map row_tallied (cond (not b) (row ∷ others) others))) none.0 in
-    let with_it = times-append out (row_tallied row) (flat_map row_tallied others) in
-    let before = times-append out (row_tallied row) (flat_map row_tallied rows) in
+    let stays = ap (λ b. how_often out (flat_map row_tallied (cond (not b) (row ∷ others) others))) none.0 in
+    let with_it = how_often-append out (row_tallied row) (flat_map row_tallied others) in
+    let before = how_often-append out (row_tallied row) (flat_map row_tallied rows) in
     omega (arith, stays, with_it, before, kept-all out key rows none.1)
 
 -- a key that leaves takes what was counted for it
 without-tallied : (same_exact : (x y : LeafKey) → same_leaves x y ≡ true → x ≡ y) (out : MetricKey) (key : LeafKey)
     (rows : List (LeafKey × Inner)) → IsDistinct same_leaves (keys_of rows)
-    → times out (flat_map row_tallied (filter (λ row. not (same_leaves key row.0)) rows))
-    + times out (left_key (lookup (same_leaves key) rows))
-    ≡ times out (flat_map row_tallied rows)
+    → how_often out (flat_map row_tallied (filter (λ row. not (same_leaves key row.0)) rows))
+    + how_often out (left_key (lookup (same_leaves key) rows))
+    ≡ how_often out (flat_map row_tallied rows)
 without-tallied same_exact out key [] distinct = refl
 without-tallied same_exact out key (row ∷ rows) distinct =
     let others = filter (λ (r : LeafKey × Inner). not (same_leaves key r.0)) rows in
-    let before = times-append out (row_tallied row) (flat_map row_tallied rows) in
+    let before = how_often-append out (row_tallied row) (flat_map row_tallied rows) in
     ⊎_elim
     (λ (here : same_leaves key row.0 ≡ true).
-    let goes = ap (λ b. times out (flat_map row_tallied (cond (not b) (row ∷ others) others))) here in
-    let is = ap (λ b. times out (left_key (cond b (Some row.1) (lookup (same_leaves key) rows)))) here in
+    let goes = ap (λ b. how_often out (flat_map row_tallied (cond (not b) (row ∷ others) others))) here in
+    let is = ap (λ b. how_often out (left_key (cond b (Some row.1) (lookup (same_leaves key) rows)))) here in
     let rest = kept-all out key rows (subst (λ k. AllByRecursion (λ other. same_leaves k other ≡ false) (keys_of rows))
     (sym (same_exact key row.0 here)) (IsDistinct-head same_leaves row.0 (keys_of rows) distinct)) in
     omega (arith, before, goes, is, rest))
     (λ (other : same_leaves key row.0 ≡ false).
-    let stays = ap (λ b. times out (flat_map row_tallied (cond (not b) (row ∷ others) others))) other in
-    let with_it = times-append out (row_tallied row) (flat_map row_tallied others) in
-    let is = ap (λ b. times out (left_key (cond b (Some row.1) (lookup (same_leaves key) rows)))) other in
+    let stays = ap (λ b. how_often out (flat_map row_tallied (cond (not b) (row ∷ others) others))) other in
+    let with_it = how_often-append out (row_tallied row) (flat_map row_tallied others) in
+    let is = ap (λ b. how_often out (left_key (cond b (Some row.1) (lookup (same_leaves key) rows)))) other in
     let rest = without-tallied same_exact out key rows (IsDistinct-tail same_leaves row.0 (keys_of rows) distinct) in
     omega (arith, before, stays, with_it, is, rest))
     (cases_Bool (same_leaves key row.0))
@@ -228,7 +232,7 @@ pub takes_tallied : (same_exact : (x y : LeafKey) → same_leaves x y ≡ true �
     }) tally
 takes_tallied same_exact old key distinct none tally right = record {
   all = λ out.
-      let more = times-append out old.gone (left_key (lookup (same_leaves key) old.keys.rows)) in
+      let more = how_often-append out old.gone (left_key (lookup (same_leaves key) old.keys.rows)) in
       omega (arith, right.all out, more, without-tallied same_exact out key old.keys.rows distinct);
   steady = each_steady old.touched (filter (λ row. not (same_leaves key row.0)) old.keys.rows)
       (steady-filter (λ row. not (same_leaves key row.0)) old.keys.rows
@@ -244,7 +248,7 @@ pub clears_tallied : (old : InnerTable) (unknown : Bool) (tally : MetricKey → 
     }) tally
 clears_tallied old unknown tally right = record {
   all = λ out.
-      let more = times-append out old.gone (flat_map row_tallied old.keys.rows) in
+      let more = how_often-append out old.gone (flat_map row_tallied old.keys.rows) in
       omega (arith, right.all out, more);
   steady = λ at row there passes. absurd (none-some row there);
 }
@@ -256,16 +260,16 @@ touches_none old place tally right =
     record { all = right.all; steady = touches old.keys.rows old.touched place right.steady }
 
 -- whether a key stands among some, by how often it does
-pub times-among : (key : MetricKey) (keys : List MetricKey)
-    → nat_lt 0 (times key keys) ≡ list_any (λ other. is_same_key other key) keys
-times-among key [] = refl
-times-among key (other ∷ keys) = ⊎_elim
+pub how_often-among : (key : MetricKey) (keys : List MetricKey)
+    → nat_lt 0 (how_often key keys) ≡ list_any (λ other. is_same_key other key) keys
+how_often-among key [] = refl
+how_often-among key (other ∷ keys) = ⊎_elim
     (λ (same : is_same_key other key ≡ true).
-    ap (λ b. nat_lt 0 ((if b then 1 else 0) + times key keys)) same ∙ above (times key keys)
+    ap (λ b. nat_lt 0 ((if b then 1 else 0) + how_often key keys)) same ∙ above (how_often key keys)
     ∙ sym (ap (λ b. b || list_any (λ k. is_same_key k key) keys) same))
     (λ (differs : is_same_key other key ≡ false).
-    ap (λ b. nat_lt 0 ((if b then 1 else 0) + times key keys)) differs ∙ ap (nat_lt 0) (omega arith)
-    ∙ times-among key keys ∙ sym (ap (λ b. b || list_any (λ k. is_same_key k key) keys) differs))
+    ap (λ b. nat_lt 0 ((if b then 1 else 0) + how_often key keys)) differs ∙ ap (nat_lt 0) (omega arith)
+    ∙ how_often-among key keys ∙ sym (ap (λ b. b || list_any (λ k. is_same_key k key) keys) differs))
     (cases_Bool (is_same_key other key)) where
       above : (n : ℕ) → nat_lt 0 (1 + n) ≡ true
       above n = grind arith

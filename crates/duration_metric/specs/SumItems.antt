@@ -35,12 +35,12 @@ abbrev pub sum_books_items : SumProducer → List Item
 sum_books_items it = table_items key_items span_items it.table ++ kept_items time_row_items it.kept
 
 -- an active key is its key, and how many inner keys count for it
-abbrev pub count_items : MetricKey × ℕ → List Item
-count_items = pair_items key_items number_items
+abbrev pub counted_items : MetricKey × ℕ → List Item
+counted_items = pair_items key_items number_items
 
 -- its active keys, and its books
 abbrev pub sum_tally_items : SumProducer → List Item
-sum_tally_items it = list_items count_items it.tally ++ sum_books_items it
+sum_tally_items it = list_items counted_items it.tally ++ sum_books_items it
 
 -- its inner keys, which of them were touched, the keys that left, its active keys, and its books
 abbrev pub sum_rest_items : SumProducer → List Item
@@ -77,7 +77,7 @@ abbrev pub sum_entries : SumProducer → ℕ
 sum_entries it =
     table_entries dims_items inner_items it.inner.keys
     + (list_entries number_items it.inner.touched + (list_entries key_items it.inner.gone
-    + (list_entries count_items it.tally
+    + (list_entries counted_items it.tally
     + (table_entries key_items span_items it.table + kept_entries time_row_items it.kept))))
 
 -- a head of sixteen items, and eight at most for each entry
@@ -87,11 +87,11 @@ sum_bounded it is =
     let inner = table_bounded dims_items inner_items Anything Anything it.inner.keys is.inner in
     let touched = elements_bounded number_items it.inner.touched in
     let gone = elements_bounded key_items it.inner.gone in
-    let tally = elements_bounded count_items it.tally in
+    let tally = elements_bounded counted_items it.tally in
     let table = table_bounded key_items span_items Anything Anything it.table is.table in
     let kept = kept_bounded time_row_items (IsRow Anything) it.kept is.kept in
     let books = length-append (table_items key_items span_items it.table) (kept_items time_row_items it.kept) in
-    let counts = length-append (list_items count_items it.tally) (sum_books_items it) in
+    let counts = length-append (list_items counted_items it.tally) (sum_books_items it) in
     let left = length-append (list_items key_items it.inner.gone) (sum_tally_items it) in
     let places = length-append (list_items number_items it.inner.touched)
     (list_items key_items it.inner.gone ++ sum_tally_items it) in
@@ -105,11 +105,11 @@ sum_few it =
     let inner = table_few dims_items inner_items it.inner.keys in
     let touched = list_few number_items it.inner.touched in
     let gone = list_few key_items it.inner.gone in
-    let tally = list_few count_items it.tally in
+    let tally = list_few counted_items it.tally in
     let table = table_few key_items span_items it.table in
     let kept = kept_few time_row_items it.kept in
     let books = length-append (table_items key_items span_items it.table) (kept_items time_row_items it.kept) in
-    let counts = length-append (list_items count_items it.tally) (sum_books_items it) in
+    let counts = length-append (list_items counted_items it.tally) (sum_books_items it) in
     let left = length-append (list_items key_items it.inner.gone) (sum_tally_items it) in
     let places = length-append (list_items number_items it.inner.touched)
     (list_items key_items it.inner.gone ++ sum_tally_items it) in
@@ -129,7 +129,7 @@ any_counts (pair ∷ pairs) = All-cons (IsValidPair Anything Anything) pair pair
 
 -- a count can be spelled where its key can
 count_savable : (pair : MetricKey × ℕ) → IsValidPair Anything Anything pair → IsValidPair IsShortKey Anything pair
-    → AreSavable (count_items pair)
+    → AreSavable (counted_items pair)
 count_savable =
     pair_savable key_items number_items Anything Anything IsShortKey Anything key_savable number_savable
 
@@ -141,15 +141,15 @@ sum_savable it is can =
     let touched = list_savable number_items Anything Anything number_savable it.inner.touched
     (any_keys it.inner.touched) (any_keys it.inner.touched) in
     let gone = list_savable key_items Anything IsShortKey key_savable it.inner.gone (any_keys it.inner.gone) can.gone in
-    let tally = list_savable count_items (IsValidPair Anything Anything) (IsValidPair IsShortKey Anything) count_savable
-    it.tally (any_counts it.tally) can.tally in
+    let tally = list_savable counted_items (IsValidPair Anything Anything) (IsValidPair IsShortKey Anything)
+    count_savable it.tally (any_counts it.tally) can.tally in
     let table = table_savable key_items span_items Anything Anything IsShortKey Anything key_savable span_savable
     it.table is.table can.table in
     let kept = kept_savable time_row_items (IsRow Anything) (IsSavableRow Anything) time_row_savable it.kept is.kept
     can.kept in
     let books = All-append IsSavable (table_items key_items span_items it.table) (kept_items time_row_items it.kept)
     table kept in
-    let counts = All-append IsSavable (list_items count_items it.tally) (sum_books_items it) tally books in
+    let counts = All-append IsSavable (list_items counted_items it.tally) (sum_books_items it) tally books in
     let left = All-append IsSavable (list_items key_items it.inner.gone) (sum_tally_items it) gone counts in
     let places = All-append IsSavable (list_items number_items it.inner.touched)
     (list_items key_items it.inner.gone ++ sum_tally_items it) touched left in

@@ -1,6 +1,7 @@
 -- How the steps of a producer of sums change its table and its rows.
-use Rattle.std.specs.Prelude.{◌≡◌, ◌⊎◌, Bool, ℕ, ◌+◌, nat_lt, true, false, not, List, [], ◌∷◌, ◌++◌, map, filter, slice_get, Option, Some, None}
-use Rattle.std.specs.List.{flat_map}
+use Rattle.std.specs.Prelude.{◌≡◌, ◌⊎◌, Bool, ℕ, ◌+◌, ◌≤◌, nat_lt, if◌then◌else◌, true, false, not, List, [], ◌∷◌, ◌++◌, map, filter, slice_get, Option, Some, None}
+use Rattle.std.specs.List.{flat_map, IsDistinct}
+use Rattle.std.specs.Map.{keys_of}
 use Rattle.atom_record.specs.declared.value.MetricKey.{MetricKey}
 use Rattle.bucket_meaning.specs.Guard.{is_among, firsts, admitted, dropped}
 use Rattle.bucket_meaning.specs.Kept.{count_in_u64}
@@ -16,7 +17,7 @@ use Rattle.duration_metric.specs.declared.inner.Inner.{Inner}
 use Rattle.duration_metric.specs.declared.sum.Span.{Span}
 use Rattle.duration_metric.specs.declared.sum.SumProducer.{SumProducer}
 use Rattle.duration_metric.specs.InnerStands.{row_count, AreKnown}
-use Rattle.duration_metric.specs.Tallies.{row_out, tally_at, times, Raises, CountsAll, AreSteady}
+use Rattle.duration_metric.specs.Tallies.{row_out, tally_at, how_often, Raises, CountsAll, AreSteady}
 use Rattle.duration_metric.specs.SumStands.{span_at, span_row}
 
 -- the active keys, by the rows of the inner keys
@@ -31,15 +32,14 @@ row_when is_active at row = (row.0, span_at at (is_active row.0) row.1)
 abbrev pub row_at : List MetricKey → ℕ → MetricKey × Span → MetricKey × Span
 row_at active at row = row_when (λ key. is_among is_same_key key active) at row
 
--- The span at one place is taken to a time.
-pub record StepsOne (old new : Table MetricKey Span) (is_active : MetricKey → Bool) (place at : ℕ) : Type 0 where
-  pub there : (row : MetricKey × Span) → slice_get old.rows place ≡ Some row
-      → new ≡ with_value_at old place (row_when is_active at row).1
-  pub nowhere : slice_get old.rows place ≡ None → new ≡ old
+-- a key's span from a time on, where it is one of these; another stays
+abbrev pub row_among : List MetricKey → (MetricKey → Bool) → ℕ → MetricKey × Span → MetricKey × Span
+row_among keys is_active at row = if is_among is_same_key row.0 keys then row_when is_active at row else row
 
--- all spans are taken to a time
-abbrev pub StepsAll : Table MetricKey Span → Table MetricKey Span → (MetricKey → Bool) → ℕ → Type 0
-StepsAll old new is_active at = new ≡ record old { rows = map (row_when is_active at) old.rows }
+-- the spans of these keys are taken to a time, and the others stay, where each key has one
+abbrev pub StepsSome : Table MetricKey Span → Table MetricKey Span → List MetricKey → (MetricKey → Bool) → ℕ → Type 0
+StepsSome old new keys is_active at =
+    IsDistinct is_same_key (keys_of old.rows) → new ≡ record old { rows = map (row_among keys is_active at) old.rows }
 
 -- a span that begins
 abbrev pub begun : ℕ → Span
@@ -105,7 +105,8 @@ abbrev pub fresh_at : (MetricKey → ℕ) → List (LeafKey × Inner) → ℕ �
 fresh_at tally rows place = found_out tally (slice_get rows place)
 
 -- What is taken into the tally where one place is looked at: nothing, or the key for which its row counts.
-abbrev pub CountsAt : Table LeafKey Inner → Table LeafKey Inner → List (MetricKey × ℕ) → List (MetricKey × ℕ) → ℕ → Type 0
+abbrev pub CountsAt :
+    Table LeafKey Inner → Table LeafKey Inner → List (MetricKey × ℕ) → List (MetricKey × ℕ) → ℕ → Type 0
 CountsAt old new before now place =
     ((new ≡ old) × (now ≡ before) × ((row : LeafKey × Inner) → slice_get old.rows place ≡ Some row
     → (row.1.tallied ≡ true) ⊎ ((row.1.tallied ≡ false) × (row_out row ≡ []))))
@@ -123,9 +124,10 @@ pub record Recounts (first last : Table LeafKey Inner) (before now : List (Metri
   pub outs_are : flat_map row_out last.rows ≡ flat_map row_out first.rows
   pub tally_is : (gone : List MetricKey) → CountsAll (tally_at before) first.rows gone
       → CountsAll (tally_at now) last.rows gone
+  pub grows : (key : MetricKey) → tally_at before key ≤ tally_at now key
   pub steady : AreSteady places first.rows → AreSteady left last.rows
 
 -- whatever the tally counts besides some keys, it counts that alone
 abbrev pub LowersAll : List (MetricKey × ℕ) → List (MetricKey × ℕ) → List MetricKey → Type 0
-LowersAll old new keys = (rest : MetricKey → ℕ) → ((key : MetricKey) → tally_at old key ≡ rest key + times key keys)
+LowersAll old new keys = (rest : MetricKey → ℕ) → ((key : MetricKey) → tally_at old key ≡ rest key + how_often key keys)
     → (key : MetricKey) → tally_at new key ≡ rest key

@@ -26,9 +26,9 @@ abbrev pub one : MetricKey → MetricKey → ℕ
 one key other = if is_same_key key other then 1 else 0
 
 -- how often a key stands among some
-abbrev pub times : MetricKey → List MetricKey → ℕ
-times key [] = 0
-times key (other ∷ keys) = one other key + times key keys
+abbrev pub how_often : MetricKey → List MetricKey → ℕ
+how_often key [] = 0
+how_often key (other ∷ keys) = one other key + how_often key keys
 
 -- how many a tally counts for a key
 abbrev pub tally_at : List (MetricKey × ℕ) → MetricKey → ℕ
@@ -75,17 +75,18 @@ left_key None = []
 left_key (Some inner) = tallied_key inner
 
 -- the place was touched since the tally was right
-abbrev pub is_touched : List ℕ → ℕ → Bool
-is_touched places place = list_any (λ other. other == place) places
+abbrev pub was_touched : List ℕ → ℕ → Bool
+was_touched places place = list_any (λ other. other == place) places
 
 -- a tally counts each inner key that is in it, and each that left it
 abbrev pub CountsAll : (MetricKey → ℕ) → List (LeafKey × Inner) → List MetricKey → Type 0
-CountsAll tally rows gone = (key : MetricKey) → tally key ≡ times key (flat_map row_tallied rows) + times key gone
+CountsAll tally rows gone =
+    (key : MetricKey) → tally key ≡ how_often key (flat_map row_tallied rows) + how_often key gone
 
 -- an inner key that is in the tally, or wasn't touched, is in it for the key for which it counts
 abbrev pub AreSteady : List ℕ → List (LeafKey × Inner) → Type 0
 AreSteady touched rows = (place : ℕ) (row : LeafKey × Inner) → slice_get rows place ≡ Some row
-    → (row.1.tallied || not (is_touched touched place)) ≡ true → row_tallied row ≡ row_out row
+    → (row.1.tallied || not (was_touched touched place)) ≡ true → row_tallied row ≡ row_out row
 
 -- A tally is as right as the table knows.
 pub record IsTallied (it : InnerTable) (tally : MetricKey → ℕ) : Type 0 where

@@ -335,15 +335,15 @@ pub(crate) fn says(known: &Option<Known>, truth: Truth, out: &MetricKey) -> bool
     known.truth == truth && known.out == *out
 }
 
-// A key's count after one more start.
-fn add_start(nesting: bool, count: u64) -> u64
+/// A key's count after one more start.
+pub(crate) fn add_start(nesting: bool, count: u64) -> u64
     ensures { result ≡ count_after_start nesting count }
 {
     if nesting { count.saturating_add(1) } else { 1 }
 }
 
-// A key's count after one more stop.
-fn add_stop(nesting: bool, count: u64) -> u64
+/// A key's count after one more stop.
+pub(crate) fn add_stop(nesting: bool, count: u64) -> u64
     ensures { result ≡ count_after_stop nesting count }
 {
     if nesting { count.saturating_sub(1) } else { 0 }

@@ -6,14 +6,13 @@ ghost use Rattle.std.specs.Map.{values_of};
 ghost use Rattle.bucket_meaning.specs.Limits.{most_keys};
 ghost use Rattle.dim_table.specs.Table.{keys, with_value_at};
 ghost use Rattle.predicate_state.specs.declared.event.PredEvent.TheVariants as events;
-ghost use Rattle.predicate_state.specs.PredicateStates.{count_after_start, count_after_stop};
 ghost use Rattle.predicate_state.specs.PredicateTable.{same_leaves};
 ghost use Rattle.duration_metric.specs.InnerKeys.{known_by};
 ghost use Rattle.duration_metric.specs.SparseCalls.{is_told_timed};
 ghost use Rattle.duration_metric.specs.SparseEntries.{saved_time, entry_marks, row_marks, turn_marks, started_entry, told_entry, IsOfNoCalls, ListsKey, TakesKeyEvent, LearnsDelta};
 ghost use Rattle.duration_metric.specs.declared.sparse_keys.SparseEntry.{SparseEntry};
 
-use crate::inner::Known;
+use crate::inner::{Known, add_start, add_stop};
 use crate::memory::Memory;
 use crate::{InnerChange, InnerDelta};
 use atom_record::{DimKey, MetricKey};
@@ -264,18 +263,4 @@ fn turn_off(entry: &SparseEntry, at: u64, alloc: Global) -> Result<Turn, AllocEr
         Some(known) => Ok(Turn::Off(known.out.clone_key(alloc)?, time_of(entry, at))),
         None => Ok(Turn::Stays),
     }
-}
-
-// A key's count after one more start.
-fn add_start(nesting: bool, count: u64) -> u64
-    ensures { result ≡ count_after_start nesting count }
-{
-    if nesting { count.saturating_add(1) } else { 1 }
-}
-
-// A key's count after one more stop.
-fn add_stop(nesting: bool, count: u64) -> u64
-    ensures { result ≡ count_after_stop nesting count }
-{
-    if nesting { count.saturating_sub(1) } else { 0 }
 }

@@ -1,5 +1,5 @@
 //! Sums of durations, by key.
-ghost use Rattle.std.specs.Prelude.{◌≡◌, ℕ, ◌+◌, ◌*◌, ◌^◌, ◌<◌, ◌≤◌, List, [], map, length, slice_get, IfOk, OnOk};
+ghost use Rattle.std.specs.Prelude.{◌≡◌, ℕ, ◌+◌, ◌*◌, ◌^◌, ◌<◌, ◌≤◌, List, [], ◌∷◌, map, length, slice_get, IfOk, OnOk};
 ghost use Rattle.std.specs.List.{flat_map};
 ghost use Rattle.std.specs.Option.{option_copied};
 ghost use Rattle.atom_record.specs.declared.value.MetricKey.{MetricKey};
@@ -13,7 +13,7 @@ ghost use Rattle.metric_kinds.specs.Counts.{row_weight};
 ghost use Rattle.duration_metric.specs.SumCalls.{while_true, known_out};
 ghost use Rattle.duration_metric.specs.InnerKeys.{DurationParams, DurationCall, inner_keys, told_truth, was_told};
 ghost use Rattle.duration_metric.specs.SumStands.{span_at, span_time, span_row, whole_row, whole_rows, SumStandsFor};
-ghost use Rattle.duration_metric.specs.SumSteps.{active_in, StepsAll, StepsOne, BeginsRun, BeginsAll, ClosesRows, Opens};
+ghost use Rattle.duration_metric.specs.SumSteps.{active_in, StepsSome, BeginsRun, BeginsAll, ClosesRows, Opens};
 ghost use Rattle.duration_metric.specs.Tallies.{out_for, is_counted};
 
 use crate::active::ActiveKeys;
@@ -149,11 +149,11 @@ fn step(at: u64, is_active: bool, span: Span) -> Span
     }
 }
 
-// Takes the span of the key at a place to a time.
-fn step_at(table: &mut Guarded<MetricKey, Span>, tally: &Tally, place: usize, at: u64)
-    ensures { StepsOne table.old table.new (is_counted tally.now) place at }
+// Takes the span of a key to a time, from which on the keys of a tally are active.
+fn step_key(table: &mut Guarded<MetricKey, Span>, tally: &Tally, key: &MetricKey, at: u64)
+    ensures { StepsSome table.old table.new (key.now ∷ []) (is_counted tally.now) at }
 {
-    let Some((key, _span)) = table.pair(place) else {
+    let Some(place) = table.place_of(key) else {
         return;
     };
     let is_active = tally.count(key) > 0;
@@ -163,17 +163,16 @@ fn step_at(table: &mut Guarded<MetricKey, Span>, tally: &Tally, place: usize, at
     *span = step(at, is_active, *span);
 }
 
-// Takes all spans to a time, from which on the keys of a tally are active.
-fn step_all(table: &mut Guarded<MetricKey, Span>, tally: &Tally, at: u64)
-    ensures { StepsAll table.old table.new (is_counted tally.now) at }
+// Takes the spans of some keys to a time.
+fn step_keys(table: &mut Guarded<MetricKey, Span>, tally: &Tally, keys: &[MetricKey], at: u64)
+    ensures { StepsSome table.old table.new keys.now (is_counted tally.now) at }
 {
-    let count = table.len();
-    for place in 0..count {
-        step_at(table, tally, place, at);
+    for key in keys {
+        step_key(table, tally, key, at);
     }
 }
 
-// Admits a key whose run begins.
+// Admits a key whose run begins. A key that is there isn't copied.
 fn begin(
     table: &mut Guarded<MetricKey, Span>,
     key: &MetricKey,
@@ -182,6 +181,9 @@ fn begin(
 ) -> Result<(), AllocError>
     ensures { OnOk result (BeginsRun table.old table.new [] key.now at) }
 {
+    if let Some(_place) = table.place_of(key) {
+        return Ok(());
+    }
     let span = Span {
         sum: 0,
         since: Some(at),
@@ -379,7 +381,7 @@ impl Producer for SumProducer {
         self.inner.tell(now)?;
         let alloc = self.memory.alloc();
         let fresh = fresh_keys(&self.inner, &self.tally, alloc)?;
-        // What begins is counted before what ends, so that a key whose count comes back has no break.
+        // What begins is counted before what ends, so that a key whose count comes back stays in the tally.
         let touched = mem::replace(&mut self.inner.touched, Seq::new(alloc));
         count_all(
             &mut self.inner.keys,
@@ -389,8 +391,9 @@ impl Producer for SumProducer {
         )?;
         let gone = mem::replace(&mut self.inner.gone, Seq::new(alloc));
         lower_all(&mut self.tally, gone.as_slice())?;
-        let _len = self.inner.keys.len();
-        step_all(&mut self.table, &self.tally, at);
+        // A key that stays as active as it was is among neither, and its span stays.
+        step_keys(&mut self.table, &self.tally, gone.as_slice(), at);
+        step_keys(&mut self.table, &self.tally, fresh.as_slice(), at);
         begin_all(&mut self.table, fresh.as_slice(), at, alloc)
     }
 

@@ -1,8 +1,13 @@
--- A key is admitted, or turned away.
-use Rattle.std.proofs.Common.{inr, refl, subst}
+-- A key has its row, or it is admitted or turned away.
+use Rattle.std.proofs.Common.{inl, inr, refl, subst}
+use Rattle.dim_table.specs.declared.answer.Admit.TheVariants.{At}
 use Rattle.dim_table.specs.Table.{Admits}
 use Rattle.duration_metric.specs.SumSteps.{begun}
 use Rattle.duration_metric.proofs.sum.begin.Goals as goal
+
+-- it has one
+pub returns-in-Some : goal.returns-in-Some
+returns-in-Some c = inr (refl, At c.in-Some._place, inl (record { at = c.in-Some.ensures.there; same = refl }))
 
 pub returns : goal.returns
 returns c = inr (

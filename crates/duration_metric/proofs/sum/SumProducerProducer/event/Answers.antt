@@ -1,5 +1,5 @@
 -- An event came.
-use Rattle.duration_metric.proofs.SumLemmas.{got, on_ok_both}
+use Rattle.duration_metric.proofs.SumMovesLemmas.{got, on_ok_both}
 use Rattle.duration_metric.proofs.sum.SumProducerProducer.event.Goals as goal
 
 pub returns : goal.returns
