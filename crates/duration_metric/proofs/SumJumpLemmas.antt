@@ -1,5 +1,5 @@
 -- What a closed part, and the full buckets after it, make of the rows and of the books.
-use Rattle.std.proofs.Common.{◌≡◌, ℕ, zero, suc, ◌+◌, ◌*◌, ◌-◌, ◌^◌, ◌<◌, ◌≤◌, List, [], ◌∷◌, ◌++◌, map, length, refl, sym, ap, subst, ◌∙◌, arith, append-nil}
+use Rattle.std.proofs.Common.{◌≡◌, ℕ, zero, suc, ◌+◌, ◌*◌, ◌^◌, ◌<◌, ◌≤◌, List, [], ◌∷◌, ◌++◌, map, length, refl, sym, ap, subst, ◌∙◌, arith, append-nil}
 use Rattle.std.specs.List.{flat_map, IsDistinct}
 use Rattle.std.proofs.lemmas.Grind.{flat_map-append}
 use Rattle.std.proofs.Math.Seq.{take-nil}
@@ -7,7 +7,7 @@ use Rattle.atom_record.specs.declared.value.MetricKey.{MetricKey}
 use Rattle.bucket_meaning.specs.Ends.{ends_from}
 use Rattle.bucket_meaning.specs.Guard.{admitted, dropped}
 use Rattle.bucket_meaning.specs.Kept.{count_in_u64}
-use Rattle.bucket_meaning.specs.Marks.{Mark, Part, Books, after, books_from, boundary_marks}
+use Rattle.bucket_meaning.specs.Marks.{Mark, Part, Books, books_from, boundary_marks}
 use Rattle.bucket_meaning.specs.Rows.{drops, rows_of, closed_rows}
 use Rattle.dim_table.specs.Table.{Table}
 use Rattle.kept_rows.specs.KeptRows.{Keeping, IsKept, AddsRows}

@@ -3,7 +3,7 @@ use Rattle.std.proofs.Common.{◌≡◌, ℕ, ◌+◌, ◌-◌, ◌≤◌, List,
 use Rattle.std.proofs.lemmas.Option.{none-some}
 use Rattle.atom_record.specs.declared.value.MetricKey.{MetricKey}
 use Rattle.bucket_meaning.specs.Guard.{is_among, dropped}
-use Rattle.bucket_meaning.specs.Marks.{Books, after}
+use Rattle.bucket_meaning.specs.Marks.{Books}
 use Rattle.bucket_meaning.specs.Meaning.{marks_on, books_by}
 use Rattle.bucket_meaning.specs.Rows.{drops}
 use Rattle.bucket_meaning.proofs.MeaningLemmas.{books_by-push}
