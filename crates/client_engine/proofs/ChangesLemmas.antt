@@ -1,7 +1,8 @@
 -- What is told of inner keys, one place after the other.
-use Rattle.std.proofs.Common.{◌≡◌, ℕ, zero, suc, ◌+◌, ◌≤◌, Bool, true, false, List, [], ◌∷◌, ◌++◌, drop, length, slice_get, Option, Some, None, if◌then◌else◌, refl, sym, ap, ◌∙◌, arith, append-nil, append_assoc}
-use Rattle.std.specs.Option.{option_map_or}
+use Rattle.std.proofs.Common.{◌≡◌, ℕ, zero, suc, ◌+◌, ◌<◌, ◌≤◌, Bool, true, false, List, [], ◌∷◌, ◌++◌, drop, length, slice_get, Option, Some, None, if◌then◌else◌, refl, sym, ap, ◌∙◌, arith, append-nil, append_assoc}
+use Rattle.std.specs.Option.{option_map, option_map_or, option_and_then}
 use Rattle.std.proofs.lemmas.List.{drop_all}
+use Rattle.std.proofs.lemmas.Option.{none-some, same_Some}
 use Rattle.atom_record.specs.declared.value.MetricKey.{MetricKey}
 use Rattle.field_select.specs.declared.leaf.FieldSet.{FieldSet}
 use Rattle.config_links.specs.declared.linked.LMetric.{LMetric}
@@ -16,34 +17,57 @@ use Rattle.metric_meaning.specs.MetricConditions.{is_condition_true}
 use Rattle.metric_meaning.specs.Readings.{key_reading}
 use Rattle.metric_meaning.specs.Scenes.{Scene}
 use Rattle.metric_calls.specs.DurationCalls.{told_as, known_in, change_at, changes_from}
+use Rattle.metric_calls.proofs.InnerChangesLemmas.{says-itself}
+use Rattle.client_engine.specs.declared.stays.Stays.{Stays}
+use Rattle.client_engine.specs.declared.stays.Stays.TheVariants.{Keys, Truths, Nothing}
+use Rattle.client_engine.specs.Staying.{KeepsWhatStays, truth_kept, first_asked}
 use Rattle.client_engine.specs.Handed.{Handed, IsOfScene}
 use Rattle.client_engine.specs.InnerTold.{told_of_place, reading_in}
 use Rattle.client_engine.proofs.ArrivingLemmas.{condition_there}
+
+-- the truth of the condition, by what is handed, is the truth in the scene
+pub truth_there : (given : Handed) (scene : Scene) (metric : LMetric) (key : LeafKey) (truth : Truth)
+    → IsOfScene given scene
+    → truth ≡ told_as (is_condition_true given.known.predicates given.known.tables metric
+    (reading_in given.known metric key))
+    → truth ≡ (known_in scene metric key).truth
+truth_there given scene metric key truth found truth_is =
+    truth_is
+    ∙ ap told_as (condition_there given scene metric (reading_in given.known metric key) found)
+    ∙ ap (λ ps. told_as (holds_in scene metric (key_reading (inner_fields (slice_get ps metric.what)) key)))
+    found.predicates
+
+-- a truth that stays is the truth now
+pub kept_there : (stays : Stays) (was : LeafKey → Option Known) (now : LeafKey → Known) (keys : List LeafKey)
+    (place : ℕ) (key : LeafKey) (truth : Truth) → KeepsWhatStays stays was now keys → Some key ≡ slice_get keys place
+    → Some truth ≡ truth_kept stays (option_and_then (λ key. option_map (λ (known : Known). known.truth) (was key))
+    (slice_get keys place))
+    → truth ≡ (now key).truth
+kept_there (Keys listed) was now keys place key truth keeps is kept = absurd (none-some truth (sym kept))
+kept_there Nothing was now keys place key truth keeps is kept = absurd (none-some truth (sym kept))
+kept_there Truths was now keys place key truth keeps is kept =
+    by (was key) refl (kept ∙ ap (λ found. option_and_then
+    (λ key. option_map (λ (known : Known). known.truth) (was key)) found) (sym is)) where
+      by : (told : Option Known) → was key ≡ told → Some truth ≡ option_map (λ (known : Known). known.truth) told
+          → truth ≡ (now key).truth
+      by None told kept = absurd (none-some truth (sym kept))
+      by (Some known) told kept = same_Some truth known.truth kept ∙ keeps place key known (sym is) told
 
 -- what is handed has what is so of an inner key
 pub known_there : (given : Handed) (scene : Scene) (metric : LMetric) (fields : FieldSet) (key : LeafKey) (truth : Truth)
     (out : MetricKey) → IsOfScene given scene
     → fields ≡ inner_fields (slice_get given.known.predicates metric.what)
-    → truth ≡ told_as (is_condition_true given.known.predicates given.known.tables metric
-    (reading_in given.known metric key))
+    → truth ≡ (known_in scene metric key).truth
     → out ≡ metric_key scene metric (key_reading fields key)
     → let known : Known = record { truth = truth; out = out } in known ≡ known_in scene metric key
 known_there given scene metric fields key truth out found fields_are truth_is out_is =
     let there : fields ≡ inner_fields (slice_get scene.linked.predicates metric.what) =
     fields_are ∙ ap (λ ps. inner_fields (slice_get ps metric.what)) found.predicates in
-    ap (λ (t : Truth). let known : Known = record { truth = t; out = out } in known)
-    (truth_is
-    ∙ ap (λ (f : FieldSet). told_as (is_condition_true given.known.predicates given.known.tables metric
-    (key_reading f key))) (sym fields_are)
-    ∙ ap told_as (condition_there given scene metric (key_reading fields key) found))
+    ap (λ (t : Truth). let known : Known = record { truth = t; out = out } in known) truth_is
     ∙ ap (λ (o : MetricKey). let known : Known = record {
-      truth = told_as (holds_in scene metric (key_reading fields key));
+      truth = (known_in scene metric key).truth;
       out = o;
-    } in known) out_is
-    ∙ ap (λ (f : FieldSet). let known : Known = record {
-      truth = told_as (holds_in scene metric (key_reading f key));
-      out = metric_key scene metric (key_reading f key);
-    } in known) there
+    } in known) (out_is ∙ ap (λ (f : FieldSet). metric_key scene metric (key_reading f key)) there)
 
 module _ (was : LeafKey → Option Known) (now : LeafKey → Known) where
   -- nothing is told where no key is
@@ -82,6 +106,37 @@ module _ (was : LeafKey → Option Known) (now : LeafKey → Known) where
       else record { place = place; truth = (now key).truth; out = (now key).out } ∷ []) ++ [])) said)
       ∙ ap (λ o. changes ++ told_of_place was now place o) is
 
+  -- nothing is told of the first of these keys, where of each what is so was told
+  skipped : (most at : ℕ) (keys : List LeafKey)
+      → ((place : ℕ) (key : LeafKey) → place < most → slice_get keys place ≡ Some key → was key ≡ Some (now key))
+      → changes_from was now at keys ≡ changes_from was now (at + most) (drop most keys)
+  skipped zero at keys told = ap (λ n. changes_from was now n keys) (omega arith)
+  skipped (suc most) at [] told = refl
+  skipped (suc most) at (key ∷ keys) told =
+      let on : (at + 1) + most ≡ at + suc most = omega arith in
+      ap (λ (o : Option Known). change_at o at (now key) ++ changes_from was now (at + 1) keys)
+      (told zero key (omega arith) refl)
+      ∙ ap (λ (b : Bool). (if b then [] else record { place = at; truth = (now key).truth; out = (now key).out } ∷ [])
+      ++ changes_from was now (at + 1) keys) (says-itself (now key))
+      ∙ skipped most (at + 1) keys (λ place k within is. told (suc place) k (omega (arith, within)) is)
+      ∙ ap (λ n. changes_from was now n (drop most keys)) on
+
+  -- so nothing is told of the keys that aren't asked
+  pub first_skipped : (stays : Stays) (keys : List LeafKey) → KeepsWhatStays stays was now keys
+      → changes_from was now 0 keys ≡ changes_from was now (first_asked stays) (drop (first_asked stays) keys)
+  first_skipped Nothing keys keeps = refl
+  first_skipped Truths keys keeps = refl
+  first_skipped (Keys listed) keys keeps =
+      let all : 0 + listed ≡ listed = omega arith in
+      skipped listed 0 keys keeps ∙ ap (λ n. changes_from was now n (drop listed keys)) all
+
+  -- nor of any where there are no more
+  pub all_skipped : (stays : Stays) (keys : List LeafKey) → length keys ≤ first_asked stays
+      → KeepsWhatStays stays was now keys → [] ≡ changes_from was now 0 keys
+  all_skipped stays keys past keeps =
+      sym (first_skipped stays keys keeps
+      ∙ ap (λ l. changes_from was now (first_asked stays) l) (drop_all (first_asked stays) keys past))
+
   -- what is told from a place on: what is told of the key there, and then of the others
   place_splits : (keys : List LeafKey) (at place : ℕ)
       → changes_from was now place (drop at keys)
@@ -111,9 +166,3 @@ module _ (was : LeafKey → Option Known) (now : LeafKey → Known) where
   places_all keys place changes all past before =
       sym (append-nil changes)
       ∙ ap (λ l. changes ++ changes_from was now place l) (sym (drop_all place keys past)) ∙ before
-
--- no keys, nothing is told
-pub no_places : (was : LeafKey → Option Known) (now : LeafKey → Known) (keys : List LeafKey) → length keys ≡ 0
-    → [] ≡ changes_from was now 0 keys
-no_places was now [] none = refl
-no_places was now (key ∷ keys) none = absurd (omega (arith, none))

@@ -36,7 +36,7 @@ use Rattle.metric_meaning.specs.ShownFrames.{shown_as}
 use Rattle.metric_meaning.specs.Scenes.{Scene, scene_after}
 use Rattle.metric_meaning.specs.Ways.{Way}
 use Rattle.metric_meaning.specs.DurationSteps.{inner_fields, measured, inner_events}
-use Rattle.metric_meaning.specs.Touched.{timed_predicate, is_touched}
+use Rattle.metric_meaning.specs.Touched.{acts_below, timed_predicate, is_touched}
 use Rattle.metric_meaning.proofs.TouchedDurations.{untouched_idle}
 use Rattle.metric_calls.specs.Askings.{Asking, own_demands, steps_seen, calls_crossed, AsksWell}
 use Rattle.metric_calls.specs.DurationCalls.{first_event_of, event_in, known_in, changes_from, delta_with, learning, InnerNews, inner_asks, duration_params, duration_asking, listed_after, known_after, told_after, inner_event_at, inner_changes, inner_news, IsTimedWell}
@@ -49,8 +49,12 @@ use Rattle.client_engine.specs.KeptPredicates.{HasItsLeaves, KeepsItsLeaves}
 use Rattle.client_engine.specs.NextSteps.{logged_step, with_logged, ComeInTime, MayLog}
 use Rattle.client_engine.specs.SoundMetrics.{IsSoundIn}
 use Rattle.client_engine.specs.Touchers.{tells_one}
+use Rattle.client_engine.specs.Staying.{stays_by, KeepsWhatStays}
+use Rattle.client_engine.specs.InnerTold.{StaysInScene}
+use Rattle.client_engine.specs.declared.stays.Stays.{Stays}
 use Rattle.client_engine.proofs.AlongLemmas.{along_logs, along_crosses}
 use Rattle.client_engine.proofs.ShownLemmas.{shown_moment}
+use Rattle.client_engine.proofs.StaysLemmas.{stays_so}
 use Rattle.client_engine.proofs.UntouchedLemmas.{shown_atom, nothing_changes}
 
 -- an inner table has as many leaves as the predicate that is timed has dimensions
@@ -128,6 +132,19 @@ pub no_calls : {P Params Event After X K C V : Type 0} (law : Law P Params Event
     (lane : Lane P Event After V) → GetsCalls law lane lane []
 no_calls law lane params told calls has admitted = subst (LaneHas law lane params told) (sym (append-nil calls)) has
 
+-- What is found of inner keys once an atom's event came: how many were listed before it, what stays by the two tests, and
+-- what changed, where that stays.
+pub record IsFoundAt {P X K C V : Type 0} (law : Law P DurationParams InnerEvent InnerDelta X K C (Row V))
+    (metric : LMetric) (given : Handed) (truths : List Bool) (atom : Atom) (crossed middle : P) (listed : ℕ)
+    (stays : Stays) (changes : List InnerChange) : Type 0 where
+  pub listed_there : (params : DurationParams) (calls : List DurationCall) → law.stands crossed params calls
+      → listed ≡ length (inner_keys params.spec calls)
+  pub stays_there : stays ≡ stays_by (acts_below given.known.predicates truths metric.condition)
+      (tells_one given.states atom.id metric.slices) listed
+  pub changes_there : (params : DurationParams) (calls : List DurationCall) (scene : Scene)
+      → law.stands middle params calls → IsOfScene given scene → StaysInScene stays params calls scene metric
+      → changes ≡ changes_from (last_known params.spec calls) (known_in scene metric) 0 (inner_keys params.spec calls)
+
 module _ {P X K C V : Type 0} (law : Law P DurationParams InnerEvent InnerDelta X K C (Row V)) (metric : LMetric)
     (spec : PredSpec) (installed : Installation) (way : Way X K C (Row V))
     (well : AsksWell (duration_asking installed metric spec way) law.collecting)
@@ -138,12 +155,16 @@ module _ {P X K C V : Type 0} (law : Law P DurationParams InnerEvent InnerDelta 
   abbrev own : Asking DurationParams InnerNews InnerEvent InnerDelta X K C (Row V)
   own = duration_asking installed metric spec way
 
-  -- What is handed on at a frame after these steps is what it brings: the event, and, once that came, what is told.
-  pub record IsNewsAt (steps : List Step) (frame : LogFrame) (truths : List Bool) (middle : P)
+  -- What is handed on at a frame after these steps is what it brings: the event, and, once that came, what is told. The
+  -- producer that crossed the frame knows what the steps told, and the other one knows the event, too.
+  pub record IsNewsAt (steps : List Step) (frame : LogFrame) (truths : List Bool) (crossed middle : P)
       (event : Option InnerEvent) (delta : Option InnerDelta) : Type 0 where
     pub event_there : event ≡ inner_event_at installed metric (logged_step frame truths)
-    pub delta_there : (calls : List DurationCall) → law.stands middle (duration_params installed.base metric spec) calls
-        → KnowsActed installed metric spec calls steps (logged_step frame truths)
+    pub delta_there : (calls : List DurationCall) (time : ℕ)
+        → law.stands crossed (duration_params installed.base metric spec) calls
+        → TellsInner installed metric spec calls steps
+        → law.stands middle (duration_params installed.base metric spec) (calls ++ coming time event)
+        → KnowsActed installed metric spec (calls ++ coming time event) steps (logged_step frame truths)
         → delta ≡ delta_with (is_some event) (inner_changes installed metric spec steps (logged_step frame truths))
 
   -- a lane takes one more frame of the log: what it crosses, the event, and then what is told
@@ -153,7 +174,7 @@ module _ {P X K C V : Type 0} (law : Law P DurationParams InnerEvent InnerDelta 
       → GetsFrame law old crossed (moment_of shown (log_time shown))
       → GetsCalls law crossed middle (coming (log_time shown) event)
       → GetsCalls law middle new (learning (log_time shown) delta)
-      → IsNewsAt steps frame truths middle.producer event delta
+      → IsNewsAt steps frame truths crossed.producer middle.producer event delta
       → MayLog installed steps given shown frame truths → Along own law steps old
       → Along own law (with_logged steps frame truths) new
   inner_takes shown frame truths given old crossed middle new event delta steps crosses acts learns news may along =
@@ -178,7 +199,7 @@ module _ {P X K C V : Type 0} (law : Law P DurationParams InnerEvent InnerDelta 
       subst (λ t. GetsCalls law crossed middle (coming t event)) time acts own.params told calls both.0 may_act in
       let knows : KnowsActed installed metric spec (calls ++ here) steps step =
       acted installed metric spec steps step calls at event (sym news.event_there) (tells steps frame at) in
-      let delta_is = news.delta_there (calls ++ here) has.producer knows in
+      let delta_is = news.delta_there calls at both.0.producer (tells steps frame at) has.producer knows in
       let changes = inner_changes installed metric spec steps step in
       let brought : InnerNews = record { event = event; delta = delta } in
       let news_is : brought ≡ inner_news installed metric spec steps step =
@@ -195,26 +216,26 @@ module _ {P X K C V : Type 0} (law : Law P DurationParams InnerEvent InnerDelta 
       along in_time
 
   -- a frame that isn't an atom brings nothing
-  pub others_pass : (steps : List Step) (shown frame : LogFrame) (truths : List Bool) (given : Handed) (middle : P)
+  pub others_pass : (steps : List Step) (shown frame : LogFrame) (truths : List Bool) (given : Handed) (crossed : P)
       → IsOther shown → MayLog installed steps given shown frame truths
-      → IsNewsAt steps frame truths middle None None
-  others_pass steps shown frame truths given middle other may =
+      → IsNewsAt steps frame truths crossed crossed None None
+  others_pass steps shown frame truths given crossed other may =
       let quiet = other_quiet (log_after installed steps) frame truths (subst IsOther may.shown_is other) in
       let step = logged_step frame truths in
       record {
         event_there = sym (quiet_event installed metric spec steps step quiet);
-        delta_there = λ calls stands knows.
+        delta_there = λ calls time before tells stands knows.
             sym (ap (delta_with false) (quiet_changes installed metric spec steps step quiet));
       }
 
   -- nor does an atom that neither touches the metric nor tells a state by which it is sliced
-  pub untouched_pass : (steps : List Step) (shown frame : LogFrame) (truths : List Bool) (given : Handed) (middle : P)
+  pub untouched_pass : (steps : List Step) (shown frame : LogFrame) (truths : List Bool) (given : Handed) (crossed : P)
       (at : ℕ) (atom : Atom) → shown ≡ AtomAt at atom → timed_predicate metric ≡ Some metric.what
       → is_touched given.known.predicates metric truths ≡ false
       → tells_one given.states atom.id metric.slices ≡ false
       → MayLog installed steps given shown frame truths
-      → IsNewsAt steps frame truths middle None None
-  untouched_pass steps shown frame truths given middle at atom is times untouched untold may =
+      → IsNewsAt steps frame truths crossed crossed None None
+  untouched_pass steps shown frame truths given crossed at atom is times untouched untold may =
       let frame_is = shown_atom (log_after installed steps) frame at atom (sym may.shown_is ∙ is) in
       let untouched_there : is_touched installed.linked.predicates metric truths ≡ false =
       sym (ap (λ ps. is_touched ps metric truths) may.found.predicates) ∙ untouched in
@@ -223,35 +244,50 @@ module _ {P X K C V : Type 0} (law : Law P DurationParams InnerEvent InnerDelta 
       let idle = untouched_idle installed metric spec steps (logged_step frame truths) times untouched_there in
       record {
         event_there = sym (ap first_event_of idle);
-        delta_there = λ calls stands knows. sym (ap (delta_with false)
+        delta_there = λ calls time before tells stands knows. sym (ap (delta_with false)
             (subst (λ f. inner_changes installed metric spec steps (logged_step f truths) ≡ []) (sym frame_is)
-            (nothing_changes installed metric steps truths at atom untouched_there untold_there spec times)));
+            (nothing_changes installed metric spec steps truths at atom untouched_there untold_there times)));
       }
 
   -- an atom brings the event that it makes, and the changes that are found once that came
-  pub atom_comes : (steps : List Step) (shown frame : LogFrame) (truths : List Bool) (given : Handed) (middle : P)
-      (event : Option InnerEvent) (changes : List InnerChange) (at : ℕ) (atom : Atom) → shown ≡ AtomAt at atom
+  pub atom_comes : (steps : List Step) (shown frame : LogFrame) (truths : List Bool) (given : Handed)
+      (crossed middle : P) (event : Option InnerEvent) (listed : ℕ) (stays : Stays) (changes : List InnerChange) (at : ℕ)
+      (atom : Atom) → shown ≡ AtomAt at atom
       → event ≡ event_in (slice_get given.known.predicates metric.what) truths atom
-      → ((params : DurationParams) (calls : List DurationCall) (scene : Scene) → law.stands middle params calls
-      → IsOfScene given scene
-      → changes ≡ changes_from (last_known params.spec calls) (known_in scene metric) 0 (inner_keys params.spec calls))
+      → IsFoundAt law metric given truths atom crossed middle listed stays changes
       → MayLog installed steps given shown frame truths
-      → IsNewsAt steps frame truths middle event (delta_with (is_some event) changes)
-  atom_comes steps shown frame truths given middle event changes at atom is event_there changes_there may =
+      → IsNewsAt steps frame truths crossed middle event (delta_with (is_some event) changes)
+  atom_comes steps shown frame truths given crossed middle event listed stays changes at atom is event_there there may =
+      let params = duration_params installed.base metric spec in
       let step = logged_step frame truths in
       let now = known_after installed metric (steps ++ step ∷ []) in
-      let listed = listed_after installed metric spec (steps ++ step ∷ []) in
+      let listed_now = listed_after installed metric spec (steps ++ step ∷ []) in
       let found = measured installed metric in
+      let log = log_after installed steps in
+      let frame_is = shown_atom log frame at atom (sym may.shown_is ∙ is) in
       record {
         event_there = event_there
             ∙ ap (λ ps. event_in (slice_get ps metric.what) truths atom) may.found.predicates
             ∙ event_is found at atom truths
             ∙ ap (λ f. first_event_of (inner_events found (logged_step f truths))) (sym is ∙ may.shown_is)
-            ∙ shown_event found (log_after installed steps) frame truths;
-        delta_there = λ calls stands knows. ap (delta_with (is_some event))
-            (changes_there (duration_params installed.base metric spec) calls
-            (scene_after installed (with_logged steps frame truths)) stands may.found
-            ∙ ap (λ (s : PredicateState LeafKey). changes_from (last_known spec calls) now 0 (keys_of s.counts))
+            ∙ shown_event found log frame truths;
+        delta_there = λ calls time before tells stands knows.
+            let acted = calls ++ coming time event in
+            let keeps : KeepsWhatStays stays (last_known spec acted) now (inner_keys spec acted) =
+            subst (λ f. KeepsWhatStays stays (last_known spec acted)
+            (known_after installed metric (steps ++ logged_step f truths ∷ [])) (inner_keys spec acted)) (sym frame_is)
+            (subst (λ s. KeepsWhatStays s (last_known spec acted)
+            (known_after installed metric (steps ++ logged_step (AtomAt at atom) truths ∷ [])) (inner_keys spec acted))
+            (sym there.stays_there)
+            (stays_so installed metric spec steps truths at atom calls time event tells
+            (subst (λ f. KnowsActed installed metric spec acted steps (logged_step f truths)) frame_is knows)
+            (acts_below given.known.predicates truths metric.condition) (tells_one given.states atom.id metric.slices)
+            listed (sym (ap (λ ps. acts_below ps truths metric.condition) may.found.predicates))
+            (sym (ap (λ states. tells_one states atom.id metric.slices) may.found.states))
+            (there.listed_there params calls before))) in
+            ap (delta_with (is_some event))
+            (there.changes_there params acted (scene_after installed (with_logged steps frame truths)) stands may.found keeps
+            ∙ ap (λ (s : PredicateState LeafKey). changes_from (last_known spec acted) now 0 (keys_of s.counts))
             knows.state
-            ∙ changes_alike (last_known spec calls) (told_after installed metric spec steps) now 0 listed knows.told);
+            ∙ changes_alike (last_known spec acted) (told_after installed metric spec steps) now 0 listed_now knows.told);
       }

@@ -18,6 +18,8 @@ pub mod PulledGaugesLemmas
 pub mod EventsLemmas
 pub mod StatesStayLemmas
 pub mod UntouchedLemmas
+pub mod OldKeysLemmas
+pub mod StaysLemmas
 pub mod InnerLemmas
 pub mod ChangesLemmas
 pub mod SumsLemmas

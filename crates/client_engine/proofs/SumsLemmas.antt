@@ -13,28 +13,27 @@ use Rattle.metric_producer.specs.declared.row.Closed.{Closed}
 use Rattle.metric_producer.specs.LaneCalls.{coming}
 use Rattle.duration_metric.specs.declared.change.InnerEvent.{InnerEvent}
 use Rattle.duration_metric.specs.declared.change.InnerChange.{InnerChange}
-use Rattle.duration_metric.specs.InnerKeys.{DurationParams, DurationCall, inner_keys, last_known}
 use Rattle.duration_metric.specs.SumStands.{sum_law}
 use Rattle.report_writer.specs.declared.tree.MetricTree.{MetricTree}
 use Rattle.session_frames.specs.FrameReading.{log_time}
 use Rattle.metric_lane.specs.LaneStands.{LaneHas, GetsFrame, GetsCalls, GetsReport}
 use Rattle.metric_meaning.specs.Histories.{Installation, moment_of}
-use Rattle.metric_meaning.specs.Scenes.{Scene}
 use Rattle.metric_meaning.specs.Reports.{metric_tree}
 use Rattle.metric_meaning.specs.Touched.{timed_predicate, is_touched}
 use Rattle.metric_meaning.specs.DurationSteps.{sum_way}
-use Rattle.metric_calls.specs.DurationCalls.{event_in, known_in, changes_from, delta_with, learning, duration_params, sum_asking}
+use Rattle.metric_calls.specs.DurationCalls.{event_in, delta_with, learning, duration_params, sum_asking}
 use Rattle.metric_calls.proofs.InnerToldLemmas.{crossed_tell}
 use Rattle.metric_calls.proofs.SumCallsLemmas.{sums_agree, sums_ask_well}
 use Rattle.client_engine.proofs.AlongLemmas.{along_begins, along_reports}
 use Rattle.client_engine.specs.DurationsShown.{durations_shown_by}
-use Rattle.client_engine.specs.Handed.{Handed, IsOfScene}
+use Rattle.client_engine.specs.Handed.{Handed}
 use Rattle.client_engine.specs.Touchers.{tells_one}
 use Rattle.client_engine.specs.NextSteps.{TakesFrame, TakesReport}
 use Rattle.client_engine.specs.SoundMetrics.{IsSoundIn}
 use Rattle.client_engine.specs.SumsAlong.{SumLane, SumsAlong}
 use Rattle.client_engine.specs.declared.request.ReportRequest.{ReportRequest}
-use Rattle.client_engine.proofs.InnerLemmas.{IsOther, timed_well, no_calls, inner_takes, others_pass, untouched_pass, atom_comes}
+use Rattle.client_engine.specs.declared.stays.Stays.{Stays}
+use Rattle.client_engine.proofs.InnerLemmas.{IsFoundAt, IsOther, timed_well, no_calls, inner_takes, others_pass, untouched_pass, atom_comes}
 
 -- a new lane has seen no step of what was installed at this clock, where the metric is sound
 pub sums_begin : (metric : LMetric) (spec : PredSpec) (installed : Installation) (base : ℕ) (lane : SumLane)
@@ -91,16 +90,13 @@ module _ (given : Handed) (metric : LMetric) (shown : LogFrame) (truths : List B
 
   -- an atom brings its event, and then what changed
   pub sums_turn : (at : ℕ) (atom : Atom) → shown ≡ AtomAt at atom → (middle new : SumLane) (event : Option InnerEvent)
-      (changes : List InnerChange)
+      (listed : ℕ) (stays : Stays) (changes : List InnerChange)
       → GetsCalls sum_law crossed middle (coming (log_time shown) event)
       → GetsCalls sum_law middle new (learning (log_time shown) (delta_with (is_some event) changes))
       → event ≡ event_in (slice_get given.known.predicates metric.what) truths atom
-      → ((params : DurationParams) (calls : List DurationCall) (scene : Scene)
-      → sum_law.stands middle.producer params calls
-      → IsOfScene given scene
-      → changes ≡ changes_from (last_known params.spec calls) (known_in scene metric) 0 (inner_keys params.spec calls))
+      → IsFoundAt sum_law metric given truths atom crossed.producer middle.producer listed stays changes
       → TakesFrame (SumsAlong metric) given shown truths old new
-  sums_turn at atom is middle new event changes acts learns event_there changes_there installed steps frame has may =
+  sums_turn at atom is middle new event listed stays changes acts learns event_there found installed steps frame has may =
       let way = sum_way installed metric has.spec in
       let well = sums_ask_well installed metric has.spec has.timed in
       let tell = crossed_tell installed metric has.spec in
@@ -111,7 +107,7 @@ module _ (given : Handed) (metric : LMetric) (shown : LogFrame) (truths : List B
         along = inner_takes sum_law metric has.spec installed way well refl tell has.timed shown frame truths given old
             crossed middle new event (delta_with (is_some event) changes) steps crosses acts learns
             (atom_comes sum_law metric has.spec installed way well refl tell has.timed steps shown frame truths given
-            middle.producer event changes at atom is event_there changes_there may) may has.along;
+            crossed.producer middle.producer event listed stays changes at atom is event_there found may) may has.along;
       }
 
 -- what a lane hands out is what a report shows of the metric

@@ -1,5 +1,6 @@
--- What a duration is told of an atom that neither touches it nor tells a state by which it is sliced: nothing.
-use Rattle.std.proofs.Common.{◌≡◌, ℕ, Bool, true, false, List, [], ◌∷◌, ◌++◌, Some, sym, ap, subst, ◌∙◌, append_assoc}
+-- What an atom leaves of the inner keys of a duration whose condition it doesn't touch; and where it doesn't touch the
+-- metric at all, nor tells a state by which it is sliced, nothing is told.
+use Rattle.std.proofs.Common.{◌≡◌, ℕ, Bool, true, false, ◌||◌, List, [], ◌∷◌, ◌++◌, length, Some, sym, ap, subst, ◌∙◌, append_assoc, arith}
 use Rattle.std.specs.Map.{keys_of}
 use Rattle.std.proofs.lemmas.Grind.{flat_map-append}
 use Rattle.atom_record.specs.declared.atom.Atom.{Atom}
@@ -9,6 +10,7 @@ use Rattle.atom_record.specs.declared.value.Slice.{Slice}
 use Rattle.bucket_meaning.specs.Guard.{is_among}
 use Rattle.config_types.specs.declared.parameters.PredSpec.{PredSpec}
 use Rattle.config_links.specs.declared.linked.LMetric.{LMetric}
+use Rattle.config_links.specs.declared.linked.LKind.TheVariants as kinds
 use Rattle.condition_links.specs.ThreeValues.{is_true}
 use Rattle.predicate_state.specs.declared.truth.Truth.{Truth}
 use Rattle.predicate_state.specs.PredicateStates.{PredicateState}
@@ -18,10 +20,11 @@ use Rattle.metric_meaning.specs.Histories.{Step, Installation, frames_at, logged
 use Rattle.metric_meaning.specs.ShownFrames.{shown_as}
 use Rattle.metric_meaning.specs.PredicateSteps.{tables_after}
 use Rattle.metric_meaning.specs.MetricConditions.{condition_truth}
+use Rattle.metric_meaning.specs.Readings.{LeafReading}
 use Rattle.metric_meaning.specs.StateSlices.{named_slices}
 use Rattle.metric_meaning.specs.DurationSteps.{inner_reading}
-use Rattle.metric_meaning.specs.Touched.{timed_predicate, is_touched}
-use Rattle.metric_meaning.proofs.TouchedLemmas.{condition_stays}
+use Rattle.metric_meaning.specs.Touched.{acts_below, names_atom_itself, timed_predicate, is_touched}
+use Rattle.metric_meaning.proofs.TouchedLemmas.{neither, condition_stays}
 use Rattle.metric_meaning.proofs.TouchedDurations.{untouched_inner}
 use Rattle.metric_calls.specs.DurationCalls.{told_as, listed_after, known_after, told_after, inner_changes}
 use Rattle.metric_calls.proofs.InnerChangesLemmas.{nothing_told}
@@ -29,6 +32,7 @@ use Rattle.metric_calls.proofs.InnerToldLemmas.{listed_told}
 use Rattle.client_engine.specs.NextSteps.{logged_step, with_logged}
 use Rattle.client_engine.specs.Touchers.{tells_one}
 use Rattle.client_engine.proofs.StatesStayLemmas.{slices_stay}
+use Rattle.client_engine.proofs.TouchersLemmas.{past_below}
 
 -- a frame that is shown as an atom is that atom
 pub shown_atom : (log : List LogFrame) (frame : LogFrame) (at : ℕ) (atom : Atom) → shown_as log frame ≡ AtomAt at atom
@@ -46,16 +50,35 @@ log_on installed steps frame truths =
     (flat_map-append (λ (s : Step). frames_at s.what) steps (step ∷ []))
     ∙ sym (append_assoc installed.opening (logged_frames steps) (frame ∷ []))
 
-module _ (installed : Installation) (metric : LMetric) (steps : List Step) (truths : List Bool) (at : ℕ) (atom : Atom)
-    (untouched : is_touched installed.linked.predicates metric truths ≡ false)
-    (untold : tells_one installed.linked.states atom.id metric.slices ≡ false) where
+module _ (installed : Installation) (metric : LMetric) (spec : PredSpec) (steps : List Step) (truths : List Bool)
+    (at : ℕ) (atom : Atom) where
   abbrev step : Step
   step = logged_step (AtomAt at atom) truths
 
-  -- what is so of an inner key stays
-  known_stays : (key : LeafKey)
+  -- an atom that doesn't act below the condition leaves its truth: it doesn't touch a metric that has this condition, and
+  -- times a predicate that isn't there
+  condition_left : acts_below installed.linked.predicates truths metric.condition ≡ false → (reading : LeafReading)
+      → condition_truth installed.linked.predicates (tables_after installed.linked.predicates (steps ++ step ∷ [])) metric
+      reading
+      ≡ condition_truth installed.linked.predicates (tables_after installed.linked.predicates steps) metric reading
+  condition_left off reading =
+      let predicates = installed.linked.predicates in
+      let alone : LMetric = record metric { kind = kinds.SumDuration spec; what = length predicates } in
+      condition_stays installed alone steps step
+      (ap (λ b. b || acts_below predicates truths (Some (length predicates))) off
+      ∙ past_below predicates truths (length predicates) (omega arith)) reading
+
+  -- so the truth that is told of an inner key stays
+  pub truth_left : acts_below installed.linked.predicates truths metric.condition ≡ false → (key : LeafKey)
+      → (known_after installed metric (steps ++ step ∷ []) key).truth ≡ (known_after installed metric steps key).truth
+  truth_left off key =
+      ap (λ truth. told_as (is_true truth)) (condition_left off (inner_reading installed metric key))
+
+  -- and all that is so of it, where the atom tells no state either by which the metric is sliced
+  pub known_stays : acts_below installed.linked.predicates truths metric.condition ≡ false
+      → tells_one installed.linked.states atom.id metric.slices ≡ false → (key : LeafKey)
       → known_after installed metric (steps ++ step ∷ []) key ≡ known_after installed metric steps key
-  known_stays key =
+  known_stays off untold key =
       let reading = inner_reading installed metric key in
       let predicates = installed.linked.predicates in
       let states = installed.linked.states in
@@ -64,18 +87,23 @@ module _ (installed : Installation) (metric : LMetric) (steps : List Step) (trut
         out = record { dims = reading metric.dims; slices = slices };
       } in
       ap (λ truth. now truth (named_slices states (log_after installed (steps ++ step ∷ [])) reading metric.slices))
-      (condition_stays installed metric steps step untouched reading)
+      (condition_left off reading)
       ∙ ap (now (condition_truth predicates (tables_after predicates steps) metric reading))
       (ap (λ log. named_slices states log reading metric.slices) (log_on installed steps (AtomAt at atom) truths)
       ∙ slices_stay states (log_after installed steps) at atom reading metric.slices untold)
 
-  -- so nothing changes of any
-  pub nothing_changes : (spec : PredSpec) → timed_predicate metric ≡ Some metric.what
+  -- where the atom doesn't touch the metric at all, nothing changes of any
+  pub nothing_changes : is_touched installed.linked.predicates metric truths ≡ false
+      → tells_one installed.linked.states atom.id metric.slices ≡ false → timed_predicate metric ≡ Some metric.what
       → inner_changes installed metric spec steps step ≡ []
-  nothing_changes spec times =
+  nothing_changes untouched untold times =
+      let predicates = installed.linked.predicates in
       let same = untouched_inner installed metric spec steps step times untouched in
+      let off = (neither (acts_below predicates truths metric.condition)
+      (acts_below predicates truths (timed_predicate metric))
+      (neither (names_atom_itself metric truths) _ untouched).1).0 in
       nothing_told spec (told_after installed metric spec steps) (known_after installed metric (steps ++ step ∷ [])) 0
       (listed_after installed metric spec (steps ++ step ∷ []))
       (λ key among. listed_told installed metric spec steps key
       (subst (λ (s : PredicateState LeafKey). is_among same_leaves key (keys_of s.counts) ≡ true) same among)
-      ∙ ap (λ (known : Known). Some known) (sym (known_stays key)))
+      ∙ ap (λ (known : Known). Some known) (sym (known_stays off untold key)))

@@ -16,6 +16,7 @@ pub mod Messages
 pub mod GaugesAlong
 pub mod PulledGaugesAlong
 pub mod EventsAlong
+pub mod Staying
 pub mod InnerTold
 pub mod DurationsShown
 pub mod SumsAlong

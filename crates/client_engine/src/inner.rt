@@ -3,7 +3,7 @@
 ghost use Rattle.std.specs.Prelude.{◌≡◌, ◌||◌, [], List, length, slice_get, OnOk, IfOk};
 ghost use Rattle.std.specs.Option.{option_copied};
 ghost use Rattle.config_links.specs.SoundConfig.{MayBeWithin};
-ghost use Rattle.duration_metric.specs.InnerKeys.{DurationParams, DurationCall, inner_keys, last_known, was_told};
+ghost use Rattle.duration_metric.specs.InnerKeys.{DurationParams, DurationCall, inner_keys, last_known, told_truth, was_told};
 ghost use Rattle.duration_metric.specs.SumStands.{SumStandsFor};
 ghost use Rattle.duration_metric.specs.SparseStands.{SparseStandsFor};
 ghost use Rattle.metric_meaning.specs.PredicateSteps.{atom_events};
@@ -12,7 +12,8 @@ ghost use Rattle.metric_meaning.specs.Touched.{is_touched};
 ghost use Rattle.metric_calls.specs.DurationCalls.{first_event_of, delta_with, told_as, known_in, changes_from};
 ghost use Rattle.client_engine.specs.Bringing.{handed_with};
 ghost use Rattle.client_engine.specs.Handed.{IsOfScene};
-ghost use Rattle.client_engine.specs.InnerTold.{HasShared, IsStanding, AddsChange};
+ghost use Rattle.client_engine.specs.InnerTold.{HasShared, IsStanding, StaysInScene, HasTruth, AddsChange};
+ghost use Rattle.client_engine.specs.Staying.{truth_kept};
 ghost use Rattle.client_engine.specs.Touchers.{tells_one};
 
 use crate::arriving::key_in;
@@ -20,6 +21,7 @@ use crate::asked::{InnerKey, Nothing};
 use crate::brought::Brought;
 use crate::conditions::Conditions;
 use crate::slices::tells_one;
+use crate::stays::Stays;
 use crate::tables::event_by;
 use atom_record::{Atom, DimKey, MetricKey};
 use config_links::{LMetric, LPredBody};
@@ -44,6 +46,11 @@ pub trait Inners {
         ensures { (params : DurationParams) (calls : List DurationCall) → stands self.now params calls
             → option_copied result ≡ slice_get (inner_keys params.spec calls) place };
 
+    /// The truth that was told last of the inner key at a place, if something was told of it.
+    fn truth(&self, place: usize) -> Option<Truth>
+        ensures { (params : DurationParams) (calls : List DurationCall) → stands self.now params calls
+            → result ≡ told_truth params.spec calls place };
+
     /// Whether this was told last of the inner key at a place.
     fn was_told(&self, place: usize, truth: Truth, out: &MetricKey) -> bool
         ensures { (params : DurationParams) (calls : List DurationCall) → stands self.now params calls
@@ -61,6 +68,10 @@ impl Inners for SumProducer {
         self.inner_key(place)
     }
 
+    fn truth(&self, place: usize) -> Option<Truth> {
+        self.inner_truth(place)
+    }
+
     fn was_told(&self, place: usize, truth: Truth, out: &MetricKey) -> bool {
         SumProducer::was_told(self, place, truth, out)
     }
@@ -75,6 +86,10 @@ impl Inners for MaxProducer {
 
     fn key(&self, place: usize) -> Option<&DimKey> {
         self.inner_key(place)
+    }
+
+    fn truth(&self, place: usize) -> Option<Truth> {
+        self.inner_truth(place)
     }
 
     fn was_told(&self, place: usize, truth: Truth, out: &MetricKey) -> bool {
@@ -125,58 +140,66 @@ pub fn changes_with(
         || tells_one(brought.states, atom.id, metric.slices.as_slice())
 }
 
-/// What inner keys are asked by: the metric, what the frame brings, and the truth of their condition where it is the same
-/// for all.
+/// What inner keys are asked by: the metric, what the frame brings, what stays of the keys that were there before it, and
+/// the truth of their condition where it is the same for all.
 #[derive(Clone, Copy)]
 struct Asker<'a> {
     metric: &'a LMetric,
     brought: &'a Brought<'a>,
+    stays: Stays,
     shared: Option<bool>,
 }
 
 /// What is told of inner keys once a frame has come: of each whose truth or output key isn't what was told of it last.
+/// What stays isn't asked.
 pub fn changes_of<K: Inners>(
     alloc: Global,
     keys: &K,
     metric: &LMetric,
     brought: &Brought<'_>,
+    stays: Stays,
     conditions: &mut Conditions,
 ) -> Result<Seq<InnerChange>, AllocError>
     requires within { MayBeWithin (length conditions.old.predicates) metric.now.condition }
     ensures changes { (params : DurationParams) (calls : List DurationCall) (scene : Scene)
         → K.stands keys.now params calls → IsOfScene (handed_with conditions.old brought.now) scene
+        → StaysInScene stays params calls scene metric.now
         → IfOk result (λ changes. changes ≡ changes_from (last_known params.spec calls)
         (known_in scene metric.now) 0 (inner_keys params.spec calls)) }
     ensures known { conditions.new ≡ conditions.old }
 {
     let mut changes = Seq::new(alloc);
+    let first = stays.first_asked();
     let count = keys.len();
-    if count == 0 {
+    if count <= first {
         return Ok(changes);
     }
-    let shared = shared_truth(alloc, metric, conditions)?;
+    let shared = shared_truth(alloc, metric, stays, conditions)?;
     let asker = Asker {
         metric,
         brought,
+        stays,
         shared,
     };
-    for place in 0..count {
+    for place in first..count {
         add_change(alloc, &mut changes, keys, place, &asker, conditions)?;
     }
     Ok(changes)
 }
 
-// Whether the condition is true of all inner keys alike. Where links ask by their values, there is no such truth.
+// Whether the condition is true of all inner keys alike. Where links ask by their values, there is no such truth; where
+// one key is asked at most, it isn't looked for.
 fn shared_truth(
     alloc: Global,
     metric: &LMetric,
+    stays: Stays,
     conditions: &mut Conditions,
 ) -> Result<Option<bool>, AllocError>
     requires within { MayBeWithin (length conditions.old.predicates) metric.now.condition }
     ensures shared { IfOk result (HasShared conditions.old metric.now) }
     ensures known { conditions.new ≡ conditions.old }
 {
-    if !metric.links.is_empty() {
+    if !stays.is_nothing() || !metric.links.is_empty() {
         return Ok(None);
     }
     Ok(Some(conditions.holds(alloc, metric, &Nothing)?))
@@ -199,7 +222,7 @@ fn add_change<K: Inners>(
     let Some(key) = keys.key(place) else {
         return Ok(());
     };
-    let truth = truth_of(alloc, asker, key, conditions)?;
+    let truth = truth_at(alloc, keys, place, key, asker, conditions)?;
     let inner = InnerKey {
         fields: conditions.fields_of(asker.metric.what),
         key,
@@ -215,7 +238,38 @@ fn add_change<K: Inners>(
     changes.push(InnerChange { place, truth, out })
 }
 
-// The truth that is told of an inner key's condition.
+// The truth that is told of the inner key at a place: the one that was told last where that stays, or else the one that
+// its condition has.
+fn truth_at<K: Inners>(
+    alloc: Global,
+    keys: &K,
+    place: usize,
+    key: &DimKey,
+    asker: &Asker<'_>,
+    conditions: &mut Conditions,
+) -> Result<Truth, AllocError>
+    requires within { MayBeWithin (length conditions.old.predicates) asker.now.metric.now.condition }
+    ensures truth { IfOk result (HasTruth K.stands keys.now place key.now asker.now conditions.old) }
+    ensures known { conditions.new ≡ conditions.old }
+{
+    match kept_truth(keys, place, asker.stays) {
+        Some(truth) => Ok(truth),
+        None => truth_of(alloc, asker, key, conditions),
+    }
+}
+
+// The truth that was told last of the inner key at a place, where truths stay.
+fn kept_truth<K: Inners>(keys: &K, place: usize, stays: Stays) -> Option<Truth>
+    ensures { (params : DurationParams) (calls : List DurationCall) → K.stands keys.now params calls
+        → result ≡ truth_kept stays (told_truth params.spec calls place) }
+{
+    match stays {
+        Stays::Truths => keys.truth(place),
+        Stays::Keys(_) | Stays::Nothing => None,
+    }
+}
+
+// The truth of an inner key's condition.
 fn truth_of(
     alloc: Global,
     asker: &Asker<'_>,

@@ -22,6 +22,7 @@ mod samples;
 mod slices;
 mod snapshots;
 mod state_drops;
+mod stays;
 mod tables;
 mod touchers;
 mod track;

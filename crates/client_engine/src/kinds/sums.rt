@@ -17,6 +17,7 @@ use crate::inner::{changes_of, changes_with, delta_of};
 use crate::kinds::durations::durations_tree;
 use crate::moments::comes_by_pull;
 use crate::request::ReportRequest;
+use crate::stays::stays_with;
 use crate::turns::{act, learn};
 use atom_record::LogFrame;
 use config_links::LMetric;
@@ -40,7 +41,7 @@ pub fn begin(alloc: Global, base: u64, metric: &LMetric, spec: PredSpec) -> Lane
 }
 
 /// A frame of the log comes. An atom acts on the inner keys, and what changed of them is told after it. One that neither
-/// touches the metric nor tells a state by which it is sliced does nothing.
+/// touches the metric nor tells a state by which it is sliced does nothing. What stays is looked for before it acts.
 pub fn log(
     lane: &mut Lane<SumProducer>,
     alloc: Global,
@@ -61,10 +62,12 @@ pub fn log(
     if !changes_with(metric, brought, atom, conditions) {
         return Ok(());
     }
+    let listed = lane.producer().inner_len();
+    let stays = stays_with(metric, brought, atom, conditions, listed);
     let event = conditions.inner_event(alloc, metric.what, atom, brought.matched)?;
     let acts = event.is_some();
     act(lane, at, event)?;
-    let changes = changes_of(alloc, lane.producer(), metric, brought, conditions)?;
+    let changes = changes_of(alloc, lane.producer(), metric, brought, stays, conditions)?;
     learn(lane, at, delta_of(acts, changes))
 }
 

@@ -13,21 +13,21 @@ use Rattle.client_engine.proofs.inner.add_change.Goals as goal
 
 -- no key is there
 pub returns-in_default-clause-adds : goal.returns-in_default-clause-adds
-returns-in_default-clause-adds g c = λ params calls scene stands found shared.
+returns-in_default-clause-adds g c = λ params calls scene stands found shared keeps.
     none_there (last_known params.spec calls) (known_in scene c.args.asker.now.metric.now) c.args.changes.now
     c.args.place (slice_get (inner_keys params.spec calls) c.args.place)
     (rw (c.in_default.is) at (c.key.ensures params calls stands))
 
 -- this was told
 pub returns-then-was_told-clause-adds : goal.returns-then-was_told-clause-adds
-returns-then-was_told-clause-adds g c = λ params calls scene stands found shared.
+returns-then-was_told-clause-adds g c = λ params calls scene stands found shared keeps.
     let asker = c.args.asker.now in
     let given = handed_with c.args.conditions.now asker.brought.now in
     let there = rw (c.in-Some.is) at (c.key.ensures params calls stands) in
     let fields_are = c.fields_of.ensures
     ∙ ap (λ (k : Known). inner_fields (slice_get k.predicates asker.metric.now.what)) c.in_ok-truth.ensures.known in
     let is = known_there given scene asker.metric.now c.fields_of.result.now c.in-Some.key.now c.in_ok-truth.truth
-    c.in_ok-out.out found fields_are (c.in_ok-truth.ensures.truth shared)
+    c.in_ok-out.out found fields_are (c.in_ok-truth.ensures.truth params calls scene stands found shared keeps there)
     (c.in_ok-out.ensures c.args.conditions.now scene found) in
     told_there (last_known params.spec calls) (known_in scene asker.metric.now) c.args.changes.now c.args.place
     (slice_get (inner_keys params.spec calls) c.args.place) c.in-Some.key.now
@@ -38,14 +38,14 @@ returns-then-was_told-clause-adds g c = λ params calls scene stands found share
 pub returns-clause-adds : goal.returns-clause-adds
 returns-clause-adds g c =
     on_ok_weaker c.push.result
-    (λ added params calls scene stands found shared.
+    (λ added params calls scene stands found shared keeps.
     let asker = c.args.asker.now in
     let given = handed_with c.args.conditions.now asker.brought.now in
     let there = rw (c.in-Some.is) at (c.key.ensures params calls stands) in
     let fields_are = c.fields_of.ensures
     ∙ ap (λ (k : Known). inner_fields (slice_get k.predicates asker.metric.now.what)) c.in_ok-truth.ensures.known in
     let is = known_there given scene asker.metric.now c.fields_of.result.now c.in-Some.key.now c.in_ok-truth.truth
-    c.in_ok-out.out found fields_are (c.in_ok-truth.ensures.truth shared)
+    c.in_ok-out.out found fields_are (c.in_ok-truth.ensures.truth params calls scene stands found shared keeps there)
     (c.in_ok-out.ensures c.args.conditions.now scene found) in
     new_there (last_known params.spec calls) (known_in scene asker.metric.now) c.args.changes.now c.push.new.self
     c.args.place (slice_get (inner_keys params.spec calls) c.args.place) c.in-Some.key.now

@@ -1,5 +1,5 @@
 -- One place after the other.
-use Rattle.std.proofs.Common.{◌++◌, length, sym, ap, subst, ◌∙◌, arith}
+use Rattle.std.proofs.Common.{◌++◌, drop, length, sym, ap, subst, ◌∙◌, arith}
 use Rattle.config_links.specs.SoundConfig.{MayBeWithin}
 use Rattle.duration_metric.specs.InnerKeys.{inner_keys, last_known}
 use Rattle.metric_calls.specs.DurationCalls.{known_in, changes_from}
@@ -7,7 +7,7 @@ use Rattle.client_engine.specs.Bringing.{handed_with}
 use Rattle.client_engine.specs.Handed.{IsOfScene}
 use Rattle.client_engine.specs.Known.{Known}
 use Rattle.client_engine.specs.InnerTold.{HasShared}
-use Rattle.client_engine.proofs.ChangesLemmas.{places_on, places_all}
+use Rattle.client_engine.proofs.ChangesLemmas.{first_skipped, all_skipped, places_on, places_all}
 use Rattle.client_engine.proofs.inner.changes_of.Goals as goal
 
 -- the condition is asked of the same predicates
@@ -17,12 +17,27 @@ add_change-requires g c = record {
       (sym c.loop-place.invariant.1) c.requires.within;
 }
 
+-- where no key is asked, nothing is told
+pub returns-then-count-first-clause-changes : goal.returns-then-count-first-clause-changes
+returns-then-count-first-clause-changes g c = λ params calls scene stands found keeps.
+    let few = c.if-count-first.true in
+    let len = c.len-count.ensures params calls stands in
+    let first = c.first_asked-first.ensures in
+    c.new-changes.ensures
+    ∙ all_skipped (last_known params.spec calls) (known_in scene c.args.metric.now) c.args.stays
+    (inner_keys params.spec calls) (omega (arith, few, len, first)) keeps
+
 -- nothing is told yet
 pub loop-place-init : goal.loop-place-init
 loop-place-init g c = (
-  λ params calls scene stands found.
-      ap (λ l. l ++ changes_from (last_known params.spec calls) (known_in scene c.args.metric.now) 0
-      (inner_keys params.spec calls)) c.new-changes.ensures,
+  λ params calls scene stands found keeps.
+      let was = last_known params.spec calls in
+      let now = known_in scene c.args.metric.now in
+      let keys = inner_keys params.spec calls in
+      ap (λ l. l ++ changes_from was now c.first_asked-first.result (drop c.first_asked-first.result keys))
+      c.new-changes.ensures
+      ∙ ap (λ n. changes_from was now n (drop n keys)) c.first_asked-first.ensures
+      ∙ sym (first_skipped was now c.args.stays keys keeps),
   c.in_ok-shared.ensures.known,
 )
 
@@ -30,16 +45,16 @@ loop-place-init g c = (
 pub loop-place-preserved : goal.loop-place-preserved
 loop-place-preserved g c =
     let same = c.loop-place.invariant.1 in (
-      λ params calls scene stands found.
+      λ params calls scene stands found keeps.
           let was = last_known params.spec calls in
           let now = known_in scene c.args.metric.now in
           let keys = inner_keys params.spec calls in
           places_on was now keys c.loop-place.place c.loop-place.changes c.add_change.new.changes
-          (changes_from was now 0 keys) (c.loop-place.invariant.0 params calls scene stands found)
+          (changes_from was now 0 keys) (c.loop-place.invariant.0 params calls scene stands found keeps)
           (c.in_ok-add_change.ensures.adds params calls scene stands
           (subst (λ (k : Known). IsOfScene (handed_with k c.args.brought.now) scene) (sym same) found)
           (subst (λ (k : Known). HasShared k c.args.metric.now c.in_ok-shared.shared) (sym same)
-          c.in_ok-shared.ensures.shared)),
+          c.in_ok-shared.ensures.shared) keeps),
       c.in_ok-add_change.ensures.known ∙ same,
     )
 
@@ -49,13 +64,13 @@ returns-in_err-add_change-clause-known g c = c.in_err-add_change.ensures.known �
 
 -- all places
 pub returns-clause-changes : goal.returns-clause-changes
-returns-clause-changes g c = λ params calls scene stands found.
+returns-clause-changes g c = λ params calls scene stands found keeps.
     let ends = c.loop-place-test.false in
     let len = c.len-count.ensures params calls stands in
     places_all (last_known params.spec calls) (known_in scene c.args.metric.now) (inner_keys params.spec calls)
     c.loop-place.place c.loop-place.changes
     (changes_from (last_known params.spec calls) (known_in scene c.args.metric.now) 0 (inner_keys params.spec calls))
-    (omega (arith, ends, len)) (c.loop-place.invariant.0 params calls scene stands found)
+    (omega (arith, ends, len)) (c.loop-place.invariant.0 params calls scene stands found keeps)
 
 pub returns-clause-known : goal.returns-clause-known
 returns-clause-known g c = c.loop-place.invariant.1

@@ -5,5 +5,5 @@ use Rattle.client_engine.proofs.inner.changes_of.Given as goal
 
 abbrev pub invariant-loop-place : goal.invariant-loop-place
 invariant-loop-place g l =
-    HasChanges g.K.Inners.stands l.keys l.metric l.fn.brought l.fn.conditions l.place l.changes
+    HasChanges g.K.Inners.stands l.keys l.metric l.fn.brought l.fn.stays l.fn.conditions l.place l.changes
     × (l.conditions ≡ l.fn.conditions)

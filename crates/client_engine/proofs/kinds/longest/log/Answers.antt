@@ -42,8 +42,13 @@ returns-clause-logs c =
     on_ok_weaker c.learn.result
     (λ learns. longest_turn (handed_with c.args.conditions.now brought) c.args.metric.now brought.frame.now
     brought.matched.now c.args.lane.now c.cross.new.self crosses c.in-AtomAt.at c.in-AtomAt.atom c.in-AtomAt.is
-    c.act.new.lane c.learn.new.lane c.in_ok-event.event c.in_ok-changes.changes acts
+    c.act.new.lane c.learn.new.lane c.in_ok-event.event c.inner_len-listed.result c.stays_with-stays.result
+    c.in_ok-changes.changes acts
     (rw (c.time_of-at.ensures, c.delta_of.ensures, c.is_some-acts.ensures) at learns) c.in_ok-event.ensures
-    (λ params calls scene stands found.
-    c.in_ok-changes.ensures.changes params calls scene (rw (c.producer.ensures) stands) found))
+    (record {
+      listed_there = λ params calls stands. c.inner_len-listed.ensures params calls (rw (c.producer.ensures) stands);
+      stays_there = c.stays_with-stays.ensures;
+      changes_there = λ params calls scene stands found keeps.
+          c.in_ok-changes.ensures.changes params calls scene (rw (c.producer-2.ensures) stands) found keeps;
+    }))
     c.learn.ensures

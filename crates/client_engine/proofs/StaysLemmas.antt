@@ -1,0 +1,81 @@
+-- What stays of inner keys after an atom: what `specs/Staying.antt` says stays, does.
+use Rattle.std.proofs.Common.{◌≡◌, ◌⊎◌, inl, inr, ℕ, ◌<◌, Bool, true, false, List, [], ◌∷◌, ◌++◌, length, slice_get, Option, Some, None, sym, ap, subst, ◌∙◌, ⊎_elim, arith}
+use Rattle.std.specs.Map.{keys_of}
+use Rattle.std.proofs.lemmas.Bool.{cases_Bool}
+use Rattle.std.proofs.lemmas.Option.{none-some, same_Some}
+use Rattle.atom_record.specs.declared.atom.Atom.{Atom}
+use Rattle.atom_record.specs.declared.log.LogFrame.TheVariants.{AtomAt}
+use Rattle.bucket_meaning.specs.Guard.{is_among}
+use Rattle.config_types.specs.declared.parameters.PredSpec.{PredSpec}
+use Rattle.config_links.specs.declared.linked.LMetric.{LMetric}
+use Rattle.predicate_state.specs.PredicateStates.{PredicateState}
+use Rattle.predicate_state.specs.PredicateTable.{LeafKey, same_leaves}
+use Rattle.metric_producer.specs.LaneCalls.{coming}
+use Rattle.duration_metric.specs.declared.change.InnerEvent.{InnerEvent}
+use Rattle.duration_metric.specs.declared.inner.Known.{Known}
+use Rattle.duration_metric.specs.InnerKeys.{DurationCall, inner_keys, last_known}
+use Rattle.metric_meaning.specs.Histories.{Step, Installation}
+use Rattle.metric_meaning.specs.Touched.{acts_below}
+use Rattle.metric_calls.specs.DurationCalls.{listed_after, known_after, told_after}
+use Rattle.metric_calls.proofs.InnerToldLemmas.{TellsInner, KnowsActed, listed_told, unlisted_told}
+use Rattle.client_engine.specs.NextSteps.{logged_step}
+use Rattle.client_engine.specs.Staying.{stays_by, KeepsWhatStays}
+use Rattle.client_engine.specs.Touchers.{tells_one}
+use Rattle.client_engine.proofs.OldKeysLemmas.{among_there, are_old}
+use Rattle.client_engine.proofs.UntouchedLemmas.{truth_left, known_stays}
+
+module _ (installed : Installation) (metric : LMetric) (spec : PredSpec) (steps : List Step) (truths : List Bool)
+    (at : ℕ) (atom : Atom) (calls : List DurationCall) (time : ℕ) (event : Option InnerEvent)
+    (tells : TellsInner installed metric spec calls steps)
+    (knows : KnowsActed installed metric spec (calls ++ coming time event) steps
+    (logged_step (AtomAt at atom) truths)) where
+  abbrev acted : List DurationCall
+  acted = calls ++ coming time event
+
+  abbrev now : LeafKey → Known
+  now = known_after installed metric (steps ++ logged_step (AtomAt at atom) truths ∷ [])
+
+  -- of a key that is listed now, what was told is what was told before the atom
+  told_before : (place : ℕ) (key : LeafKey) → slice_get (inner_keys spec acted) place ≡ Some key
+      → last_known spec acted key ≡ told_after installed metric spec steps key
+  told_before place key is =
+      knows.told key
+      (subst (λ (s : PredicateState LeafKey). is_among same_leaves key (keys_of s.counts) ≡ true) knows.state
+      (among_there (inner_keys spec acted) place key is))
+
+  -- of one that was listed before the atom, that is what was so of it
+  told_old : (place : ℕ) (key : LeafKey) → place < length (inner_keys spec calls)
+      → slice_get (inner_keys spec acted) place ≡ Some key
+      → last_known spec acted key ≡ Some (known_after installed metric steps key)
+  told_old place key within is =
+      told_before place key is
+      ∙ listed_told installed metric spec steps key
+      (subst (λ (s : PredicateState LeafKey). is_among same_leaves key (keys_of s.counts) ≡ true) tells.knows.state
+      (are_old spec calls time event place key within is))
+
+  -- something was told only of what was listed
+  told_is : (key : LeafKey) (known : Known) → told_after installed metric spec steps key ≡ Some known
+      → known ≡ known_after installed metric steps key
+  told_is key known is = ⊎_elim
+      (λ (on : is_among same_leaves key (listed_after installed metric spec steps) ≡ true).
+      same_Some known (known_after installed metric steps key)
+      (sym is ∙ listed_told installed metric spec steps key on))
+      (λ (off : is_among same_leaves key (listed_after installed metric spec steps) ≡ false).
+      absurd (none-some known (sym (unlisted_told installed metric spec steps key off) ∙ is)))
+      (cases_Bool (is_among same_leaves key (listed_after installed metric spec steps)))
+
+  -- what stays by the two tests is so of inner keys after the atom
+  pub stays_so : (touched is_told : Bool) (listed : ℕ)
+      → acts_below installed.linked.predicates truths metric.condition ≡ touched
+      → tells_one installed.linked.states atom.id metric.slices ≡ is_told
+      → listed ≡ length (inner_keys spec calls)
+      → KeepsWhatStays (stays_by touched is_told listed) (last_known spec acted) now (inner_keys spec acted)
+  stays_so true is_told listed touches tells_state many = tt
+  stays_so false true listed off tells_state many =
+      λ place key known there was.
+      ap (λ (k : Known). k.truth) (told_is key known (sym (told_before place key there) ∙ was))
+      ∙ sym (truth_left installed metric spec steps truths at atom off key)
+  stays_so false false listed off untold many =
+      λ place key within there.
+      told_old place key (omega (arith, within, many)) there
+      ∙ ap (λ (k : Known). Some k) (sym (known_stays installed metric spec steps truths at atom off untold key))
