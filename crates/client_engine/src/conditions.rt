@@ -110,8 +110,8 @@ impl Conditions {
             || self.acts_below(timed_predicate(metric), matched)
     }
 
-    /// Whether an atom with these truths of matchers acts on a predicate, if one is named, or on one that is reached from
-    /// it. One that doesn't act below a metric's condition leaves its truth.
+    /// Whether an atom with these truths of matchers acts on a predicate, if one is named, or on one that is reached
+    /// from it. One that doesn't act below a metric's condition leaves its truth.
     pub fn acts_below(&self, root: Option<u32>, matched: &[bool]) -> bool
         ensures { result ≡ acts_below self.now.predicates matched.now root }
     {

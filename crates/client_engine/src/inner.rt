@@ -140,8 +140,8 @@ pub fn changes_with(
         || tells_one(brought.states, atom.id, metric.slices.as_slice())
 }
 
-/// What inner keys are asked by: the metric, what the frame brings, what stays of the keys that were there before it, and
-/// the truth of their condition where it is the same for all.
+/// What inner keys are asked by: the metric, what the frame brings, what stays of the keys that were there before it,
+/// and the truth of their condition where it is the same for all.
 #[derive(Clone, Copy)]
 struct Asker<'a> {
     metric: &'a LMetric,

@@ -43,8 +43,8 @@ impl Stays {
     }
 }
 
-/// What stays of a metric's inner keys, of which so many were listed before an atom: their truths where it doesn't touch
-/// the condition, and all where it doesn't tell a state either by which the metric is sliced.
+/// What stays of a metric's inner keys, of which so many were listed before an atom: their truths where it doesn't
+/// touch the condition, and all where it doesn't tell a state either by which the metric is sliced.
 pub fn stays_with(
     metric: &LMetric,
     brought: &Brought<'_>,
