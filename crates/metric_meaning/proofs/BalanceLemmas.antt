@@ -1,5 +1,5 @@
 -- The books of metrics that count, of events and of sums of durations balance.
-use Rattle.std.proofs.Common.{◌≡◌, ℕ, ◌-◌, ◌^◌, ◌==◌, ◌<◌, ◌≤◌, min, Bool, true, false, List, [], ◌∷◌, ◌++◌, map, length, Option, Some, None, refl, sym, ap, ◌∙◌, arith, option_to_list, if◌then◌else◌, nat_lt, suc, replicate}
+use Rattle.std.proofs.Common.{◌≡◌, ℕ, ◌-◌, ◌^◌, ◌==◌, ◌<◌, ◌≤◌, min, Bool, true, false, List, [], ◌∷◌, ◌++◌, map, length, Option, Some, None, refl, sym, ap, ◌∙◌, arith, option_to_list, if◌then◌else◌, nat_lt, zero, suc, replicate}
 use Rattle.std.specs.Cmp.Lexicographic.{pointwise}
 use Rattle.std.specs.List.{sum_by, sum}
 use Rattle.std.proofs.lemmas.Bool.Decides.{nat_tests}
@@ -197,12 +197,13 @@ module _ (installed : Installation) (metric : LMetric) where
         (pointwise is_same_key (active_keys installed metric spec before)
         (active_keys installed metric spec (before ++ step ∷ []))));
   } where
-    lost_quiet : (n : ℕ) → HasNoReport {Active MetricKey} (replicate n Lost)
-    lost_quiet 0 = refl
-    lost_quiet (suc n) = sum_by-cons asks Lost (replicate n Lost) ∙ lost_quiet n
+    lost_quiet : (n : ℕ) → HasNoReport {X = Active MetricKey} (replicate n Lost)
+    lost_quiet zero = refl
+    lost_quiet (suc n) =
+        omega (arith, sum_by-cons (asks {X = Active MetricKey}) Lost (replicate n Lost), lost_quiet n)
 
     turn_quiet : (at : ℕ) (keys : List MetricKey) (same : Bool)
-        → HasNoReport (if same then [] else Came (record { at = at; keys = keys }) ∷ [])
+        → HasNoReport {X = Active MetricKey} (if same then [] else Came (record { at = at; keys = keys }) ∷ [])
     turn_quiet at keys true = refl
     turn_quiet at keys false = refl
 
@@ -213,10 +214,10 @@ module _ (installed : Installation) (metric : LMetric) where
     times = amounts_balance (sum_way installed metric spec) metric_key_exact (λ start end others. refl) (λ time. time)
         row_value (λ n. n ≡ n) (λ m n le fits. refl) time_row steps now refl;
   } where
-        time_row : (start end : ℕ) (key : MetricKey) (times : List ℕ) → sum_by (λ time. time) times ≡ sum_by (λ time. time) times
-            → sum_by row_value ((sum_way installed metric spec).kind.row start end key times) ≡ sum_by (λ time. time) times
-        time_row start end key times fits = by_case (sum times) (sum times == 0) refl where
-          by_case : (time : ℕ) (b : Bool) → (time == 0) ≡ b
-              → sum_by row_value (if b then [] else record { key = key; start = start; end = end; value = time } ∷ []) ≡ time
-          by_case time true is = grind (arith, nat_tests, is)
-          by_case time false is = sum_by-cons row_value (record { key = key; start = start; end = end; value = time }) [] ∙ omega arith
+    time_row : (start end : ℕ) (key : MetricKey) (times : List ℕ) → sum_by (λ time. time) times ≡ sum_by (λ time. time) times
+        → sum_by row_value ((sum_way installed metric spec).kind.row start end key times) ≡ sum_by (λ time. time) times
+    time_row start end key times fits = by_case (sum times) (sum times == 0) refl where
+      by_case : (time : ℕ) (b : Bool) → (time == 0) ≡ b
+          → sum_by row_value (if b then [] else record { key = key; start = start; end = end; value = time } ∷ []) ≡ time
+      by_case time true is = grind (arith, nat_tests, is)
+      by_case time false is = sum_by-cons row_value (record { key = key; start = start; end = end; value = time }) [] ∙ omega arith

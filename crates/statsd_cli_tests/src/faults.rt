@@ -6,6 +6,7 @@ use std::alloc::{AllocError, Global};
 use test_tools::{Row, Tester};
 
 const READ_FAULT: u64 = 4;
+
 const WRITE_FAULT: u64 = 5;
 
 /// Runs a session once with each read that fails, and once with each put that does, as many as the row says. Such a run

@@ -33,7 +33,11 @@ pub fn outcome_of(
 ) -> Result<Outcome, AllocError> {
     let mut source = source_of(alloc, input, streams)?;
     let mut out = MemSink::new(alloc, streams.room, listed(alloc, streams.failed_put)?)?;
-    let mut notes = MemSink::new(alloc, streams.note_room, listed(alloc, streams.failed_note)?)?;
+    let mut notes = MemSink::new(
+        alloc,
+        streams.note_room,
+        listed(alloc, streams.failed_note)?,
+    )?;
     let status = statsd_top(alloc, words, &mut source, &mut out, &mut notes);
     left(alloc, status, out.bytes(), notes.bytes())
 }
