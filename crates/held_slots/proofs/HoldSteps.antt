@@ -165,7 +165,8 @@ module _ (matchers : List LMatcher) (order : List ℕ) (plan : IsPlan matchers o
 
     pub others_more : KeepsLive first old → KeepsLive first new
     others_more keeps s live =
-        intern_keeps_live old new (in_slots slots m₀) x interns s (λ gone. live (sym (keeps s live) ∙ gone)) ∙ keeps s live
+        intern_keeps_live old new (in_slots slots m₀) x interns s (λ gone. live (sym (keeps s live) ∙ gone))
+        ∙ keeps s live
 
 -- what holds of all that is counted holds at all places
 pub all_counted : (P : ℕ → Type 0) (xs : List ℕ) → ((x : ℕ) → 0 < times_among x xs → P x) → All P xs
@@ -182,7 +183,8 @@ slots_live table slots children all k d h =
     (all k 0 within).1
 
 pub numbers_held : (slots children : List ℕ)
-    → map (λ (slot : Slot). slot.number) (map (λ (c : ℕ). let one : Slot = record { number = get_or slots c 0 } in one) children)
+    → map (λ (slot : Slot). slot.number)
+    (map (λ (c : ℕ). let one : Slot = record { number = get_or slots c 0 } in one) children)
     ≡ map (λ c. get_or slots c 0) children
 numbers_held slots [] = refl
 numbers_held slots (c ∷ children) = ap (λ (ns : List ℕ). get_or slots c 0 ∷ ns) (numbers_held slots children)

@@ -26,7 +26,8 @@ module _ (slots : List ℕ) (i : ℕ) (h : i < length slots) (first old : SlotTa
       )
 
   -- it is released too
-  pub releases_more : (new : SlotTable) → Releases old (get_or slots i 0) new → ReleasesAll first (take (i + 1) slots) new
+  pub releases_more : (new : SlotTable) → Releases old (get_or slots i 0) new
+      → ReleasesAll first (take (i + 1) slots) new
   releases_more new releases = record {
     outside = λ s. elim (cases_eq s (get_or slots i 0)) [
       | inl same ↦
