@@ -10,10 +10,11 @@ use Rattle.session_frames.specs.declared.reply.ReplyBody.{ReplyBody}
 use Rattle.session_frames.specs.declared.reply.ReplyBody.TheVariants as answers
 use Rattle.config_links.specs.declared.linked.Linked.{Linked}
 use Rattle.atom_record.specs.declared.log.LogFrame.{LogFrame}
-use Rattle.client_engine.specs.InstanceStands.{Running, IsFresh}
+use Rattle.client_engine.specs.InstanceStands.{IsFresh}
 use Rattle.hub_core.specs.declared.books.Books.{Books}
 use Rattle.hub_core.specs.BookStands.{BooksStandFor}
 use Rattle.client_engine.specs.declared.live_id.LiveId.{LiveId}
+use Rattle.hub_core.specs.declared.live_instance.LiveInstance.{LiveInstance}
 use Rattle.hub_core.specs.declared.lives.Lives.{Lives}
 use Rattle.hub_meaning.specs.Acceptance.{most_configs, linked_read}
 use Rattle.hub_core.specs.Slots.{same_id, slot_at, count_at}
@@ -21,8 +22,8 @@ use Rattle.hub_core.specs.Commands.{change, held_at, others, StaysWith, PutsIn, 
 
 -- it stands under its name, and its client's count is one more than that of the others
 pub puts_in : (clock : ℕ) (books : Books) (name : LiveId) (linked : Linked) (old new : Lives) (body : ReplyBody)
-    (fresh : Running) (count : ℕ)
-    → ((opening : List LogFrame) → BooksStandFor books opening → IsFresh linked clock opening fresh)
+    (fresh : LiveInstance) (count : ℕ)
+    → ((opening : List LogFrame) → BooksStandFor books opening → IsFresh linked clock opening fresh.instance)
     → ((other : LiveId) → slot_at other new.slots.entries
     ≡ cond (same_id name other) (Some fresh) (slot_at other old.slots.entries))
     → ((client : ℤ) → count_at client new.counts.entries
@@ -59,7 +60,7 @@ pub takes_out : (name : LiveId) (old new : Lives) (count : ℕ) → is_some (hel
     ≡ cond (int_eq name.uid client) count (count_at client old.counts.entries))
     → count ≡ others name old → Removes name (change old new answers.Removed)
 takes_out name old new count there slots counts is = by_slot (held_at name old) there where
-  by_slot : (slot : Option Running) → is_some slot ≡ true
+  by_slot : (slot : Option LiveInstance) → is_some slot ≡ true
       → MatchOption slot (StaysWith answers.NoConfig (change old new answers.Removed))
       (λ held. TakesOut name (change old new answers.Removed))
   by_slot None absent = absurd (false≢true absent)

@@ -1,18 +1,18 @@
 -- What the evaluation of a configuration's matchers rests on, and what it makes of an instance.
-use Rattle.std.proofs.Common.{◌≡◌, ℕ, Bool, List, length, refl, sym, ap, subst, ◌∙◌}
+use Rattle.std.proofs.Common.{◌≡◌, ◌≢◌, ℕ, ◌<◌, Bool, List, [], ◌∷◌, length, get_or, None, refl, sym, ap, subst, ◌∙◌, arith}
+use Rattle.std.proofs.lemmas.List.{get_or_default}
 use Rattle.std.proofs.lemmas.List.FromFn.{length-map-range_with_len}
-use Rattle.std.proofs.lemmas.List.Elements.{All-weaker}
+use Rattle.std.proofs.lemmas.List.Elements.{All-weaker, All-head, All-tail}
 use Rattle.atom_record.specs.declared.atom.Atom.{Atom}
 use Rattle.atom_record.specs.declared.log.LogFrame.{LogFrame}
 use Rattle.atom_record.specs.declared.log.LogFrame.TheVariants.{Tick, AtomAt, Pull}
 use Rattle.config_types.specs.declared.matcher.SimpleMatcher.{SimpleMatcher}
 use Rattle.config_links.specs.declared.linked.LMatcher.{LMatcher}
-use Rattle.config_links.specs.declared.linked.LMatcher.TheVariants.{Simple, Combo}
 use Rattle.config_links.specs.declared.linked.Linked.{Linked}
-use Rattle.config_links.specs.SoundConfig.{IsSoundMatcher, IsSoundConfig}
+use Rattle.config_links.specs.SoundConfig.{IsSoundConfig}
 use Rattle.config_links.proofs.SoundUses.{references_end}
-use Rattle.link_graph.specs.Links.{IsOrder}
-use Rattle.matcher_truths.specs.MatcherTruths.{named_places, matches, MayBeAsked}
+use Rattle.link_graph.specs.Links.{AreInRange, HasNoCycle}
+use Rattle.matcher_truths.specs.MatcherTruths.{named_places, matches}
 use Rattle.metric_meaning.specs.Histories.{with_step, log_of_history}
 use Rattle.metric_meaning.specs.ShownFrames.{shown_as}
 use Rattle.client_engine.specs.Handed.{BookOfStates}
@@ -20,22 +20,41 @@ use Rattle.hub_meaning.specs.LiveConfigs.{truths_at}
 use Rattle.client_engine.specs.NextSteps.{logged_step}
 use Rattle.client_engine.specs.InstanceStands.{Running, linked_of, InstanceStandsFor, IsView, Logs}
 use Rattle.hub_core.specs.FrameTruths.{truths_by, LogsBy}
-use Rattle.hub_core.specs.LiveOrder.{CanBeJudged}
+use Rattle.matcher_table.specs.Slots.{matcher_at}
+use Rattle.matcher_table.specs.Tables.{SlotTable}
+use Rattle.matcher_table.specs.TableFacts.{IsSoundTable}
+use Rattle.held_slots.specs.Holdings.{Holds, AreLive}
+use Rattle.held_slots.proofs.HoldingLaws.{held_live, evaluation_keeps}
+use Rattle.held_slots.proofs.TruthLaws.{held_truths}
+use Rattle.client_engine.specs.declared.live_id.LiveId.{LiveId}
+use Rattle.hub_core.specs.declared.live_instance.LiveInstance.{LiveInstance}
+use Rattle.hub_core.specs.SharedTable.{IsHeldIn, AllHeld, IsHeldTable, HasSameSlots}
+use Rattle.hub_core.specs.SlotLogs.{results_for, questions_for, asked_by_all, AllShown, EvaluatesFor, AllLog}
+use Rattle.hub_core.proofs.QuestionLemmas.{questions_are}
 
--- a sound simple matcher may be asked
-sound_askable : (count : ℕ) (matcher : LMatcher) → IsSoundMatcher count matcher → MayBeAsked matcher
-sound_askable count (Simple simple) sound = sound
-sound_askable count (Combo op children) sound = tt
+-- what was installed holds its matchers
+pub new_held : (table : SlotTable) (linked : Linked) (live : LiveInstance) → IsSoundConfig linked
+    → linked_of live.instance ≡ linked → Holds table live.slots linked.matchers → IsHeldIn table live
+new_held table linked live sound is holds =
+    let same : live.instance.matchers ≡ linked.matchers = ap (λ (l : Linked). l.matchers) is in
+    record {
+      slots = subst (Holds table live.slots) (sym same) holds;
+      in_range = subst (λ (ms : List LMatcher). AreInRange (named_places ms)) (sym same)
+          (references_end linked sound).matchers_there;
+      no_cycle = subst (λ (ms : List LMatcher). HasNoCycle (named_places ms)) (sym same) sound.matchers_end;
+    }
 
--- a sound configuration with an order of evaluation can be judged
-pub can_be_judged : (linked : Linked) (order : List ℕ) → IsSoundConfig linked
-    → IsOrder (named_places linked.matchers) order → CanBeJudged linked order
-can_be_judged linked order sound in_order = record {
-  in_range = (references_end linked sound).matchers_there;
-  in_order = in_order;
-  askable = All-weaker (IsSoundMatcher (length linked.matchers)) MayBeAsked
-      (sound_askable (length linked.matchers)) linked.matchers sound.matchers;
-}
+-- a configuration whose linked form stays keeps its slots
+pub same_slots : (old new : LiveInstance) → new.slots ≡ old.slots → linked_of new.instance ≡ linked_of old.instance
+    → HasSameSlots old new
+same_slots old new slots is = record { slots = slots; matchers = ap (λ (l : Linked). l.matchers) is }
+
+-- the slots of what is held are live
+pub held_are_live : (table : SlotTable) (live : LiveInstance) → IsHeldIn table live → AreLive table live.slots
+held_are_live table live held k d h =
+    let within : k < length live.instance.matchers = omega (arith, h, held.slots.each) in
+    subst (λ (s : ℕ). matcher_at table.slots s ≢ None) (get_or_default live.slots k 0 d h)
+    (held_live table live.slots live.instance.matchers held.slots k within)
 
 module _ (says : SimpleMatcher → Atom → Bool) where
   -- the truths of a configuration's matchers are those that its history has for the frame, and as many as are asked for
@@ -70,3 +89,52 @@ module _ (says : SimpleMatcher → Atom → Bool) where
       subst (λ (given : List Bool). InstanceStandsFor new (with_step history (logged_step frame given))) same
       (logs history frame stands in_time (subst (IsView linked frame) (sym same) (is_view linked frame)) shown_is
       book_is)
+
+  -- the results of what is held are the truths of its matchers
+  results_are : (before table : SlotTable) (old : LiveInstance) (shown : LogFrame) → IsSoundTable table
+      → EvaluatesFor says shown before table → IsHeldIn table old
+      → results_for table shown old.slots ≡ truths_by says old.instance.matchers shown
+  results_are before table old (Tick at) sound evaluates held = refl
+  results_are before table old (AtomAt at atom) sound evaluates held =
+      held_truths says atom before table old.slots old.instance.matchers held.in_range held.no_cycle sound evaluates
+      held.slots
+  results_are before table old (Pull at id outcome) sound evaluates held = refl
+
+  -- where each took a frame with the results of its slots, each took it as the judge says
+  pub all_logs : (before table : SlotTable) (shown : LogFrame) (book : BookOfStates) → IsSoundTable table
+      → EvaluatesFor says shown before table → (olds news : List (LiveId × LiveInstance)) → AllHeld table olds
+      → AllShown table shown book olds news → AllLog says shown book olds news
+  all_logs before table shown book sound evaluates [] [] all shows = tt
+  all_logs before table shown book sound evaluates [] (new ∷ news) all shows = absurd shows
+  all_logs before table shown book sound evaluates (old ∷ olds) [] all shows = absurd shows
+  all_logs before table shown book sound evaluates (old ∷ olds) (new ∷ news) all shows =
+      let P : LiveId × LiveInstance → Type 0 = λ row. IsHeldIn table row.1 in (
+        shows.0,
+        logs_by shown book old.1.instance new.1.instance (results_for table shown old.1.slots)
+            (results_are before table old.1 shown sound evaluates (All-head P old olds all)) shows.1.logs,
+        all_logs before table shown book sound evaluates olds news (All-tail P old olds all) shows.2,
+      )
+
+  -- an evaluation keeps what is held
+  pub evaluated_held : (before table : SlotTable) (shown : LogFrame) (rows : List (LiveId × LiveInstance))
+      → EvaluatesFor says shown before table → IsHeldTable before rows → IsHeldTable table rows
+  evaluated_held before table (Tick at) rows evaluates held =
+      subst (λ (t : SlotTable). IsHeldTable t rows) (sym evaluates) held
+  evaluated_held before table (Pull at id outcome) rows evaluates held =
+      subst (λ (t : SlotTable). IsHeldTable t rows) (sym evaluates) held
+  evaluated_held before table (AtomAt at atom) rows evaluates held = record {
+    all = All-weaker (λ (row : LiveId × LiveInstance). IsHeldIn before row.1)
+        (λ (row : LiveId × LiveInstance). IsHeldIn table row.1) (λ row here. record {
+          slots = evaluation_keeps says atom before table row.1.slots row.1.instance.matchers evaluates here.slots;
+          in_range = here.in_range;
+          no_cycle = here.no_cycle;
+        }) rows held.all;
+    uses = λ s. ap (λ (uses : List ℕ). get_or uses s 0) evaluates.outside ∙ held.uses s;
+  }
+
+-- a table that is held asks as many questions as all that is live is worth
+pub asked_are : (table : SlotTable) (frame : LogFrame) (rows : List (LiveId × LiveInstance)) → IsSoundTable table
+    → IsHeldTable table rows → questions_for frame table ≡ asked_by_all frame rows
+asked_are table (Tick at) rows sound held = refl
+asked_are table (AtomAt at atom) rows sound held = questions_are atom table rows sound held
+asked_are table (Pull at id outcome) rows sound held = refl

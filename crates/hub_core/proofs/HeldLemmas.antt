@@ -12,13 +12,12 @@ use Rattle.std.proofs.lemmas.List.Quantifiers.{position-Some}
 use Rattle.std.proofs.lemmas.List.Sums.{sum_by-cons, sum_by-swap_remove}
 use Rattle.indexmap.specs.IndexMap.{insert_entry, swap_remove_entry}
 use Rattle.indexmap.proofs.MapLemmas.{some_index, swap_remove_entry-found, swap_remove_entry-missing}
-use Rattle.atom_record.specs.declared.atom.Atom.{Atom}
 use Rattle.atom_record.specs.declared.log.LogFrame.{LogFrame}
-use Rattle.config_types.specs.declared.matcher.SimpleMatcher.{SimpleMatcher}
-use Rattle.client_engine.specs.InstanceStands.{Running}
 use Rattle.client_engine.specs.Handed.{BookOfStates}
 use Rattle.client_engine.specs.declared.live_id.LiveId.{LiveId}
-use Rattle.hub_core.specs.SlotLogs.{AllLog}
+use Rattle.hub_core.specs.declared.live_instance.LiveInstance.{LiveInstance}
+use Rattle.hub_core.specs.SlotLogs.{AllShown}
+use Rattle.matcher_table.specs.Tables.{SlotTable}
 use Rattle.hub_core.specs.Slots.{live_id, same_id, slot_at, listed_at, listed, count_at, held_by}
 
 -- names that are the same are of one client
@@ -44,28 +43,31 @@ and_true true = refl
 and_true false = refl
 
 -- one for a row of the client
-abbrev one_of : ℤ → LiveId × Running → ℕ
+abbrev one_of : ℤ → LiveId × LiveInstance → ℕ
 one_of uid row = cond (int_eq row.0.uid uid) 1 0
 
 -- one row more in front
-held-cons : (uid : ℤ) (row : LiveId × Running) (rows : List (LiveId × Running))
+held-cons : (uid : ℤ) (row : LiveId × LiveInstance) (rows : List (LiveId × LiveInstance))
     → held_by uid (row ∷ rows) ≡ one_of uid row + held_by uid rows
 held-cons uid row rows = sum_by-cons (one_of uid) row rows
 
 -- an instance of an empty configuration, where some instance is asked for
-nothing : Running
+pub nothing : LiveInstance
 nothing = record {
-  matchers = [];
-  known = record { predicates = []; tables = [] };
-  states = [];
-  tracks = [];
-  base = 0;
-  last = 0;
+  instance = record {
+    matchers = [];
+    known = record { predicates = []; tables = [] };
+    states = [];
+    tracks = [];
+    base = 0;
+    last = 0;
+  };
+  slots = [];
 }
 
 module _ (uid : ℤ) (name : LiveId) where
   -- a new name adds one to its client's
-  pub held-insert : (slot : Running) (rows : List (LiveId × Running))
+  pub held-insert : (slot : LiveInstance) (rows : List (LiveId × LiveInstance))
       → held_by uid (insert_entry same_id rows name slot)
       ≡ held_by uid rows + cond (int_eq name.uid uid && not (is_some (slot_at name rows))) 1 0
   held-insert slot [] = by_case (int_eq name.uid uid) refl where
@@ -89,7 +91,7 @@ module _ (uid : ℤ) (name : LiveId) where
     )
 
   -- a name that is taken out takes one from its client's
-  pub held-swap_remove : (rows : List (LiveId × Running))
+  pub held-swap_remove : (rows : List (LiveId × LiveInstance))
       → held_by uid (swap_remove_entry (same_id name) rows) + cond (int_eq name.uid uid && is_some
       (slot_at name rows)) 1 0 ≡ held_by uid rows
   held-swap_remove rows = by_place (position (same_id name) (keys_of rows)) refl where
@@ -102,17 +104,17 @@ module _ (uid : ℤ) (name : LiveId) where
         ≡ 0 = ap (λ b. one_if (int_eq name.uid uid && b)) absent ∙ and_false (int_eq name.uid uid) in
         omega (arith, less, ap (held_by uid) (swap_remove_entry-missing (same_id name) rows e))
     by_place (Some i) e =
-        let d : LiveId × Running = (name, nothing) in
+        let d : LiveId × LiveInstance = (name, nothing) in
         let there : is_some (slot_at name rows) ≡ true = sym (some_index (same_id name) rows) ∙ ap is_some e in
         let at = position-Some (same_id name) (keys_of rows) i name e in
         let within : i < length rows = omega (
           arith,
           at.0,
           length-map rows (λ
-              (row : LiveId × Running). row.0),
+              (row : LiveId × LiveInstance). row.0),
         ) in
         let key : get_or (keys_of rows) i name ≡ (get_or rows i d).0 = get_or-map (λ
-        (row : LiveId × Running). row.0) rows i d name within in
+        (row : LiveId × LiveInstance). row.0) rows i d name within in
         let one : one_of uid (get_or rows i d) ≡ one_if (int_eq name.uid uid) =
         ap one_if (same_uid name (get_or rows i d).0 uid (ap (same_id name) (sym key) ∙ at.1)) in
         let more : one_if (int_eq name.uid uid && is_some (slot_at name rows))
@@ -128,7 +130,7 @@ module _ (uid : ℤ) (name : LiveId) where
         )
 
   -- a write at a name leaves the number
-  pub held-set_value : (slot : Running) (rows : List (LiveId × Running))
+  pub held-set_value : (slot : LiveInstance) (rows : List (LiveId × LiveInstance))
       → held_by uid (set_value (same_id name) rows slot) ≡ held_by uid rows
   held-set_value slot [] = refl
   held-set_value slot (row ∷ rows) = by_case (same_id name row.0) (held-set_value slot rows) where
@@ -145,7 +147,7 @@ module _ (uid : ℤ) (name : LiveId) where
     )
 
 -- a client that has a slot has one at least
-pub held-found : (name : LiveId) (rows : List (LiveId × Running)) → is_some (slot_at name rows) ≡ true
+pub held-found : (name : LiveId) (rows : List (LiveId × LiveInstance)) → is_some (slot_at name rows) ≡ true
     → 0 < held_by name.uid rows
 held-found name [] there = absurd (true≢false (sym there))
 held-found name (row ∷ rows) there = by_case (same_id name row.0) refl there (held-found name rows) where
@@ -158,21 +160,21 @@ held-found name (row ∷ rows) there = by_case (same_id name row.0) refl there (
   by_case false e h rest = omega (arith, held-cons name.uid row rows, rest h)
 
 -- a frame of the log leaves the number
-pub held-logged : (says : SimpleMatcher → Atom → Bool) (frame : LogFrame) (book : BookOfStates) (uid : ℤ)
-    (olds news : List (LiveId × Running)) → AllLog says frame book olds news
+pub held-logged : (table : SlotTable) (frame : LogFrame) (book : BookOfStates) (uid : ℤ)
+    (olds news : List (LiveId × LiveInstance)) → AllShown table frame book olds news
     → held_by uid news ≡ held_by uid olds
-held-logged says frame book uid [] [] all = refl
-held-logged says frame book uid [] (new ∷ news) all = absurd all
-held-logged says frame book uid (old ∷ olds) [] all = absurd all
-held-logged says frame book uid (old ∷ olds) (new ∷ news) all =
+held-logged table frame book uid [] [] all = refl
+held-logged table frame book uid [] (new ∷ news) all = absurd all
+held-logged table frame book uid (old ∷ olds) [] all = absurd all
+held-logged table frame book uid (old ∷ olds) (new ∷ news) all =
     let one : one_of uid new ≡ one_of uid old = ap (λ (n : LiveId). cond (int_eq n.uid uid) 1 0) all.0 in
-    omega (arith, held-cons uid old olds, held-cons uid new news, one, held-logged says frame book uid olds news all.2)
+    omega (arith, held-cons uid old olds, held-cons uid new news, one, held-logged table frame book uid olds news all.2)
 
 -- both facts of one client
-abbrev IsCounted : ℤ → List (LiveId × Running) → List (ℤ × ℕ) → Type 0
+abbrev IsCounted : ℤ → List (LiveId × LiveInstance) → List (ℤ × ℕ) → Type 0
 IsCounted n rows counts = (held_by n rows ≡ count_at n counts) × (held_by n rows ≤ 10)
 
-module _ (uid id : ℤ) (olds news : List (LiveId × Running)) (counts afters : List (ℤ × ℕ)) (others : ℕ)
+module _ (uid id : ℤ) (olds news : List (LiveId × LiveInstance)) (counts afters : List (ℤ × ℕ)) (others : ℕ)
     (counted : (n : ℤ) → held_by n olds ≡ count_at n counts) (few : (n : ℤ) → held_by n olds ≤ 10) where
   -- an install that had room
   pub counted_put : ((n : ℤ) → held_by n news ≡ held_by n olds + cond (int_eq uid n && not (is_some (slot_at

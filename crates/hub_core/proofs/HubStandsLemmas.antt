@@ -37,11 +37,13 @@ use Rattle.metric_producer.specs.LaneCalls.{last_at}
 use Rattle.client_engine.specs.NextSteps.{bare_step, last_from, logged_step, reported_step}
 use Rattle.client_engine.specs.declared.request.ReportRequest.{ReportRequest}
 use Rattle.client_engine.specs.Handed.{BookOfStates}
-use Rattle.client_engine.specs.InstanceStands.{Running, InstanceStandsFor, last_step_time, new_history}
+use Rattle.client_engine.specs.InstanceStands.{InstanceStandsFor, last_step_time, new_history}
 use Rattle.hub_core.specs.declared.books.Books.{Books}
 use Rattle.hub_core.specs.BookStands.{BooksStandFor}
 use Rattle.client_engine.specs.declared.live_id.LiveId.{LiveId}
+use Rattle.hub_core.specs.declared.live_instance.LiveInstance.{LiveInstance}
 use Rattle.hub_core.specs.declared.lives.Lives.{Lives}
+use Rattle.hub_core.proofs.TableLemmas.{table_held}
 use Rattle.hub_core.specs.declared.hub.Hub.{Hub}
 use Rattle.hub_core.specs.FrameTruths.{LogsBy}
 use Rattle.hub_core.specs.SlotLogs.{AllLog}
@@ -74,15 +76,15 @@ last_from-reported time (first ∷ steps) request =
 
 module _ (says : SimpleMatcher → Atom → Bool) where
   -- what is found under a name before and after a frame of the log
-  abbrev pub FoundLogs : LogFrame → BookOfStates → Option Running → Option Running → Type 0
+  abbrev pub FoundLogs : LogFrame → BookOfStates → Option LiveInstance → Option LiveInstance → Type 0
   FoundLogs frame book None None = Unit {0}
-  FoundLogs frame book (Some old) (Some new) = LogsBy says frame book old new
+  FoundLogs frame book (Some old) (Some new) = LogsBy says frame book old.instance new.instance
   FoundLogs frame book None (Some new) = ⊥
   FoundLogs frame book (Some old) None = ⊥
 
   -- where each took a frame, what is found under a name took it
   found_logs : (frame : LogFrame) (book : BookOfStates) (test : LiveId → Bool)
-      (olds news : List (LiveId × Running))
+      (olds news : List (LiveId × LiveInstance))
       → AllLog says frame book olds news → FoundLogs frame book (lookup test olds) (lookup test news)
   found_logs frame book test [] [] all = tt
   found_logs frame book test [] (new ∷ news) all = absurd all
@@ -98,7 +100,7 @@ module _ (says : SimpleMatcher → Atom → Bool) where
 
   -- a frame of the log comes to what is found under a name
   slot_logged : (uid : ℤ) (frames : List Frame) (shown : LogFrame) (book : BookOfStates) (frame : LogFrame)
-      (old new : Option Running)
+      (old new : Option LiveInstance)
       (config : Option LiveConfig)
       → ((c : LiveConfig) → config ≡ Some c → c.place < length frames) → clock_of frames ≤ log_time frame
       → shown ≡ shown_as (log_frames frames) frame → StateBookStandsFor book (log_frames frames ++ frame ∷ [])
@@ -112,7 +114,7 @@ module _ (says : SimpleMatcher → Atom → Bool) where
       let history : history_of says uid (frames ++ Log frame ∷ []) config
       ≡ with_steps before (step ∷ []) = history_of-push says uid frames (Log frame) config (placed config refl) in
       record {
-        instance = subst (InstanceStandsFor new) (sym history) (logs before frame h.instance
+        instance = subst (InstanceStandsFor new.instance) (sym history) (logs before frame h.instance
             (omega (arith, in_time, h.time)) (shown_is ∙ ap (λ l. shown_as l frame) (sym log))
             (subst (λ l. StateBookStandsFor book (l ++ frame ∷ [])) (sym log) book_is));
         time = ap last_step_time history ∙ last_from-logged before.installed.base before.steps frame
@@ -125,7 +127,7 @@ module _ (says : SimpleMatcher → Atom → Bool) where
       absurd logs
 
   -- a frame that is no step to a configuration leaves what is held for it
-  slot_idle : (uid : ℤ) (frames : List Frame) (frame : Frame) (slot : Option Running)
+  slot_idle : (uid : ℤ) (frames : List Frame) (frame : Frame) (slot : Option LiveInstance)
       (config : Option LiveConfig) → clock_after (clock_of frames) frame ≡ clock_of frames
       → ((c : LiveConfig) → config ≡ Some c → (c.place < length frames) × (step_at says c.id
       (linked_form c.config uid) frames frame ≡ [])) → SlotStandsFor says uid frames slot config
@@ -138,14 +140,14 @@ module _ (says : SimpleMatcher → Atom → Bool) where
       ∙ ap (with_steps (history_of says uid frames config)) facts.1
       ∙ no_step (history_of says uid frames config) in
       record {
-        instance = subst (InstanceStandsFor it) (sym same) h.instance;
+        instance = subst (InstanceStandsFor it.instance) (sym same) h.instance;
         time = ap last_step_time same ∙ h.time ∙ sym (clock_of-push frames frame ∙ still);
       }
   slot_idle uid frames frame (Some it) None still idle h = absurd h
   slot_idle uid frames frame None (Some config) still idle h = absurd h
 
   -- what is found is there where a configuration is live
-  both_there : (uid : ℤ) (frames : List Frame) (slot : Option Running) (config : Option LiveConfig)
+  both_there : (uid : ℤ) (frames : List Frame) (slot : Option LiveInstance) (config : Option LiveConfig)
       → SlotStandsFor says uid frames slot config → is_some slot ≡ is_some config
   both_there uid frames None None h = refl
   both_there uid frames (Some it) (Some config) h = refl
@@ -273,7 +275,7 @@ module _ (says : SimpleMatcher → Atom → Bool) where
     }
 
     -- one slot changed, on both sides
-    changed : (slot : Option Running) (count : ℕ) (body : ReplyBody)
+    changed : (slot : Option LiveInstance) (count : ℕ) (body : ReplyBody)
         → Changes (live_id uid id) slot count (change old new body)
         → SlotStandsFor says uid (before ++ frame ∷ []) slot (config_at id after)
         → ((other : ℤ) → int_eq id other ≡ false → IsIdle other) → ((other : ℤ) → int_eq id other ≡ false
@@ -337,7 +339,7 @@ module _ (says : SimpleMatcher → Atom → Bool) where
           ∙ length-without_id id lives_before (live_distinct (own uid frames)) in
           omega (arith, found_none, none, h.counts uid)
 
-    remove_case : (slot : Option Running) (config : Option LiveConfig)
+    remove_case : (slot : Option LiveInstance) (config : Option LiveConfig)
         → config_at id lives_before ≡ config → SlotStandsFor says uid (own uid frames) slot config
         → MatchOption slot (StaysWith answers.NoConfig (change old new body))
         (λ slot. TakesOut (live_id uid id) (change old new body))
@@ -382,7 +384,7 @@ module _ (says : SimpleMatcher → Atom → Bool) where
     -- by what is held and what is live
     report_case : (clock : ℕ) (book : BookOfStates) (include_current : Bool) → clock ≡ clock_of frames
         → StateBookStandsFor book (log_frames frames)
-        → (slot : Option Running) (config : Option LiveConfig) → config_at id lives_before ≡ config
+        → (slot : Option LiveInstance) (config : Option LiveConfig) → config_at id lives_before ≡ config
         → SlotStandsFor says uid (own uid frames) slot config
         → new.counts ≡ old.counts
         → MatchOption slot ((new.slots.entries ≡ old.slots.entries) × (body
@@ -432,7 +434,7 @@ module _ (says : SimpleMatcher → Atom → Bool) where
               })
               (subst (SlotStandsFor says uid (mine ++ Report uid id include_current ∷ []) (Some r.next))
               (sym is) (record {
-                instance = subst (InstanceStandsFor r.next) (sym history) done.0;
+                instance = subst (InstanceStandsFor r.next.instance) (sym history) done.0;
                 time = ap last_step_time history ∙ last_from-reported (clock_of (take config.place mine))
                     (history_of says uid mine config).steps (request_of uid id include_current clock) ∙ s.time
                     ∙ sym (clock_of-push mine (Report uid id include_current));
@@ -495,11 +497,11 @@ module _ (says : SimpleMatcher → Atom → Bool) where
           sym (log_frames-push mine (Install uid id config) ∙ append-nil (log_frames mine)
           ∙ log_frames-own uid frames) in
           let history = history_of-new says uid mine (Install uid id config) put refl in
-          let fresh : InstanceStandsFor r.fresh (history_of says uid
+          let fresh : InstanceStandsFor r.fresh.instance (history_of says uid
           (mine ++ Install uid id config ∷ []) put) =
-          subst (InstanceStandsFor r.fresh) (sym history)
-          (subst (λ t. InstanceStandsFor r.fresh (new_history t opening (linked_form decoded uid))) time
-          (subst (λ l. InstanceStandsFor r.fresh (new_history clock opening l)) form
+          subst (InstanceStandsFor r.fresh.instance) (sym history)
+          (subst (λ t. InstanceStandsFor r.fresh.instance (new_history t opening (linked_form decoded uid))) time
+          (subst (λ l. InstanceStandsFor r.fresh.instance (new_history clock opening l)) form
           (r.is_fresh opening (subst (BooksStandFor books) opening_is books_are)))) in
           let at_id : config_at id (live_after mine (Install uid id config) lives_before) ≡ Some put =
           ap (config_at id) after_is ∙ config_at-with_config put id lives_before
@@ -591,6 +593,7 @@ module _ (says : SimpleMatcher → Atom → Bool) where
     hub_log frame shown in_time clock shown_is books all counts = record {
       clock = clock ∙ sym (clock_of-push frames (Log frame));
       books = subst (BooksStandFor new.books) (sym (log_frames-push frames (Log frame))) books;
+      table = table_held new.lives;
       lives =
           stands_log hub.lives new.lives frames shown new.books.states frame in_time shown_is books.states all
           counts
@@ -623,6 +626,7 @@ module _ (says : SimpleMatcher → Atom → Bool) where
               clock = same_clock ∙ h.clock
                   ∙ sym (clock_of-push frames (Remove uid id));
               books = books_stay (Remove uid id) refl;
+              table = table_held new.lives;
               lives = done.0;
             };
             answer = ap (reply_of uid id) done.1;
@@ -641,6 +645,7 @@ module _ (says : SimpleMatcher → Atom → Bool) where
               clock = same_clock ∙ h.clock
                   ∙ sym (clock_of-push frames (Report uid id include_current));
               books = books_stay (Report uid id include_current) refl;
+              table = table_held new.lives;
               lives = done.0;
             };
             answer = ap
@@ -660,6 +665,7 @@ module _ (says : SimpleMatcher → Atom → Bool) where
               clock = same_clock ∙ h.clock
                   ∙ sym (clock_of-push frames (Install uid id config));
               books = books_stay (Install uid id config) refl;
+              table = table_held new.lives;
               lives = done.0;
             };
             answer = ap

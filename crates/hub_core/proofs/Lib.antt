@@ -1,4 +1,8 @@
 mod HeldLemmas
+mod CopyLemmas
+mod TableLemmas
+mod ReachedLemmas
+mod QuestionLemmas
 mod BookLemmas
 mod SlotLogsLemmas
 mod EvaluationLemmas

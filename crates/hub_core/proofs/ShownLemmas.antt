@@ -1,21 +1,22 @@
 -- A report of what stands under a name.
-use Rattle.std.proofs.Common.{◌≡◌, cond, List, Option, Some, sym, subst}
+use Rattle.std.proofs.Common.{◌≡◌, cond, List, Some, sym, subst}
 use Rattle.std.specs.Option.{MatchOption}
 use Rattle.session_frames.specs.declared.reply.ReplyBody.{ReplyBody}
 use Rattle.session_frames.specs.declared.reply.ReplyBody.TheVariants as answers
 use Rattle.report_writer.specs.declared.tree.ReportTree.{ReportTree}
 use Rattle.report_writer.specs.ReportSpelling.{report_message}
 use Rattle.client_engine.specs.Handed.{BookOfStates}
-use Rattle.client_engine.specs.InstanceStands.{Running, Reports}
+use Rattle.client_engine.specs.InstanceStands.{Reports}
 use Rattle.client_engine.specs.declared.request.ReportRequest.{ReportRequest}
 use Rattle.client_engine.specs.declared.live_id.LiveId.{LiveId}
+use Rattle.hub_core.specs.declared.live_instance.LiveInstance.{LiveInstance}
 use Rattle.hub_core.specs.Slots.{same_id, slot_at, ShowsAt, ReportsAt}
 
-module _ (request : ReportRequest) (book : BookOfStates) (old new : List (LiveId × Running))
+module _ (request : ReportRequest) (book : BookOfStates) (old new : List (LiveId × LiveInstance))
     (body : ReplyBody) where
   -- it was found, and its next stands there
-  pub shows : (live next : Running) (tree : ReportTree) → slot_at request.name old ≡ Some live
-      → Reports live request book next tree
+  pub shows : (live next : LiveInstance) (tree : ReportTree) → slot_at request.name old ≡ Some live
+      → Reports live.instance request book next.instance tree
       → ((other : LiveId) → slot_at other new
       ≡ cond (same_id request.name other) (Some next) (slot_at other old))
       → body ≡ answers.ReportBytes (report_message tree)

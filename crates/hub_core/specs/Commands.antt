@@ -11,11 +11,12 @@ use Rattle.config_links.specs.declared.linked.Linked.{Linked}
 use Rattle.hub_meaning.specs.Acceptance.{most_configs, linked_read}
 use Rattle.atom_record.specs.declared.log.LogFrame.{LogFrame}
 use Rattle.client_engine.specs.Handed.{BookOfStates}
-use Rattle.client_engine.specs.InstanceStands.{Running, IsFresh}
+use Rattle.client_engine.specs.InstanceStands.{IsFresh}
 use Rattle.client_engine.specs.declared.request.ReportRequest.{ReportRequest}
 use Rattle.hub_core.specs.declared.books.Books.{Books}
 use Rattle.hub_core.specs.BookStands.{BooksStandFor}
 use Rattle.client_engine.specs.declared.live_id.LiveId.{LiveId}
+use Rattle.hub_core.specs.declared.live_instance.LiveInstance.{LiveInstance}
 use Rattle.hub_core.specs.declared.lives.Lives.{Lives}
 use Rattle.hub_core.specs.Slots.{same_id, slot_at, count_at, others_at, ReportsAt}
 
@@ -30,14 +31,14 @@ abbrev pub change : Lives → Lives → ReplyBody → Change
 change old new body = record { old = old; new = new; body = body }
 
 -- One slot changes, and its client's count; all other slots and counts stay.
-pub record Changes (name : LiveId) (slot : Option Running) (count : ℕ) (done : Change) : Type 0 where
+pub record Changes (name : LiveId) (slot : Option LiveInstance) (count : ℕ) (done : Change) : Type 0 where
   pub slots : (other : LiveId) → slot_at other done.new.slots.entries
       ≡ (if same_id name other then slot else slot_at other done.old.slots.entries)
   pub counts : (client : ℤ) → count_at client done.new.counts.entries
       ≡ (if int_eq name.uid client then count else count_at client done.old.counts.entries)
 
 -- what is found under a name
-abbrev pub held_at : LiveId → Lives → Option Running
+abbrev pub held_at : LiveId → Lives → Option LiveInstance
 held_at name lives = slot_at name lives.slots.entries
 
 -- how many of other ids its client has
@@ -56,8 +57,8 @@ pub record StaysWith (given : ReplyBody) (done : Change) : Type 0 where
 
 -- A configuration that wasn't refused goes where the one of its name stands, or it is new.
 pub record PutsIn (clock : ℕ) (books : Books) (name : LiveId) (linked : Linked) (done : Change) : Type 0 where
-  pub fresh : Running
-  pub is_fresh : (opening : List LogFrame) → BooksStandFor books opening → IsFresh linked clock opening fresh
+  pub fresh : LiveInstance
+  pub is_fresh : (opening : List LogFrame) → BooksStandFor books opening → IsFresh linked clock opening fresh.instance
   pub changes : Changes name (Some fresh) (others name done.old + 1) done
   pub answer : done.body ≡ (if is_some (held_at name done.old) then answers.Replaced else answers.Installed)
 

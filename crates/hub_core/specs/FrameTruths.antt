@@ -1,12 +1,12 @@
 -- What a frame of the log makes of an instance, with the truths that a judge says.
-use Rattle.std.specs.Prelude.{◌≡◌, ℕ, ◌≤◌, Bool, List, [], ◌∷◌, ◌++◌, count_by}
+use Rattle.std.specs.Prelude.{◌≡◌, ◌≤◌, Bool, List, [], ◌∷◌, ◌++◌}
 use Rattle.atom_record.specs.declared.atom.Atom.{Atom}
 use Rattle.atom_record.specs.declared.log.LogFrame.{LogFrame}
 use Rattle.atom_record.specs.declared.log.LogFrame.TheVariants.{AtomAt}
 use Rattle.config_types.specs.declared.matcher.SimpleMatcher.{SimpleMatcher}
 use Rattle.session_frames.specs.FrameReading.{log_time}
 use Rattle.config_links.specs.declared.linked.LMatcher.{LMatcher}
-use Rattle.matcher_truths.specs.MatcherTruths.{all_truths, is_question}
+use Rattle.matcher_truths.specs.MatcherTruths.{all_truths}
 use Rattle.metric_meaning.specs.Histories.{History, with_step, log_of_history}
 use Rattle.metric_meaning.specs.ShownFrames.{shown_as}
 use Rattle.hub_meaning.specs.LiveConfigs.{truths_at}
@@ -14,11 +14,6 @@ use Rattle.client_engine.specs.InstanceStands.{Running, InstanceStandsFor, last_
 use Rattle.client_engine.specs.NextSteps.{logged_step}
 use Rattle.client_engine.specs.Handed.{BookOfStates}
 use Rattle.state_slicer.specs.StateBooks.{StateBookStandsFor}
-
--- how many questions of a judge these matchers are worth: one for each simple matcher of an atom's id
-abbrev pub asked_by : LogFrame → List LMatcher → ℕ
-asked_by (AtomAt at atom) matchers = count_by (is_question atom) matchers
-asked_by _ matchers = 0
 
 module _ (says : SimpleMatcher → Atom → Bool) where
   -- the truths of these matchers, for an atom alone

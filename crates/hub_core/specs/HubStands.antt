@@ -7,10 +7,13 @@ use Rattle.session_frames.specs.declared.frame.Frame.TheVariants.{Log}
 use Rattle.hub_meaning.specs.SessionLog.{own, log_frames, clock_of}
 use Rattle.hub_meaning.specs.Acceptance.{LiveConfig}
 use Rattle.hub_meaning.specs.LiveConfigs.{config_at, live, history_of}
-use Rattle.client_engine.specs.InstanceStands.{Running, InstanceStandsFor, last_step_time}
+use Rattle.client_engine.specs.InstanceStands.{InstanceStandsFor, last_step_time}
+use Rattle.matcher_table.specs.Contents.{contents_of}
+use Rattle.hub_core.specs.declared.live_instance.LiveInstance.{LiveInstance}
 use Rattle.hub_core.specs.declared.lives.Lives.{Lives}
 use Rattle.hub_core.specs.declared.hub.Hub.{Hub}
 use Rattle.hub_core.specs.BookStands.{BooksStandFor}
+use Rattle.hub_core.specs.SharedTable.{IsHeldTable}
 use Rattle.hub_core.specs.SlotLogs.{asked_by_all}
 use Rattle.hub_core.specs.Slots.{live_id, slot_at, count_at}
 
@@ -18,20 +21,20 @@ use Rattle.hub_core.specs.Slots.{live_id, slot_at, count_at}
 abbrev pub judge_of : {J : Type 0} → Hub J → J
 judge_of hub = hub.judge
 
--- how many questions of the judge a frame takes: for an atom, instance by instance, one for each simple matcher of the
--- atom's id, and none for another frame
+-- how many questions of the judge a frame takes: for an atom one for each different simple matcher of the atom's id in
+-- all live configurations, and none for another frame
 abbrev pub asked_in : {J : Type 0} → Frame → Hub J → ℕ
 asked_in (Log frame) hub = asked_by_all frame hub.lives.slots.entries
 asked_in _ hub = 0
 
 module _ (says : SimpleMatcher → Atom → Bool) where
   -- A live configuration of a client with these own frames: its last step is at the clock.
-  pub record LiveStandsFor (uid : ℤ) (frames : List Frame) (it : Running) (config : LiveConfig) : Type 0 where
-    pub instance : InstanceStandsFor it (history_of says uid frames config)
+  pub record LiveStandsFor (uid : ℤ) (frames : List Frame) (it : LiveInstance) (config : LiveConfig) : Type 0 where
+    pub instance : InstanceStandsFor it.instance (history_of says uid frames config)
     pub time : last_step_time (history_of says uid frames config) ≡ clock_of frames
 
   -- what is held at an id of a client with these own frames is its live configuration of that id
-  abbrev pub SlotStandsFor : ℤ → List Frame → Option Running → Option LiveConfig → Type 0
+  abbrev pub SlotStandsFor : ℤ → List Frame → Option LiveInstance → Option LiveConfig → Type 0
   SlotStandsFor uid frames None None = Unit {0}
   SlotStandsFor uid frames (Some it) (Some config) = LiveStandsFor uid frames it config
   SlotStandsFor uid frames (Some it) None = ⊥
@@ -47,4 +50,5 @@ module _ (says : SimpleMatcher → Atom → Bool) where
   pub record HubStandsFor {J : Type 0} (hub : Hub J) (frames : List Frame) : Type 0 where
     pub clock : hub.clock.time ≡ clock_of frames
     pub books : BooksStandFor hub.books (log_frames frames)
+    pub table : IsHeldTable (contents_of hub.lives.table) hub.lives.slots.entries
     pub lives : LivesStandFor hub.lives frames

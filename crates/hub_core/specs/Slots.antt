@@ -8,10 +8,11 @@ use Rattle.session_frames.specs.declared.reply.ReplyBody.TheVariants as answers
 use Rattle.report_writer.specs.declared.tree.ReportTree.{ReportTree}
 use Rattle.report_writer.specs.ReportSpelling.{report_message}
 use Rattle.client_engine.specs.Handed.{BookOfStates}
-use Rattle.client_engine.specs.InstanceStands.{Running, Reports}
+use Rattle.client_engine.specs.InstanceStands.{Reports}
 use Rattle.client_engine.specs.declared.request.ReportRequest.{ReportRequest}
 use Rattle.client_engine.specs.declared.live_id.LiveId.{LiveId}
 use Rattle.client_engine.specs.contracts.live_id.LiveIdPartialEq.TheImpl as block
+use Rattle.hub_core.specs.declared.live_instance.LiveInstance.{LiveInstance}
 
 -- a client's configuration of an id
 abbrev pub live_id : ℤ → ℤ → LiveId
@@ -30,7 +31,7 @@ abbrev pub same_id : LiveId → LiveId → Bool
 same_id = block.ghosts.eq
 
 -- what is held at a client's id
-abbrev pub slot_at : LiveId → List (LiveId × Running) → Option Running
+abbrev pub slot_at : LiveId → List (LiveId × LiveInstance) → Option LiveInstance
 slot_at name slots = lookup (same_id name) slots
 
 -- the number that is listed for a client, if one is
@@ -50,21 +51,21 @@ abbrev pub others_at : ℤ → Bool → List (ℤ × ℕ) → ℕ
 others_at uid there counts = count_at uid counts - (if there then 1 else 0)
 
 -- how many slots a client has
-abbrev pub held_by : ℤ → List (LiveId × Running) → ℕ
-held_by uid slots = count_by (λ (row : LiveId × Running). int_eq row.0.uid uid) slots
+abbrev pub held_by : ℤ → List (LiveId × LiveInstance) → ℕ
+held_by uid slots = count_by (λ (row : LiveId × LiveInstance). int_eq row.0.uid uid) slots
 
 -- A report of what stands under a name.
-pub record ShowsAt (request : ReportRequest) (book : BookOfStates) (live : Running)
-    (old new : List (LiveId × Running)) (body : ReplyBody) : Type 0 where
-  pub next : Running
+pub record ShowsAt (request : ReportRequest) (book : BookOfStates) (live : LiveInstance)
+    (old new : List (LiveId × LiveInstance)) (body : ReplyBody) : Type 0 where
+  pub next : LiveInstance
   pub tree : ReportTree
-  pub steps : Reports live request book next tree
+  pub steps : Reports live.instance request book next.instance tree
   pub slots : (other : LiveId) → slot_at other new
       ≡ (if same_id request.name other then Some next else slot_at other old)
   pub answer : body ≡ answers.ReportBytes (report_message tree)
 
 -- a report of what stands under a name
-abbrev pub ReportsAt : ReportRequest → BookOfStates → List (LiveId × Running) → List (LiveId × Running)
+abbrev pub ReportsAt : ReportRequest → BookOfStates → List (LiveId × LiveInstance) → List (LiveId × LiveInstance)
     → ReplyBody → Type 0
 ReportsAt request book old new body =
     MatchOption (slot_at request.name old) ((new ≡ old) × (body ≡ answers.NoConfig))

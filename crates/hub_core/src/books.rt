@@ -19,9 +19,10 @@ pub struct Books {
 }
 
 impl Books {
-    ghost use Rattle.config_links.specs.declared.linked.LMatcher.{LMatcher};
+    ghost use Rattle.client_engine.specs.declared.live_id.LiveId.{LiveId};
+    ghost use Rattle.hub_core.specs.declared.live_instance.LiveInstance.{LiveInstance};
     ghost use Rattle.hub_core.specs.BookStands.{BooksStandFor};
-    ghost use Rattle.hub_core.specs.FrameTruths.{asked_by};
+    ghost use Rattle.hub_core.specs.SlotLogs.{asked_by_all};
 
     /// Books of no frame. They take no memory yet.
     pub fn new(alloc: Global) -> Books
@@ -39,8 +40,8 @@ impl Books {
         ensures shown { (log : List LogFrame) → PullBookStandsFor self.now.pulls log
             → unwrap_or result frame.now ≡ shown_as log frame.now }
         ensures faultless { IfSome result IsFaultlessLog }
-        ensures asked { (matchers : List LMatcher)
-            → asked_by (unwrap_or result frame.now) matchers ≡ asked_by frame.now matchers }
+        ensures asked { (rows : List (LiveId × LiveInstance))
+            → asked_by_all (unwrap_or result frame.now) rows ≡ asked_by_all frame.now rows }
     {
         match frame {
             LogFrame::Tick { .. } => None,

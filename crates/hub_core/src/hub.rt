@@ -66,7 +66,7 @@ impl<J: Judge> Hub<J> {
             → IsInTime (clock_of frames) frame → IfOk result (λ r. HubStandsFor J.says r.0 (frames ++ frame ∷ [])
             × (r.1 ≡ reply_to J.says frames frame)) }
 
-        // The judge is asked at atoms alone, once for each simple matcher of the atom's id, instance by instance.
+        // The judge is asked at atoms alone, once for each different simple matcher of the atom's id in all live ones.
         ensures asked { IfOk result (λ r. AreTicks (asked_in frame self)
             (J.ticks (judge_of self)) (J.ticks (judge_of r.0))) }
 

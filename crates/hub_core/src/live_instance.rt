@@ -1,100 +1,96 @@
-//! An instance, with the order in which its matchers are evaluated.
-ghost use Rattle.std.specs.Prelude.{◌≡◌, ◌<◌, ◌^◌, List, IfOk, OnOk};
+//! An instance, with the slots of its matchers in the table that all share.
+ghost use Rattle.std.specs.Prelude.{◌≡◌, ℕ, ◌<◌, ◌≤◌, ◌^◌, List, IfOk, OnOk};
 ghost use Rattle.atom_record.specs.declared.log.LogFrame.{LogFrame};
 ghost use Rattle.session_frames.specs.Faultless.{IsFaultlessLog};
 ghost use Rattle.report_writer.specs.Writable.{IsWritableReport};
 ghost use Rattle.config_links.specs.SoundConfig.{IsSoundConfig};
-ghost use Rattle.link_graph.specs.Links.{AreInRange, IsOrder};
-ghost use Rattle.matcher_truths.specs.MatcherTruths.{named_places, MayBeAsked};
-ghost use Rattle.matcher_truths.specs.QuestionCounts.{AreTicks};
+ghost use Rattle.matcher_table.specs.Slots.{times_among};
+ghost use Rattle.matcher_table.specs.Tables.{outside_uses};
+ghost use Rattle.matcher_table.specs.Contents.{contents_of};
+ghost use Rattle.held_slots.specs.Holdings.{AreLive};
+ghost use Rattle.held_slots.specs.HoldingSteps.{KeepsLive, AddsUses, ReleasesAll};
 ghost use Rattle.hub_core.specs.BookStands.{BooksStandFor};
-ghost use Rattle.hub_core.specs.FrameTruths.{truths_by, asked_by};
-ghost use Rattle.std.specs.List.{All};
 
 use crate::books::Books;
 use atom_record::LogFrame;
 use client_engine::{Instance, LogView, ReportRequest};
-use config_links::{LMatcher, Linked};
-use matcher_eval::Judge;
-use matcher_truths::{evaluate, evaluation_order};
+use config_links::Linked;
+use held_slots::HeldSlots;
+use matcher_table::MatcherTable;
 use report_writer::ReportTree;
-use sd_base::Seq;
 use state_slicer::StateBook;
 use std::alloc::{AllocError, Global};
-use std::marker::Model;
 
 /// A live configuration.
 #[derive(Drop)]
 pub struct LiveInstance {
     instance: Instance,
-    /// The places of its matchers, each after those that it names.
-    order: Seq<u32>,
-}
-
-impl Model for LiveInstance {
-    ghost use Rattle.std.specs.Coded.{codes};
-    ghost use Rattle.config_types.specs.contracts.matcher.Test as test;
-    ghost use Rattle.client_engine.specs.InstanceStands.{Running, linked_of};
-    ghost use Rattle.hub_core.specs.LiveOrder.{CanBeJudged};
-
-    ghost Value = { Running };
-
-    ghost coded = { Prim.hlevel (codes, test.the_row.coded) };
-
-    ghost view = { λ live. live.instance };
-
-    ghost invariant = { λ live. CanBeJudged (linked_of live.instance) live.order };
+    slots: HeldSlots,
 }
 
 impl LiveInstance {
-    ghost use Rattle.client_engine.specs.InstanceStands.{IsFresh, Logs, Reports};
+    ghost use Rattle.client_engine.specs.InstanceStands.{IsFresh, Reports};
+    ghost use Rattle.hub_core.specs.SharedTable.{IsHeldIn, HasSameSlots};
+    ghost use Rattle.hub_core.specs.SlotLogs.{IsShown, results_for};
 
-    /// A configuration that was just installed.
+    /// A configuration that was just installed, with its matchers interned. After want of memory some may be.
     pub fn new(
         alloc: Global,
         linked: Linked,
         base: u64,
         books: &Books,
+        table: &mut MatcherTable,
     ) -> Result<LiveInstance, AllocError>
         requires sound { IsSoundConfig linked }
         requires timely { base < 2 ^ 63 }
-        ensures { (opening : List LogFrame) → BooksStandFor books.now opening
-            → IfOk result (IsFresh linked base opening) }
+        ensures fresh { (opening : List LogFrame) → BooksStandFor books.now opening
+            → IfOk result (λ live. IsFresh linked base opening live.instance) }
+        ensures holds { IfOk result (IsHeldIn (contents_of table.new)) }
+        ensures uses { IfOk result (λ live. AddsUses (contents_of table.old) live.slots (contents_of table.new)) }
+        ensures others { OnOk result (KeepsLive (contents_of table.old) (contents_of table.new)) }
     {
-        let order = evaluation_order(alloc, linked.matchers.as_slice())?;
+        let slots = HeldSlots::hold(alloc, table, &linked)?;
         let instance = Instance::new(alloc, linked, base, &books.pulls, &books.states)?;
-        Ok(LiveInstance { instance, order })
+        Ok(LiveInstance { instance, slots })
     }
 
-    /// The truths of its matchers for a frame, as the judge says. The buffer's room is kept.
-    pub fn judge<J: Judge>(
-        &self,
-        judge: &mut J,
+    /// Takes in a frame of the log as it is shown, an atom with the results of its slots. The buffer's room is kept.
+    pub fn log(
+        &mut self,
+        table: &MatcherTable,
         frame: &LogFrame,
+        states: &StateBook,
         truths: &mut Vec<bool>,
     ) -> Result<(), AllocError>
         requires sound { IsFaultlessLog frame.now }
-        ensures truths { OnOk result
-            (truths.new.items ≡ truths_by J.says self.now.matchers frame.now) }
-        ensures ticks { OnOk result (AreTicks (asked_by frame.now self.now.matchers)
-            (J.ticks judge.old) (J.ticks judge.new)) }
+        requires live { AreLive (contents_of table.now) self.old.slots }
+        ensures { OnOk result (IsShown (contents_of table.now) frame.now states.now self.old self.new) }
     {
-        judge_all(
-            judge,
-            self.instance.matchers(),
-            self.order.as_slice(),
-            frame,
-            truths,
-        )
+        self.results(table, frame, truths)?;
+        let view = LogView {
+            matched: truths.as_slice(),
+            states,
+        };
+        self.instance.apply(frame, &view)
     }
 
-    /// Takes in a frame of the log as it is shown.
-    pub fn apply(&mut self, frame: &LogFrame, view: &LogView<'_>) -> Result<(), AllocError>
-        requires sound { IsFaultlessLog frame.now }
-        ensures { OnOk result
-            (Logs self.old frame.now view.now.matched.now view.now.states.now self.new) }
+    // The results of its slots for an atom, and none for another frame.
+    fn results(
+        &self,
+        table: &MatcherTable,
+        frame: &LogFrame,
+        truths: &mut Vec<bool>,
+    ) -> Result<(), AllocError>
+        requires { AreLive (contents_of table.now) self.now.slots }
+        ensures { OnOk result (truths.new.items ≡ results_for (contents_of table.now) frame.now self.now.slots) }
     {
-        self.instance.apply(frame, view)
+        match frame {
+            LogFrame::AtomAt { .. } => self.slots.results(table, truths),
+            _ => {
+                truths.clear();
+                Ok(())
+            }
+        }
     }
 
     /// Reports what came since the last report.
@@ -103,33 +99,18 @@ impl LiveInstance {
         request: ReportRequest,
         states: &StateBook,
     ) -> Result<ReportTree, AllocError>
-        ensures reports { IfOk result (Reports self.old request states.now self.new) }
+        ensures reports { IfOk result (Reports self.old.instance request states.now self.new.instance) }
+        ensures slots { HasSameSlots self.old self.new }
         ensures writable { IfOk result IsWritableReport }
     {
         self.instance.show(request, states)
     }
-}
 
-/// The truths of these matchers, for an atom alone. What the buffer held is forgotten.
-fn judge_all<J: Judge>(
-    judge: &mut J,
-    matchers: &[LMatcher],
-    order: &[u32],
-    frame: &LogFrame,
-    truths: &mut Vec<bool>,
-) -> Result<(), AllocError>
-    requires sound { IsFaultlessLog frame.now }
-    requires in_range { AreInRange (named_places matchers.now) }
-    requires in_order { IsOrder (named_places matchers.now) order.now }
-    requires askable { All MayBeAsked matchers.now }
-    ensures truths { OnOk result (truths.new.items ≡ truths_by J.says matchers.now frame.now) }
-    ensures ticks { OnOk result (AreTicks (asked_by frame.now matchers.now)
-        (J.ticks judge.old) (J.ticks judge.new)) }
-{
-    truths.clear();
-    if let LogFrame::AtomAt { atom, .. } = frame {
-        truths.resize(matchers.len(), false)?;
-        evaluate(matchers, order, atom, judge, truths.as_mut_slice());
+    /// Releases its slots.
+    pub fn release(self, table: &mut MatcherTable)
+        requires { (s : ℕ) → times_among s self.slots ≤ outside_uses (contents_of table.old) s }
+        ensures { ReleasesAll (contents_of table.old) self.slots (contents_of table.new) }
+    {
+        self.slots.release(table);
     }
-    Ok(())
 }

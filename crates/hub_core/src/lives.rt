@@ -1,18 +1,21 @@
 //! The live configurations of all clients, found by client and id, and how many each client has.
 ghost use Rattle.std.specs.Prelude.{◌≡◌, ◌≢◌, ◌≤◌, ◌<◌, ◌^◌, ℤ, [], Some, OnOk, IfOk};
+ghost use Rattle.matcher_table.specs.Contents.{contents_of};
 ghost use Rattle.hub_core.specs.Slots.{held_by, listed_at, count_at};
+ghost use Rattle.hub_core.specs.SharedTable.{IsHeldTable};
 
 use crate::books::Books;
 use crate::configs::link_config;
 use crate::live_instance::LiveInstance;
-use crate::logging::log_all;
-use crate::slots::{install_answer, others_of, put, report_at, set_count, take_out};
+use crate::logging::{evaluate, log_all};
+use crate::slots::{install_answer, others_of, put, release_old, report_at, set_count, take_out};
 use atom_record::LogFrame;
 use client_engine::{LiveId, ReportRequest};
 use config_links::Linked;
 use config_types::Config;
 use indexmap::IndexMap;
 use matcher_eval::Judge;
+use matcher_table::MatcherTable;
 use session_frames::{Refusal, ReplyBody};
 use state_slicer::StateBook;
 use std::alloc::{AllocError, Global};
@@ -26,9 +29,12 @@ pub struct Lives {
     slots: IndexMap<LiveId, LiveInstance>,
     /// How many slots a client has; a client without any isn't here.
     counts: IndexMap<i32, usize>,
+    /// The matchers of all of them, each different one once.
+    table: MatcherTable,
     ghost counted: { (uid : ℤ) → held_by uid slots.entries ≡ count_at uid counts.entries },
     ghost few: { (uid : ℤ) → held_by uid slots.entries ≤ 10 },
     ghost above_zero: { (uid : ℤ) → listed_at uid counts.entries ≢ Some 0 },
+    ghost held: { ∥ IsHeldTable (contents_of table) slots.entries ∥₁ },
 }
 
 impl Lives {
@@ -46,10 +52,11 @@ impl Lives {
         Lives {
             slots: IndexMap::new(alloc),
             counts: IndexMap::new(alloc),
+            table: MatcherTable::new(alloc),
         }
     }
 
-    /// A frame of the log comes to every configuration.
+    /// A frame of the log comes to the table, and then to every configuration.
     pub fn log<J: Judge>(
         self,
         judge: &mut J,
@@ -64,9 +71,18 @@ impl Lives {
         ensures ticks { OnOk result (AreTicks (asked_by_all frame.now self.slots.entries)
             (J.ticks judge.old) (J.ticks judge.new)) }
     {
-        let Lives { mut slots, counts } = self;
-        log_all(judge, &mut slots, frame, states, truths)?;
-        Ok(Lives { slots, counts })
+        let Lives {
+            mut slots,
+            counts,
+            mut table,
+        } = self;
+        evaluate(&mut table, judge, frame);
+        log_all(&mut slots, &table, frame, states, truths)?;
+        Ok(Lives {
+            slots,
+            counts,
+            table,
+        })
     }
 
     /// What was read of a configuration goes where the client's configuration of that id stands, or it is new.
@@ -111,15 +127,22 @@ impl Lives {
     {
         let there = self.slots.contains_key(&name);
         let others = others_of(&self.counts, name.uid, there);
-        let live = LiveInstance::new(alloc, linked, clock, books)?;
         // From here on the facts of the type may be false.
         let Lives {
             mut slots,
             mut counts,
+            mut table,
         } = self;
-        put(&mut slots, name, live)?;
+        let live = LiveInstance::new(alloc, linked, clock, books, &mut table)?;
+        let old = put(&mut slots, name, live)?;
+        release_old(&mut table, old);
         set_count(&mut counts, name.uid, others + 1)?;
-        Ok((Lives { slots, counts }, install_answer(there)))
+        let lives = Lives {
+            slots,
+            counts,
+            table,
+        };
+        Ok((lives, install_answer(there)))
     }
 
     /// Takes a client's configuration out. The last slot of the table takes its place.
@@ -133,10 +156,17 @@ impl Lives {
         let Lives {
             mut slots,
             mut counts,
+            mut table,
         } = self;
-        take_out(&mut slots, name);
+        let old = take_out(&mut slots, name);
+        release_old(&mut table, old);
         set_count(&mut counts, name.uid, others)?;
-        Ok((Lives { slots, counts }, ReplyBody::Removed))
+        let lives = Lives {
+            slots,
+            counts,
+            table,
+        };
+        Ok((lives, ReplyBody::Removed))
     }
 
     /// Reports a client's configuration.
@@ -148,8 +178,17 @@ impl Lives {
     ) -> Result<(Lives, ReplyBody), AllocError>
         ensures { IfOk result (λ r. ReportsLive request states.now (change self r.0 r.1)) }
     {
-        let Lives { mut slots, counts } = self;
+        let Lives {
+            mut slots,
+            counts,
+            table,
+        } = self;
         let body = report_at(&mut slots, alloc, request, states)?;
-        Ok((Lives { slots, counts }, body))
+        let lives = Lives {
+            slots,
+            counts,
+            table,
+        };
+        Ok((lives, body))
     }
 }

@@ -1,58 +1,49 @@
-//! A frame of the log comes to every live configuration.
-ghost use Rattle.std.specs.Prelude.{◌≡◌, OnOk};
+//! A frame of the log comes to the table of matchers and to every live configuration.
+ghost use Rattle.std.specs.Prelude.{OnOk};
 ghost use Rattle.session_frames.specs.Faultless.{IsFaultlessLog};
 ghost use Rattle.matcher_truths.specs.QuestionCounts.{AreTicks};
-ghost use Rattle.hub_core.specs.FrameTruths.{asked_by, LogsBy};
-ghost use Rattle.hub_core.specs.SlotLogs.{AllLog, asked_by_all};
+ghost use Rattle.matcher_table.specs.Contents.{contents_of};
+ghost use Rattle.hub_core.specs.SharedTable.{AllHeld};
+ghost use Rattle.hub_core.specs.SlotLogs.{EvaluatesFor, questions_for, AllShown};
 
 use crate::live_instance::LiveInstance;
 use atom_record::LogFrame;
-use client_engine::{LiveId, LogView};
+use client_engine::LiveId;
 use indexmap::IndexMap;
 use matcher_eval::Judge;
+use matcher_table::MatcherTable;
 use state_slicer::StateBook;
 use std::alloc::AllocError;
 
-/// A frame of the log comes to each configuration of the table.
-pub fn log_all<J: Judge>(
-    judge: &mut J,
+/// The truths of all matchers of the table, for an atom alone. No judge is asked elsewhere.
+pub fn evaluate<J: Judge>(table: &mut MatcherTable, judge: &mut J, frame: &LogFrame)
+    requires sound { IsFaultlessLog frame.now }
+    ensures evaluates { EvaluatesFor J.says frame.now (contents_of table.old) (contents_of table.new) }
+    ensures asked { AreTicks (questions_for frame.now (contents_of table.old))
+        (J.ticks judge.old) (J.ticks judge.new) }
+{
+    if let LogFrame::AtomAt { atom, .. } = frame {
+        table.evaluate(atom, judge);
+    }
+}
+
+/// A frame of the log comes to each configuration, with the results of its slots.
+pub fn log_all(
     slots: &mut IndexMap<LiveId, LiveInstance>,
+    table: &MatcherTable,
     frame: &LogFrame,
     states: &StateBook,
     truths: &mut Vec<bool>,
 ) -> Result<(), AllocError>
     requires sound { IsFaultlessLog frame.now }
-    ensures logs { OnOk result
-        (AllLog J.says frame.now states.now slots.old.entries slots.new.entries) }
-    ensures ticks { OnOk result (AreTicks (asked_by_all frame.now slots.old.entries)
-        (J.ticks judge.old) (J.ticks judge.new)) }
+    requires held { AllHeld (contents_of table.now) slots.old.entries }
+    ensures { OnOk result
+        (AllShown (contents_of table.now) frame.now states.now slots.old.entries slots.new.entries) }
 {
     for place in 0..slots.len() {
         if let Some(live) = slots.get_index_mut(place) {
-            log_to(live, judge, frame, states, truths)?;
+            live.log(table, frame, states, truths)?;
         }
     }
     Ok(())
-}
-
-// What a frame is shown with is made here, by the judge, and nothing below knows of it: a configuration takes what it
-// is shown.
-fn log_to<J: Judge>(
-    live: &mut LiveInstance,
-    judge: &mut J,
-    frame: &LogFrame,
-    states: &StateBook,
-    truths: &mut Vec<bool>,
-) -> Result<(), AllocError>
-    requires sound { IsFaultlessLog frame.now }
-    ensures logs { OnOk result (LogsBy J.says frame.now states.now live.old live.new) }
-    ensures ticks { OnOk result (AreTicks (asked_by frame.now live.old.matchers)
-        (J.ticks judge.old) (J.ticks judge.new)) }
-{
-    live.judge(judge, frame, truths)?;
-    let view = LogView {
-        matched: truths.as_slice(),
-        states,
-    };
-    live.apply(frame, &view)
 }

@@ -1,43 +1,63 @@
 //! Slots under names, and counts of them.
-ghost use Rattle.std.specs.Prelude.{◌≡◌, ◌+◌, ℤ, not, ◌&&◌, Some, None, is_some, OnOk, IfOk, if◌then◌else◌};
+ghost use Rattle.std.specs.Prelude.{◌≡◌, ◌+◌, ◌≤◌, ℕ, ℤ, not, ◌&&◌, Some, None, is_some, OnOk, IfOk, if◌then◌else◌};
 ghost use Rattle.std.specs.Ordering.{int_eq};
 ghost use Rattle.client_engine.specs.declared.live_id.LiveId.{LiveId};
+ghost use Rattle.indexmap.specs.IndexMap.{insert_entry, swap_remove_entry};
+ghost use Rattle.matcher_table.specs.Slots.{times_among};
+ghost use Rattle.matcher_table.specs.Tables.{outside_uses};
+ghost use Rattle.matcher_table.specs.Contents.{contents_of};
+ghost use Rattle.held_slots.specs.HoldingSteps.{ReleasesAll};
+ghost use Rattle.hub_core.specs.SharedTable.{slots_of, KeepsSlots};
 ghost use Rattle.hub_core.specs.Slots.{same_id, slot_at, listed_at, listed, others_at, held_by, ReportsAt};
 
 use crate::live_instance::LiveInstance;
 use client_engine::{LiveId, ReportRequest};
 use indexmap::IndexMap;
+use matcher_table::MatcherTable;
 use report_writer::write;
 use sd_base::Seq;
 use session_frames::ReplyBody;
 use state_slicer::StateBook;
 use std::alloc::{AllocError, Global};
 
-/// Puts a configuration under a name.
+/// Puts a configuration under a name, and gives back the one that stood there.
 pub fn put(
     slots: &mut IndexMap<LiveId, LiveInstance>,
     name: LiveId,
     live: LiveInstance,
-) -> Result<(), AllocError>
+) -> Result<Option<LiveInstance>, AllocError>
+    ensures old { IfOk result (λ old. old ≡ slot_at name slots.old.entries) }
+    ensures entries { OnOk result (slots.new.entries ≡ insert_entry same_id slots.old.entries name live) }
     ensures slots { OnOk result ((other : LiveId) → slot_at other slots.new.entries
         ≡ (if same_id name other then Some live else slot_at other slots.old.entries)) }
     ensures held { OnOk result ((uid : ℤ) → held_by uid slots.new.entries
         ≡ held_by uid slots.old.entries
         + (if int_eq name.uid uid && not (is_some (slot_at name slots.old.entries)) then 1 else 0)) }
 {
-    slots.insert(name, live)?;
-    Ok(())
+    Ok(slots.insert(name, live)?)
 }
 
 /// Takes what is under a name out; the last slot takes its place.
-pub fn take_out(slots: &mut IndexMap<LiveId, LiveInstance>, name: LiveId)
+pub fn take_out(slots: &mut IndexMap<LiveId, LiveInstance>, name: LiveId) -> Option<LiveInstance>
+    ensures old { result ≡ slot_at name slots.old.entries }
+    ensures entries { slots.new.entries ≡ swap_remove_entry (same_id name) slots.old.entries }
     ensures slots { (other : LiveId) → slot_at other slots.new.entries
         ≡ (if same_id name other then None else slot_at other slots.old.entries) }
     ensures held { (uid : ℤ) → held_by uid slots.new.entries
         + (if int_eq name.uid uid && is_some (slot_at name slots.old.entries) then 1 else 0)
         ≡ held_by uid slots.old.entries }
 {
-    slots.swap_remove(&name);
+    slots.swap_remove(&name)
+}
+
+/// Releases the slots of a configuration that was live, if there was one.
+pub fn release_old(table: &mut MatcherTable, old: Option<LiveInstance>)
+    requires { (s : ℕ) → times_among s (slots_of old) ≤ outside_uses (contents_of table.old) s }
+    ensures { ReleasesAll (contents_of table.old) (slots_of old) (contents_of table.new) }
+{
+    if let Some(live) = old {
+        live.release(table);
+    }
 }
 
 /// Reports what is under the name that is asked for, as the bytes of its message.
@@ -51,6 +71,7 @@ pub fn report_at(
         (ReportsAt request states.now slots.old.entries slots.new.entries) }
     ensures held { OnOk result ((uid : ℤ) →
         held_by uid slots.new.entries ≡ held_by uid slots.old.entries) }
+    ensures same { OnOk result (KeepsSlots slots.old.entries slots.new.entries) }
 {
     let Some(live) = slots.get_mut(&request.name) else {
         return Ok(ReplyBody::NoConfig);

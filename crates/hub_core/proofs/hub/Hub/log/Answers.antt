@@ -6,9 +6,7 @@ use Rattle.matcher_truths.specs.QuestionCounts.{AreTicks}
 use Rattle.metric_meaning.specs.ShownFrames.{shown_as}
 use Rattle.hub_meaning.specs.SessionLog.{log_frames}
 use Rattle.hub_core.specs.HubStands.{judge_of}
-use Rattle.hub_core.specs.FrameTruths.{asked_by}
-use Rattle.hub_core.specs.SlotLogs.{AllLog}
-use Rattle.hub_core.proofs.SlotLogsLemmas.{asked_shown}
+use Rattle.hub_core.specs.SlotLogs.{AllLog, asked_by_all}
 use Rattle.hub_core.proofs.HubStandsLemmas.{hub_log}
 use Rattle.hub_core.proofs.hub.Hub.log.Goals as goal
 
@@ -35,10 +33,7 @@ returns-clause-stands g c = λ frames h in_time.
 -- what is shown is worth as many questions as the frame
 pub returns-clause-asked : goal.returns-clause-asked
 returns-clause-asked g c =
-    let shown = c.shown_of-shown.result.now in
     let rows = c.args.self.lives.slots.entries in
     subst (λ n. AreTicks n (g.J.Judge.ticks (judge_of c.args.self)) (g.J.Judge.ticks c.log.new.judge))
-    (asked_shown shown c.args.frame
-    (λ matchers. ap (λ f. asked_by f matchers) c.shown_of-shown.ensures
-    ∙ c.shown_instead-instead.ensures.asked matchers) rows)
+    (ap (λ f. asked_by_all f rows) c.shown_of-shown.ensures ∙ c.shown_instead-instead.ensures.asked rows)
     c.in_ok-self.ensures.ticks

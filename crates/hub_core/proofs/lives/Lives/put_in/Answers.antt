@@ -1,17 +1,25 @@
 -- The counts are those of the slots, and the configuration stands under its name.
-use Rattle.std.proofs.Common.{SFits, w32, rules, ◌≡◌, ◌<◌, ◌+◌, cond, arith, ap, ◌∙◌}
+use Rattle.std.proofs.Common.{SFits, w32, rules, ◌≡◌, ◌≤◌, ◌<◌, ◌+◌, Option, cond, arith, ap, sym, subst, ◌∙◌}
+use Rattle.std.proofs.lemmas.Grind.{merely}
 use Rattle.std.proofs.lemmas.Int.{to_z-of_z}
 use Rattle.session_frames.specs.declared.reply.ReplyBody.TheVariants.{Replaced, Installed}
+use Rattle.matcher_table.specs.Slots.{times_among}
+use Rattle.matcher_table.specs.Tables.{outside_uses}
+use Rattle.matcher_table.specs.Contents.{contents_of}
+use Rattle.held_slots.specs.HoldingSteps.{ReleasesAll}
+use Rattle.hub_core.specs.declared.live_instance.LiveInstance.{LiveInstance}
+use Rattle.hub_core.specs.SharedTable.{IsHeldTable, slots_of}
 use Rattle.hub_core.specs.Slots.{others_at}
 use Rattle.hub_core.specs.Commands.{others}
 use Rattle.hub_core.proofs.HeldLemmas.{counted_put, counts_set, above_set}
 use Rattle.hub_core.proofs.CommandLemmas.{puts_in}
+use Rattle.hub_core.proofs.TableLemmas.{table_held, insert-may_release, insert-held}
 use Rattle.hub_core.proofs.lives.Lives.put_in.Goals as goal
 
-pub invariant_of-result : goal.invariant_of-result
-invariant_of-result c =
+pub invariant_of-lives : goal.invariant_of-lives
+invariant_of-lives c =
     let uid_fits : SFits w32 c.args.name.uid = search rules in
-    let held = c.in_ok-put.ensures.held in
+    let held = c.in_ok-old.ensures.held in
     let count = c.others_of-others.result + 1 in
     let listed = simp to_z-of_z at c.in_ok-set_count.ensures in
     let counts = c.args.self.counts.entries in
@@ -28,18 +36,32 @@ invariant_of-result c =
       counted = λ uid. (all uid).0;
       few = λ uid. (all uid).1;
       above_zero = above_set c.args.name.uid count counts c.set_count.new.counts.entries listed c.args.self.above_zero;
+      held = merely (subst (IsHeldTable (contents_of c.release_old.new.table)) (sym c.in_ok-old.ensures.entries)
+          (insert-held c.args.name c.in_ok-live.live c.args.self.slots.entries (contents_of c.args.self.table)
+          (contents_of c.new.new.table) (contents_of c.release_old.new.table) (table_held c.args.self)
+          c.in_ok-live.ensures.holds c.in_ok-live.ensures.uses c.in_ok-live.ensures.others
+          (subst (λ (old : Option LiveInstance). ReleasesAll (contents_of c.new.new.table) (slots_of old)
+          (contents_of c.release_old.new.table)) c.in_ok-old.ensures.old c.release_old.ensures)));
     }
+
+pub release_old-requires : goal.release_old-requires
+release_old-requires c = λ s.
+    subst (λ (old : Option LiveInstance). times_among s (slots_of old) ≤ outside_uses (contents_of c.new.new.table) s)
+    (sym c.in_ok-old.ensures.old)
+    (insert-may_release c.args.name c.in_ok-live.live c.args.self.slots.entries (contents_of c.args.self.table)
+    (contents_of c.new.new.table) (contents_of c.new.new.table) (table_held c.args.self)
+    c.in_ok-live.ensures.holds c.in_ok-live.ensures.uses c.in_ok-live.ensures.others s)
 
 pub returns : goal.returns
 returns c =
     let uid_fits : SFits w32 c.args.name.uid = search rules in
-    let slots = c.in_ok-put.ensures.slots in
+    let slots = c.in_ok-old.ensures.slots in
     let set = counts_set c.args.name.uid (c.others_of-others.result + 1) c.args.self.counts.entries
     c.set_count.new.counts.entries (simp to_z-of_z at c.in_ok-set_count.ensures) in
     let there = c.contains_key-there.ensures in
     let is = simp to_z-of_z at c.others_of-others.ensures in
     puts_in c.args.clock c.args.books.now c.args.name c.args.linked c.args.self _
     c.install_answer.result
-    c.in_ok-live.live c.others_of-others.result c.in_ok-live.ensures slots set
+    c.in_ok-live.live c.others_of-others.result c.in_ok-live.ensures.fresh slots set
     (is ∙ ap (λ b. others_at c.args.name.uid b c.args.self.counts.entries) there)
     (c.install_answer.ensures ∙ ap (λ b. cond b Replaced Installed) there)

@@ -1,0 +1,45 @@
+-- The table of matchers that all live configurations share, and what each of them holds of it.
+use Rattle.std.specs.Prelude.{◌≡◌, ℕ, List, [], Option, Some, None, sum_by}
+use Rattle.std.specs.List.{All}
+use Rattle.link_graph.specs.Links.{AreInRange, HasNoCycle}
+use Rattle.matcher_truths.specs.MatcherTruths.{named_places}
+use Rattle.matcher_table.specs.Slots.{times_among}
+use Rattle.matcher_table.specs.Tables.{SlotTable, outside_uses}
+use Rattle.held_slots.specs.Holdings.{Holds}
+use Rattle.client_engine.specs.declared.live_id.LiveId.{LiveId}
+use Rattle.hub_core.specs.declared.live_instance.LiveInstance.{LiveInstance}
+
+-- Each slot of a live configuration stands for its own matcher, and no matcher is below itself.
+pub record IsHeldIn (table : SlotTable) (live : LiveInstance) : Type 0 where
+  pub slots : Holds table live.slots live.instance.matchers
+  pub in_range : AreInRange (named_places live.instance.matchers)
+  pub no_cycle : HasNoCycle (named_places live.instance.matchers)
+
+-- each of these configurations holds its matchers
+abbrev pub AllHeld : SlotTable → List (LiveId × LiveInstance) → Type 0
+AllHeld table rows = All (λ (row : LiveId × LiveInstance). IsHeldIn table row.1) rows
+
+-- how many places of all their lists hold a slot
+abbrev pub places_holding : ℕ → List (LiveId × LiveInstance) → ℕ
+places_holding s rows = sum_by (λ (row : LiveId × LiveInstance). times_among s row.1.slots) rows
+
+-- The table is held by these configurations: each slot that one holds stands for its own matcher, and the outside uses
+-- of a slot are the places that hold it.
+pub record IsHeldTable (table : SlotTable) (rows : List (LiveId × LiveInstance)) : Type 0 where
+  pub all : AllHeld table rows
+  pub uses : (s : ℕ) → outside_uses table s ≡ places_holding s rows
+
+-- the slots of a configuration, if there is one
+abbrev pub slots_of : Option LiveInstance → List ℕ
+slots_of None = []
+slots_of (Some live) = live.slots
+
+-- a configuration has the slots and the matchers that it had
+pub record HasSameSlots (old new : LiveInstance) : Type 0 where
+  pub slots : new.slots ≡ old.slots
+  pub matchers : new.instance.matchers ≡ old.instance.matchers
+
+-- what is held of a table by these is held by those
+pub record KeepsSlots (olds news : List (LiveId × LiveInstance)) : Type 0 where
+  pub all : (table : SlotTable) → AllHeld table olds → AllHeld table news
+  pub places : (s : ℕ) → places_holding s news ≡ places_holding s olds
