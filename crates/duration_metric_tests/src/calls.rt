@@ -3,8 +3,9 @@
 //! a full end and of so many full buckets after it, `cut:5` a cut, `take` a report, and `inner` shows the inner keys.
 //! `rebuilt` goes on with what the producer's items build, and `turns:100/8` stands for 100 events, each with its
 //! condition: 8 inner keys start one after the other, each true for the output key 7, and stop, the last one first, again
-//! and again. An event's time is its number.
-use super::shown::{push_closed, push_key};
+//! and again. An event's time is its number. `apart:100/8` are the same events, of inner keys that each have an output key
+//! of their own number, and `total` is a report of which the number of rows is shown, and the sum of their values.
+use super::shown::{push_closed, push_key, push_total};
 use atom_record::{DimKey, Leaf, MetricKey, Value};
 use bucket_clock::Crossings;
 use duration_metric::{InnerChange, InnerDelta, InnerEvent, MaxProducer, Producer, SumProducer};
@@ -75,18 +76,40 @@ enum Do<'a> {
     Cut(u64),
     /// A report is made.
     Take,
+    /// A report is made, of which the sum is shown.
+    Total,
     /// The inner keys are shown.
     Inner,
     /// The producer is built again.
     Rebuild,
     /// So many events, by so many inner keys in turn.
-    Turns(u64, u64),
+    Turns(u64, Turns),
+}
+
+/// The inner keys that start and stop in turn.
+#[derive(Clone, Copy)]
+struct Turns {
+    /// How many there are.
+    keys: u64,
+    /// Whether each has an output key of its own, or 7 is the one of all.
+    are_apart: bool,
+}
+
+impl Turns {
+    fn out_of(self, number: u32) -> i32 {
+        if self.are_apart {
+            number.cast_signed()
+        } else {
+            7
+        }
+    }
 }
 
 /// The call of a word.
 fn call_of(word: &str) -> Option<Do<'_>> {
     match word {
         "take" => return Some(Do::Take),
+        "total" => return Some(Do::Total),
         "inner" => return Some(Do::Inner),
         "rebuilt" => return Some(Do::Rebuild),
         _ => (),
@@ -95,7 +118,8 @@ fn call_of(word: &str) -> Option<Do<'_>> {
     match before {
         "cut" => Some(Do::Cut(unsigned(after)?)),
         "cross" => crossing_of(after),
-        "turns" => turns_of(after),
+        "turns" => turns_of(after, false),
+        "apart" => turns_of(after, true),
         _ => step_of(unsigned(before)?, after),
     }
 }
@@ -107,13 +131,13 @@ fn crossing_of(text: &str) -> Option<Do<'_>> {
 }
 
 /// Events in turn, as `100/8`.
-fn turns_of(text: &str) -> Option<Do<'_>> {
+fn turns_of(text: &str, are_apart: bool) -> Option<Do<'_>> {
     let (count, keys) = text.split_once('/')?;
     let keys = unsigned(keys)?;
     if keys < 1 || keys > 3000 {
         return None;
     }
-    Some(Do::Turns(unsigned(count)?, keys))
+    Some(Do::Turns(unsigned(count)?, Turns { keys, are_apart }))
 }
 
 /// What happens at a time, as `start=7`.
@@ -178,6 +202,7 @@ pub fn played<P: Timed + Drop>(
     for word in text.split_whitespace() {
         match call_of(word) {
             Some(Do::Take) => push_closed(&mut shown, &producer.take())?,
+            Some(Do::Total) => push_total(&mut shown, &producer.take())?,
             Some(Do::Inner) => push_inner(&mut shown, producer)?,
             Some(Do::Rebuild) => build_again(alloc, &mut shown, producer)?,
             Some(call) => act(alloc, producer, size, call)?,
@@ -244,8 +269,8 @@ fn act<P: Timed>(
             size,
         }),
         Do::Cut(at) => producer.cut(at),
-        Do::Turns(count, keys) => turn(alloc, producer, count, keys),
-        Do::Take | Do::Inner | Do::Rebuild => Ok(()),
+        Do::Turns(count, turns) => turn(alloc, producer, count, turns),
+        Do::Take | Do::Total | Do::Inner | Do::Rebuild => Ok(()),
     }
 }
 
@@ -254,10 +279,10 @@ fn turn<P: Timed>(
     alloc: Global,
     producer: &mut P,
     count: u64,
-    keys: u64,
+    turns: Turns,
 ) -> Result<(), AllocError> {
     for at in 0..count {
-        turn_once(alloc, producer, at, keys)?;
+        turn_once(alloc, producer, at, turns)?;
     }
     Ok(())
 }
@@ -267,14 +292,16 @@ fn turn_once<P: Timed>(
     alloc: Global,
     producer: &mut P,
     at: u64,
-    keys: u64,
+    turns: Turns,
 ) -> Result<(), AllocError> {
+    let keys = turns.keys;
     if keys == 0 {
         return Ok(());
     }
     let step = at % keys;
     if (at / keys) % 2 == 0 {
-        return start_one(alloc, producer, at, small(step));
+        let number = small(step);
+        return start_one(alloc, producer, at, number, turns.out_of(number));
     }
     let last = keys.saturating_sub(1);
     stop_one(alloc, producer, at, small(last.saturating_sub(step)))
@@ -288,17 +315,18 @@ fn small(number: u64) -> u32 {
     small
 }
 
-/// A key starts, as the last one, and is true for the output key 7.
+/// A key starts, as the last one, and is true for this output key.
 fn start_one<P: Timed>(
     alloc: Global,
     producer: &mut P,
     at: u64,
     number: u32,
+    out: i32,
 ) -> Result<(), AllocError> {
     give(alloc, producer, at, PredEvent::Start, number)?;
     let mut changes = Seq::new(alloc);
     let out = MetricKey {
-        dims: key_of(alloc, 7)?,
+        dims: key_of(alloc, out)?,
         slices: Seq::new(alloc),
     };
     changes.push(InnerChange {

@@ -14,6 +14,16 @@ pub fn push_closed(text: &mut String, closed: &Closed<u64>) -> Result<(), AllocE
     text.push_str("; ")
 }
 
+/// What one report shows, as the number of its rows and the sum of their values, with a `;` after it.
+pub fn push_total(text: &mut String, closed: &Closed<u64>) -> Result<(), AllocError> {
+    let mut total = 0_u64;
+    for row in closed.rows.as_slice() {
+        total = total.saturating_add(row.value);
+    }
+    let count = closed.rows.len();
+    write!(text, "{count} rows {total} ; ")
+}
+
 fn push_row(text: &mut String, row: &Row<u64>) -> Result<(), AllocError> {
     push_key(text, row.key.dims.as_slice())?;
     let (start, end, value) = (row.start, row.end, row.value);
