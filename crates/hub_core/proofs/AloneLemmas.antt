@@ -37,13 +37,14 @@ use Rattle.hub_core.proofs.OneSlotLemmas.{one_slot}
 found_held : (table : SlotTable) (name : LiveId) (it : LiveInstance) (rows : List (LiveId × LiveInstance))
     → AllHeld table rows → slot_at name rows ≡ Some it → IsHeldIn table it
 found_held table name it [] all is = absurd (cc)
-found_held table name it (row ∷ rows) all is = by_case (same_id name row.0) is where
-  P : LiveId × LiveInstance → Type 0
-  P row = IsHeldIn table row.1
-
-  by_case : (same : Bool) → cond same (Some row.1) (slot_at name rows) ≡ Some it → IsHeldIn table it
-  by_case true is' = subst (IsHeldIn table) (same_Some row.1 it is') (All-head P row rows all)
-  by_case false is' = found_held table name it rows (All-tail P row rows all) is'
+found_held table name it (row ∷ rows) all is =
+    let P : LiveId × LiveInstance → Type 0 = λ row. IsHeldIn table row.1 in
+    by_case (same_id name row.0) is (All-head P row rows all)
+    (λ later. found_held table name it rows (All-tail P row rows all) later) where
+      by_case : (same : Bool) → cond same (Some row.1) (slot_at name rows) ≡ Some it → IsHeldIn table row.1
+          → (slot_at name rows ≡ Some it → IsHeldIn table it) → IsHeldIn table it
+      by_case true is' here later = subst (IsHeldIn table) (same_Some row.1 it is') here
+      by_case false is' here later = later is'
 
 -- a list that has at each place what a function makes of the other's
 made_along : (f : ℕ → ℕ) (xs ys : List ℕ) → length ys ≡ length xs
@@ -171,18 +172,22 @@ module _ (says : SimpleMatcher → Atom → Bool) {J : Type 0} (client : ℤ) (a
   pick : (s : ℕ) (configs : List LiveConfig) → Pick client shared alone s configs
   pick s [] = record { value = 0; is = λ id config e some. absurd (cc) }
   pick s (first ∷ others) =
+      let later = pick s others in
       elim (cases_eq (times_among s (slots_of (live_at client first.id shared))) 0) [
         | inl none ↦
-            record { value = (pick s others).value; is = λ id config. by_case none id config (int_eq first.id id) refl }
+            record {
+              value = later.value;
+              is = λ id config. by_case later none id config (int_eq first.id id) refl;
+            }
         | inr here ↦
             let met = meet s first.id (omega (arith, here)) in
             record { value = met.0; is = λ id config e some. met.1 }
       ] where
-        by_case : times_among s (slots_of (live_at client first.id shared)) ≡ 0 → (id : ℤ) (config : LiveConfig)
+        by_case : (later : Pick client shared alone s others)
+            → times_among s (slots_of (live_at client first.id shared)) ≡ 0 → (id : ℤ) (config : LiveConfig)
             (same : Bool) → int_eq first.id id ≡ same → cond same (Some first) (config_at id others) ≡ Some config
-            → 0 < times_among s (slots_of (live_at client id shared))
-            → Meets shared alone s (pick s others).value
-        by_case none id config true is e some =
+            → 0 < times_among s (slots_of (live_at client id shared)) → Meets shared alone s later.value
+        by_case later none id config true is e some =
             let it : first.id ≡ id = (signed_Decides first.id id).0 is in
             absurd (omega (
               arith,
@@ -190,10 +195,10 @@ module _ (says : SimpleMatcher → Atom → Bool) {J : Type 0} (client : ℤ) (a
               none,
               ap (λ (n : ℤ). times_among s (slots_of (live_at client n shared))) it,
             ))
-        by_case none id config false is e some = (pick s others).is id config e some
+        by_case later none id config false is e some = later.is id config e some
 
   -- the new name of a slot
-  new_name : ℕ → ℕ
+  abbrev new_name : ℕ → ℕ
   new_name s = (pick s (live frames)).value
 
   named : (s : ℕ) → HoldsSlot client shared s → Meets shared alone s (new_name s)
@@ -205,6 +210,7 @@ module _ (says : SimpleMatcher → Atom → Bool) {J : Type 0} (client : ℤ) (a
       → live_at client id alone ≡ b → config_at id (live frames) ≡ config
       → SlotStandsFor says client frames a config → SlotStandsFor says client frames b config
       → IsSameLive new_name a b
+  unfolding both_of
   same_live id None None config is_a is_b is_config at at_alone = tt
   same_live id None (Some b) None is_a is_b is_config at at_alone = absurd at_alone
   same_live id None (Some b) (Some config) is_a is_b is_config at at_alone = absurd at
