@@ -1,9 +1,9 @@
 -- Releasing the slots of a list, one after another.
-use Rattle.std.proofs.Common.{◌≡◌, ℕ, ◌+◌, ◌<◌, ◌≤◌, List, [], length, get_or, take, refl, sym, ap, subst, ◌∙◌, arith, inl, inr}
+use Rattle.std.proofs.Common.{◌≡◌, ℕ, ◌+◌, ◌<◌, ◌≤◌, List, [], length, get_or, take, refl, sym, subst, ◌∙◌, arith, inl, inr}
 use Rattle.std.specs.Prelude.{◌==◌, cond}
 use Rattle.std.proofs.lemmas.Bool.{cases_eq}
 use Rattle.std.proofs.lemmas.List.Sums.{sum_by-take-le}
-use Rattle.matcher_table.specs.Slots.{matcher_at, times_among}
+use Rattle.matcher_table.specs.Slots.{times_among}
 use Rattle.matcher_table.specs.Tables.{SlotTable, outside_uses}
 use Rattle.matcher_table.specs.Steps.{Releases}
 use Rattle.matcher_table.proofs.Counting.{one_if_same, one_if_other, places_more}

@@ -1,6 +1,6 @@
 -- After an evaluation held slots have the truths of the configuration's own matchers.
-use Rattle.std.proofs.Common.{◌≡◌, ℕ, zero, suc, ◌<◌, Bool, false, List, [], ◌∷◌, length, map, get_or, Option, Some, None, refl, sym, ap, ◌∙◌, arith}
-use Rattle.std.specs.List.{slice_get, Contains}
+use Rattle.std.proofs.Common.{◌≡◌, ℕ, zero, suc, ◌<◌, Bool, false, List, [], ◌∷◌, length, map, get_or, Option, Some, None, refl, ap, ◌∙◌, arith}
+use Rattle.std.specs.List.{slice_get}
 use Rattle.std.proofs.lemmas.List.{length-map, get_or-map}
 use Rattle.std.proofs.lemmas.List.FromFn.{fill_by_all}
 use Rattle.atom_record.specs.declared.atom.Atom.{Atom}
@@ -19,7 +19,7 @@ use Rattle.matcher_table.specs.TableFacts.{IsSoundTable}
 use Rattle.matcher_table.specs.Contents.{contents_of}
 use Rattle.matcher_table.specs.declared.table.MatcherTable.{MatcherTable}
 use Rattle.matcher_table.proofs.TableLaws.{sound_table, is_sound, had_held, had_indexed, had_used}
-use Rattle.held_slots.specs.Holdings.{Holds, own_tree_from, own_tree_step, own_tree}
+use Rattle.held_slots.specs.Holdings.{Holds, own_tree_from, own_tree_step}
 use Rattle.held_slots.proofs.HoldingLaws.{held_live, held_tree}
 
 module _ (says : SimpleMatcher → Atom → Bool) (atom : Atom) where

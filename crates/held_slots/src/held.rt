@@ -11,9 +11,9 @@ ghost use Rattle.matcher_table.specs.Contents.{contents_of};
 ghost use Rattle.held_slots.specs.Holdings.{in_slots, Holds, IsHeldAt, AreLive};
 ghost use Rattle.held_slots.specs.HoldingSteps.{KeepsLive, AddsUses, ReleasesAll};
 
+use crate::order::interning_order;
 use config_links::{LMatcher, Linked};
 use matcher_table::{MatcherTable, Slot};
-use matcher_truths::evaluation_order;
 use sd_base::Seq;
 use std::alloc::{AllocError, Global};
 use std::marker::Model;
@@ -49,7 +49,7 @@ impl HeldSlots {
         ensures others { OnOk result (KeepsLive (contents_of table.old) (contents_of table.new)) }
     {
         let matchers = linked.matchers.as_slice();
-        let order = evaluation_order(alloc, matchers)?;
+        let order = interning_order(alloc, matchers)?;
         let numbers = numbers_along(alloc, table, matchers, order.as_slice())?;
         Ok(HeldSlots {
             numbers: Seq::from_vec(numbers),

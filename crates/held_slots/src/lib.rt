@@ -3,6 +3,7 @@
 
 mod held;
 mod laws;
+mod order;
 
 pub use held::HeldSlots;
 pub use laws::{

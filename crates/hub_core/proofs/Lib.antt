@@ -10,3 +10,5 @@ mod InstallReadingLemmas
 mod CommandLemmas
 mod ShownLemmas
 mod HubStandsLemmas
+mod OneSlotLemmas
+mod AloneLemmas

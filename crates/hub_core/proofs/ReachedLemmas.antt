@@ -33,12 +33,12 @@ use Rattle.hub_core.proofs.CopyLemmas.{copies, copies-append}
 
 -- how deep a tree is
 abbrev mutual
-  depth : Tree → ℕ
+  pub depth : Tree → ℕ
   depth NoMatcher = 0
   depth (Leaf matcher) = 1
   depth (Branch op trees) = suc (depths trees)
 
-  depths : Trees → ℕ
+  pub depths : Trees → ℕ
   depths NoTrees = 0
   depths (MoreTrees tree trees) = depth tree + (depths trees - depth tree)
 
@@ -67,7 +67,7 @@ unrolled_most slots (suc n) s =
     from_most (unroll (tree_step slots) NoMatcher n) n (unrolled_most slots n) (matcher_at slots s)
 
 -- a tree is deeper than those in it
-from_least : (f : ℕ → Tree) (y : ℕ) (o : Option SharedMatcher) → 0 < times_among y (children_of o)
+pub from_least : (f : ℕ → Tree) (y : ℕ) (o : Option SharedMatcher) → 0 < times_among y (children_of o)
     → suc (depth (f y)) ≤ depth (tree_from f o)
 from_least f y None some = absurd (omega arith)
 from_least f y (Some (Simple matcher)) some = absurd (omega arith)

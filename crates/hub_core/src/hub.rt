@@ -1,11 +1,11 @@
 //! The hub of all clients, one frame at a time.
-ghost use Rattle.std.specs.Prelude.{◌≡◌, ◌≤◌, List, [], ◌++◌, ◌∷◌, IfOk};
+ghost use Rattle.std.specs.Prelude.{◌≡◌, ◌≤◌, ℤ, List, [], ◌++◌, ◌∷◌, IfOk};
 ghost use Rattle.session_frames.specs.declared.frame.Frame.TheVariants.{Log};
 ghost use Rattle.session_frames.specs.Faultless.{IsFaultlessLog};
 ghost use Rattle.session_frames.specs.declared.frame.Frame.{Frame};
 ghost use Rattle.session_frames.specs.Frames.{log_time, IsFaultless, IsInTime};
-ghost use Rattle.matcher_truths.specs.QuestionCounts.{AreTicks};
-ghost use Rattle.hub_meaning.specs.SessionLog.{clock_of};
+ghost use Rattle.matcher_table.specs.Truths.{HaveRisen};
+ghost use Rattle.hub_meaning.specs.SessionLog.{own, clock_of};
 ghost use Rattle.hub_meaning.specs.ClientAnswers.{reply_to};
 ghost use Rattle.hub_meaning.specs.ClientIsolation.{EqualOwnFramesEqualReplies};
 
@@ -33,6 +33,7 @@ pub struct Hub<J: Judge> {
 
 impl<J: Judge> Hub<J> {
     ghost use Rattle.hub_core.specs.HubStands.{judge_of, asked_in, HubStandsFor};
+    ghost use Rattle.hub_core.specs.Alone.{RunsAsAlone};
 
     /// A hub that has seen no frame. It takes no memory yet.
     pub fn new(alloc: Global, judge: J) -> Hub<J>
@@ -67,7 +68,7 @@ impl<J: Judge> Hub<J> {
             × (r.1 ≡ reply_to J.says frames frame)) }
 
         // The judge is asked at atoms alone, once for each different simple matcher of the atom's id in all live ones.
-        ensures asked { IfOk result (λ r. AreTicks (asked_in frame self)
+        ensures asked { IfOk result (λ r. HaveRisen (asked_in frame self)
             (J.ticks (judge_of self)) (J.ticks (judge_of r.0))) }
 
         // What other clients do is no matter: equal own frames of a client have equal replies.
@@ -76,6 +77,13 @@ impl<J: Judge> Hub<J> {
         self.serve(frame)
     }
 
+    /// The law between this hub and a client's private run, which is a hub of the log and that client's commands alone:
+    /// what the client has in both is the same, up to a renaming of slots. It does nothing when it runs.
+    pub fn runs_as_alone(&self, alone: &Hub<J>)
+        ensures { (client : ℤ) (frames : List Frame) → HubStandsFor J.says self.now frames
+            → HubStandsFor J.says alone.now (own client frames) → RunsAsAlone client self.now alone.now }
+    {}
+
     // Takes in a frame of the log: the book of states takes it, then it comes to every configuration as it is shown,
     // and what it pulled is recorded last.
     fn log(mut self, frame: LogFrame) -> Result<Hub<J>, AllocError>
@@ -83,7 +91,7 @@ impl<J: Judge> Hub<J> {
         ensures stands { (frames : List Frame) → HubStandsFor J.says self frames
             → clock_of frames ≤ log_time frame
             → IfOk result (λ new. HubStandsFor J.says new (frames ++ Log frame ∷ [])) }
-        ensures asked { IfOk result (λ new. AreTicks (asked_in (Log frame) self)
+        ensures asked { IfOk result (λ new. HaveRisen (asked_in (Log frame) self)
             (J.ticks (judge_of self)) (J.ticks (judge_of new))) }
     {
         self.clock = LogClock {
@@ -100,13 +108,13 @@ impl<J: Judge> Hub<J> {
     }
 
     // Takes in a frame of its kind.
-    #[tactic(auto, using(matcher_truths::proofs::QuestionCountsLemmas::rises_by_none))]
+    #[tactic(auto, using(matcher_table::proofs::EvaluationLaws::rises_by_none))]
     fn serve(mut self, frame: Frame) -> Result<(Hub<J>, Option<Reply>), AllocError>
         requires faultless { IsFaultless frame }
         ensures serves { (frames : List Frame) → HubStandsFor J.says self frames
             → IsInTime (clock_of frames) frame → IfOk result (λ r. HubStandsFor J.says r.0 (frames ++ frame ∷ [])
             × (r.1 ≡ reply_to J.says frames frame)) }
-        ensures asked { IfOk result (λ r. AreTicks (asked_in frame self)
+        ensures asked { IfOk result (λ r. HaveRisen (asked_in frame self)
             (J.ticks (judge_of self)) (J.ticks (judge_of r.0))) }
     {
         match frame {

@@ -39,7 +39,7 @@ pub struct Lives {
 
 impl Lives {
     ghost use Rattle.session_frames.specs.Faultless.{IsFaultlessLog};
-    ghost use Rattle.matcher_truths.specs.QuestionCounts.{AreTicks};
+    ghost use Rattle.matcher_table.specs.Truths.{HaveRisen};
     ghost use Rattle.config_links.specs.SoundConfig.{IsSoundConfig};
     ghost use Rattle.hub_core.specs.SlotLogs.{AllLog, asked_by_all};
     ghost use Rattle.hub_core.specs.Commands.{change, others, Installs, PutsIn, Removes, ReportsLive};
@@ -68,7 +68,7 @@ impl Lives {
         ensures slots { IfOk result (λ new.
             AllLog J.says frame.now states.now self.slots.entries new.slots.entries) }
         ensures counts { IfOk result (λ new. new.counts ≡ self.counts) }
-        ensures ticks { OnOk result (AreTicks (asked_by_all frame.now self.slots.entries)
+        ensures ticks { OnOk result (HaveRisen (asked_by_all frame.now self.slots.entries)
             (J.ticks judge.old) (J.ticks judge.new)) }
     {
         let Lives {

@@ -1,7 +1,7 @@
 //! A frame of the log comes to the table of matchers and to every live configuration.
 ghost use Rattle.std.specs.Prelude.{OnOk};
 ghost use Rattle.session_frames.specs.Faultless.{IsFaultlessLog};
-ghost use Rattle.matcher_truths.specs.QuestionCounts.{AreTicks};
+ghost use Rattle.matcher_table.specs.Truths.{HaveRisen};
 ghost use Rattle.matcher_table.specs.Contents.{contents_of};
 ghost use Rattle.hub_core.specs.SharedTable.{AllHeld};
 ghost use Rattle.hub_core.specs.SlotLogs.{EvaluatesFor, questions_for, AllShown};
@@ -19,7 +19,7 @@ use std::alloc::AllocError;
 pub fn evaluate<J: Judge>(table: &mut MatcherTable, judge: &mut J, frame: &LogFrame)
     requires sound { IsFaultlessLog frame.now }
     ensures evaluates { EvaluatesFor J.says frame.now (contents_of table.old) (contents_of table.new) }
-    ensures asked { AreTicks (questions_for frame.now (contents_of table.old))
+    ensures asked { HaveRisen (questions_for frame.now (contents_of table.old))
         (J.ticks judge.old) (J.ticks judge.new) }
 {
     if let LogFrame::AtomAt { atom, .. } = frame {

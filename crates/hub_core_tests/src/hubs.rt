@@ -1,5 +1,6 @@
 //! The rows: a hub under a judge, and what it is given and answers, a line after the other.
 use super::judges::{Counting, Nodder, Tallier};
+use super::mixed::compare_mixed;
 use super::tried::Tried;
 use matcher_eval::FieldJudge;
 use std::alloc::{AllocError, Global};
@@ -10,7 +11,7 @@ pub struct Hubs;
 
 impl Table for Hubs {
     fn marks(&self) -> &'static str {
-        "judge > < asked"
+        "judge > < asked again log do mixed"
     }
 
     fn run(&self, alloc: Global, tester: &mut Tester, row: &Row<'_>) -> Result<(), AllocError> {
@@ -33,25 +34,29 @@ fn run_lines<J: Counting>(
     let mut tried = Tried::new(alloc, judge)?;
     for line in row.block().lines() {
         if line != row.name && !line.starts_with('#') {
-            run_line(alloc, tester, &mut tried, line)?;
+            run_line(alloc, tester, &mut tried, row, line)?;
         }
     }
     Ok(())
 }
 
-/// Runs a line: frames, the replies to them, or how often the judge was asked so far.
+/// Runs a line: frames, the replies to them, how often the judge was asked so far, frames that are taken again and again,
+/// or a session of many clients.
 fn run_line<J: Counting>(
     alloc: Global,
     tester: &mut Tester,
     tried: &mut Tried<J>,
+    row: &Row<'_>,
     line: &str,
 ) -> Result<(), AllocError> {
     let (mark, rest) = line.split_once(' ').unwrap_or((line, ""));
     match mark {
-        "judge" => Ok(()),
+        "judge" | "log" | "do" => Ok(()),
         ">" => take_frames(alloc, tester, tried, rest),
         "<" => compare_replies(tester, tried, rest),
         "asked" => compare_asked(tester, tried, rest),
+        "again" => take_again(alloc, tester, tried, rest),
+        "mixed" => compare_mixed(alloc, tester, row, rest),
         _ => tester.differs("a line that isn't known", line),
     }
 }
@@ -68,6 +73,42 @@ fn take_frames<J: Counting>(
     };
     let is_whole = tried.take(alloc, bytes)?;
     tester.holds("a session that is read to its end", is_whole)
+}
+
+/// Gives the hub the frames of a text so many times, and tells where it answers otherwise than at first.
+fn take_again<J: Counting>(
+    alloc: Global,
+    tester: &mut Tester,
+    tried: &mut Tried<J>,
+    text: &str,
+) -> Result<(), AllocError> {
+    let (times, frames) = text.split_once(' ').unwrap_or((text, ""));
+    let Some(times) = unsigned(times) else {
+        return tester.differs("no number", times);
+    };
+    let Some(bytes) = tester.bytes(frames)? else {
+        return Ok(());
+    };
+    tester.case();
+    let wanted = replies_once(alloc, tried, &bytes)?;
+    for _ in 1..times {
+        let found = replies_once(alloc, tried, &bytes)?;
+        tester.same_bytes("replies", wanted.as_slice(), found.as_slice())?;
+    }
+    Ok(())
+}
+
+/// Gives the hub these frames. Answers the replies to them.
+fn replies_once<J: Counting>(
+    alloc: Global,
+    tried: &mut Tried<J>,
+    bytes: &Vec<u8>,
+) -> Result<Vec<u8>, AllocError> {
+    tried.forget(alloc)?;
+    let _ = tried.take(alloc, bytes.clone()?)?;
+    let mut replies = Vec::new(alloc);
+    replies.extend_from_slice(tried.new_replies())?;
+    Ok(replies)
 }
 
 /// Compares the replies since they were compared last.

@@ -3,6 +3,7 @@
 
 mod hubs;
 mod judges;
+mod mixed;
 mod tried;
 
 use hubs::Hubs;

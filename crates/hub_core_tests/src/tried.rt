@@ -6,7 +6,7 @@ use sd_io::{MemSink, MemSource};
 use session_frames::{FrameError, FrameReader, write_reply};
 use std::alloc::{AllocError, Global};
 
-/// More bytes than a row has.
+/// More bytes than a row has, and than the replies that it compares at once.
 const AMPLE: usize = 65536;
 
 /// A hub, and its replies. There is none after want of memory.
@@ -63,6 +63,13 @@ impl<J: Judge> Tried<J> {
             let _ = write_reply(&reply, &mut self.replies);
         }
         Ok(Some(next))
+    }
+
+    /// Forgets the replies so far, so that there is room for more.
+    pub fn forget(&mut self, alloc: Global) -> Result<(), AllocError> {
+        self.replies = MemSink::new(alloc, AMPLE, Vec::new(alloc))?;
+        self.compared = 0;
+        Ok(())
     }
 
     /// The replies since they were asked for last.

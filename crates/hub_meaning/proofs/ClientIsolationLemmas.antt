@@ -19,7 +19,7 @@ use Rattle.hub_meaning.specs.ClientIsolation.{OwnFramesDecide, EqualOwnFramesEqu
 use Rattle.hub_meaning.proofs.SessionLogLaws.{own-push_own, own-push_other}
 
 -- the own frames among a client's own frames are all of these
-own-own : (client : ℤ) (frames : List Frame) → own client (own client frames) ≡ own client frames
+pub own-own : (client : ℤ) (frames : List Frame) → own client (own client frames) ≡ own client frames
 own-own client [] = refl
 own-own client (frame ∷ frames) = by_case (is_own client frame) refl (own-own client frames) where
   by_case : (mine : Bool) → is_own client frame ≡ mine → own client (own client frames) ≡ own client frames

@@ -1,2 +1,1 @@
 pub mod MatcherTruthsLemmas
-pub mod QuestionCountsLemmas

@@ -1,6 +1,4 @@
 pub mod MatcherTruths
-pub mod QuestionCounts
-pub mod JoinedTruths
 pub use Rattle.matcher_eval.specs.AtomTests
 pub use Rattle.matcher_eval.specs.Combined
 pub use Rattle.link_graph.specs.Links

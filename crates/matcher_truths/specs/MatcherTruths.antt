@@ -43,16 +43,6 @@ module _ (says : SimpleMatcher → Atom → Bool) (atom : Atom) where
     abbrev pub all_truths : List Bool
     all_truths = map matches (range_with_len 0 (length matchers))
 
-  -- what a matcher says without its children: of a combination nothing yet
-  abbrev pub own_truth : LMatcher → Bool
-  own_truth (Simple simple) = simple_truth simple
-  own_truth (Combo op children) = false
-
--- a judge is asked about a matcher that is simple and of the atom's id
-abbrev pub is_question : Atom → LMatcher → Bool
-is_question atom (Simple simple) = is_of_atom atom simple
-is_question atom (Combo op children) = false
-
 -- a judge may be asked about a simple matcher
 abbrev pub MayBeAsked : LMatcher → Type 0
 MayBeAsked (Simple simple) = IsAskable simple

@@ -1,9 +1,6 @@
 //! The truth of each matcher of a configuration on an atom, under any judge.
 #![tactic(auto)]
 
-mod operation;
-mod order;
-mod truths;
+mod laws;
 
-pub use order::evaluation_order;
-pub use truths::evaluate;
+pub use laws::truths_come_from_children;

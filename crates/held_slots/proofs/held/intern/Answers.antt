@@ -1,8 +1,7 @@
 -- The slots of the children are live, and the combination is of them.
-use Rattle.std.proofs.Common.{◌≡◌, ◌≢◌, ℕ, List, map, get_or, Some, None, sym, ap, subst, ◌∙◌}
+use Rattle.std.proofs.Common.{◌≡◌, ◌≢◌, ℕ, List, map, get_or, None, sym, ap, subst, ◌∙◌}
 use Rattle.std.specs.Prelude.{IfOk}
 use Rattle.std.specs.List.{All}
-use Rattle.config_links.specs.declared.linked.LMatcher.{LMatcher}
 use Rattle.config_links.specs.SoundConfig.{named_matchers}
 use Rattle.matcher_table.specs.declared.shared.SharedMatcher.{SharedMatcher}
 use Rattle.matcher_table.specs.declared.shared.SharedMatcher.TheVariants.{Combination}

@@ -1,12 +1,10 @@
 -- Each place of the order is interned behind those that it names.
-use Rattle.std.proofs.Common.{◌≡◌, ◌<◌, ◌+◌, ℕ, List, length, get_or, take, take_all, Some, refl, sym, ap, subst, ◌∙◌, arith, rules}
+use Rattle.std.proofs.Common.{◌≡◌, ◌<◌, ℕ, List, length, get_or, take, take_all, Some, refl, sym, ap, subst, ◌∙◌, arith}
 use Rattle.std.specs.List.{All, slice_get}
 use Rattle.std.proofs.lemmas.Option.{slice_get_read, slice_get_within}
 use Rattle.std.proofs.lemmas.List.{length-set}
-use Rattle.config_links.specs.declared.linked.LMatcher.{LMatcher}
 use Rattle.config_links.specs.SoundConfig.{named_matchers}
 use Rattle.matcher_table.specs.Slots.{times_among}
-use Rattle.matcher_table.specs.Tables.{outside_uses}
 use Rattle.matcher_table.specs.Steps.{Interns}
 use Rattle.matcher_table.specs.Contents.{contents_of}
 use Rattle.held_slots.specs.Holdings.{in_slots, IsHeldAt}

@@ -1,5 +1,5 @@
 -- Each place's slot has an outside use left, until it is released.
-use Rattle.std.proofs.Common.{◌≡◌, ◌<◌, List, ℕ, length, get_or, take, take_all, sym, ap, subst, ◌∙◌, arith}
+use Rattle.std.proofs.Common.{◌≡◌, ◌<◌, List, ℕ, length, get_or, take_all, sym, ap, subst, ◌∙◌, arith}
 use Rattle.matcher_table.specs.Tables.{outside_uses}
 use Rattle.matcher_table.specs.Steps.{Releases}
 use Rattle.matcher_table.specs.Contents.{contents_of}

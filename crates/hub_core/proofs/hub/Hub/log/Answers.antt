@@ -2,7 +2,7 @@
 use Rattle.std.proofs.Common.{◌≡◌, ◌∙◌, ◌++◌, ◌∷◌, [], sym, ap, subst}
 use Rattle.state_slicer.specs.StateBooks.{StateBookStandsFor}
 use Rattle.pull_book.specs.PullBooks.{PullBookStandsFor}
-use Rattle.matcher_truths.specs.QuestionCounts.{AreTicks}
+use Rattle.matcher_table.specs.Truths.{HaveRisen}
 use Rattle.metric_meaning.specs.ShownFrames.{shown_as}
 use Rattle.hub_meaning.specs.SessionLog.{log_frames}
 use Rattle.hub_core.specs.HubStands.{judge_of}
@@ -34,6 +34,6 @@ returns-clause-stands g c = λ frames h in_time.
 pub returns-clause-asked : goal.returns-clause-asked
 returns-clause-asked g c =
     let rows = c.args.self.lives.slots.entries in
-    subst (λ n. AreTicks n (g.J.Judge.ticks (judge_of c.args.self)) (g.J.Judge.ticks c.log.new.judge))
+    subst (λ n. HaveRisen n (g.J.Judge.ticks (judge_of c.args.self)) (g.J.Judge.ticks c.log.new.judge))
     (ap (λ f. asked_by_all f rows) c.shown_of-shown.ensures ∙ c.shown_instead-instead.ensures.asked rows)
     c.in_ok-self.ensures.ticks

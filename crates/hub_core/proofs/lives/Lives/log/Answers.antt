@@ -1,7 +1,7 @@
 -- The counts are those of the slots, and the table is held as before.
 use Rattle.std.proofs.Common.{arith, ℕ, ℤ, ◌∙◌, sym, subst}
 use Rattle.std.proofs.lemmas.Grind.{merely}
-use Rattle.matcher_truths.specs.QuestionCounts.{AreTicks}
+use Rattle.matcher_table.specs.Truths.{HaveRisen}
 use Rattle.matcher_table.specs.Contents.{contents_of}
 use Rattle.held_slots.proofs.TruthLaws.{table_sound}
 use Rattle.hub_core.proofs.HeldLemmas.{held-logged}
@@ -46,6 +46,6 @@ returns-clause-slots g c =
 
 pub returns-clause-ticks : goal.returns-clause-ticks
 returns-clause-ticks g c =
-    subst (λ (n : ℕ). AreTicks n (g.J.Judge.ticks c.args.judge.now) (g.J.Judge.ticks c.evaluate.new.judge))
+    subst (λ (n : ℕ). HaveRisen n (g.J.Judge.ticks c.args.judge.now) (g.J.Judge.ticks c.evaluate.new.judge))
     (asked_are (contents_of c.args.self.table) c.args.frame.now c.args.self.slots.entries
     (table_sound c.args.self.table) (table_held c.args.self)) c.evaluate.ensures.asked

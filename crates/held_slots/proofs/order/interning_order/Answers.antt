@@ -3,7 +3,7 @@ use Rattle.std.proofs.Common.{ℕ, List, Option, subst}
 use Rattle.std.specs.Option.{IfNone}
 use Rattle.link_graph.specs.Links.{HasCycle}
 use Rattle.matcher_truths.specs.MatcherTruths.{named_places}
-use Rattle.matcher_truths.proofs.order.evaluation_order.Goals as goal
+use Rattle.held_slots.proofs.order.interning_order.Goals as goal
 
 pub unreachable-requires : goal.unreachable-requires
 unreachable-requires c =
