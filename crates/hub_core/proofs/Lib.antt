@@ -10,3 +10,4 @@ mod InstallReadingLemmas
 mod CommandLemmas
 mod ShownLemmas
 mod HubStandsLemmas
+mod LiveQuestionsLemmas

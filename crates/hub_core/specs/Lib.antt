@@ -6,3 +6,4 @@ pub mod SlotLogs
 pub mod Slots
 pub mod Commands
 pub mod HubStands
+pub mod LiveQuestions
