@@ -1,6 +1,6 @@
 -- How many questions the inner keys of a duration cost, one place after the other.
-use Rattle.std.proofs.Common.{◌≡◌, ℕ, zero, ◌+◌, ◌≤◌, ◌<◌, Bool, true, false, List, length, Option, Some, None, if◌then◌else◌, refl, sym, ap, subst, ◌∙◌, arith, false≢true}
-use Rattle.std.specs.Prelude.{is_some}
+use Rattle.std.proofs.Common.{◌≡◌, ℕ, zero, ◌+◌, ◌≤◌, ◌<◌, Bool, true, false, List, length, Option, Some, None, if◌then◌else◌, refl, sym, ap, subst, ◌∙◌, arith}
+use Rattle.std.proofs.lemmas.Bool.{false≢true}
 use Rattle.duration_metric.specs.InnerKeys.{DurationParams, DurationCall, inner_keys}
 use Rattle.client_engine.specs.AskedFew.{StaysAt, AsksOfPlace, AsksOfAll}
 use Rattle.client_engine.specs.Staying.{is_nothing}

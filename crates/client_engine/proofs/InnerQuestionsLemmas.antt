@@ -1,5 +1,5 @@
 -- How many questions a duration asks at an atom.
-use Rattle.std.proofs.Common.{◌≡◌, ℕ, zero, suc, ◌+◌, ◌≤◌, ◌<◌, Bool, true, false, ◌||◌, List, [], ◌∷◌, ◌++◌, length, slice_get, Option, Some, None, if◌then◌else◌, refl, sym, ap, subst, ◌∙◌, arith, cases_Bool, ⊎_elim}
+use Rattle.std.proofs.Common.{◌≡◌, ℕ, zero, suc, ◌+◌, ◌≤◌, ◌<◌, Bool, true, false, ◌||◌, List, [], ◌∷◌, ◌++◌, length, slice_get, Option, Some, None, if◌then◌else◌, refl, sym, ap, subst, ◌∙◌, arith}
 use Rattle.std.specs.Prelude.{is_some}
 use Rattle.std.specs.Map.{keys_of}
 use Rattle.std.specs.Option.{option_map, option_and_then}
@@ -50,7 +50,6 @@ use Rattle.client_engine.proofs.AlongLemmas.{along_crosses}
 use Rattle.client_engine.proofs.InnerLemmas.{event_is, shown_event}
 use Rattle.client_engine.proofs.OldKeysLemmas.{among_there}
 use Rattle.client_engine.proofs.OneMoreLemmas.{one_more_listed}
-use Rattle.client_engine.proofs.QuestionsLemmas.{one_questions}
 use Rattle.client_engine.proofs.ShownLemmas.{shown_moment}
 
 -- at a place before the end a key stands

@@ -21,7 +21,7 @@ as_many_rows test (row ∷ rows) count = by (test row.0) (as_many_rows test rows
   by : (b : Bool) → length (set_value test rows count) ≡ length rows
       → length (cond b ((row.0, count) ∷ rows) (row ∷ set_value test rows count)) ≡ length (row ∷ rows)
   by true same = refl
-  by false same = ap (λ n. 1 + n) same
+  by false same = omega (arith, same)
 
 -- those that are left are no more
 fewer_rows : (test : LeafKey × ℕ → Bool) (rows : List (LeafKey × ℕ)) → length (filter test rows) ≤ length rows

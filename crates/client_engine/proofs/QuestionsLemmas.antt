@@ -24,12 +24,16 @@ shown_questions metrics installed steps log (Tick at) truths = refl
 shown_questions metrics installed steps log (AtomAt at atom) truths = refl
 shown_questions metrics installed steps log (Pull at id outcome) truths = refl
 
+-- nothing and a number
+zero_first : (n : ℕ) → 0 + n ≡ n
+zero_first n = omega arith
+
 -- the questions of one metric
 pub one_questions : (installed : Installation) (steps : List Step) (at : ℕ) (atom : Atom) (truths : List Bool)
     (metric : LMetric)
     → questions_of (metric ∷ []) installed steps (AtomAt at atom) truths
     ≡ metric_questions installed steps truths metric
-one_questions installed steps at atom truths metric = refl
+one_questions installed steps at atom truths metric = zero_first (metric_questions installed steps truths metric)
 
 -- of one metric more
 pub more_questions : (metrics : List LMetric) (metric : LMetric) (installed : Installation) (steps : List Step)
@@ -39,6 +43,8 @@ pub more_questions : (metrics : List LMetric) (metric : LMetric) (installed : In
 more_questions metrics metric installed steps (Tick at) truths = refl
 more_questions metrics metric installed steps (AtomAt at atom) truths =
     sum_by_push (metric_questions installed steps truths) metrics metric
+    ∙ ap (λ n. sum_by (metric_questions installed steps truths) metrics + n)
+    (sym (zero_first (metric_questions installed steps truths metric)))
 more_questions metrics metric installed steps (Pull at id outcome) truths = refl
 
 -- the first ones have no more than all

@@ -40,6 +40,7 @@ use Rattle.client_engine.specs.declared.brought.Brought.{Brought}
 use Rattle.client_engine.specs.declared.request.ReportRequest.{ReportRequest}
 use Rattle.client_engine.specs.declared.stays.Stays.{Stays}
 use Rattle.client_engine.proofs.InnerQuestionsLemmas.{atom_few}
+use Rattle.client_engine.proofs.QuestionsLemmas.{one_questions}
 use Rattle.client_engine.proofs.InnerLemmas.{IsFoundAt, IsOther, timed_well, no_calls, inner_takes, others_pass, untouched_pass, atom_comes}
 
 -- a new lane has seen no step of what was installed at this clock, where the metric is sound
@@ -141,8 +142,9 @@ sums_few metric conditions brought old crossed middle event listed stays before 
     let many : touched_questions installed steps metric ≡ duration_questions installed steps metric has.spec =
     ap (λ kind. touched_questions installed steps (record metric { kind = kind })) has.sums in
     subst (λ f. after ≤ before + questions_of (metric ∷ []) installed steps f truths) (sym is)
+    (subst (λ n. after ≤ before + n) (sym (one_questions installed steps at atom truths metric))
     (subst (λ (n : ℕ). after ≤ before
-    + (if is_touched installed.linked.predicates metric truths then n else 0)) (sym many) few)
+    + (if is_touched installed.linked.predicates metric truths then n else 0)) (sym many) few))
 
 -- what a lane hands out is what a report shows of the metric
 pub sums_report : (metric : LMetric) (base : ℕ) (request : ReportRequest) (old new : SumLane) (closed : Closed ℕ)

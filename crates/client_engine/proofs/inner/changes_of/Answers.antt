@@ -15,7 +15,7 @@ use Rattle.client_engine.proofs.inner.changes_of.Goals as goal
 pub add_change-requires : goal.add_change-requires
 add_change-requires g c = record {
   within = subst (λ (k : Known). MayBeWithin (length k.predicates) c.args.metric.now.condition)
-      (sym c.loop-place.invariant.1.0) c.requires.within;
+      (sym c.loop-place.invariant.1) c.requires.within;
 }
 
 -- where no key is asked, nothing is told
@@ -39,19 +39,16 @@ loop-place-init g c = (
       c.new-changes.ensures
       ∙ ap (λ n. changes_from was now n (drop n keys)) c.first_asked-first.ensures
       ∙ sym (first_skipped was now c.args.stays keys keeps),
-  (
-    c.in_ok-shared.ensures.known,
-    asks_first g.K.Inners.stands c.args.keys.now c.args.stays c.first_asked-first.result c.len-count.result c.args.asks.now
-        c.shared_truth.new.asks
-        (let more = c.if-count-first.false in omega (arith, more)) c.len-count.ensures
-        c.in_ok-shared.ensures.asks,
-  ),
+  c.in_ok-shared.ensures.known,
+  asks_first g.K.Inners.stands c.args.keys.now c.args.stays c.first_asked-first.result c.len-count.result c.args.asks.now
+      c.shared_truth.new.asks (let more = c.if-count-first.false in omega (arith, more)) c.len-count.ensures
+      c.in_ok-shared.ensures.asks,
 )
 
 -- one more place
 pub loop-place-preserved : goal.loop-place-preserved
 loop-place-preserved g c =
-    let same = c.loop-place.invariant.1.0 in (
+    let same = c.loop-place.invariant.1 in (
       λ params calls scene stands found keeps.
           let was = last_known params.spec calls in
           let now = known_in scene c.args.metric.now in
@@ -62,18 +59,16 @@ loop-place-preserved g c =
           (subst (λ (k : Known). IsOfScene (handed_with k c.args.brought.now) scene) (sym same) found)
           (subst (λ (k : Known). HasShared k c.args.metric.now c.in_ok-shared.shared) (sym same)
           c.in_ok-shared.ensures.shared) keeps),
-      (
-        c.in_ok-add_change.ensures.known ∙ same,
-        asks_on g.K.Inners.stands c.args.keys.now c.args.stays c.loop-place.place c.len-count.result c.args.asks.now
-            c.loop-place.asks c.add_change.new.asks
-            (let within = c.loop-place-test.true in omega (arith, within)) c.len-count.ensures
-            c.loop-place.invariant.1.1 c.in_ok-add_change.ensures.asks,
-      ),
+      c.in_ok-add_change.ensures.known ∙ same,
+      asks_on g.K.Inners.stands c.args.keys.now c.args.stays c.loop-place.place c.len-count.result c.args.asks.now
+          c.loop-place.asks c.add_change.new.asks
+          (let within = c.loop-place-test.true in omega (arith, within)) c.len-count.ensures
+          c.loop-place.invariant.2 c.in_ok-add_change.ensures.asks,
     )
 
 -- without memory predicates know the same, too
 pub returns-in_err-add_change-clause-known : goal.returns-in_err-add_change-clause-known
-returns-in_err-add_change-clause-known g c = c.in_err-add_change.ensures.known ∙ c.loop-place.invariant.1.0
+returns-in_err-add_change-clause-known g c = c.in_err-add_change.ensures.known ∙ c.loop-place.invariant.1
 
 -- all places
 pub returns-clause-changes : goal.returns-clause-changes
@@ -86,7 +81,7 @@ returns-clause-changes g c = λ params calls scene stands found keeps.
     (omega (arith, ends, len)) (c.loop-place.invariant.0 params calls scene stands found keeps)
 
 pub returns-clause-known : goal.returns-clause-known
-returns-clause-known g c = c.loop-place.invariant.1.0
+returns-clause-known g c = c.loop-place.invariant.1
 
 -- where no key is asked, nothing is
 pub returns-then-count-first-clause-asks : goal.returns-then-count-first-clause-asks
@@ -97,7 +92,7 @@ pub returns-clause-asks : goal.returns-clause-asks
 returns-clause-asks g c =
     asks_all g.K.Inners.stands c.args.keys.now c.args.stays c.loop-place.place c.len-count.result c.args.asks.now
     c.loop-place.asks (let ends = c.loop-place.auto in omega (arith, ends)) c.len-count.ensures
-    c.loop-place.invariant.1.1
+    c.loop-place.invariant.2
 
 -- also where memory is wanting
 pub returns-in_err-add_change-clause-asks : goal.returns-in_err-add_change-clause-asks
@@ -107,14 +102,4 @@ returns-in_err-add_change-clause-asks g c =
     c.add_change.new.asks (omega (arith, within)) c.len-count.ensures
     (asks_on g.K.Inners.stands c.args.keys.now c.args.stays c.loop-place.place c.len-count.result c.args.asks.now
     c.loop-place.asks c.add_change.new.asks (omega (arith, within)) c.len-count.ensures
-    c.loop-place.invariant.1.1 c.add_change.ensures.asks)
-
--- and at the first question
-pub returns-in_err-shared_truth-clause-asks : goal.returns-in_err-shared_truth-clause-asks
-returns-in_err-shared_truth-clause-asks g c =
-    let more = c.if-count-first.false in
-    asks_all g.K.Inners.stands c.args.keys.now c.args.stays c.first_asked-first.result c.len-count.result c.args.asks.now
-    c.shared_truth.new.asks (omega (arith, more)) c.len-count.ensures
-    (asks_first g.K.Inners.stands c.args.keys.now c.args.stays c.first_asked-first.result c.len-count.result
-    c.args.asks.now c.shared_truth.new.asks (omega (arith, more)) c.len-count.ensures
-    c.shared_truth.ensures.asks)
+    c.loop-place.invariant.2 c.add_change.ensures.asks)

@@ -1,5 +1,6 @@
 -- The truth that stays, or the one that the condition has.
-use Rattle.std.proofs.Common.{ap, ◌∙◌, false≢true}
+use Rattle.std.proofs.Common.{ap, ◌∙◌}
+use Rattle.std.proofs.lemmas.Bool.{false≢true}
 use Rattle.std.specs.Prelude.{is_some}
 use Rattle.std.proofs.lemmas.Result.{IfOk-weaker}
 use Rattle.duration_metric.specs.InnerKeys.{inner_keys, last_known}

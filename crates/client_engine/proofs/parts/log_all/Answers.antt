@@ -12,7 +12,7 @@ log-requires g c =
     let known = c.args.conditions.now in
     record {
       within = asks_here c.loop-track.conditions known c.deref_mut-track-items.result.now c.loop-track.track-items
-          c.loop-track.track-index _ c.loop-track.invariant.1.0 (omega arith) c.loop-track.invariant.0.metrics
+          c.loop-track.track-index _ c.loop-track.invariant.1 (omega arith) c.loop-track.invariant.0.metrics
           (subst (λ old. All (AsksWithin (length known.predicates)) (map metric_in old))
           (sym c.deref_mut-track-items.ensures.value) c.requires.within);
       matched = c.requires.matched;
@@ -26,18 +26,16 @@ loop-track-preserved g c = (
       c.loop-track.track-items c.loop-track.track-index c.log.new.self _ (omega arith) c.loop-track.invariant.0
       c.log.ensures.metric
       (handed_with c.loop-track.conditions c.args.brought.now)
-      (ap (λ known. handed_with known c.args.brought.now) c.loop-track.invariant.1.0)
+      (ap (λ known. handed_with known c.args.brought.now) c.loop-track.invariant.1)
       c.in_ok-log.ensures.logs,
-  (
-    c.in_ok-log.ensures.known ∙ c.loop-track.invariant.1.0,
-    one_asked (handed_with c.args.conditions.now c.args.brought.now) c.args.brought.now.frame.now
-        c.args.brought.now.matched.now c.deref_mut-track-items.result.now
-        c.loop-track.track-items c.loop-track.track-index _ c.args.asks.now c.loop-track.asks c.log.new.asks
-        (omega arith) c.loop-track.invariant.0 c.loop-track.invariant.1.1
-        (handed_with c.loop-track.conditions c.args.brought.now)
-        (ap (λ known. handed_with known c.args.brought.now) c.loop-track.invariant.1.0)
-        c.in_ok-log.ensures.asks,
-  ),
+  c.in_ok-log.ensures.known ∙ c.loop-track.invariant.1,
+  one_asked (handed_with c.args.conditions.now c.args.brought.now) c.args.brought.now.frame.now
+      c.args.brought.now.matched.now c.deref_mut-track-items.result.now
+      c.loop-track.track-items c.loop-track.track-index _ c.args.asks.now c.loop-track.asks c.log.new.asks
+      (omega arith) c.loop-track.invariant.0 c.loop-track.invariant.2
+      (handed_with c.loop-track.conditions c.args.brought.now)
+      (ap (λ known. handed_with known c.args.brought.now) c.loop-track.invariant.1)
+      c.in_ok-log.ensures.asks,
 )
 
 -- all did
@@ -75,7 +73,7 @@ returns-clause-asks g c =
     c.loop-track.asks) c.deref_mut-track-items.ensures.value
     (all_asked (handed_with c.args.conditions.now c.args.brought.now) c.args.brought.now.frame.now
     c.args.brought.now.matched.now c.deref_mut-track-items.result.now c.loop-track.track-index c.args.asks.now
-    c.loop-track.asks c.loop-track.invariant.1.1)
+    c.loop-track.asks c.loop-track.invariant.2)
 
 -- nor where memory is wanting
 pub returns-in_err-log-clause-asks : goal.returns-in_err-log-clause-asks
@@ -88,7 +86,7 @@ returns-in_err-log-clause-asks g c =
     (one_asked (handed_with c.args.conditions.now c.args.brought.now) c.args.brought.now.frame.now
     c.args.brought.now.matched.now c.deref_mut-track-items.result.now
     c.loop-track.track-items c.loop-track.track-index _ c.args.asks.now c.loop-track.asks c.log.new.asks
-    (omega arith) c.loop-track.invariant.0 c.loop-track.invariant.1.1
+    (omega arith) c.loop-track.invariant.0 c.loop-track.invariant.2
     (handed_with c.loop-track.conditions c.args.brought.now)
-    (ap (λ known. handed_with known c.args.brought.now) c.loop-track.invariant.1.0)
+    (ap (λ known. handed_with known c.args.brought.now) c.loop-track.invariant.1)
     c.log.ensures.asks))

@@ -25,7 +25,7 @@ returns-clause-truth g c =
     let key = c.args.key.now in
     let reading = key_reading c.fields_at-fields.result.now key in
     let asks = binds_at c.as_slice-links.result.now reading in
-    let found = rw (c.as_slice.ensures.value, c.as_slice-2.ensures.value) at c.query.ensures in
+    let found = rw (c.as_slice.ensures.value, c.as_slice-2.ensures.value) at c.query.ensures.truth in
     rw (← c.self.view_is)
     (c.is_for_sure.ensures
     ∙ ap is_true (truth_found nodes tables metric reading c.query.result _ found

@@ -25,13 +25,3 @@ returns-clause-asks g c = λ installed steps frame has may.
     (ap (λ kind. names_atom_itself (record metric { kind = kind }) truths) has.counts)
     (ap (λ kind. touched_questions installed steps (record metric { kind = kind })) has.counts) c.args.asks.now
     c.arrival.new.asks c.arrival.ensures.asks
-
--- also where memory is wanting
-pub returns-in_err-arrival-clause-asks : goal.returns-in_err-arrival-clause-asks
-returns-in_err-arrival-clause-asks g c = λ installed steps frame has may.
-    let metric = c.args.metric.now in
-    let truths = c.args.brought.now.matched.now in
-    arrival_few installed steps c.args.brought.now.frame.now truths metric
-    (ap (λ kind. names_atom_itself (record metric { kind = kind }) truths) has.counts)
-    (ap (λ kind. touched_questions installed steps (record metric { kind = kind })) has.counts) c.args.asks.now
-    c.arrival.new.asks c.arrival.ensures.asks

@@ -54,13 +54,3 @@ returns-in-None-clause-asks g c = λ installed steps frame has may.
     (ap (λ kind. names_atom_itself (record metric { kind = kind }) truths) has.gauge)
     (ap (λ kind. touched_questions installed steps (record metric { kind = kind })) has.gauge) c.args.asks.now
     c.arriving.new.asks c.arriving.ensures.asks
-
--- also where memory is wanting
-pub returns-in_err-arriving-clause-asks : goal.returns-in_err-arriving-clause-asks
-returns-in_err-arriving-clause-asks g c = λ installed steps frame has may.
-    let metric = c.args.metric.now in
-    let truths = c.args.brought.now.matched.now in
-    arrival_few installed steps c.args.brought.now.frame.now truths metric
-    (ap (λ kind. names_atom_itself (record metric { kind = kind }) truths) has.gauge)
-    (ap (λ kind. touched_questions installed steps (record metric { kind = kind })) has.gauge) c.args.asks.now
-    c.arriving.new.asks c.arriving.ensures.asks

@@ -69,8 +69,8 @@ returns-clause-asks g c =
     (λ params calls stands. c.changes_of.ensures.asks params calls (rw (c.producer-2.ensures) stands))
 
 -- also where memory is wanting
-pub returns-in_err-changes_of-clause-asks : goal.returns-in_err-changes_of-clause-asks
-returns-in_err-changes_of-clause-asks g c =
+pub returns-in_err-changes-clause-asks : goal.returns-in_err-changes-clause-asks
+returns-in_err-changes-clause-asks g c =
     let crosses = rw (c.comes_by_pull.ensures, c.time_of-at.ensures) at c.in_ok-cross.ensures in
     let acts = rw c.time_of-at.ensures at c.in_ok-act.ensures in
     let on = c.if-not-changes_with.false in
