@@ -91,7 +91,7 @@ event_is None at atom truths = refl
 event_is (Some predicate) at atom truths = refl
 
 -- the frame that is shown does the same
-shown_event : (found : Option LPredicate) (log : List LogFrame) (frame : LogFrame) (truths : List Bool)
+pub shown_event : (found : Option LPredicate) (log : List LogFrame) (frame : LogFrame) (truths : List Bool)
     → first_event_of (inner_events found (logged_step (shown_as log frame) truths))
     ≡ first_event_of (inner_events found (logged_step frame truths))
 shown_event None log frame truths = refl

@@ -1,5 +1,5 @@
 -- An instance, one step more.
-use Rattle.std.proofs.Common.{◌≡◌, ℕ, ◌<◌, Bool, List, [], ◌∷◌, ◌++◌, length, map, filter, All, refl, sym, ap, subst, ◌∙◌, append_assoc, arith}
+use Rattle.std.proofs.Common.{◌≡◌, ℕ, ◌+◌, ◌≤◌, ◌<◌, Bool, List, [], ◌∷◌, ◌++◌, length, map, filter, All, refl, sym, ap, subst, ◌∙◌, append_assoc, arith}
 use Rattle.std.proofs.lemmas.List.Concat.{flat_map-append}
 use Rattle.std.proofs.lemmas.List.Elements.{All-weaker}
 use Rattle.pull_book.specs.PullBooks.{PullBookStandsFor}
@@ -18,26 +18,30 @@ use Rattle.config_links.specs.SoundConfig.{IsBound, IsSoundBody, IsSoundMatcher,
 use Rattle.config_links.proofs.SoundUses.{references_end}
 use Rattle.metric_producer.specs.LaneCalls.{IsTimelyStep, last_at}
 use Rattle.session_frames.specs.FrameReading.{log_time}
-use Rattle.metric_meaning.specs.Histories.{Step, What, Reported, Logged, Installation, frames_at, logged_frames, log_after, log_of_history}
+use Rattle.metric_meaning.specs.Histories.{Step, What, Reported, Logged, Installation, History, frames_at, logged_frames, log_after, log_of_history}
+use Rattle.metric_meaning.specs.ShownFrames.{shown_as}
 use Rattle.metric_meaning.specs.StateDrops.{drops_of_states, dropped_for}
 use Rattle.metric_meaning.specs.PredicateSteps.{table_spec, tables_after, predicate_drops, table_after, drop_above_zero}
 use Rattle.metric_meaning.specs.Reports.{report_of, last_report}
 use Rattle.metric_meaning.proofs.PredicateStepsLemmas.{tables_after-idle}
 use Rattle.report_writer.specs.declared.tree.MetricTree.{MetricTree}
 use Rattle.report_writer.specs.declared.tree.ReportTree.{ReportTree}
-use Rattle.client_engine.specs.NextSteps.{logged_step, reported_step, with_logged, bare_step, ComeInTime, MayReport, TakesFrame, requested_tree, last_from}
-use Rattle.client_engine.specs.Known.{KnowsAfter, KnowsStep, drops_in}
-use Rattle.client_engine.specs.Handed.{BookOfStates, handed}
+use Rattle.client_engine.specs.NextSteps.{logged_step, reported_step, with_logged, bare_step, ComeInTime, MayLog, MayReport, TakesFrame, requested_tree, last_from}
+use Rattle.client_engine.specs.Known.{Known, KnowsAfter, KnowsStep, drops_in}
+use Rattle.client_engine.specs.Handed.{BookOfStates, Handed, handed}
+use Rattle.client_engine.specs.Questions.{questions_of}
+use Rattle.client_engine.proofs.QuestionsLemmas.{shown_questions}
 use Rattle.client_engine.proofs.ShownLemmas.{shown_time, shown_tables}
 use Rattle.client_engine.specs.KeptPredicates.{HasItsLeaves, KeepsItsLeaves, HasBound, CanBeKept}
 use Rattle.client_engine.specs.Tracks.{CanBeTracked, metric_in, AsksWithin, AllAskWithin, AreNew, AllStandFor, AllReport}
 use Rattle.client_engine.specs.SoundMetrics.{IsSoundIn}
 use Rattle.client_engine.specs.Running.{Running, linked_of}
 use Rattle.client_engine.specs.InstanceParts.{tree_with, AreStateDrops}
-use Rattle.client_engine.specs.InstanceStands.{new_history, IsFresh, Logs, Reports}
+use Rattle.client_engine.specs.InstanceStands.{new_history, InstanceStandsFor, last_step_time, IsFresh, Logs, AsksAtMost, Reports}
 use Rattle.client_engine.specs.Finding.{MayAsk}
 use Rattle.client_engine.specs.declared.opening.Opening.{Opening}
 use Rattle.client_engine.specs.declared.parts.Drops.{Drops}
+use Rattle.client_engine.specs.declared.track.Track.{Track}
 use Rattle.client_engine.specs.declared.request.ReportRequest.{ReportRequest}
 
 -- the clock at the last report, after a step at a time
@@ -98,6 +102,62 @@ linked_stays matchers states now old metrics_now metrics_old predicates metrics 
     ap (λ ps. linked_with matchers states ps metrics_now) predicates
     ∙ ap (linked_with matchers states old) metrics
 
+-- whatever history an instance stands for, a frame that may come next after it comes in time to its metrics, and what is
+-- handed with it is what is found then
+pub instance_may_log : (old : Running) (known : Known) (shown : LogFrame) (truths : List Bool) (book : BookOfStates)
+    → known.predicates ≡ old.known.predicates → KnowsStep (logged_step shown truths) old.known known
+    → log_time shown < time_limit → (history : History) (frame : LogFrame) → InstanceStandsFor old history
+    → last_step_time history ≤ log_time frame → shown ≡ shown_as (log_of_history history) frame
+    → StateBookStandsFor book (log_of_history history ++ frame ∷ [])
+    → MayLog history.installed history.steps (handed known old.matchers old.states book) shown frame truths
+instance_may_log old known shown truths book stays knows_step fits history frame has later shown_is book_is =
+    let step = logged_step frame truths in
+    let installed = history.installed in
+    let log = log_of_history history in
+    let time : log_time shown ≡ log_time frame = ap log_time shown_is ∙ shown_time log frame in
+    let predicates : known.predicates ≡ installed.linked.predicates =
+    stays ∙ ap (λ (l : Linked). l.predicates) has.linked in
+    let knows : known.tables ≡ tables_after known.predicates (history.steps ++ step ∷ []) =
+    knows_step history.steps has.knows
+    ∙ ap (λ f. tables_after known.predicates (history.steps ++ logged_step f truths ∷ [])) shown_is
+    ∙ shown_tables known.predicates history.steps log frame truths in
+    record {
+      shown_is = shown_is;
+      found = record {
+        predicates = predicates;
+        tables = knows ∙ ap (λ ps. tables_after ps (history.steps ++ step ∷ [])) predicates;
+        matchers = ap (λ (l : Linked). l.matchers) has.linked;
+        states = ap (λ (l : Linked). l.states) has.linked;
+        book = subst (StateBookStandsFor book) (sym (log_after-push installed history.steps frame truths)) book_is;
+      };
+      in_time = in_time-push installed.base history.steps step has.in_time
+          (later, subst (λ t. t < time_limit) time fits);
+    }
+
+-- whatever steps the tracks stood for, a counter rises by no more than the questions of their metrics at a frame that may
+-- come next with what is handed
+abbrev pub TracksAsk : List Track → Handed → LogFrame → List Bool → ℕ → ℕ → Type 0
+TracksAsk tracks given shown truths before after =
+    (installed : Installation) (steps : List Step) (frame : LogFrame) → AllStandFor installed steps tracks
+    → MayLog installed steps given shown frame truths
+    → after ≤ before + questions_of (map metric_in tracks) installed steps shown truths
+
+-- a counter of an instance rises by no more than the questions of its metrics
+pub instance_asks : (old : Running) (known : Known) (shown : LogFrame) (truths : List Bool) (book : BookOfStates)
+    (before after : ℕ) → known.predicates ≡ old.known.predicates
+    → KnowsStep (logged_step shown truths) old.known known → log_time shown < time_limit
+    → TracksAsk old.tracks (handed known old.matchers old.states book) shown truths before after
+    → AsksAtMost old shown truths book before after
+instance_asks old known shown truths book before after stays knows_step fits asks history frame has later view shown_is
+    book_is =
+    let installed = history.installed in
+    let few = asks installed history.steps frame has.tracks
+    (instance_may_log old known shown truths book stays knows_step fits history frame has later shown_is book_is) in
+    let metrics = ap (λ (l : Linked). questions_of l.metrics installed history.steps shown truths) has.linked in
+    let same = ap (λ f. questions_of installed.linked.metrics installed history.steps f truths) shown_is
+    ∙ shown_questions installed.linked.metrics installed history.steps (log_of_history history) frame truths in
+    omega (arith, few, metrics, same)
+
 -- an instance takes one more frame of the log, which is shown so
 pub instance_logs : (old new : Running) (shown : LogFrame) (truths : List Bool) (book : BookOfStates)
     → new ≡ record old { known = new.known; tracks = new.tracks } → linked_of new ≡ linked_of old
@@ -113,7 +173,6 @@ instance_logs old new shown truths book same stays knows_step steps_on fits hist
     let in_time = in_time-push installed.base history.steps step has.in_time
     (later, subst (λ t. t < time_limit) time fits) in
     let linked_is : linked_of new ≡ linked = stays ∙ has.linked in
-    let predicates : new.known.predicates ≡ linked.predicates = ap (λ (l : Linked). l.predicates) linked_is in
     let knows : new.known.tables ≡ tables_after new.known.predicates (history.steps ++ step ∷ []) =
     knows_step history.steps has.knows
     ∙ ap (λ f. tables_after new.known.predicates (history.steps ++ logged_step f truths ∷ [])) shown_is
@@ -125,17 +184,9 @@ instance_logs old new shown truths book same stays knows_step steps_on fits hist
           ∙ sym (last_report-push installed.base history.steps step);
       in_time = in_time;
       knows = knows;
-      tracks = steps_on installed history.steps frame has.tracks (record {
-        shown_is = shown_is;
-        found = record {
-          predicates = predicates;
-          tables = knows ∙ ap (λ ps. tables_after ps (history.steps ++ step ∷ [])) predicates;
-          matchers = ap (λ (l : Linked). l.matchers) has.linked;
-          states = ap (λ (l : Linked). l.states) has.linked;
-          book = subst (StateBookStandsFor book) (sym (log_after-push installed history.steps frame truths)) book_is;
-        };
-        in_time = in_time;
-      });
+      tracks = steps_on installed history.steps frame has.tracks
+          (instance_may_log old new.known shown truths book (ap (λ (l : Linked). l.predicates) stays) knows_step fits
+          history frame has later shown_is book_is);
     }
 
 -- what metrics ask of predicates stays where both stay

@@ -20,7 +20,11 @@ pub mod StatesStayLemmas
 pub mod UntouchedLemmas
 pub mod OldKeysLemmas
 pub mod StaysLemmas
+pub mod QuestionsLemmas
+pub mod OneMoreLemmas
+pub mod InnerAskedLemmas
 pub mod InnerLemmas
+pub mod InnerQuestionsLemmas
 pub mod ChangesLemmas
 pub mod SumsLemmas
 pub mod InTimeLemmas

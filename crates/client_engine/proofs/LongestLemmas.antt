@@ -1,5 +1,5 @@
 -- The lane of a metric of longest durations, one step more.
-use Rattle.std.proofs.Common.{◌≡◌, ℕ, ◌<◌, Bool, false, List, [], slice_get, Option, Some, None, refl, sym, ap, subst, ◌∙◌}
+use Rattle.std.proofs.Common.{◌≡◌, ℕ, ◌+◌, ◌≤◌, ◌<◌, Bool, true, false, ◌||◌, if◌then◌else◌, List, [], ◌∷◌, slice_get, Option, Some, None, refl, sym, ap, subst, ◌∙◌}
 use Rattle.std.specs.Prelude.{is_some}
 use Rattle.atom_record.specs.declared.atom.Atom.{Atom}
 use Rattle.atom_record.specs.declared.log.LogFrame.{LogFrame}
@@ -19,21 +19,29 @@ use Rattle.session_frames.specs.FrameReading.{log_time}
 use Rattle.metric_lane.specs.LaneStands.{LaneHas, GetsFrame, GetsCalls, GetsReport}
 use Rattle.metric_meaning.specs.Histories.{Installation, moment_of}
 use Rattle.metric_meaning.specs.Reports.{metric_tree}
-use Rattle.metric_meaning.specs.Touched.{timed_predicate, is_touched}
+use Rattle.metric_meaning.specs.Touched.{acts_below, timed_predicate, is_touched}
 use Rattle.metric_meaning.specs.DurationSteps.{longest_way}
 use Rattle.metric_calls.specs.DurationCalls.{event_in, delta_with, learning, duration_params, longest_asking}
 use Rattle.metric_calls.proofs.InnerToldLemmas.{crossed_tell}
 use Rattle.metric_calls.proofs.LongestCallsLemmas.{longest_ask_well, longest_means}
 use Rattle.client_engine.proofs.AlongLemmas.{along_begins, along_reports_by}
 use Rattle.client_engine.proofs.InTimeLemmas.{dont_go_back}
+use Rattle.client_engine.specs.AskedFew.{AsksOfAll, AsksFew}
+use Rattle.client_engine.specs.Bringing.{handed_with}
 use Rattle.client_engine.specs.DurationsShown.{durations_shown_by}
 use Rattle.client_engine.specs.Handed.{Handed}
+use Rattle.client_engine.specs.Known.{Known}
+use Rattle.client_engine.specs.Questions.{duration_questions, touched_questions, questions_of}
+use Rattle.client_engine.specs.Staying.{stays_by}
 use Rattle.client_engine.specs.Touchers.{tells_one}
 use Rattle.client_engine.specs.NextSteps.{TakesFrame, TakesReport}
 use Rattle.client_engine.specs.SoundMetrics.{IsSoundIn}
 use Rattle.client_engine.specs.LongestAlong.{LongestLane, LongestAlong}
+use Rattle.client_engine.specs.declared.brought.Brought.{Brought}
 use Rattle.client_engine.specs.declared.request.ReportRequest.{ReportRequest}
 use Rattle.client_engine.specs.declared.stays.Stays.{Stays}
+use Rattle.client_engine.proofs.InnerQuestionsLemmas.{atom_few}
+use Rattle.client_engine.proofs.QuestionsLemmas.{one_questions}
 use Rattle.client_engine.proofs.InnerLemmas.{IsFoundAt, IsOther, timed_well, no_calls, inner_takes, others_pass, untouched_pass, atom_comes}
 
 -- a new lane has seen no step of what was installed at this clock, where the metric is sound
@@ -110,6 +118,34 @@ module _ (given : Handed) (metric : LMetric) (shown : LogFrame) (truths : List B
             (atom_comes sparse_law metric has.spec installed way well refl tell has.timed steps shown frame truths given
             crossed.producer middle.producer event listed stays changes at atom is event_there found may) may has.along;
       }
+
+-- an atom that touches the metric or tells a state by which it is sliced costs no more than its questions
+pub longest_few : (metric : LMetric) (conditions : Known) (brought : Brought) (old crossed middle : LongestLane)
+    (event : Option InnerEvent) (listed : ℕ) (stays : Stays) (before after at : ℕ) (atom : Atom)
+    → brought.frame.now ≡ AtomAt at atom
+    → GetsFrame sparse_law old crossed (moment_of brought.frame.now (log_time brought.frame.now))
+    → GetsCalls sparse_law crossed middle (coming (log_time brought.frame.now) event)
+    → event ≡ event_in (slice_get conditions.predicates metric.what) brought.matched.now atom
+    → stays ≡ stays_by (acts_below conditions.predicates brought.matched.now metric.condition)
+    (tells_one brought.states.now atom.id metric.slices) listed
+    → (is_touched conditions.predicates metric brought.matched.now
+    || tells_one brought.states.now atom.id metric.slices) ≡ true
+    → AsksOfAll sparse_law.stands middle.producer stays before after
+    → AsksFew (LongestAlong metric) (metric ∷ []) conditions brought old before after
+longest_few metric conditions brought old crossed middle event listed stays before after at atom is crosses acts event_is
+    stays_are changes asks installed steps frame has may =
+    let truths = brought.matched.now in
+    let few = atom_few sparse_law metric has.spec installed (longest_way installed metric has.spec)
+    (longest_ask_well installed metric has.spec has.timed) refl (crossed_tell installed metric has.spec)
+    (ap (λ kind. timed_predicate (record metric { kind = kind })) has.longest) brought.frame.now frame truths
+    (handed_with conditions brought) old crossed middle event steps listed stays before after at atom is crosses acts
+    event_is stays_are changes asks may has.along in
+    let many : touched_questions installed steps metric ≡ duration_questions installed steps metric has.spec =
+    ap (λ kind. touched_questions installed steps (record metric { kind = kind })) has.longest in
+    subst (λ f. after ≤ before + questions_of (metric ∷ []) installed steps f truths) (sym is)
+    (subst (λ n. after ≤ before + n) (sym (one_questions installed steps at atom truths metric))
+    (subst (λ (n : ℕ). after ≤ before
+    + (if is_touched installed.linked.predicates metric truths then n else 0)) (sym many) few))
 
 -- what a lane hands out is what a report shows of the metric
 pub longest_report : (metric : LMetric) (base : ℕ) (request : ReportRequest) (old new : LongestLane) (closed : Closed ℕ)

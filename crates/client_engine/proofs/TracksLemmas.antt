@@ -1,5 +1,5 @@
 -- The metrics of a configuration with their lanes, one by one.
-use Rattle.std.proofs.Common.{◌≡◌, ℕ, zero, suc, ◌+◌, ◌<◌, Bool, true, false, if◌then◌else◌, List, [], ◌∷◌, ◌++◌, length, set, get_or, take, drop, map, filter, All, refl, sym, ap, subst, ◌∙◌, arith}
+use Rattle.std.proofs.Common.{◌≡◌, ℕ, zero, suc, ◌+◌, ◌≤◌, ◌<◌, Bool, true, false, if◌then◌else◌, List, [], ◌∷◌, ◌++◌, length, set, get_or, take, drop, map, filter, All, refl, sym, ap, subst, ◌∙◌, arith}
 use Rattle.std.proofs.Math.Nat.{add-zero}
 use Rattle.std.proofs.lemmas.List.{append-nil, map-append, length-append, length-set, length-map, get_or_append_left, get_or-append-add, get_or-map, get_or-drop, take_more_set, take_more, drop-set-lt, drop-drop, take_all, drop_all}
 use Rattle.std.proofs.lemmas.List.Elements.{All-nil, All-push, All-get_or}
@@ -15,9 +15,11 @@ use Rattle.client_engine.specs.Known.{Known}
 use Rattle.client_engine.specs.Handed.{Handed}
 use Rattle.client_engine.specs.Tracks.{metric_in, AsksWithin, AreNew, AllStandFor, AllReport}
 use Rattle.client_engine.specs.Opens.{IsOpeningOf}
+use Rattle.client_engine.specs.Questions.{questions_of}
 use Rattle.client_engine.specs.declared.opening.Opening.{Opening}
 use Rattle.client_engine.specs.declared.track.Track.{Track}
 use Rattle.client_engine.specs.declared.request.ReportRequest.{ReportRequest}
+use Rattle.client_engine.proofs.QuestionsLemmas.{more_questions, first_questions}
 
 -- no metric has a track yet
 pub none_new : (opening : Opening) (known : Known) → AreNew opening known [] []
@@ -117,6 +119,57 @@ module _ (given : Handed) (shown : LogFrame) (truths : List Bool) where
   all_stepped old now index ends are = λ installed steps frame all may.
       subst (AllStandFor installed (with_logged steps frame truths))
       (take_all index now (omega (arith, ends))) (are.stand installed steps frame all may)
+
+-- So many of the tracks were brought a frame: the counter rose by no more than the questions of their metrics.
+abbrev pub AreAsked : Handed → LogFrame → List Bool → List Track → ℕ → ℕ → ℕ → Type 0
+AreAsked given shown truths old index before after =
+    (installed : Installation) (steps : List Step) (frame : LogFrame) → AllStandFor installed steps old
+    → MayLog installed steps given shown frame truths
+    → after ≤ before + questions_of (take index (map metric_in old)) installed steps shown truths
+
+module _ (given : Handed) (shown : LogFrame) (truths : List Bool) where
+  -- none was brought it yet
+  pub none_asked : (old : List Track) (before : ℕ) → AreAsked given shown truths old 0 before before
+  none_asked old before installed steps frame all may = omega arith
+
+  -- one more was
+  pub one_asked : (old now : List Track) (index : ℕ) (none : Track) (before here after : ℕ) → index < length now
+      → AreStepped given shown truths old now index → AreAsked given shown truths old index before here
+      → (now_given : Handed) → now_given ≡ given
+      → ((installed : Installation) (steps : List Step) (frame : LogFrame)
+      → TrackStandsFor installed steps (get_or now index none)
+      → MayLog installed steps now_given shown frame truths
+      → after ≤ here + questions_of ((get_or now index none).metric ∷ []) installed steps shown truths)
+      → AreAsked given shown truths old (index + 1) before after
+  one_asked old now index none before here after within are asked now_given same asks installed steps frame all may =
+      let inside : index < length old = subst (λ n. index < n) are.len within in
+      let item_is = same_here now old index none are.rest in
+      let stands : TrackStandsFor installed steps (get_or now index none) =
+      subst (TrackStandsFor installed steps) (sym item_is)
+      (All-get_or (TrackStandsFor installed steps) old index none inside all) in
+      let few = asked installed steps frame all may in
+      let more = asks installed steps frame stands
+      (subst (λ g. MayLog installed steps g shown frame truths) (sym same) may) in
+      let metrics = map metric_in old in
+      let item : get_or metrics index (metric_in none) ≡ (get_or now index none).metric =
+      get_or-map metric_in old index none (metric_in none) inside ∙ sym (ap metric_in item_is) in
+      let many = length-map old metric_in in
+      let taken : take (index + 1) metrics ≡ take index metrics ++ (get_or now index none).metric ∷ [] =
+      take_more metrics index (metric_in none) (omega (arith, many, inside))
+      ∙ ap (λ m. take index metrics ++ m ∷ []) item in
+      let total = ap (λ ms. questions_of ms installed steps shown truths) taken
+      ∙ more_questions (take index metrics) (get_or now index none).metric installed steps shown truths in
+      omega (arith, few, more, total)
+
+  -- no more than all of them
+  pub all_asked : (old : List Track) (index before after : ℕ) → AreAsked given shown truths old index before after
+      → (installed : Installation) (steps : List Step) (frame : LogFrame) → AllStandFor installed steps old
+      → MayLog installed steps given shown frame truths
+      → after ≤ before + questions_of (map metric_in old) installed steps shown truths
+  all_asked old index before after asked installed steps frame all may =
+      let few = asked installed steps frame all may in
+      let first = first_questions (map metric_in old) index installed steps shown truths in
+      omega (arith, few, first)
 
 -- what each metric asks of predicates stays where the metrics and the predicates do
 pub asks_here : (now_known known : Known) (old now : List Track) (index : ℕ) (none : Track) → now_known ≡ known

@@ -1,5 +1,5 @@
 -- What history an instance stands for, and how it goes from step to step.
-use Rattle.std.specs.Prelude.{◌≡◌, ℕ, ◌≤◌, Bool, List, [], ◌∷◌, ◌++◌, length}
+use Rattle.std.specs.Prelude.{◌≡◌, ℕ, ◌+◌, ◌≤◌, Bool, List, [], ◌∷◌, ◌++◌, length}
 use Rattle.atom_record.specs.declared.log.LogFrame.{LogFrame}
 use Rattle.atom_record.specs.declared.log.LogFrame.TheVariants.{AtomAt}
 use Rattle.session_frames.specs.FrameReading.{log_time}
@@ -15,6 +15,7 @@ pub use Rattle.client_engine.specs.Running.{Running, linked_of}
 use Rattle.client_engine.specs.Known.{KnowsAfter}
 use Rattle.client_engine.specs.Tracks.{AllStandFor}
 use Rattle.client_engine.specs.Handed.{BookOfStates}
+use Rattle.client_engine.specs.Questions.{questions_at}
 use Rattle.client_engine.specs.declared.request.ReportRequest.{ReportRequest}
 
 -- What an instance stands for, part by part: its configuration, the clock at its installation and at its last report,
@@ -56,6 +57,16 @@ Logs old shown truths book new =
     → shown ≡ shown_as (log_of_history history) frame
     → StateBookStandsFor book (log_of_history history ++ frame ∷ [])
     → InstanceStandsFor new (with_step history (logged_step frame truths))
+
+-- whatever history the old stood for, if this frame may come next and is shown so, and the book stands for the log with
+-- it, a counter of questions rises by no more than the questions of its metrics at the frame
+abbrev pub AsksAtMost : Running → LogFrame → List Bool → BookOfStates → ℕ → ℕ → Type 0
+AsksAtMost old shown truths book before after =
+    (history : History) (frame : LogFrame) → InstanceStandsFor old history
+    → last_step_time history ≤ log_time frame → IsView history.installed.linked frame truths
+    → shown ≡ shown_as (log_of_history history) frame
+    → StateBookStandsFor book (log_of_history history ++ frame ∷ [])
+    → after ≤ before + questions_at history frame truths
 
 -- the report that is asked for after a history
 abbrev pub requested_report : History → ReportRequest → ReportTree

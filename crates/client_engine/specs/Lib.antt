@@ -17,6 +17,8 @@ pub mod GaugesAlong
 pub mod PulledGaugesAlong
 pub mod EventsAlong
 pub mod Staying
+pub mod Questions
+pub mod AskedFew
 pub mod InnerTold
 pub mod DurationsShown
 pub mod SumsAlong

@@ -1,10 +1,11 @@
 //! The atom that arrives at a metric with a frame of the log, and its key.
-ghost use Rattle.std.specs.Prelude.{◌≡◌, length, OnOk, IfOk};
+ghost use Rattle.std.specs.Prelude.{◌≡◌, ◌≤◌, ◌+◌, length, OnOk, IfOk};
 ghost use Rattle.std.specs.Option.{option_copied};
 ghost use Rattle.config_links.specs.SoundConfig.{MayBeWithin};
 ghost use Rattle.metric_meaning.specs.Arrivals.{arriving_by, metric_key};
 ghost use Rattle.metric_meaning.specs.Scenes.{Scene};
 ghost use Rattle.client_engine.specs.Handed.{IsOfScene};
+ghost use Rattle.client_engine.specs.AskedFew.{arrival_questions};
 ghost use Rattle.client_engine.specs.Known.{Known};
 ghost use Rattle.client_engine.specs.Bringing.{handed_with, brought_step};
 
@@ -14,21 +15,26 @@ use crate::conditions::Conditions;
 use crate::matched::is_true_at;
 use crate::slices::slices_of;
 use atom_record::{Atom, LogFrame, MetricKey};
+use condition_links::Steps;
 use config_links::LMetric;
 use std::alloc::{AllocError, Global};
+use std::sync::ledger::Ledger;
 
 /// The atom that arrives at a metric, if one does, whatever the metric makes of it. The condition is asked last.
-pub fn arriving<'a>(
+pub fn arriving<'a, L: Ledger>(
     alloc: Global,
     metric: &LMetric,
     brought: &Brought<'a>,
     conditions: &mut Conditions,
+    asks: &mut Steps<L>,
 ) -> Result<Option<&'a Atom>, AllocError>
     requires within { MayBeWithin (length conditions.old.predicates) metric.now.condition }
     ensures atom { (scene : Scene) → IsOfScene (handed_with conditions.old brought.now) scene
         → IfOk result (λ found. option_copied found
         ≡ arriving_by scene metric.now (brought_step brought.now)) }
     ensures known { conditions.new ≡ conditions.old }
+    ensures asks { asks.new ≤ asks.old
+        + arrival_questions brought.now.frame.now brought.now.matched.now metric.now }
 {
     let LogFrame::AtomAt { atom, .. } = brought.frame else {
         return Ok(None);
@@ -36,7 +42,7 @@ pub fn arriving<'a>(
     if !is_true_at(brought.matched, metric.what) {
         return Ok(None);
     }
-    if !conditions.holds(alloc, metric, atom)? {
+    if !conditions.holds(alloc, metric, atom, asks)? {
         return Ok(None);
     }
     Ok(Some(atom))

@@ -1,5 +1,5 @@
 //! The predicates of a configuration: what atoms make of them, and what metrics ask of them.
-ghost use Rattle.std.specs.Prelude.{◌≡◌, [], Some, length, slice_get, OnOk, IfOk};
+ghost use Rattle.std.specs.Prelude.{◌≡◌, ◌≤◌, ◌+◌, [], Some, length, slice_get, OnOk, IfOk};
 ghost use Rattle.config_links.specs.SoundConfig.{MayBeWithin};
 ghost use Rattle.condition_links.specs.ThreeValues.{is_true};
 ghost use Rattle.metric_meaning.specs.DurationSteps.{inner_fields};
@@ -16,7 +16,7 @@ use crate::inner::key_event;
 use crate::tables::{act_on_all, drops_of, new_tables};
 use crate::touchers::{names_atom_itself, one_holds, timed_predicate, touchers_of_all};
 use atom_record::{Atom, DimKey, LogFrame};
-use condition_links::query;
+use condition_links::{Steps, query};
 use config_links::{CondTree, LMetric, LPredBody, LPredicate};
 use duration_metric::InnerEvent;
 use field_select::FieldSet;
@@ -25,6 +25,7 @@ use report_writer::Drop64;
 use sd_base::Seq;
 use std::alloc::{AllocError, Global};
 use std::marker::Model;
+use std::sync::ledger::Ledger;
 
 /// The predicates of a configuration, and what they know.
 #[derive(Drop)]
@@ -132,32 +133,36 @@ impl Conditions {
     }
 
     /// Whether a metric's condition is true for what its links read, by what predicates know now.
-    pub fn holds<A: Asked>(
+    pub fn holds<A: Asked, L: Ledger>(
         &mut self,
         alloc: Global,
         metric: &LMetric,
         asked: &A,
+        asks: &mut Steps<L>,
     ) -> Result<bool, AllocError>
         requires within { MayBeWithin (length self.old.predicates) metric.now.condition }
         ensures truth { IfOk result (λ truth. truth
             ≡ is_condition_true self.old.predicates self.old.tables metric.now (A.reading asked.now)) }
         ensures known { self.new ≡ self.old }
+        ensures asks { asks.new ≤ asks.old + 1 }
     {
-        let truth = self.truth(alloc, metric, asked)?;
+        let truth = self.truth(alloc, metric, asked, asks)?;
         Ok(is_for_sure(truth))
     }
 
     /// The truth of a metric's condition for what its links read, by what predicates know now.
-    pub fn truth<A: Asked>(
+    pub fn truth<A: Asked, L: Ledger>(
         &mut self,
         alloc: Global,
         metric: &LMetric,
         asked: &A,
+        asks: &mut Steps<L>,
     ) -> Result<Truth, AllocError>
         requires within { MayBeWithin (length self.old.predicates) metric.now.condition }
         ensures truth { IfOk result (λ truth. truth
             ≡ condition_truth self.old.predicates self.old.tables metric.now (A.reading asked.now)) }
         ensures known { self.new ≡ self.old }
+        ensures asks { asks.new ≤ asks.old + 1 }
     {
         if metric.condition.is_none() {
             return Ok(Truth::True);
@@ -165,21 +170,28 @@ impl Conditions {
         let links = metric.links.as_slice();
         ask_all(alloc, links, asked, self.tree.nodes.len(), &mut self.binds)?;
         self.tree.root = metric.condition;
-        Ok(query(&self.tree, self.tables.as_slice(), self.binds.as_slice()))
+        Ok(query(
+            &self.tree,
+            self.tables.as_slice(),
+            self.binds.as_slice(),
+            asks,
+        ))
     }
 
     /// Whether a metric's condition is true for a key of the predicate that it times, by what predicates know now.
-    pub fn holds_for_key(
+    pub fn holds_for_key<L: Ledger>(
         &mut self,
         alloc: Global,
         metric: &LMetric,
         key: &DimKey,
+        asks: &mut Steps<L>,
     ) -> Result<bool, AllocError>
         requires within { MayBeWithin (length self.old.predicates) metric.now.condition }
         ensures truth { IfOk result (λ truth. truth
             ≡ is_condition_true self.old.predicates self.old.tables metric.now
             (key_reading (inner_fields (slice_get self.old.predicates metric.now.what)) key.now)) }
         ensures known { self.new ≡ self.old }
+        ensures asks { asks.new ≤ asks.old + 1 }
     {
         if metric.condition.is_none() {
             return Ok(true);
@@ -190,7 +202,12 @@ impl Conditions {
         let inner = InnerKey { fields, key };
         ask_all(alloc, links, &inner, nodes.len(), &mut self.binds)?;
         self.tree.root = metric.condition;
-        Ok(is_for_sure(query(&self.tree, self.tables.as_slice(), self.binds.as_slice())))
+        Ok(is_for_sure(query(
+            &self.tree,
+            self.tables.as_slice(),
+            self.binds.as_slice(),
+            asks,
+        )))
     }
 
     /// The fields whose values the keys of a predicate have; a combination has none, and what isn't there neither.

@@ -1,6 +1,6 @@
 //! The inner keys of a metric of durations, which are the keys of the predicate that it times: what atoms do to them,
 //! and what is told of them.
-ghost use Rattle.std.specs.Prelude.{◌≡◌, ◌||◌, [], List, length, slice_get, OnOk, IfOk};
+ghost use Rattle.std.specs.Prelude.{◌≡◌, ◌≤◌, ◌+◌, ◌||◌, if◌then◌else◌, [], List, length, slice_get, OnOk, IfOk};
 ghost use Rattle.std.specs.Option.{option_copied};
 ghost use Rattle.config_links.specs.SoundConfig.{MayBeWithin};
 ghost use Rattle.duration_metric.specs.InnerKeys.{DurationParams, DurationCall, inner_keys, last_known, told_truth, was_told};
@@ -13,7 +13,8 @@ ghost use Rattle.metric_calls.specs.DurationCalls.{first_event_of, delta_with, t
 ghost use Rattle.client_engine.specs.Bringing.{handed_with};
 ghost use Rattle.client_engine.specs.Handed.{IsOfScene};
 ghost use Rattle.client_engine.specs.InnerTold.{HasShared, IsStanding, StaysInScene, HasTruth, AddsChange};
-ghost use Rattle.client_engine.specs.Staying.{truth_kept};
+ghost use Rattle.client_engine.specs.Staying.{truth_kept, is_nothing};
+ghost use Rattle.client_engine.specs.AskedFew.{AsksOfPlace, AsksOfAll};
 ghost use Rattle.client_engine.specs.Touchers.{tells_one};
 
 use crate::arriving::key_in;
@@ -24,12 +25,14 @@ use crate::slices::tells_one;
 use crate::stays::Stays;
 use crate::tables::event_by;
 use atom_record::{Atom, DimKey, MetricKey};
+use condition_links::Steps;
 use config_links::{LMetric, LPredBody};
 use duration_metric::{InnerChange, InnerDelta, InnerEvent, MaxProducer, SumProducer};
 use field_select::key_of;
 use predicate_state::Truth;
 use sd_base::Seq;
 use std::alloc::{AllocError, Global};
+use std::sync::ledger::Ledger;
 
 /// A producer of durations, as it is asked for its inner keys.
 pub trait Inners {
@@ -152,13 +155,14 @@ struct Asker<'a> {
 
 /// What is told of inner keys once a frame has come: of each whose truth or output key isn't what was told of it last.
 /// What stays isn't asked.
-pub fn changes_of<K: Inners>(
+pub fn changes_of<K: Inners, L: Ledger>(
     alloc: Global,
     keys: &K,
     metric: &LMetric,
     brought: &Brought<'_>,
     stays: Stays,
     conditions: &mut Conditions,
+    asks: &mut Steps<L>,
 ) -> Result<Seq<InnerChange>, AllocError>
     requires within { MayBeWithin (length conditions.old.predicates) metric.now.condition }
     ensures changes { (params : DurationParams) (calls : List DurationCall) (scene : Scene)
@@ -167,6 +171,7 @@ pub fn changes_of<K: Inners>(
         → IfOk result (λ changes. changes ≡ changes_from (last_known params.spec calls)
         (known_in scene metric.now) 0 (inner_keys params.spec calls)) }
     ensures known { conditions.new ≡ conditions.old }
+    ensures asks { AsksOfAll K.stands keys.now stays asks.old asks.new }
 {
     let mut changes = Seq::new(alloc);
     let first = stays.first_asked();
@@ -174,7 +179,7 @@ pub fn changes_of<K: Inners>(
     if count <= first {
         return Ok(changes);
     }
-    let shared = shared_truth(alloc, metric, stays, conditions)?;
+    let shared = shared_truth(alloc, metric, stays, conditions, asks)?;
     let asker = Asker {
         metric,
         brought,
@@ -182,47 +187,51 @@ pub fn changes_of<K: Inners>(
         shared,
     };
     for place in first..count {
-        add_change(alloc, &mut changes, keys, place, &asker, conditions)?;
+        add_change(alloc, &mut changes, keys, place, &asker, conditions, asks)?;
     }
     Ok(changes)
 }
 
 // Whether the condition is true of all inner keys alike. Where links ask by their values, there is no such truth; where
 // one key is asked at most, it isn't looked for.
-fn shared_truth(
+fn shared_truth<L: Ledger>(
     alloc: Global,
     metric: &LMetric,
     stays: Stays,
     conditions: &mut Conditions,
+    asks: &mut Steps<L>,
 ) -> Result<Option<bool>, AllocError>
     requires within { MayBeWithin (length conditions.old.predicates) metric.now.condition }
     ensures shared { IfOk result (HasShared conditions.old metric.now) }
     ensures known { conditions.new ≡ conditions.old }
+    ensures asks { asks.new ≤ asks.old + (if is_nothing stays then 1 else 0) }
 {
     if !stays.is_nothing() || !metric.links.is_empty() {
         return Ok(None);
     }
-    Ok(Some(conditions.holds(alloc, metric, &Nothing)?))
+    Ok(Some(conditions.holds(alloc, metric, &Nothing, asks)?))
 }
 
 // Adds what is told of the inner key at a place, unless it was told last.
-fn add_change<K: Inners>(
+fn add_change<K: Inners, L: Ledger>(
     alloc: Global,
     changes: &mut Seq<InnerChange>,
     keys: &K,
     place: usize,
     asker: &Asker<'_>,
     conditions: &mut Conditions,
+    asks: &mut Steps<L>,
 ) -> Result<(), AllocError>
     requires within { MayBeWithin (length conditions.old.predicates) asker.now.metric.now.condition }
     ensures adds { OnOk result (AddsChange K.stands keys.now place asker.now
         conditions.old changes.old changes.new) }
     ensures known { conditions.new ≡ conditions.old }
+    ensures asks { AsksOfPlace K.stands keys.now asker.now.stays place asks.old asks.new }
 {
     let Some(key) = keys.key(place) else {
         return Ok(());
     };
-    let truth = truth_at(alloc, keys, place, key, asker, conditions)?;
+    let truth = truth_at(alloc, keys, place, key, asker, conditions, asks)?;
     let inner = InnerKey {
         fields: conditions.fields_of(asker.metric.what),
         key,
@@ -240,21 +249,23 @@ fn add_change<K: Inners>(
 
 // The truth that is told of the inner key at a place: the one that was told last where that stays, or else the one that
 // its condition has.
-fn truth_at<K: Inners>(
+fn truth_at<K: Inners, L: Ledger>(
     alloc: Global,
     keys: &K,
     place: usize,
     key: &DimKey,
     asker: &Asker<'_>,
     conditions: &mut Conditions,
+    asks: &mut Steps<L>,
 ) -> Result<Truth, AllocError>
     requires within { MayBeWithin (length conditions.old.predicates) asker.now.metric.now.condition }
     ensures truth { IfOk result (HasTruth K.stands keys.now place key.now asker.now conditions.old) }
     ensures known { conditions.new ≡ conditions.old }
+    ensures asks { AsksOfPlace K.stands keys.now asker.now.stays place asks.old asks.new }
 {
     match kept_truth(keys, place, asker.stays) {
         Some(truth) => Ok(truth),
-        None => truth_of(alloc, asker, key, conditions),
+        None => truth_of(alloc, asker, key, conditions, asks),
     }
 }
 
@@ -270,19 +281,21 @@ fn kept_truth<K: Inners>(keys: &K, place: usize, stays: Stays) -> Option<Truth>
 }
 
 // The truth of an inner key's condition.
-fn truth_of(
+fn truth_of<L: Ledger>(
     alloc: Global,
     asker: &Asker<'_>,
     key: &DimKey,
     conditions: &mut Conditions,
+    asks: &mut Steps<L>,
 ) -> Result<Truth, AllocError>
     requires within { MayBeWithin (length conditions.old.predicates) asker.now.metric.now.condition }
     ensures truth { IfOk result (IsStanding asker.now key.now conditions.old) }
     ensures known { conditions.new ≡ conditions.old }
+    ensures asks { asks.new ≤ asks.old + 1 }
 {
     match asker.shared {
         Some(holds) => Ok(truth_as(holds)),
-        None => Ok(truth_as(conditions.holds_for_key(alloc, asker.metric, key)?)),
+        None => Ok(truth_as(conditions.holds_for_key(alloc, asker.metric, key, asks)?)),
     }
 }
 

@@ -13,6 +13,7 @@ use crate::request::ReportRequest;
 use crate::state_drops::{dropped_atoms, state_drops};
 use crate::track::Track;
 use atom_record::LogFrame;
+use condition_links::Steps;
 use config_links::{LMatcher, LState, Linked};
 use pull_book::PullBook;
 use report_writer::ReportTree;
@@ -20,6 +21,7 @@ use sd_base::Seq;
 use state_slicer::StateBook;
 use std::alloc::{AllocError, Global};
 use std::marker::Model;
+use std::sync::ledger::Ledger;
 
 /// What a frame of the log comes with.
 #[derive(Clone, Copy)]
@@ -74,7 +76,7 @@ impl Instance {
     ghost use Rattle.session_frames.specs.Faultless.{IsFaultlessLog};
     ghost use Rattle.client_engine.specs.Known.{drops_in};
     ghost use Rattle.client_engine.specs.InstanceParts.{AreStateDrops};
-    ghost use Rattle.client_engine.specs.InstanceStands.{IsFresh, Logs, Reports};
+    ghost use Rattle.client_engine.specs.InstanceStands.{IsFresh, Logs, AsksAtMost, Reports};
 
     /// A configuration that is installed when the clock stands at `base`, and the log gave this. It has seen nothing.
     pub fn new(
@@ -123,11 +125,20 @@ impl Instance {
 
     /// A frame of the log comes as it is shown, with the truth of each matcher for an atom, and the states after it: it
     /// acts on predicates, and then comes to each metric. After want of memory the configuration is of no use.
-    pub fn apply(&mut self, frame: &LogFrame, view: &LogView<'_>) -> Result<(), AllocError>
+    pub fn apply<L: Ledger>(
+        &mut self,
+        frame: &LogFrame,
+        view: &LogView<'_>,
+        asks: &mut Steps<L>,
+    ) -> Result<(), AllocError>
         requires faultless { IsFaultlessLog frame.now }
         ensures logs { OnOk result
             (Logs self.old frame.now view.now.matched.now view.now.states.now self.new) }
         ensures linked { linked_of self.new ≡ linked_of self.old }
+
+        // It asks no more than the atom touches, also where memory is wanting.
+        ensures asks { AsksAtMost self.old frame.now view.now.matched.now view.now.states.now
+            asks.old asks.new }
     {
         self.conditions.log(self.alloc, frame, view.matched)?;
         let brought = Brought {
@@ -137,7 +148,13 @@ impl Instance {
             states: self.states.as_slice(),
             book: view.states,
         };
-        log_all(self.alloc, &mut self.conditions, &mut self.tracks, &brought)
+        log_all(
+            self.alloc,
+            &mut self.conditions,
+            &mut self.tracks,
+            &brought,
+            asks,
+        )
     }
 
     /// A report of the configuration, where the log gave these states. After want of memory it is of no use.
@@ -158,13 +175,20 @@ impl Instance {
     }
 
     /// The same as `apply`, of a configuration that is handed on.
-    pub fn log(self, frame: &LogFrame, view: &LogView<'_>) -> Result<Instance, AllocError>
+    pub fn log<L: Ledger>(
+        self,
+        frame: &LogFrame,
+        view: &LogView<'_>,
+        asks: &mut Steps<L>,
+    ) -> Result<Instance, AllocError>
         requires faultless { IsFaultlessLog frame.now }
         ensures logs { IfOk result (Logs self frame.now view.now.matched.now view.now.states.now) }
         ensures linked { IfOk result (λ new. linked_of new ≡ linked_of self) }
+        ensures asks { AsksAtMost self frame.now view.now.matched.now view.now.states.now
+            asks.old asks.new }
     {
         let mut instance = self;
-        instance.apply(frame, view)?;
+        instance.apply(frame, view, asks)?;
         Ok(instance)
     }
 

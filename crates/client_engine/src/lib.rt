@@ -5,6 +5,7 @@ mod arriving;
 mod asked;
 mod brought;
 mod conditions;
+mod first_truth;
 mod groups;
 mod inner;
 mod instance;

@@ -2,6 +2,7 @@
 ghost use Rattle.std.specs.Prelude.{◌≡◌, ◌<◌, [], ◌∷◌, ◌++◌, length, map, if◌then◌else◌, OnOk, IfOk};
 ghost use Rattle.std.specs.List.{All};
 ghost use Rattle.bucket_meaning.specs.Limits.{time_limit};
+ghost use Rattle.client_engine.specs.AskedFew.{AsksFew};
 ghost use Rattle.client_engine.specs.Bringing.{TakesBrought};
 ghost use Rattle.client_engine.specs.Finding.{MayAsk, CanBeMatched};
 ghost use Rattle.client_engine.specs.Tracks.{CanBeTracked, metric_in, AsksWithin, AllAskWithin, AreNew, AllStandFor, AllReport};
@@ -12,10 +13,12 @@ use crate::conditions::Conditions;
 use crate::opening::Opening;
 use crate::request::ReportRequest;
 use crate::track::Track;
+use condition_links::Steps;
 use config_links::LMetric;
 use report_writer::{Drop64, MetricTree, ReportTree};
 use sd_base::Seq;
 use std::alloc::{AllocError, Global};
+use std::sync::ledger::Ledger;
 
 /// What a report shows beside its metrics: what found no room.
 #[derive(Drop)]
@@ -47,11 +50,12 @@ pub fn tracks_of(
 }
 
 /// A frame of the log comes to each of these.
-pub fn log_all(
+pub fn log_all<L: Ledger>(
     alloc: Global,
     conditions: &mut Conditions,
     tracks: &mut Vec<Track>,
     brought: &Brought<'_>,
+    asks: &mut Steps<L>,
 ) -> Result<(), AllocError>
     requires within { AllAskWithin conditions.old tracks.old.items }
     requires matched { CanBeMatched brought.now }
@@ -59,9 +63,11 @@ pub fn log_all(
         conditions.old brought.now tracks.old.items tracks.new.items) }
     ensures metrics { map metric_in tracks.new.items ≡ map metric_in tracks.old.items }
     ensures known { conditions.new ≡ conditions.old }
+    ensures asks { AsksFew AllStandFor (map metric_in tracks.old.items)
+        conditions.old brought.now tracks.old.items asks.old asks.new }
 {
     for track in tracks.iter_mut() {
-        track.log(alloc, brought, conditions)?;
+        track.log(alloc, brought, conditions, asks)?;
     }
     Ok(())
 }

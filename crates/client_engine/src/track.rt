@@ -1,11 +1,12 @@
 //! A metric of a configuration, and the lane that collects for it.
-ghost use Rattle.std.specs.Prelude.{◌≡◌, ◌<◌, [], length, All, OnOk, IfOk};
+ghost use Rattle.std.specs.Prelude.{◌≡◌, ◌<◌, [], ◌∷◌, length, All, OnOk, IfOk};
 ghost use Rattle.bucket_meaning.specs.Limits.{time_limit};
 ghost use Rattle.config_links.specs.SoundConfig.{MayBeWithin};
 ghost use Rattle.metric_meaning.specs.Histories.{Installation};
 ghost use Rattle.report_writer.specs.Writable.{IsWritableMetric};
 ghost use Rattle.client_engine.specs.NextSteps.{TakesReport};
 ghost use Rattle.client_engine.specs.SoundMetrics.{IsSoundIn};
+ghost use Rattle.client_engine.specs.AskedFew.{AsksFew};
 ghost use Rattle.client_engine.specs.Bringing.{TakesBrought};
 ghost use Rattle.client_engine.specs.Opens.{IsOpeningOf};
 ghost use Rattle.client_engine.specs.Finding.{MayAsk, CanBeMatched};
@@ -17,6 +18,7 @@ use crate::conditions::Conditions;
 use crate::kinds::{counts, events, gauges, longest, pulled_gauges, pulled_values, sums, values};
 use crate::opening::Opening;
 use crate::request::ReportRequest;
+use condition_links::Steps;
 use config_links::{LKind, LMetric};
 use count_metric::CountProducer;
 use duration_metric::{MaxProducer, SumProducer};
@@ -24,6 +26,7 @@ use gauge_metric::{EventProducer, PulledGauge, PushedGauge};
 use metric_lane::Lane;
 use report_writer::MetricTree;
 use std::alloc::{AllocError, Global};
+use std::sync::ledger::Ledger;
 use value_metric::{PulledValue, PushedValue};
 
 /// The lane of a metric, by its kind.
@@ -77,11 +80,12 @@ impl Track {
     }
 
     /// A frame of the log comes.
-    pub fn log(
+    pub fn log<L: Ledger>(
         &mut self,
         alloc: Global,
         brought: &Brought<'_>,
         conditions: &mut Conditions,
+        asks: &mut Steps<L>,
     ) -> Result<(), AllocError>
         requires within { MayBeWithin (length conditions.old.predicates) self.old.metric.condition }
         requires matched { CanBeMatched brought.now }
@@ -89,21 +93,25 @@ impl Track {
         ensures logs { OnOk result (TakesBrought TrackStandsFor
             conditions.old brought.now self.old self.new) }
         ensures known { conditions.new ≡ conditions.old }
+        ensures asks { AsksFew TrackStandsFor (self.old.metric ∷ [])
+            conditions.old brought.now self.old asks.old asks.new }
     {
         let Track { metric, lane } = self;
         match lane {
-            MetricLane::Counts(lane) => counts::log(lane, alloc, metric, brought, conditions),
-            MetricLane::Values(lane) => values::log(lane, alloc, metric, brought, conditions),
+            MetricLane::Counts(lane) => counts::log(lane, alloc, metric, brought, conditions, asks),
+            MetricLane::Values(lane) => values::log(lane, alloc, metric, brought, conditions, asks),
             MetricLane::PulledValues(lane) => {
-                pulled_values::log(lane, alloc, metric, brought, conditions)
+                pulled_values::log(lane, alloc, metric, brought, conditions, asks)
             }
-            MetricLane::Gauges(lane) => gauges::log(lane, alloc, metric, brought, conditions),
+            MetricLane::Gauges(lane) => gauges::log(lane, alloc, metric, brought, conditions, asks),
             MetricLane::PulledGauges(lane) => {
-                pulled_gauges::log(lane, alloc, metric, brought, conditions)
+                pulled_gauges::log(lane, alloc, metric, brought, conditions, asks)
             }
-            MetricLane::Events(lane) => events::log(lane, alloc, metric, brought, conditions),
-            MetricLane::Sums(lane) => sums::log(lane, alloc, metric, brought, conditions),
-            MetricLane::Longest(lane) => longest::log(lane, alloc, metric, brought, conditions),
+            MetricLane::Events(lane) => events::log(lane, alloc, metric, brought, conditions, asks),
+            MetricLane::Sums(lane) => sums::log(lane, alloc, metric, brought, conditions, asks),
+            MetricLane::Longest(lane) => longest::log(
+                lane, alloc, metric, brought, conditions, asks,
+            ),
         }
     }
 

@@ -1,14 +1,18 @@
 //! An instance that is fed, and the book of states beside it.
 ghost use Rattle.session_frames.specs.Faultless.{IsFaultlessLog};
+ghost use Rattle.std.specs.Prelude.{◌≡◌, ◌<◌};
 
 use atom_record::{LogFrame, PullOutcome, parse_atom};
 use client_engine::{Instance, LiveId, LogView, ReportRequest};
+use condition_links::Steps;
 use config_decode::decode;
 use config_links::link;
 use pull_book::PullBook;
 use report_writer::ReportTree;
 use state_slicer::StateBook;
 use std::alloc::{AllocError, Global};
+use std::marker::Brand;
+use std::sync::ledger::{Blank, Ledger};
 
 /// Frames of the log come before this.
 const LATE: u64 = 1 << 63;
@@ -142,6 +146,23 @@ fn log(
     let Some(old) = instance.take() else {
         return Ok(false);
     };
-    *instance = Some(old.log(frame, &LogView { matched, states })?);
+    let view = LogView { matched, states };
+    *instance = Some(logged::<Brand>(Blank::new(1), old, frame, &view)?);
     Ok(true)
+}
+
+/// An instance with one more frame, whose questions are on a counter of their own.
+fn logged<L: Ledger>(
+    blank: Blank,
+    instance: Instance,
+    frame: &LogFrame,
+    view: &LogView<'_>,
+) -> Result<Instance, AllocError>
+    requires name { blank.name ≡ L.name }
+    requires parts { blank.parts ≡ L.parts }
+    requires some { 0 < blank.parts }
+    requires faultless { IsFaultlessLog frame.now }
+{
+    let mut asks: Steps<L> = Steps::new(blank);
+    instance.log(frame, view, &mut asks)
 }

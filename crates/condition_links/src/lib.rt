@@ -5,8 +5,10 @@ mod joined;
 mod laws;
 mod links;
 mod search;
+mod steps;
 
 pub use joined::combine3;
 pub use laws::each_truth_is_made_of_others;
 pub use links::{bind_atom, bind_key, read_key};
 pub use search::query;
+pub use steps::Steps;

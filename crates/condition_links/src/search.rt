@@ -1,20 +1,30 @@
 //! The truth of a condition.
-ghost use Rattle.std.specs.Prelude.{◌≡◌, ℕ, ◌<◌, ◌≤◌, length, map, slice_index_or, slice_get, Some, None};
+ghost use Rattle.std.specs.Prelude.{◌≡◌, ℕ, ◌<◌, ◌≤◌, ◌+◌, length, map, slice_index_or, slice_get, Some, None};
 ghost use Rattle.link_graph.specs.Links.{AreInRange, HasNoCycle};
 ghost use Rattle.link_graph.specs.Depth.{EndsWithin};
 ghost use Rattle.condition_links.specs.Conditions.{predicate_names, condition_of, predicate_truth, table_truth_at, IsSoundTree, AreTables};
 ghost use Rattle.condition_links.specs.FoundTruths.{AreFound};
 
 use crate::joined::Seen;
+use crate::steps::Steps;
 use config_links::{CondTree, LPredBody, LPredicate, MOST_PREDICATES};
 use predicate_state::{BindList, PredTable, Truth};
+use std::sync::ledger::Ledger;
 
-/// The truth of the condition. Each predicate is asked or joined at most once, and no memory is taken.
-pub fn query(tree: &CondTree, tables: &[PredTable], binds: &[BindList]) -> Truth
+/// The truth of the condition. Each predicate is asked or joined at most once, and no memory is taken. It is one question,
+/// whatever the condition is.
+pub fn query<L: Ledger>(
+    tree: &CondTree,
+    tables: &[PredTable],
+    binds: &[BindList],
+    asks: &mut Steps<L>,
+) -> Truth
     requires sound { IsSoundTree tree.now }
     requires tables { AreTables tree.now.nodes tables.now binds.now }
-    ensures { result ≡ condition_of tree.now tables.now binds.now }
+    ensures truth { result ≡ condition_of tree.now tables.now binds.now }
+    ensures asks { asks.new ≡ asks.old + 1 }
 {
+    asks.tick();
     let Some(root) = tree.root else {
         return Truth::True;
     };

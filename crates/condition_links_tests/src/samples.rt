@@ -1,9 +1,9 @@
 //! Trees of predicates and their tables.
-ghost use Rattle.condition_links.specs.Conditions.{predicate_names, IsSoundTree};
+ghost use Rattle.condition_links.specs.Conditions.{predicate_names, condition_of, IsSoundTree, AreTables};
 ghost use Rattle.link_graph.specs.Links.{AreInRange, HasNoCycle};
 ghost use Rattle.std.specs.Prelude.{◌≡◌, IfOk, IfSome, IsTrue, ◌<◌, ◌^◌, length};
 
-use condition_links::query;
+use condition_links::{Steps, query};
 use config_links::{CondTree, LPredBody, LPredicate, MOST_PREDICATES};
 use config_types::{Operation, PredSpec};
 use field_select::FieldSet;
@@ -11,6 +11,8 @@ use link_graph::{are_in_range, first_on_cycle};
 use predicate_state::{BindList, PredEvent, PredTable, Truth};
 use sd_base::Seq;
 use std::alloc::{AllocError, Global};
+use std::marker::Brand;
+use std::sync::ledger::{Blank, Ledger};
 
 /// How keys of no leaves are counted: a table of one key at most, which is unknown at first.
 pub const SPEC: PredSpec = PredSpec {
@@ -102,5 +104,23 @@ pub fn asked(
     if !are_there(nodes) || !stand_on_no_cycle(alloc, nodes)? {
         return Ok(None);
     }
-    Ok(Some(query(tree, tables, binds)))
+    Ok(Some(counted::<Brand>(Blank::new(1), tree, tables, binds)))
+}
+
+// The truth of a condition, which is asked on a counter of its own.
+fn counted<L: Ledger>(
+    blank: Blank,
+    tree: &CondTree,
+    tables: &[PredTable],
+    binds: &[BindList],
+) -> Truth
+    requires name { blank.name ≡ L.name }
+    requires parts { blank.parts ≡ L.parts }
+    requires some { 0 < blank.parts }
+    requires sound { IsSoundTree tree.now }
+    requires tables { AreTables tree.now.nodes tables.now binds.now }
+    ensures { result ≡ condition_of tree.now tables.now binds.now }
+{
+    let mut asks: Steps<L> = Steps::new(blank);
+    query(tree, tables, binds, &mut asks)
 }

@@ -58,20 +58,20 @@ held_are_live table live held k d h =
 
 module _ (says : SimpleMatcher → Atom → Bool) where
   -- the truths of a configuration's matchers are those that its history has for the frame, and as many as are asked for
-  truths_are : (linked : Linked) (frame : LogFrame) → truths_by says linked.matchers frame ≡ truths_at says linked frame
+  pub truths_are : (linked : Linked) (frame : LogFrame) → truths_by says linked.matchers frame ≡ truths_at says linked frame
   truths_are linked (Tick at) = refl
   truths_are linked (AtomAt at atom) = refl
   truths_are linked (Pull at id outcome) = refl
 
   -- there is one truth for each matcher at an atom, and none else
-  is_view : (linked : Linked) (frame : LogFrame) → IsView linked frame (truths_at says linked frame)
+  pub is_view : (linked : Linked) (frame : LogFrame) → IsView linked frame (truths_at says linked frame)
   is_view linked (Tick at) = refl
   is_view linked (AtomAt at atom) = length-map-range_with_len (matches says atom linked.matchers) 0
       (length linked.matchers)
   is_view linked (Pull at id outcome) = refl
 
   -- they are those of the frame that is shown
-  truths_shown : (linked : Linked) (log : List LogFrame) (frame : LogFrame)
+  pub truths_shown : (linked : Linked) (log : List LogFrame) (frame : LogFrame)
       → truths_at says linked (shown_as log frame) ≡ truths_at says linked frame
   truths_shown linked log (Tick at) = refl
   truths_shown linked log (AtomAt at atom) = refl
@@ -91,7 +91,7 @@ module _ (says : SimpleMatcher → Atom → Bool) where
       book_is)
 
   -- the results of what is held are the truths of its matchers
-  results_are : (before table : SlotTable) (old : LiveInstance) (shown : LogFrame) → IsSoundTable table
+  pub results_are : (before table : SlotTable) (old : LiveInstance) (shown : LogFrame) → IsSoundTable table
       → EvaluatesFor says shown before table → IsHeldIn table old
       → results_for table shown old.slots ≡ truths_by says old.instance.matchers shown
   results_are before table old (Tick at) sound evaluates held = refl

@@ -12,3 +12,4 @@ mod ShownLemmas
 mod HubStandsLemmas
 mod OneSlotLemmas
 mod AloneLemmas
+mod LiveQuestionsLemmas

@@ -7,3 +7,4 @@ pub mod Slots
 pub mod Commands
 pub mod HubStands
 pub mod Alone
+pub mod LiveQuestions

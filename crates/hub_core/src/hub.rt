@@ -1,5 +1,5 @@
 //! The hub of all clients, one frame at a time.
-ghost use Rattle.std.specs.Prelude.{◌≡◌, ◌≤◌, ℤ, List, [], ◌++◌, ◌∷◌, IfOk};
+ghost use Rattle.std.specs.Prelude.{◌≡◌, ◌≤◌, ◌+◌, ℤ, List, [], ◌++◌, ◌∷◌, IfOk};
 ghost use Rattle.session_frames.specs.declared.frame.Frame.TheVariants.{Log};
 ghost use Rattle.session_frames.specs.Faultless.{IsFaultlessLog};
 ghost use Rattle.session_frames.specs.declared.frame.Frame.{Frame};
@@ -15,9 +15,11 @@ use crate::lives::Lives;
 use crate::log_clock::LogClock;
 use atom_record::LogFrame;
 use client_engine::{LiveId, ReportRequest};
+use condition_links::Steps;
 use matcher_eval::Judge;
 use session_frames::{Frame, Reply, time_of};
 use std::alloc::{AllocError, Global};
+use std::sync::ledger::Ledger;
 
 /// All clients with their live configurations, the clock, the books of the log, and the judge. It keeps no frame.
 #[derive(Drop)]
@@ -34,6 +36,7 @@ pub struct Hub<J: Judge> {
 impl<J: Judge> Hub<J> {
     ghost use Rattle.hub_core.specs.HubStands.{judge_of, asked_in, HubStandsFor};
     ghost use Rattle.hub_core.specs.Alone.{RunsAsAlone};
+    ghost use Rattle.hub_core.specs.LiveQuestions.{questions_in};
 
     /// A hub that has seen no frame. It takes no memory yet.
     pub fn new(alloc: Global, judge: J) -> Hub<J>
@@ -59,7 +62,11 @@ impl<J: Judge> Hub<J> {
 
     /// Takes in a frame; a command is answered. After want of memory the hub is gone.
     #[tactic(auto, using(hub_meaning::proofs::ClientIsolationLemmas::equal_own_frames))]
-    pub fn step(self, frame: Frame) -> Result<(Hub<J>, Option<Reply>), AllocError>
+    pub fn step<L: Ledger>(
+        self,
+        frame: Frame,
+        asks: &mut Steps<L>,
+    ) -> Result<(Hub<J>, Option<Reply>), AllocError>
         requires faultless { IsFaultless frame }
 
         // The answer is what the frames so far mean, whatever they are, and the hub stands for them with this one.
@@ -71,10 +78,16 @@ impl<J: Judge> Hub<J> {
         ensures asked { IfOk result (λ r. HaveRisen (asked_in frame self)
             (J.ticks (judge_of self)) (J.ticks (judge_of r.0))) }
 
+        // Conditions are asked at atoms alone, and only what the atom touches is asked again: once for each metric of all
+        // live ones that it touches, and of a duration at most twice and once for each inner key that was there before.
+        ensures questions { (frames : List Frame) → HubStandsFor J.says self frames
+            → IsInTime (clock_of frames) frame
+            → asks.new ≤ asks.old + questions_in J.says self frames frame }
+
         // What other clients do is no matter: equal own frames of a client have equal replies.
         ensures isolated { EqualOwnFramesEqualReplies J.says }
     {
-        self.serve(frame)
+        self.serve(frame, asks)
     }
 
     /// The law between this hub and a client's private run, which is a hub of the log and that client's commands alone:
@@ -86,13 +99,16 @@ impl<J: Judge> Hub<J> {
 
     // Takes in a frame of the log: the book of states takes it, then it comes to every configuration as it is shown,
     // and what it pulled is recorded last.
-    fn log(mut self, frame: LogFrame) -> Result<Hub<J>, AllocError>
+    fn log<L: Ledger>(mut self, frame: LogFrame, asks: &mut Steps<L>) -> Result<Hub<J>, AllocError>
         requires faultless { IsFaultlessLog frame }
         ensures stands { (frames : List Frame) → HubStandsFor J.says self frames
             → clock_of frames ≤ log_time frame
             → IfOk result (λ new. HubStandsFor J.says new (frames ++ Log frame ∷ [])) }
         ensures asked { IfOk result (λ new. HaveRisen (asked_in (Log frame) self)
             (J.ticks (judge_of self)) (J.ticks (judge_of new))) }
+        ensures questions { (frames : List Frame) → HubStandsFor J.says self frames
+            → clock_of frames ≤ log_time frame
+            → asks.new ≤ asks.old + questions_in J.says self frames (Log frame) }
     {
         self.clock = LogClock {
             time: time_of(&frame),
@@ -102,23 +118,30 @@ impl<J: Judge> Hub<J> {
         let shown = shown_of(&instead, &frame);
         let lives = self.lives;
         let states = &self.books.states;
-        self.lives = lives.log(&mut self.judge, shown, states, &mut self.truths)?;
+        self.lives = lives.log(&mut self.judge, shown, states, &mut self.truths, asks)?;
         self.books.record(frame)?;
         Ok(self)
     }
 
     // Takes in a frame of its kind.
     #[tactic(auto, using(matcher_table::proofs::EvaluationLaws::rises_by_none))]
-    fn serve(mut self, frame: Frame) -> Result<(Hub<J>, Option<Reply>), AllocError>
+    fn serve<L: Ledger>(
+        mut self,
+        frame: Frame,
+        asks: &mut Steps<L>,
+    ) -> Result<(Hub<J>, Option<Reply>), AllocError>
         requires faultless { IsFaultless frame }
         ensures serves { (frames : List Frame) → HubStandsFor J.says self frames
             → IsInTime (clock_of frames) frame → IfOk result (λ r. HubStandsFor J.says r.0 (frames ++ frame ∷ [])
             × (r.1 ≡ reply_to J.says frames frame)) }
         ensures asked { IfOk result (λ r. HaveRisen (asked_in frame self)
             (J.ticks (judge_of self)) (J.ticks (judge_of r.0))) }
+        ensures questions { (frames : List Frame) → HubStandsFor J.says self frames
+            → IsInTime (clock_of frames) frame
+            → asks.new ≤ asks.old + questions_in J.says self frames frame }
     {
         match frame {
-            Frame::Log(frame) => Ok((self.log(frame)?, None)),
+            Frame::Log(frame) => Ok((self.log(frame, asks)?, None)),
             Frame::Install { uid, id, config } => {
                 let read = read_config(self.alloc, config.as_slice())?;
                 let name = LiveId { uid, id };

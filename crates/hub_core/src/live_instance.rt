@@ -14,12 +14,14 @@ ghost use Rattle.hub_core.specs.BookStands.{BooksStandFor};
 use crate::books::Books;
 use atom_record::LogFrame;
 use client_engine::{Instance, LogView, ReportRequest};
+use condition_links::Steps;
 use config_links::Linked;
 use held_slots::HeldSlots;
 use matcher_table::MatcherTable;
 use report_writer::ReportTree;
 use state_slicer::StateBook;
 use std::alloc::{AllocError, Global};
+use std::sync::ledger::Ledger;
 
 /// A live configuration.
 #[derive(Drop)]
@@ -32,6 +34,7 @@ impl LiveInstance {
     ghost use Rattle.client_engine.specs.InstanceStands.{IsFresh, Reports};
     ghost use Rattle.hub_core.specs.SharedTable.{IsHeldIn, HasSameSlots};
     ghost use Rattle.hub_core.specs.SlotLogs.{IsShown, results_for};
+    ghost use Rattle.hub_core.specs.LiveQuestions.{LiveAsks};
 
     /// A configuration that was just installed, with its matchers interned. After want of memory some may be.
     pub fn new(
@@ -55,23 +58,25 @@ impl LiveInstance {
     }
 
     /// Takes in a frame of the log as it is shown, an atom with the results of its slots. The buffer's room is kept.
-    pub fn log(
+    pub fn log<L: Ledger>(
         &mut self,
         table: &MatcherTable,
         frame: &LogFrame,
         states: &StateBook,
         truths: &mut Vec<bool>,
+        asks: &mut Steps<L>,
     ) -> Result<(), AllocError>
         requires sound { IsFaultlessLog frame.now }
         requires live { AreLive (contents_of table.now) self.old.slots }
-        ensures { OnOk result (IsShown (contents_of table.now) frame.now states.now self.old self.new) }
+        ensures shown { OnOk result (IsShown (contents_of table.now) frame.now states.now self.old self.new) }
+        ensures asks { LiveAsks (contents_of table.now) frame.now states.now self.old asks.old asks.new }
     {
         self.results(table, frame, truths)?;
         let view = LogView {
             matched: truths.as_slice(),
             states,
         };
-        self.instance.apply(frame, &view)
+        self.instance.apply(frame, &view, asks)
     }
 
     // The results of its slots for an atom, and none for another frame.

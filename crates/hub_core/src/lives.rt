@@ -11,6 +11,7 @@ use crate::logging::{evaluate, log_all};
 use crate::slots::{install_answer, others_of, put, release_old, report_at, set_count, take_out};
 use atom_record::LogFrame;
 use client_engine::{LiveId, ReportRequest};
+use condition_links::Steps;
 use config_links::Linked;
 use config_types::Config;
 use indexmap::IndexMap;
@@ -19,6 +20,7 @@ use matcher_table::MatcherTable;
 use session_frames::{Refusal, ReplyBody};
 use state_slicer::StateBook;
 use std::alloc::{AllocError, Global};
+use std::sync::ledger::Ledger;
 
 /// How many live configurations a client may have.
 const MOST_CONFIGS: usize = 10;
@@ -42,6 +44,7 @@ impl Lives {
     ghost use Rattle.matcher_table.specs.Truths.{HaveRisen};
     ghost use Rattle.config_links.specs.SoundConfig.{IsSoundConfig};
     ghost use Rattle.hub_core.specs.SlotLogs.{AllLog, asked_by_all};
+    ghost use Rattle.hub_core.specs.LiveQuestions.{AllAskBy};
     ghost use Rattle.hub_core.specs.Commands.{change, others, Installs, PutsIn, Removes, ReportsLive};
 
     /// Nothing is live. It takes no memory yet.
@@ -57,12 +60,13 @@ impl Lives {
     }
 
     /// A frame of the log comes to the table, and then to every configuration.
-    pub fn log<J: Judge>(
+    pub fn log<J: Judge, L: Ledger>(
         self,
         judge: &mut J,
         frame: &LogFrame,
         states: &StateBook,
         truths: &mut Vec<bool>,
+        asks: &mut Steps<L>,
     ) -> Result<Lives, AllocError>
         requires sound { IsFaultlessLog frame.now }
         ensures slots { IfOk result (λ new.
@@ -70,6 +74,7 @@ impl Lives {
         ensures counts { IfOk result (λ new. new.counts ≡ self.counts) }
         ensures ticks { OnOk result (HaveRisen (asked_by_all frame.now self.slots.entries)
             (J.ticks judge.old) (J.ticks judge.new)) }
+        ensures asks { AllAskBy J.says frame.now states.now self.slots.entries asks.old asks.new }
     {
         let Lives {
             mut slots,
@@ -77,7 +82,7 @@ impl Lives {
             mut table,
         } = self;
         evaluate(&mut table, judge, frame);
-        log_all(&mut slots, &table, frame, states, truths)?;
+        log_all(&mut slots, &table, frame, states, truths, asks)?;
         Ok(Lives {
             slots,
             counts,

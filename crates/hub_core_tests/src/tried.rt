@@ -1,10 +1,16 @@
 //! A hub that is tried, and what it has answered.
+ghost use Rattle.std.specs.Prelude.{◌≡◌, ◌<◌};
+ghost use Rattle.session_frames.specs.Frames.{IsFaultless};
+
 use super::judges::Counting;
+use condition_links::Steps;
 use hub_core::Hub;
 use matcher_eval::Judge;
 use sd_io::{MemSink, MemSource};
-use session_frames::{FrameError, FrameReader, write_reply};
+use session_frames::{Frame, FrameError, FrameReader, Reply, write_reply};
 use std::alloc::{AllocError, Global};
+use std::marker::Brand;
+use std::sync::ledger::{Blank, Ledger};
 
 /// More bytes than a row has, and than the replies that it compares at once.
 const AMPLE: usize = 65536;
@@ -57,7 +63,7 @@ impl<J: Judge> Tried<J> {
         let Some(hub) = self.hub.take() else {
             return Ok(None);
         };
-        let (hub, reply) = hub.step(frame)?;
+        let (hub, reply) = stepped::<J, Brand>(Blank::new(1), hub, frame)?;
         self.hub = Some(hub);
         if let Some(reply) = reply {
             let _ = write_reply(&reply, &mut self.replies);
@@ -79,6 +85,21 @@ impl<J: Judge> Tried<J> {
         self.compared = all.len();
         all.get(from..).unwrap_or(&[])
     }
+}
+
+/// A hub with one more frame, whose questions are on a counter of their own.
+fn stepped<J: Judge, L: Ledger>(
+    blank: Blank,
+    hub: Hub<J>,
+    frame: Frame,
+) -> Result<(Hub<J>, Option<Reply>), AllocError>
+    requires name { blank.name ≡ L.name }
+    requires parts { blank.parts ≡ L.parts }
+    requires some { 0 < blank.parts }
+    requires faultless { IsFaultless frame }
+{
+    let mut asks: Steps<L> = Steps::new(blank);
+    hub.step(frame, &mut asks)
 }
 
 impl<J: Counting> Tried<J> {

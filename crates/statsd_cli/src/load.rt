@@ -7,12 +7,15 @@ ghost use Rattle.statsd_cli.specs.Load.{session_of, totals_of, totals_line, tota
 use crate::Ending;
 use crate::note::{Line, push_counted};
 use crate::reply_len::reply_len;
+use condition_links::Steps;
 use hub_core::Hub;
 use load_session::LoadFrames;
 use matcher_eval::FieldJudge;
 use sd_io::Sink;
 use session_frames::Reply;
 use std::alloc::{AllocError, Global};
+use std::marker::Brand;
+use std::sync::ledger::{Blank, Ledger};
 
 /// How many frames were answered, how many replies there were, and how many bytes these have.
 #[derive(Clone, Copy)]
@@ -28,7 +31,7 @@ pub(crate) fn load<K: Sink>(alloc: Global, seed: u64, frames: u64, out: &mut K) 
     ensures { IsLineTold (totals_line (totals_of (session_of seed frames)))
         (K.state out.old) (K.state out.new) result }
 {
-    let Ok(totals) = answer(alloc, seed, frames) else {
+    let Ok(totals) = answer::<Brand>(Blank::new(1), alloc, seed, frames) else {
         return Ending::NoMemory;
     };
     match out.put(totals.line().as_bytes()) {
@@ -37,13 +40,22 @@ pub(crate) fn load<K: Sink>(alloc: Global, seed: u64, frames: u64, out: &mut K) 
     }
 }
 
-/// Answers the session frame by frame, and counts.
-fn answer(alloc: Global, seed: u64, frames: u64) -> Result<Totals, AllocError>
-    requires { frames ≤ most_frames }
+/// Answers the session frame by frame, and counts. The questions of conditions are on a counter of its own.
+fn answer<L: Ledger>(
+    blank: Blank,
+    alloc: Global,
+    seed: u64,
+    frames: u64,
+) -> Result<Totals, AllocError>
+    requires name { blank.name ≡ L.name }
+    requires parts { blank.parts ≡ L.parts }
+    requires some { 0 < blank.parts }
+    requires few { frames ≤ most_frames }
     ensures totals { IfOk result (λ totals. totals ≡ totals_of (session_of seed frames)) }
 {
     let mut session = LoadFrames::new(seed, frames);
     let mut hub = Hub::new(alloc, FieldJudge::new());
+    let mut asks: Steps<L> = Steps::new(blank);
     let mut totals = Totals {
         frames: 0,
         replies: 0,
@@ -54,7 +66,7 @@ fn answer(alloc: Global, seed: u64, frames: u64) -> Result<Totals, AllocError>
             return Ok(totals);
         };
         let frame = frame.frame(alloc)?;
-        let (served, reply) = hub.step(frame)?;
+        let (served, reply) = hub.step(frame, &mut asks)?;
         hub = served;
         totals = totals.with(&reply);
     }

@@ -1,5 +1,5 @@
 //! The top call, and each command: the run of a session, the check of a configuration, and a session of its own.
-ghost use Rattle.std.specs.Prelude.{◌≡◌, ℕ, ◌⊎◌, List, take, IfSome};
+ghost use Rattle.std.specs.Prelude.{◌≡◌, ◌<◌, ℕ, ◌⊎◌, List, take, IfSome};
 ghost use Rattle.sd_io.specs.States.{ports};
 ghost use Rattle.sd_io.specs.Causes.{IsPut, Rose};
 ghost use Rattle.session_frames.specs.declared.frame.Frame.{Frame};
@@ -19,12 +19,15 @@ use crate::load::load;
 use crate::note::tell;
 use crate::{Command, Ending};
 use atom_record::Bytes;
+use condition_links::Steps;
 use config_check::{CheckError, Finding, check_config};
 use hub_core::Hub;
 use matcher_eval::FieldJudge;
 use sd_io::{Sink, Source, WriteFailed};
 use session_frames::{FrameError, FrameReader, Reply, write_reply};
 use std::alloc::Global;
+use std::marker::Brand;
+use std::sync::ledger::{Blank, Ledger};
 
 /// Does what the words ask for, and gives the program's status. The words are those of the command line without the
 /// program's name. `replay` answers the session on `input` on `out`; `check` tells on `out`, in one line, whether the
@@ -91,7 +94,7 @@ fn obey<S: Source, K: Sink>(alloc: Global, command: Command, input: &mut S, out:
         → input.new ≡ input.old }
 {
     match command {
-        Command::Replay => replay(alloc, input, out),
+        Command::Replay => replay::<S, K, Brand>(Blank::new(1), alloc, input, out),
         Command::Check => check(alloc, input, out),
         Command::Load { seed, frames } => load(alloc, seed, frames, out),
         Command::Unknown => Ending::Usage,
@@ -119,13 +122,22 @@ fn ending_after(answer: &Result<Finding, CheckError>) -> Ending
     }
 }
 
-/// Reads the session frame by frame, and answers its commands.
-fn replay<S: Source, K: Sink>(alloc: Global, input: &mut S, out: &mut K) -> Ending
+/// Reads the session frame by frame, and answers its commands. The questions of conditions are on a counter of its own.
+fn replay<S: Source, K: Sink, L: Ledger>(
+    blank: Blank,
+    alloc: Global,
+    input: &mut S,
+    out: &mut K,
+) -> Ending
+    requires name { blank.name ≡ L.name }
+    requires parts { blank.parts ≡ L.parts }
+    requires some { 0 < blank.parts }
     ensures { IsRun (ports (S.state input.old) (K.state out.old))
         (ports (S.state input.new) (K.state out.new)) result }
 {
     let mut reader = FrameReader::new(alloc);
     let mut hub = Hub::new(alloc, FieldJudge::new());
+    let mut asks: Steps<L> = Steps::new(blank);
     'frames: loop {
         let (next, frame) = match reader.next(input) {
             Ok(given) => given,
@@ -134,7 +146,7 @@ fn replay<S: Source, K: Sink>(alloc: Global, input: &mut S, out: &mut K) -> Endi
         let Some(frame) = frame else {
             return Ending::Done;
         };
-        let (stepped, reply) = match hub.step(frame) {
+        let (stepped, reply) = match hub.step(frame, &mut asks) {
             Ok(stepped) => stepped,
             Err(_) => return Ending::NoMemory,
         };

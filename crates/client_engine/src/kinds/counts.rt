@@ -1,5 +1,5 @@
 //! Metrics that count.
-ghost use Rattle.std.specs.Prelude.{◌≡◌, ◌<◌, [], length, OnOk, IfOk};
+ghost use Rattle.std.specs.Prelude.{◌≡◌, ◌+◌, ◌≤◌, ◌∷◌, ◌<◌, [], length, OnOk, IfOk};
 ghost use Rattle.bucket_meaning.specs.Limits.{time_limit};
 ghost use Rattle.config_links.specs.declared.linked.LKind.TheVariants.{Count};
 ghost use Rattle.config_links.specs.SoundConfig.{IsSize, IsBound, MayBeWithin};
@@ -9,6 +9,7 @@ ghost use Rattle.metric_meaning.specs.CountSteps.{arrival_by};
 ghost use Rattle.report_writer.specs.Writable.{IsWritableMetric};
 ghost use Rattle.client_engine.specs.Handed.{IsOfScene};
 ghost use Rattle.client_engine.specs.NextSteps.{TakesReport};
+ghost use Rattle.client_engine.specs.AskedFew.{AsksFew, arrival_questions};
 ghost use Rattle.client_engine.specs.Bringing.{handed_with, brought_step, TakesBrought};
 ghost use Rattle.client_engine.specs.CountsAlong.{CountsAlong, counts_shown_by, shown_count, count_entry};
 
@@ -19,6 +20,7 @@ use crate::groups::{RowShape, groups_of};
 use crate::moments::comes_by_pull;
 use crate::request::ReportRequest;
 use atom_record::{MetricKey, Slice};
+use condition_links::Steps;
 use config_links::LMetric;
 use count_metric::CountProducer;
 use metric_lane::Lane;
@@ -27,6 +29,7 @@ use report_writer::{LeafTree, MetricBody, MetricTree, NumBucket, NumTree};
 use sd_base::Seq;
 use session_frames::time_of;
 use std::alloc::{AllocError, Global};
+use std::sync::ledger::Ledger;
 
 /// The greatest count that a report shows.
 const MOST_SHOWN: u64 = (1 << 63) - 1;
@@ -79,19 +82,22 @@ pub fn begin(alloc: Global, base: u64, metric: &LMetric) -> Lane<CountProducer>
 }
 
 /// A frame of the log comes.
-pub fn log(
+pub fn log<L: Ledger>(
     lane: &mut Lane<CountProducer>,
     alloc: Global,
     metric: &LMetric,
     brought: &Brought<'_>,
     conditions: &mut Conditions,
+    asks: &mut Steps<L>,
 ) -> Result<(), AllocError>
     requires within { MayBeWithin (length conditions.old.predicates) metric.now.condition }
     ensures logs { OnOk result (TakesBrought (CountsAlong metric.now)
         conditions.old brought.now lane.old lane.new) }
     ensures known { conditions.new ≡ conditions.old }
+    ensures asks { AsksFew (CountsAlong metric.now) (metric.now ∷ [])
+        conditions.old brought.now lane.old asks.old asks.new }
 {
-    let key = arrival(alloc, metric, brought, conditions)?;
+    let key = arrival(alloc, metric, brought, conditions, asks)?;
     lane.log(time_of(brought.frame), comes_by_pull(brought.frame), key)
 }
 
@@ -133,18 +139,21 @@ fn counts_tree(
 }
 
 // The key that arrives with a frame, if an atom does.
-fn arrival(
+fn arrival<L: Ledger>(
     alloc: Global,
     metric: &LMetric,
     brought: &Brought<'_>,
     conditions: &mut Conditions,
+    asks: &mut Steps<L>,
 ) -> Result<Option<MetricKey>, AllocError>
     requires within { MayBeWithin (length conditions.old.predicates) metric.now.condition }
     ensures key { (scene : Scene) → IsOfScene (handed_with conditions.old brought.now) scene
         → IfOk result (λ key. key ≡ arrival_by scene metric.now (brought_step brought.now)) }
     ensures known { conditions.new ≡ conditions.old }
+    ensures asks { asks.new ≤ asks.old
+        + arrival_questions brought.now.frame.now brought.now.matched.now metric.now }
 {
-    let Some(atom) = arriving(alloc, metric, brought, conditions)? else {
+    let Some(atom) = arriving(alloc, metric, brought, conditions, asks)? else {
         return Ok(None);
     };
     Ok(Some(key_in(alloc, metric, brought, atom)?))

@@ -1,5 +1,5 @@
 //! Metrics of events.
-ghost use Rattle.std.specs.Prelude.{◌≡◌, ◌<◌, ◌++◌, [], length, map, OnOk, IfOk};
+ghost use Rattle.std.specs.Prelude.{◌≡◌, ◌+◌, ◌≤◌, ◌∷◌, ◌<◌, ◌++◌, [], length, map, OnOk, IfOk};
 ghost use Rattle.std.specs.List.{flat_map};
 ghost use Rattle.bucket_meaning.specs.Limits.{time_limit};
 ghost use Rattle.config_links.specs.SoundConfig.{MayBeWithin};
@@ -11,6 +11,7 @@ ghost use Rattle.metric_meaning.specs.EventTrees.{events_body};
 ghost use Rattle.report_writer.specs.Writable.{AreWritableRows, IsWritableMetric};
 ghost use Rattle.client_engine.specs.Handed.{IsOfScene};
 ghost use Rattle.client_engine.specs.NextSteps.{TakesReport};
+ghost use Rattle.client_engine.specs.AskedFew.{AsksFew, arrival_questions};
 ghost use Rattle.client_engine.specs.Bringing.{handed_with, brought_step, TakesBrought};
 ghost use Rattle.client_engine.specs.EventsAlong.{EventsAlong, event_at, events_in, events_shown_by};
 
@@ -21,6 +22,7 @@ use crate::messages::message_rows;
 use crate::moments::comes_by_pull;
 use crate::request::ReportRequest;
 use atom_record::Atom;
+use condition_links::Steps;
 use config_links::LMetric;
 use gauge_metric::EventProducer;
 use metric_lane::Lane;
@@ -29,6 +31,7 @@ use report_writer::{AtomMsg, EventTree, MetricBody, MetricTree};
 use sd_base::Seq;
 use session_frames::time_of;
 use std::alloc::{AllocError, Global};
+use std::sync::ledger::Ledger;
 
 /// The lane of a metric of events, which begins at `base`. It has no buckets.
 pub fn begin(alloc: Global, base: u64, metric: &LMetric) -> Lane<EventProducer>
@@ -44,19 +47,22 @@ pub fn begin(alloc: Global, base: u64, metric: &LMetric) -> Lane<EventProducer>
 }
 
 /// A frame of the log comes.
-pub fn log(
+pub fn log<L: Ledger>(
     lane: &mut Lane<EventProducer>,
     alloc: Global,
     metric: &LMetric,
     brought: &Brought<'_>,
     conditions: &mut Conditions,
+    asks: &mut Steps<L>,
 ) -> Result<(), AllocError>
     requires within { MayBeWithin (length conditions.old.predicates) metric.now.condition }
     ensures logs { OnOk result (TakesBrought (EventsAlong metric.now)
         conditions.old brought.now lane.old lane.new) }
     ensures known { conditions.new ≡ conditions.old }
+    ensures asks { AsksFew (EventsAlong metric.now) (metric.now ∷ [])
+        conditions.old brought.now lane.old asks.old asks.new }
 {
-    let atom = arrival(alloc, metric, brought, conditions)?;
+    let atom = arrival(alloc, metric, brought, conditions, asks)?;
     lane.log(time_of(brought.frame), comes_by_pull(brought.frame), atom)
 }
 
@@ -134,18 +140,21 @@ fn add_events(
 }
 
 // A copy of the atom that arrives with a frame, if one does.
-fn arrival(
+fn arrival<L: Ledger>(
     alloc: Global,
     metric: &LMetric,
     brought: &Brought<'_>,
     conditions: &mut Conditions,
+    asks: &mut Steps<L>,
 ) -> Result<Option<Atom>, AllocError>
     requires within { MayBeWithin (length conditions.old.predicates) metric.now.condition }
     ensures atom { (scene : Scene) → IsOfScene (handed_with conditions.old brought.now) scene
         → IfOk result (λ atom. atom ≡ arriving_by scene metric.now (brought_step brought.now)) }
     ensures known { conditions.new ≡ conditions.old }
+    ensures asks { asks.new ≤ asks.old
+        + arrival_questions brought.now.frame.now brought.now.matched.now metric.now }
 {
-    let Some(atom) = arriving(alloc, metric, brought, conditions)? else {
+    let Some(atom) = arriving(alloc, metric, brought, conditions, asks)? else {
         return Ok(None);
     };
     Ok(Some(atom.clone_atom(alloc)?))

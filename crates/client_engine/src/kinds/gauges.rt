@@ -1,5 +1,5 @@
 //! Pushed gauges.
-ghost use Rattle.std.specs.Prelude.{◌≡◌, ◌<◌, [], length, Option, OnOk, IfOk};
+ghost use Rattle.std.specs.Prelude.{◌≡◌, ◌∷◌, ◌<◌, [], length, Option, OnOk, IfOk};
 ghost use Rattle.bucket_meaning.specs.Limits.{time_limit};
 ghost use Rattle.field_select.specs.declared.leaf.FieldSet.{FieldSet};
 ghost use Rattle.config_links.specs.SoundConfig.{IsSize, IsBound, AreSamples, MayBeWithin};
@@ -8,6 +8,7 @@ ghost use Rattle.metric_meaning.specs.Histories.{Installation};
 ghost use Rattle.metric_meaning.specs.GaugeTrees.{gauge_body};
 ghost use Rattle.report_writer.specs.Writable.{AreWritableRows, IsWritableMetric};
 ghost use Rattle.client_engine.specs.NextSteps.{TakesReport};
+ghost use Rattle.client_engine.specs.AskedFew.{AsksFew};
 ghost use Rattle.client_engine.specs.Bringing.{TakesBrought};
 ghost use Rattle.client_engine.specs.GaugesAlong.{GaugesAlong, GetsSampleOf, sample_bucket, gauge_entry, gauges_shown_by};
 
@@ -20,6 +21,7 @@ use crate::moments::comes_by_pull;
 use crate::request::ReportRequest;
 use crate::samples::sample_of;
 use atom_record::{Atom, Slice};
+use condition_links::Steps;
 use config_links::{LKind, LMetric};
 use gauge_metric::{KeyedAtom, PushedGauge};
 use metric_lane::Lane;
@@ -28,6 +30,7 @@ use report_writer::{AtomBucket, AtomMsg, GaugeTree, LeafTree, MetricBody, Metric
 use sd_base::Seq;
 use session_frames::time_of;
 use std::alloc::{AllocError, Global};
+use std::sync::ledger::Ledger;
 
 /// Samples, as a report shows them.
 struct SampleRows;
@@ -83,21 +86,24 @@ pub fn begin(alloc: Global, base: u64, metric: &LMetric, samples: u32) -> Lane<P
 }
 
 /// A frame of the log comes.
-pub fn log(
+pub fn log<L: Ledger>(
     lane: &mut Lane<PushedGauge>,
     alloc: Global,
     metric: &LMetric,
     brought: &Brought<'_>,
     conditions: &mut Conditions,
+    asks: &mut Steps<L>,
 ) -> Result<(), AllocError>
     requires within { MayBeWithin (length conditions.old.predicates) metric.now.condition }
     ensures logs { OnOk result (TakesBrought (GaugesAlong metric.now)
         conditions.old brought.now lane.old lane.new) }
     ensures known { conditions.new ≡ conditions.old }
+    ensures asks { AsksFew (GaugesAlong metric.now) (metric.now ∷ [])
+        conditions.old brought.now lane.old asks.old asks.new }
 {
     // The ends come first, since a key that has all its samples in the part before has none in the next.
     lane.cross(time_of(brought.frame), comes_by_pull(brought.frame))?;
-    match arriving(alloc, metric, brought, conditions)? {
+    match arriving(alloc, metric, brought, conditions, asks)? {
         Some(atom) => sample(lane, alloc, metric, brought, atom),
         None => Ok(()),
     }

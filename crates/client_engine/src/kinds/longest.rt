@@ -1,11 +1,12 @@
 //! Longest durations.
-ghost use Rattle.std.specs.Prelude.{◌≡◌, ◌<◌, [], length, OnOk, IfOk};
+ghost use Rattle.std.specs.Prelude.{◌≡◌, ◌∷◌, ◌<◌, [], length, OnOk, IfOk};
 ghost use Rattle.bucket_meaning.specs.Limits.{time_limit};
 ghost use Rattle.config_types.specs.declared.parameters.PredSpec.{PredSpec};
 ghost use Rattle.config_links.specs.declared.linked.LKind.TheVariants as kinds;
 ghost use Rattle.config_links.specs.SoundConfig.{IsSize, IsBound, MayBeWithin};
 ghost use Rattle.metric_meaning.specs.Histories.{Installation};
 ghost use Rattle.report_writer.specs.Writable.{IsWritableMetric};
+ghost use Rattle.client_engine.specs.AskedFew.{AsksFew};
 ghost use Rattle.client_engine.specs.Bringing.{TakesBrought};
 ghost use Rattle.client_engine.specs.LongestAlong.{LongestAlong};
 ghost use Rattle.client_engine.specs.NextSteps.{TakesReport};
@@ -20,6 +21,7 @@ use crate::request::ReportRequest;
 use crate::stays::stays_with;
 use crate::turns::{act, learn};
 use atom_record::LogFrame;
+use condition_links::Steps;
 use config_links::LMetric;
 use config_types::PredSpec;
 use duration_metric::MaxProducer;
@@ -27,6 +29,7 @@ use metric_lane::Lane;
 use report_writer::MetricTree;
 use session_frames::time_of;
 use std::alloc::{AllocError, Global};
+use std::sync::ledger::Ledger;
 
 /// The lane of a metric of longest durations, which begins at `base` and keeps its inner keys so.
 pub fn begin(alloc: Global, base: u64, metric: &LMetric, spec: PredSpec) -> Lane<MaxProducer>
@@ -42,17 +45,20 @@ pub fn begin(alloc: Global, base: u64, metric: &LMetric, spec: PredSpec) -> Lane
 
 /// A frame of the log comes. An atom acts on the inner keys, and what changed of them is told after it. One that neither
 /// touches the metric nor tells a state by which it is sliced does nothing. What stays is found before it acts.
-pub fn log(
+pub fn log<L: Ledger>(
     lane: &mut Lane<MaxProducer>,
     alloc: Global,
     metric: &LMetric,
     brought: &Brought<'_>,
     conditions: &mut Conditions,
+    asks: &mut Steps<L>,
 ) -> Result<(), AllocError>
     requires within { MayBeWithin (length conditions.old.predicates) metric.now.condition }
     ensures logs { OnOk result (TakesBrought (LongestAlong metric.now)
         conditions.old brought.now lane.old lane.new) }
     ensures known { conditions.new ≡ conditions.old }
+    ensures asks { AsksFew (LongestAlong metric.now) (metric.now ∷ [])
+        conditions.old brought.now lane.old asks.old asks.new }
 {
     let at = time_of(brought.frame);
     lane.cross(at, comes_by_pull(brought.frame))?;
@@ -67,7 +73,15 @@ pub fn log(
     let event = conditions.inner_event(alloc, metric.what, atom, brought.matched)?;
     let acts = event.is_some();
     act(lane, at, event)?;
-    let changes = changes_of(alloc, lane.producer(), metric, brought, stays, conditions)?;
+    let changes = changes_of(
+        alloc,
+        lane.producer(),
+        metric,
+        brought,
+        stays,
+        conditions,
+        asks,
+    )?;
     learn(lane, at, delta_of(acts, changes))
 }
 

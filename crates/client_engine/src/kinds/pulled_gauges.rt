@@ -1,5 +1,5 @@
 //! Pulled gauges.
-ghost use Rattle.std.specs.Prelude.{◌≡◌, ◌++◌, ◌<◌, ℕ, [], length, map, All, Option, IfSome, OnOk, IfOk};
+ghost use Rattle.std.specs.Prelude.{◌≡◌, ◌∷◌, ◌++◌, ◌<◌, ℕ, [], length, map, All, Option, IfSome, OnOk, IfOk};
 ghost use Rattle.std.specs.Option.{option_map};
 ghost use Rattle.bucket_meaning.specs.Limits.{time_limit};
 ghost use Rattle.book_meaning.specs.Snapshots.{atoms_in};
@@ -16,6 +16,7 @@ ghost use Rattle.metric_calls.specs.PushedGaugeCalls.{handed_sample};
 ghost use Rattle.metric_calls.specs.PulledGaugeCalls.{gauge_telling};
 ghost use Rattle.report_writer.specs.Writable.{IsWritableMetric};
 ghost use Rattle.client_engine.specs.NextSteps.{TakesReport};
+ghost use Rattle.client_engine.specs.AskedFew.{AsksFew};
 ghost use Rattle.client_engine.specs.Bringing.{TakesBrought};
 ghost use Rattle.client_engine.specs.Opens.{IsOpeningOf};
 ghost use Rattle.client_engine.specs.Finding.{MayAsk, CanBeMatched, CanBeMeant, meant_in};
@@ -24,6 +25,7 @@ ghost use Rattle.client_engine.specs.PulledGaugesAlong.{PulledGaugesAlong, GetsS
 use crate::asked::Nothing;
 use crate::brought::Brought;
 use crate::conditions::Conditions;
+use crate::first_truth::first_truth;
 use crate::kinds::gauges::gauges_tree;
 use crate::matched::is_true_if_named;
 use crate::moments::comes_by_pull;
@@ -32,6 +34,7 @@ use crate::request::ReportRequest;
 use crate::samples::sample_of;
 use crate::snapshots::{Found, found_at_first, found_in, is_told};
 use atom_record::{Atom, LogFrame, MetricKey, PullOutcome};
+use condition_links::Steps;
 use config_links::{LKind, LMetric};
 use config_types::Sampling;
 use field_select::{FieldSet, key_of};
@@ -43,6 +46,7 @@ use report_writer::MetricTree;
 use sd_base::Seq;
 use session_frames::time_of;
 use std::alloc::{AllocError, Global};
+use std::sync::ledger::Ledger;
 
 /// The lane of a pulled gauge that keeps so many samples of a key in a part, at these moments. It is told the last
 /// snapshot and the condition, as they stand at the installation.
@@ -74,24 +78,27 @@ pub fn begin(
     let mut producer = PulledGauge::new(alloc, opening.base, metric.size, bound, spec);
     let snapshot = snapshot_of(alloc, metric, &found_at_first(opening, metric))?;
     producer.event(opening.base, snapshot)?;
-    let now = conditions.truth(alloc, metric, &Nothing)?;
+    let now = first_truth(alloc, metric, conditions)?;
     producer.condition(opening.base, now)?;
     Ok(Lane::new(opening.base, metric.size, producer))
 }
 
 /// A frame of the log comes.
-pub fn log(
+pub fn log<L: Ledger>(
     lane: &mut Lane<PulledGauge>,
     alloc: Global,
     metric: &LMetric,
     brought: &Brought<'_>,
     conditions: &mut Conditions,
+    asks: &mut Steps<L>,
 ) -> Result<(), AllocError>
     requires within { MayBeWithin (length conditions.old.predicates) metric.now.condition }
     requires matched { CanBeMatched brought.now }
     ensures logs { OnOk result (TakesBrought (PulledGaugesAlong metric.now)
         conditions.old brought.now lane.old lane.new) }
     ensures known { conditions.new ≡ conditions.old }
+    ensures asks { AsksFew (PulledGaugesAlong metric.now) (metric.now ∷ [])
+        conditions.old brought.now lane.old asks.old asks.new }
 {
     // A frame crosses ends before it tells anything; a pull at the very end of a part belongs to it.
     lane.cross(time_of(brought.frame), comes_by_pull(brought.frame))?;
@@ -102,7 +109,7 @@ pub fn log(
             if !conditions.touches(metric, brought.matched) {
                 return Ok(());
             }
-            let now = conditions.truth(alloc, metric, &Nothing)?;
+            let now = conditions.truth(alloc, metric, &Nothing, asks)?;
             lane.condition(*at, now)?;
             trigger(lane, metric, brought, *at)
         }

@@ -1,5 +1,5 @@
 //! Metrics of pulled values.
-ghost use Rattle.std.specs.Prelude.{◌≡◌, ◌++◌, ◌<◌, [], length, map, All, IfSome, OnOk, IfOk};
+ghost use Rattle.std.specs.Prelude.{◌≡◌, ◌∷◌, ◌++◌, ◌<◌, [], length, map, All, IfSome, OnOk, IfOk};
 ghost use Rattle.std.specs.Option.{option_map};
 ghost use Rattle.bucket_meaning.specs.Limits.{time_limit};
 ghost use Rattle.book_meaning.specs.Snapshots.{atoms_in};
@@ -13,6 +13,7 @@ ghost use Rattle.metric_calls.specs.ValueCalls.{keyed_int};
 ghost use Rattle.metric_calls.specs.PulledValueCalls.{snap_ints};
 ghost use Rattle.report_writer.specs.Writable.{IsWritableMetric};
 ghost use Rattle.client_engine.specs.NextSteps.{TakesReport};
+ghost use Rattle.client_engine.specs.AskedFew.{AsksFew};
 ghost use Rattle.client_engine.specs.Bringing.{TakesBrought};
 ghost use Rattle.client_engine.specs.Opens.{IsOpeningOf};
 ghost use Rattle.client_engine.specs.Finding.{MayAsk, CanBeMatched, CanBeMeant, meant_in, found_among};
@@ -21,6 +22,7 @@ ghost use Rattle.client_engine.specs.PulledValuesAlong.{pulled_kind_at, PulledVa
 use crate::asked::Nothing;
 use crate::brought::Brought;
 use crate::conditions::Conditions;
+use crate::first_truth::first_truth;
 use crate::integers::read_integer;
 use crate::kinds::values::values_tree;
 use crate::moments::comes_by_pull;
@@ -28,6 +30,7 @@ use crate::opening::Opening;
 use crate::request::ReportRequest;
 use crate::snapshots::{Found, found_at_first, found_in, is_told};
 use atom_record::{Atom, LogFrame, MetricKey, PullOutcome};
+use condition_links::Steps;
 use config_links::{LKind, LMetric};
 use config_types::DiffSpec;
 use field_select::{LeafPath, key_of};
@@ -38,6 +41,7 @@ use report_writer::MetricTree;
 use sd_base::Seq;
 use session_frames::time_of;
 use std::alloc::{AllocError, Global};
+use std::sync::ledger::Ledger;
 use value_metric::{KeyedInt, PulledValue, SnapInts};
 
 /// The lane of a metric of pulled values with such differences. It is told the last snapshot and the condition, as they
@@ -64,24 +68,27 @@ pub fn begin(
     let mut producer = PulledValue::new(alloc, opening.base, metric.size, bound, spec);
     let snapshot = snapshot_of(alloc, metric, &found_at_first(opening, metric))?;
     producer.event(opening.base, snapshot)?;
-    let now = conditions.truth(alloc, metric, &Nothing)?;
+    let now = first_truth(alloc, metric, conditions)?;
     producer.condition(opening.base, now)?;
     Ok(Lane::new(opening.base, metric.size, producer))
 }
 
 /// A frame of the log comes.
-pub fn log(
+pub fn log<L: Ledger>(
     lane: &mut Lane<PulledValue>,
     alloc: Global,
     metric: &LMetric,
     brought: &Brought<'_>,
     conditions: &mut Conditions,
+    asks: &mut Steps<L>,
 ) -> Result<(), AllocError>
     requires within { MayBeWithin (length conditions.old.predicates) metric.now.condition }
     requires matched { CanBeMatched brought.now }
     ensures logs { OnOk result (TakesBrought (PulledValuesAlong metric.now)
         conditions.old brought.now lane.old lane.new) }
     ensures known { conditions.new ≡ conditions.old }
+    ensures asks { AsksFew (PulledValuesAlong metric.now) (metric.now ∷ [])
+        conditions.old brought.now lane.old asks.old asks.new }
 {
     // A frame crosses ends before it tells anything; a pull at the very end of a part belongs to it.
     lane.cross(time_of(brought.frame), comes_by_pull(brought.frame))?;
@@ -92,7 +99,7 @@ pub fn log(
             if !conditions.touches(metric, brought.matched) {
                 return Ok(());
             }
-            let now = conditions.truth(alloc, metric, &Nothing)?;
+            let now = conditions.truth(alloc, metric, &Nothing, asks)?;
             lane.condition(*at, now)
         }
         LogFrame::Pull { at, id, outcome } => {

@@ -1,5 +1,5 @@
 //! Metrics of pushed values.
-ghost use Rattle.std.specs.Prelude.{◌≡◌, ◌<◌, [], length, OnOk, IfOk};
+ghost use Rattle.std.specs.Prelude.{◌≡◌, ◌+◌, ◌≤◌, ◌∷◌, ◌<◌, [], length, OnOk, IfOk};
 ghost use Rattle.std.specs.Option.{option_map};
 ghost use Rattle.bucket_meaning.specs.Limits.{time_limit};
 ghost use Rattle.config_links.specs.SoundConfig.{IsSize, IsBound, MayBeWithin};
@@ -11,6 +11,7 @@ ghost use Rattle.metric_calls.specs.ValueCalls.{keyed_int};
 ghost use Rattle.report_writer.specs.Writable.{IsWritableMetric};
 ghost use Rattle.client_engine.specs.Handed.{IsOfScene};
 ghost use Rattle.client_engine.specs.NextSteps.{TakesReport};
+ghost use Rattle.client_engine.specs.AskedFew.{AsksFew, arrival_questions};
 ghost use Rattle.client_engine.specs.Bringing.{handed_with, brought_step, TakesBrought};
 ghost use Rattle.client_engine.specs.ValuesAlong.{value_kind_at, ValuesAlong, values_shown_by, shown_value, value_entry};
 
@@ -22,6 +23,7 @@ use crate::integers::read_integer;
 use crate::moments::comes_by_pull;
 use crate::request::ReportRequest;
 use atom_record::Slice;
+use condition_links::Steps;
 use config_links::{LKind, LMetric};
 use config_types::Aggregation;
 use metric_lane::Lane;
@@ -30,6 +32,7 @@ use report_writer::{LeafTree, MetricBody, MetricTree, NumBucket, NumTree};
 use sd_base::Seq;
 use session_frames::time_of;
 use std::alloc::{AllocError, Global};
+use std::sync::ledger::Ledger;
 use value_metric::{KeyedInt, PushedValue};
 
 /// Values, as a report shows them.
@@ -81,19 +84,22 @@ pub fn begin(
 }
 
 /// A frame of the log comes.
-pub fn log(
+pub fn log<L: Ledger>(
     lane: &mut Lane<PushedValue>,
     alloc: Global,
     metric: &LMetric,
     brought: &Brought<'_>,
     conditions: &mut Conditions,
+    asks: &mut Steps<L>,
 ) -> Result<(), AllocError>
     requires within { MayBeWithin (length conditions.old.predicates) metric.now.condition }
     ensures logs { OnOk result (TakesBrought (ValuesAlong metric.now)
         conditions.old brought.now lane.old lane.new) }
     ensures known { conditions.new ≡ conditions.old }
+    ensures asks { AsksFew (ValuesAlong metric.now) (metric.now ∷ [])
+        conditions.old brought.now lane.old asks.old asks.new }
 {
-    let keyed = arrival(alloc, metric, brought, conditions)?;
+    let keyed = arrival(alloc, metric, brought, conditions, asks)?;
     lane.log(time_of(brought.frame), comes_by_pull(brought.frame), keyed)
 }
 
@@ -135,11 +141,12 @@ pub fn values_tree(
 }
 
 // The key and the integer that arrive with a frame, if an atom does that has one. The key is made last.
-fn arrival(
+fn arrival<L: Ledger>(
     alloc: Global,
     metric: &LMetric,
     brought: &Brought<'_>,
     conditions: &mut Conditions,
+    asks: &mut Steps<L>,
 ) -> Result<Option<KeyedInt>, AllocError>
     requires within { MayBeWithin (length conditions.old.predicates) metric.now.condition }
     ensures keyed { (scene : Scene) → IsOfScene (handed_with conditions.old brought.now) scene
@@ -148,11 +155,13 @@ fn arrival(
         → IfOk result (λ keyed. keyed
         ≡ option_map keyed_int (value_arrival_by scene metric.now source (brought_step brought.now))) }
     ensures known { conditions.new ≡ conditions.old }
+    ensures asks { asks.new ≤ asks.old
+        + arrival_questions brought.now.frame.now brought.now.matched.now metric.now }
 {
     let LKind::PushedValue { atom_id, leaf, .. } = &metric.kind else {
         return Ok(None);
     };
-    let Some(atom) = arriving(alloc, metric, brought, conditions)? else {
+    let Some(atom) = arriving(alloc, metric, brought, conditions, asks)? else {
         return Ok(None);
     };
     let Some(value) = read_integer(*atom_id, *leaf, atom) else {

@@ -7,7 +7,7 @@ use Rattle.client_engine.proofs.arriving.arriving.Goals as goal
 
 -- the condition isn't true
 pub returns-then-not-branch-clause-atom : goal.returns-then-not-branch-clause-atom
-returns-then-not-branch-clause-atom c = λ scene found.
+returns-then-not-branch-clause-atom g c = λ scene found.
     let off = c.if-not-branch.true in
     let brought = c.args.brought.now in
     let atom = c.in-AtomAt.atom in
@@ -19,7 +19,7 @@ returns-then-not-branch-clause-atom c = λ scene found.
 
 -- the atom arrives
 pub returns-clause-atom : goal.returns-clause-atom
-returns-clause-atom c = λ scene found.
+returns-clause-atom g c = λ scene found.
     let on = c.if-not-branch.false in
     let matches = c.if-not-is_true_at.false in
     let what = c.is_true_at.ensures in

@@ -1,5 +1,5 @@
 -- One place after the other.
-use Rattle.std.proofs.Common.{◌++◌, drop, length, sym, ap, subst, ◌∙◌, arith}
+use Rattle.std.proofs.Common.{◌+◌, ◌++◌, drop, length, sym, ap, subst, ◌∙◌, arith}
 use Rattle.config_links.specs.SoundConfig.{MayBeWithin}
 use Rattle.duration_metric.specs.InnerKeys.{inner_keys, last_known}
 use Rattle.metric_calls.specs.DurationCalls.{known_in, changes_from}
@@ -8,6 +8,7 @@ use Rattle.client_engine.specs.Handed.{IsOfScene}
 use Rattle.client_engine.specs.Known.{Known}
 use Rattle.client_engine.specs.InnerTold.{HasShared}
 use Rattle.client_engine.proofs.ChangesLemmas.{first_skipped, all_skipped, places_on, places_all}
+use Rattle.client_engine.proofs.InnerAskedLemmas.{asks_first, asks_on, asks_all}
 use Rattle.client_engine.proofs.inner.changes_of.Goals as goal
 
 -- the condition is asked of the same predicates
@@ -39,6 +40,9 @@ loop-place-init g c = (
       ∙ ap (λ n. changes_from was now n (drop n keys)) c.first_asked-first.ensures
       ∙ sym (first_skipped was now c.args.stays keys keeps),
   c.in_ok-shared.ensures.known,
+  asks_first g.K.Inners.stands c.args.keys.now c.args.stays c.first_asked-first.result c.len-count.result c.args.asks.now
+      c.shared_truth.new.asks (let more = c.if-count-first.false in omega (arith, more)) c.len-count.ensures
+      c.in_ok-shared.ensures.asks,
 )
 
 -- one more place
@@ -56,6 +60,10 @@ loop-place-preserved g c =
           (subst (λ (k : Known). HasShared k c.args.metric.now c.in_ok-shared.shared) (sym same)
           c.in_ok-shared.ensures.shared) keeps),
       c.in_ok-add_change.ensures.known ∙ same,
+      asks_on g.K.Inners.stands c.args.keys.now c.args.stays c.loop-place.place c.len-count.result c.args.asks.now
+          c.loop-place.asks c.add_change.new.asks
+          (let within = c.loop-place-test.true in omega (arith, within)) c.len-count.ensures
+          c.loop-place.invariant.2 c.in_ok-add_change.ensures.asks,
     )
 
 -- without memory predicates know the same, too
@@ -74,3 +82,24 @@ returns-clause-changes g c = λ params calls scene stands found keeps.
 
 pub returns-clause-known : goal.returns-clause-known
 returns-clause-known g c = c.loop-place.invariant.1
+
+-- where no key is asked, nothing is
+pub returns-then-count-first-clause-asks : goal.returns-then-count-first-clause-asks
+returns-then-count-first-clause-asks g c = λ params calls stands. (omega arith, λ all. omega arith)
+
+-- no more than one question for each, and one for all
+pub returns-clause-asks : goal.returns-clause-asks
+returns-clause-asks g c =
+    asks_all g.K.Inners.stands c.args.keys.now c.args.stays c.loop-place.place c.len-count.result c.args.asks.now
+    c.loop-place.asks (let ends = c.loop-place.auto in omega (arith, ends)) c.len-count.ensures
+    c.loop-place.invariant.2
+
+-- also where memory is wanting
+pub returns-in_err-add_change-clause-asks : goal.returns-in_err-add_change-clause-asks
+returns-in_err-add_change-clause-asks g c =
+    let within = c.loop-place-test.true in
+    asks_all g.K.Inners.stands c.args.keys.now c.args.stays (c.loop-place.place + 1) c.len-count.result c.args.asks.now
+    c.add_change.new.asks (omega (arith, within)) c.len-count.ensures
+    (asks_on g.K.Inners.stands c.args.keys.now c.args.stays c.loop-place.place c.len-count.result c.args.asks.now
+    c.loop-place.asks c.add_change.new.asks (omega (arith, within)) c.len-count.ensures
+    c.loop-place.invariant.2 c.add_change.ensures.asks)

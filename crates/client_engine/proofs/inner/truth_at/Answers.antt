@@ -1,4 +1,7 @@
 -- The truth that stays, or the one that the condition has.
+use Rattle.std.proofs.Common.{ap, ◌∙◌}
+use Rattle.std.proofs.lemmas.Bool.{false≢true}
+use Rattle.std.specs.Prelude.{is_some}
 use Rattle.std.proofs.lemmas.Result.{IfOk-weaker}
 use Rattle.duration_metric.specs.InnerKeys.{inner_keys, last_known}
 use Rattle.metric_calls.specs.DurationCalls.{known_in}
@@ -23,3 +26,11 @@ returns-in-None-clause-truth g c =
     truth_there (handed_with c.args.conditions.now asker.brought.now) scene asker.metric.now c.args.key.now truth found
     (is shared))
     c.truth_of.ensures.truth
+
+-- a truth that stays isn't asked
+pub returns-in-None-clause-asks : goal.returns-in-None-clause-asks
+returns-in-None-clause-asks g c = (
+  c.truth_of.ensures.asks,
+  λ params calls stands kept.
+      absurd (false≢true (ap is_some (rw (c.in-None.is) at (c.kept_truth.ensures params calls stands)) ∙ kept)),
+)

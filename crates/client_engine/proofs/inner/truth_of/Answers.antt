@@ -5,7 +5,7 @@ use Rattle.client_engine.specs.InnerTold.{reading_in}
 use Rattle.client_engine.proofs.inner.truth_of.Goals as goal
 
 pub returns-in-Some-clause-truth : goal.returns-in-Some-clause-truth
-returns-in-Some-clause-truth c = λ shared.
+returns-in-Some-clause-truth g c = λ shared.
     c.truth_as.ensures
     ∙ ap told_as ((rw (c.in-Some.is) at shared)
     (reading_in c.args.conditions.now c.args.asker.now.metric.now c.args.key.now))

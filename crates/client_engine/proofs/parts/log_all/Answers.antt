@@ -1,13 +1,14 @@
-use Rattle.std.proofs.Common.{◌≡◌, ◌∙◌, length, map, All, sym, ap, subst, arith}
+use Rattle.std.proofs.Common.{◌≡◌, ◌∙◌, ◌+◌, length, map, All, sym, ap, subst, arith}
+use Rattle.client_engine.specs.AskedFew.{AsksFew}
 use Rattle.client_engine.specs.Bringing.{handed_with}
 use Rattle.client_engine.specs.NextSteps.{TakesFrame}
 use Rattle.client_engine.specs.Tracks.{metric_in, AsksWithin, AllStandFor}
-use Rattle.client_engine.proofs.TracksLemmas.{one_stepped, all_stepped, asks_here, metrics_stay, whole}
+use Rattle.client_engine.proofs.TracksLemmas.{one_stepped, all_stepped, one_asked, all_asked, asks_here, metrics_stay, whole}
 use Rattle.client_engine.proofs.parts.log_all.Goals as goal
 
 -- each metric asks for one of the predicates
 pub log-requires : goal.log-requires
-log-requires c =
+log-requires g c =
     let known = c.args.conditions.now in
     record {
       within = asks_here c.loop-track.conditions known c.deref_mut-track-items.result.now c.loop-track.track-items
@@ -19,7 +20,7 @@ log-requires c =
 
 -- one more track took the frame
 pub loop-track-preserved : goal.loop-track-preserved
-loop-track-preserved c = (
+loop-track-preserved g c = (
   one_stepped (handed_with c.args.conditions.now c.args.brought.now) c.args.brought.now.frame.now
       c.args.brought.now.matched.now c.deref_mut-track-items.result.now
       c.loop-track.track-items c.loop-track.track-index c.log.new.self _ (omega arith) c.loop-track.invariant.0
@@ -28,11 +29,18 @@ loop-track-preserved c = (
       (ap (λ known. handed_with known c.args.brought.now) c.loop-track.invariant.1)
       c.in_ok-log.ensures.logs,
   c.in_ok-log.ensures.known ∙ c.loop-track.invariant.1,
+  one_asked (handed_with c.args.conditions.now c.args.brought.now) c.args.brought.now.frame.now
+      c.args.brought.now.matched.now c.deref_mut-track-items.result.now
+      c.loop-track.track-items c.loop-track.track-index _ c.args.asks.now c.loop-track.asks c.log.new.asks
+      (omega arith) c.loop-track.invariant.0 c.loop-track.invariant.2
+      (handed_with c.loop-track.conditions c.args.brought.now)
+      (ap (λ known. handed_with known c.args.brought.now) c.loop-track.invariant.1)
+      c.in_ok-log.ensures.asks,
 )
 
 -- all did
 pub returns-clause-logs : goal.returns-clause-logs
-returns-clause-logs c =
+returns-clause-logs g c =
     let known = handed_with c.args.conditions.now c.args.brought.now in
     let frame = c.args.brought.now.frame.now in
     let truths = c.args.brought.now.matched.now in
@@ -52,8 +60,33 @@ returns-clause-logs c =
 
 -- where memory is wanting, the metrics are what they were
 pub returns-in_err-log-clause-metrics : goal.returns-in_err-log-clause-metrics
-returns-in_err-log-clause-metrics c =
+returns-in_err-log-clause-metrics g c =
     metrics_stay c.args.tracks.now.items c.deref_mut-track-items.result.now c.loop-track.track-items
     c.args.tracks.now.len c.loop-track.track-index c.log.new.self _ c.deref_mut-track-items.ensures.value
     c.args.tracks.now.ok.0 (omega arith) c.loop-track.invariant.0.len c.loop-track.invariant.0.metrics
     c.log.ensures.metric
+
+-- they asked no more than they may
+pub returns-clause-asks : goal.returns-clause-asks
+returns-clause-asks g c =
+    subst (λ old. AsksFew AllStandFor (map metric_in old) c.args.conditions.now c.args.brought.now old c.args.asks.now
+    c.loop-track.asks) c.deref_mut-track-items.ensures.value
+    (all_asked (handed_with c.args.conditions.now c.args.brought.now) c.args.brought.now.frame.now
+    c.args.brought.now.matched.now c.deref_mut-track-items.result.now c.loop-track.track-index c.args.asks.now
+    c.loop-track.asks c.loop-track.invariant.2)
+
+-- nor where memory is wanting
+pub returns-in_err-log-clause-asks : goal.returns-in_err-log-clause-asks
+returns-in_err-log-clause-asks g c =
+    subst (λ old. AsksFew AllStandFor (map metric_in old) c.args.conditions.now c.args.brought.now old c.args.asks.now
+    c.log.new.asks) c.deref_mut-track-items.ensures.value
+    (all_asked (handed_with c.args.conditions.now c.args.brought.now) c.args.brought.now.frame.now
+    c.args.brought.now.matched.now c.deref_mut-track-items.result.now (c.loop-track.track-index + 1) c.args.asks.now
+    c.log.new.asks
+    (one_asked (handed_with c.args.conditions.now c.args.brought.now) c.args.brought.now.frame.now
+    c.args.brought.now.matched.now c.deref_mut-track-items.result.now
+    c.loop-track.track-items c.loop-track.track-index _ c.args.asks.now c.loop-track.asks c.log.new.asks
+    (omega arith) c.loop-track.invariant.0 c.loop-track.invariant.2
+    (handed_with c.loop-track.conditions c.args.brought.now)
+    (ap (λ known. handed_with known c.args.brought.now) c.loop-track.invariant.1)
+    c.log.ensures.asks))

@@ -12,17 +12,17 @@ use Rattle.condition_links.proofs.ConditionLemmas.{none_found}
 use Rattle.condition_links.proofs.search.query.Goals as goal
 
 pub find-requires-clause-in_range : goal.find-requires-clause-in_range
-find-requires-clause-in_range c =
+find-requires-clause-in_range g c =
     subst (λ (nodes : List LPredicate). AreInRange (predicate_names nodes)) (sym c.as_slice-nodes.ensures)
     c.requires.sound.in_range
 
 pub find-requires-clause-no_cycle : goal.find-requires-clause-no_cycle
-find-requires-clause-no_cycle c =
+find-requires-clause-no_cycle g c =
     subst (λ (nodes : List LPredicate). HasNoCycle (predicate_names nodes)) (sym c.as_slice-nodes.ensures)
     c.requires.sound.no_cycle
 
 pub find-requires-clause-depth : goal.find-requires-clause-depth
-find-requires-clause-depth c =
+find-requires-clause-depth g c =
     let links = predicate_names c.args.tree.now.nodes in
     let root : c.in-Some.root < length c.args.tree.now.nodes = subst
     (λ (o : Option ℕ). IfSome o (λ r. r < length c.args.tree.now.nodes)) c.in-Some.is c.requires.sound.root in
@@ -34,5 +34,5 @@ find-requires-clause-depth c =
     (sym c.as_slice-nodes.ensures) ends
 
 pub find-requires-clause-found : goal.find-requires-clause-found
-find-requires-clause-found c = none_found
+find-requires-clause-found g c = none_found
     (predicate_truth c.args.tables.now c.args.binds.now c.as_slice-nodes.result.now) 300

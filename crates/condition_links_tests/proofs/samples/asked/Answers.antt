@@ -1,8 +1,8 @@
 use Rattle.std.proofs.Common.{rules}
 use Rattle.condition_links_tests.proofs.samples.asked.Goals as goal
 
-pub query-requires-clause-sound : goal.query-requires-clause-sound
-query-requires-clause-sound c = record {
+pub counted-requires-clause-sound : goal.query-requires-clause-sound
+counted-requires-clause-sound c = record {
   few = search rules;
   root = search rules;
   in_range = rw (← c.as_slice-nodes.ensures) (c.are_there.ensures (search rules));

@@ -3,40 +3,40 @@ use Rattle.statsd_cli.proofs.LoadLemmas.{begins_under_way, served_under_way}
 use Rattle.statsd_cli.proofs.load.answer.Goals as goal
 
 pub frames-init : goal.frames-init
-frames-init c =
+frames-init g c =
     begins_under_way _ _ _ _ c.new-session.ensures.whole c.new-session.ensures.good c.new-session.ensures.few
     c.new-hub.ensures.stands
 
 pub frames-preserved-in_ok-served : goal.frames-preserved-in_ok-served
-frames-preserved-in_ok-served c =
+frames-preserved-in_ok-served g c =
     let way = c.frames.invariant in
     served_under_way _ _ _ _ _ way c.in-Some.frame _ c.in-Some.ensures c.in_ok-frame.frame c.in_ok-frame.ensures _
     c.in_ok-served.reply c.with-totals.result (c.in_ok-served.ensures.serves way.answered way.stands)
     c.with-totals.ensures.with c.with-totals.ensures.bound
 
 pub frames-preserved-in_ok-served-2 : goal.frames-preserved-in_ok-served-2
-frames-preserved-in_ok-served-2 c =
+frames-preserved-in_ok-served-2 g c =
     let way = c.frames.invariant in
     served_under_way _ _ _ _ _ way c.in-Some.frame _ c.in-Some.ensures c.in_ok-frame.frame c.in_ok-frame.ensures _
     c.in_ok-served.reply c.with-totals.result (c.in_ok-served.ensures.serves way.answered way.stands)
     c.with-totals.ensures.with c.with-totals.ensures.bound
 
 pub frames-preserved-in_ok-served-3 : goal.frames-preserved-in_ok-served-3
-frames-preserved-in_ok-served-3 c =
+frames-preserved-in_ok-served-3 g c =
     let way = c.frames.invariant in
     served_under_way _ _ _ _ _ way c.in-Some.frame _ c.in-Some.ensures c.in_ok-frame.frame c.in_ok-frame.ensures _
     c.in_ok-served.reply c.with-totals.result (c.in_ok-served.ensures.serves way.answered way.stands)
     c.with-totals.ensures.with c.with-totals.ensures.bound
 
 pub frames-preserved-in_ok-served-4 : goal.frames-preserved-in_ok-served-4
-frames-preserved-in_ok-served-4 c =
+frames-preserved-in_ok-served-4 g c =
     let way = c.frames.invariant in
     served_under_way _ _ _ _ _ way c.in-Some.frame _ c.in-Some.ensures c.in_ok-frame.frame c.in_ok-frame.ensures _
     c.in_ok-served.reply c.with-totals.result (c.in_ok-served.ensures.serves way.answered way.stands)
     c.with-totals.ensures.with c.with-totals.ensures.bound
 
 pub frames-preserved : goal.frames-preserved
-frames-preserved c =
+frames-preserved g c =
     let way = c.frames.invariant in
     served_under_way _ _ _ _ _ way c.in-Some.frame _ c.in-Some.ensures c.in_ok-frame.frame c.in_ok-frame.ensures _
     c.in_ok-served.reply c.with-totals.result (c.in_ok-served.ensures.serves way.answered way.stands)

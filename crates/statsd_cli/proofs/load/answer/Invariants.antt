@@ -4,7 +4,7 @@ use Rattle.statsd_cli.proofs.LoadLemmas.{IsUnderWay}
 use Rattle.statsd_cli.proofs.load.answer.Given as goal
 
 abbrev pub invariant-frames : goal.invariant-frames
-invariant-frames l = IsUnderWay l.fn.seed l.fn.frames l.session l.hub l.totals
+invariant-frames g l = IsUnderWay l.fn.seed l.fn.frames l.session l.hub l.totals
 
 abbrev pub decreases-frames : goal.decreases-frames
-decreases-frames l = length l.session
+decreases-frames g l = length l.session

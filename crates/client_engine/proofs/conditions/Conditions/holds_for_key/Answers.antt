@@ -10,7 +10,7 @@ use Rattle.client_engine.proofs.conditions.Conditions.holds_for_key.Goals as goa
 
 -- there is a table for each predicate, and a list of what is asked
 pub query-requires-clause-tables : goal.query-requires-clause-tables
-query-requires-clause-tables c =
+query-requires-clause-tables g c =
     let asks = binds_at c.as_slice-links.result.now (key_reading c.fields_at-fields.result.now c.args.key.now) in
     rw (c.as_slice.ensures.value, c.as_slice-2.ensures.value)
     (are_tables c.self.inside.tree.nodes c.self.inside.tables.items asks _ c.self.invariant.0
@@ -18,14 +18,14 @@ query-requires-clause-tables c =
 
 -- what was found is the truth of the condition, as the fields of the predicate's keys read it
 pub returns-clause-truth : goal.returns-clause-truth
-returns-clause-truth c =
+returns-clause-truth g c =
     let nodes = c.self.inside.tree.nodes in
     let tables = c.self.inside.tables.items in
     let metric = c.args.metric.now in
     let key = c.args.key.now in
     let reading = key_reading c.fields_at-fields.result.now key in
     let asks = binds_at c.as_slice-links.result.now reading in
-    let found = rw (c.as_slice.ensures.value, c.as_slice-2.ensures.value) at c.query.ensures in
+    let found = rw (c.as_slice.ensures.value, c.as_slice-2.ensures.value) at c.query.ensures.truth in
     rw (← c.self.view_is)
     (c.is_for_sure.ensures
     ∙ ap is_true (truth_found nodes tables metric reading c.query.result _ found

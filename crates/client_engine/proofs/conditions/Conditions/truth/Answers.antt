@@ -19,7 +19,7 @@ returns-clause-truth g c =
     let metric = c.args.metric.now in
     let reading = g.A.Asked.reading c.args.asked.now in
     let asks = binds_at c.as_slice-links.result.now reading in
-    let found = rw (c.as_slice.ensures.value, c.as_slice-2.ensures.value) at c.query.ensures in
+    let found = rw (c.as_slice.ensures.value, c.as_slice-2.ensures.value) at c.query.ensures.truth in
     rw (← c.self.view_is)
     (truth_found nodes c.self.inside.tables.items metric reading c.query.result _ found
     (c.in_ok-ask_all.ensures ∙ ap (λ n. map asks (range_with_len 0 n)) c.len.ensures

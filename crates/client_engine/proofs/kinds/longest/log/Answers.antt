@@ -4,23 +4,24 @@ use Rattle.std.proofs.lemmas.Result.{on_ok_weaker}
 use Rattle.metric_meaning.proofs.TouchedLemmas.{neither}
 use Rattle.client_engine.specs.Bringing.{handed_with}
 use Rattle.client_engine.proofs.InnerLemmas.{is_other}
-use Rattle.client_engine.proofs.LongestLemmas.{longest_pass, longest_untouched, longest_turn}
+use Rattle.client_engine.proofs.LongestLemmas.{longest_few, longest_pass, longest_untouched, longest_turn}
 use Rattle.client_engine.proofs.kinds.longest.log.Goals as goal
 
 -- a frame that isn't an atom brings nothing
 pub returns-in_default : goal.returns-in_default
-returns-in_default c =
+returns-in_default g c =
     let brought = c.args.brought.now in
     let crosses = rw (c.comes_by_pull.ensures, c.time_of-at.ensures) at c.in_ok-cross.ensures in
     record {
       logs = longest_pass (handed_with c.args.conditions.now brought) c.args.metric.now brought.frame.now brought.matched.now
           c.args.lane.now c.cross.new.self crosses (is_other brought.frame.now c.in_default.not-AtomAt);
       known = refl;
+      asks = λ installed steps frame has may. omega arith;
     }
 
 -- nor does an atom that changes nothing
 pub returns-then-not-changes_with : goal.returns-then-not-changes_with
-returns-then-not-changes_with c =
+returns-then-not-changes_with g c =
     let brought = c.args.brought.now in
     let crosses = rw (c.comes_by_pull.ensures, c.time_of-at.ensures) at c.in_ok-cross.ensures in
     let off = c.if-not-changes_with.true in
@@ -31,11 +32,12 @@ returns-then-not-changes_with c =
           brought.matched.now c.args.lane.now c.cross.new.self crosses c.in-AtomAt.at c.in-AtomAt.atom c.in-AtomAt.is both.0
           both.1;
       known = refl;
+      asks = λ installed steps frame has may. omega arith;
     }
 
 -- another one acts, and what changed is told after it
 pub returns-clause-logs : goal.returns-clause-logs
-returns-clause-logs c =
+returns-clause-logs g c =
     let brought = c.args.brought.now in
     let crosses = rw (c.comes_by_pull.ensures, c.time_of-at.ensures) at c.in_ok-cross.ensures in
     let acts = rw c.time_of-at.ensures at c.in_ok-act.ensures in
@@ -52,3 +54,29 @@ returns-clause-logs c =
           c.in_ok-changes.ensures.changes params calls scene (rw (c.producer-2.ensures) stands) found keeps;
     }))
     c.learn.ensures
+
+-- no more is asked than the atom may cost
+pub returns-clause-asks : goal.returns-clause-asks
+returns-clause-asks g c =
+    let crosses = rw (c.comes_by_pull.ensures, c.time_of-at.ensures) at c.in_ok-cross.ensures in
+    let acts = rw c.time_of-at.ensures at c.in_ok-act.ensures in
+    let on = c.if-not-changes_with.false in
+    let says = c.changes_with.ensures in
+    longest_few c.args.metric.now c.args.conditions.now c.args.brought.now c.args.lane.now c.cross.new.self c.act.new.lane
+    c.in_ok-event.event c.inner_len-listed.result c.stays_with-stays.result c.args.asks.now c.changes_of.new.asks
+    c.in-AtomAt.at c.in-AtomAt.atom c.in-AtomAt.is crosses acts c.in_ok-event.ensures c.stays_with-stays.ensures
+    (sym says ∙ grind (arith, on))
+    (λ params calls stands. c.changes_of.ensures.asks params calls (rw (c.producer-2.ensures) stands))
+
+-- also where memory is wanting
+pub returns-in_err-changes-clause-asks : goal.returns-in_err-changes-clause-asks
+returns-in_err-changes-clause-asks g c =
+    let crosses = rw (c.comes_by_pull.ensures, c.time_of-at.ensures) at c.in_ok-cross.ensures in
+    let acts = rw c.time_of-at.ensures at c.in_ok-act.ensures in
+    let on = c.if-not-changes_with.false in
+    let says = c.changes_with.ensures in
+    longest_few c.args.metric.now c.args.conditions.now c.args.brought.now c.args.lane.now c.cross.new.self c.act.new.lane
+    c.in_ok-event.event c.inner_len-listed.result c.stays_with-stays.result c.args.asks.now c.changes_of.new.asks
+    c.in-AtomAt.at c.in-AtomAt.atom c.in-AtomAt.is crosses acts c.in_ok-event.ensures c.stays_with-stays.ensures
+    (sym says ∙ grind (arith, on))
+    (λ params calls stands. c.changes_of.ensures.asks params calls (rw (c.producer-2.ensures) stands))

@@ -1,16 +1,18 @@
 -- The crossing, and then what is told of the frame.
-use Rattle.std.proofs.Common.{arith}
+use Rattle.std.proofs.Common.{ap, arith}
 use Rattle.std.proofs.lemmas.Result.{on_ok_weaker}
 use Rattle.value_metric.specs.PulledStands.{pulled_law}
 use Rattle.metric_calls.specs.PulledValueCalls.{value_telling}
 use Rattle.client_engine.proofs.PulledValuesLemmas.{pulled_values_log}
 use Rattle.client_engine.specs.Bringing.{handed_with}
 use Rattle.client_engine.proofs.SnapshotsToldLemmas.{gets_none, tick_told, atom_untold, atom_told, pull_untold, pull_told}
+use Rattle.client_engine.specs.Questions.{touched_questions}
+use Rattle.client_engine.proofs.QuestionsLemmas.{touched_few}
 use Rattle.client_engine.proofs.kinds.pulled_values.log.Goals as goal
 
 -- of a tick nothing is told
 pub returns-in-Tick-clause-logs : goal.returns-in-Tick-clause-logs
-returns-in-Tick-clause-logs c =
+returns-in-Tick-clause-logs g c =
     let brought = c.args.brought.now in
     let given = handed_with c.args.conditions.now brought in
     let metric = c.args.metric.now in
@@ -24,7 +26,7 @@ returns-in-Tick-clause-logs c =
 
 -- nor of an atom that doesn't touch the metric
 pub returns-then-not-touches-clause-logs : goal.returns-then-not-touches-clause-logs
-returns-then-not-touches-clause-logs c =
+returns-then-not-touches-clause-logs g c =
     let brought = c.args.brought.now in
     let given = handed_with c.args.conditions.now brought in
     let metric = c.args.metric.now in
@@ -41,7 +43,7 @@ returns-then-not-touches-clause-logs c =
 
 -- of another one the condition after it is
 pub returns-in_ok-now-in-AtomAt-clause-logs : goal.returns-in_ok-now-in-AtomAt-clause-logs
-returns-in_ok-now-in-AtomAt-clause-logs c =
+returns-in_ok-now-in-AtomAt-clause-logs g c =
     let brought = c.args.brought.now in
     let given = handed_with c.args.conditions.now brought in
     let metric = c.args.metric.now in
@@ -63,7 +65,7 @@ returns-in_ok-now-in-AtomAt-clause-logs c =
 
 -- of a pull that isn't the metric's nothing is
 pub returns-then-not-is_told-clause-logs : goal.returns-then-not-is_told-clause-logs
-returns-then-not-is_told-clause-logs c =
+returns-then-not-is_told-clause-logs g c =
     let brought = c.args.brought.now in
     let given = handed_with c.args.conditions.now brought in
     let metric = c.args.metric.now in
@@ -80,7 +82,7 @@ returns-then-not-is_told-clause-logs c =
 
 -- of another one its snapshot is
 pub returns-else-not-is_told-clause-logs : goal.returns-else-not-is_told-clause-logs
-returns-else-not-is_told-clause-logs c =
+returns-else-not-is_told-clause-logs g c =
     let brought = c.args.brought.now in
     let given = handed_with c.args.conditions.now brought in
     let metric = c.args.metric.now in
@@ -96,3 +98,14 @@ returns-else-not-is_told-clause-logs c =
     pull_told pulled_law (value_telling metric source) given scene metric frame truths found lane c.pull.new.lane c.in-Pull.at c.in-Pull.id
     c.in-Pull.outcome c.in-Pull.is (grind (arith, on, told)) (gets source spec values)))
     c.pull.ensures
+
+-- an atom that touches the metric costs one question
+pub returns-in_ok-now-in-AtomAt-clause-asks : goal.returns-in_ok-now-in-AtomAt-clause-asks
+returns-in_ok-now-in-AtomAt-clause-asks g c = λ installed steps frame has may.
+    let metric = c.args.metric.now in
+    let on = c.if-not-touches.false in
+    let touches = c.touches.ensures in
+    touched_few (handed_with c.args.conditions.now c.args.brought.now) installed steps c.args.brought.now.frame.now frame
+    c.args.brought.now.matched.now metric c.in-AtomAt.at c.in-AtomAt.atom c.in-AtomAt.is (grind (arith, on, touches)) may
+    (ap (λ kind. touched_questions installed steps (record metric { kind = kind })) has.values) c.args.asks.now
+    c.truth.new.asks c.truth.ensures.asks

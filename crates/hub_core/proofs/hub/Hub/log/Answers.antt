@@ -8,6 +8,7 @@ use Rattle.hub_meaning.specs.SessionLog.{log_frames}
 use Rattle.hub_core.specs.HubStands.{judge_of}
 use Rattle.hub_core.specs.SlotLogs.{AllLog, asked_by_all}
 use Rattle.hub_core.proofs.HubStandsLemmas.{hub_log}
+use Rattle.hub_core.proofs.LiveQuestionsLemmas.{hub_asks}
 use Rattle.hub_core.proofs.hub.Hub.log.Goals as goal
 
 -- the book of states has the frame before instances see it, and that of pulls after
@@ -37,3 +38,30 @@ returns-clause-asked g c =
     subst (λ n. HaveRisen n (g.J.Judge.ticks (judge_of c.args.self)) (g.J.Judge.ticks c.log.new.judge))
     (ap (λ f. asked_by_all f rows) c.shown_of-shown.ensures ∙ c.shown_instead-instead.ensures.asked rows)
     c.in_ok-self.ensures.ticks
+
+-- all that is live asks no more than its questions
+pub returns-clause-questions : goal.returns-clause-questions
+returns-clause-questions g c = λ frames h in_time.
+    let log = log_frames frames in
+    hub_asks g.J.Judge.says c.args.self frames c.shown_of-shown.result.now c.tell.new.self.states c.args.frame
+    c.args.asks.now c.log.new.asks in_time
+    (c.shown_of-shown.ensures ∙ c.shown_instead-instead.ensures.shown log h.books.pulls)
+    (c.in_ok-tell.ensures.states log h.books.states) h c.log.ensures.asks
+
+-- also where memory is wanting
+pub returns-in_err-log-clause-questions : goal.returns-in_err-log-clause-questions
+returns-in_err-log-clause-questions g c = λ frames h in_time.
+    let log = log_frames frames in
+    hub_asks g.J.Judge.says c.args.self frames c.shown_of-shown.result.now c.tell.new.self.states c.args.frame
+    c.args.asks.now c.log.new.asks in_time
+    (c.shown_of-shown.ensures ∙ c.shown_instead-instead.ensures.shown log h.books.pulls)
+    (c.in_ok-tell.ensures.states log h.books.states) h c.log.ensures.asks
+
+-- and where it is wanting afterwards
+pub returns-in_err-record-clause-questions : goal.returns-in_err-record-clause-questions
+returns-in_err-record-clause-questions g c = λ frames h in_time.
+    let log = log_frames frames in
+    hub_asks g.J.Judge.says c.args.self frames c.shown_of-shown.result.now c.tell.new.self.states c.args.frame
+    c.args.asks.now c.log.new.asks in_time
+    (c.shown_of-shown.ensures ∙ c.shown_instead-instead.ensures.shown log h.books.pulls)
+    (c.in_ok-tell.ensures.states log h.books.states) h c.log.ensures.asks

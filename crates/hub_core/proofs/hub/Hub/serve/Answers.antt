@@ -1,11 +1,12 @@
 -- Each kind of frame: the hub stands for the frames with it, and its answer is theirs.
-use Rattle.std.proofs.Common.{None, refl, SFits, w32, w64, rules, subst, ◌∙◌, ap}
+use Rattle.std.proofs.Common.{◌≤◌, ◌+◌, None, refl, sym, SFits, w32, w64, rules, subst, ◌∙◌, ap}
 use Rattle.std.proofs.lemmas.Int.{to_z-of_z}
 use Rattle.session_frames.specs.declared.frame.Frame.TheVariants.{Log}
 use Rattle.session_frames.specs.Frames.{IsInTime}
 use Rattle.config_decode.specs.Config.{config_of}
 use Rattle.hub_meaning.specs.SessionLog.{clock_of}
 use Rattle.hub_meaning.specs.Acceptance.{config_read}
+use Rattle.hub_core.specs.LiveQuestions.{questions_in}
 use Rattle.hub_core.proofs.HubStandsLemmas.{serves_as, served_log, hub_remove, hub_report, hub_install}
 use Rattle.hub_core.proofs.hub.Hub.serve.Goals as goal
 
@@ -48,3 +49,15 @@ returns-in_ok-lives-in-Report-clause-serves g c =
     (hub_report g.J.Judge.says c.args.self _ frames h c.in-Report.uid c.in-Report.id c.in_ok-lives-in-Report.body
     refl refl
     c.in-Report.include_current reports))
+
+-- a frame of the log asks no more than its questions
+pub returns-in_ok-log-in-Log-clause-questions : goal.returns-in_ok-log-in-Log-clause-questions
+returns-in_ok-log-in-Log-clause-questions g c = λ frames h in_time.
+    subst (λ f. c.log.new.asks ≤ c.args.asks.now + questions_in g.J.Judge.says c.args.self frames f) (sym c.in-Log.is)
+    (c.log.ensures.questions frames h (subst (IsInTime (clock_of frames)) c.in-Log.is in_time))
+
+-- also where memory is wanting
+pub returns-in_err-log-in-Log-clause-questions : goal.returns-in_err-log-in-Log-clause-questions
+returns-in_err-log-in-Log-clause-questions g c = λ frames h in_time.
+    subst (λ f. c.log.new.asks ≤ c.args.asks.now + questions_in g.J.Judge.says c.args.self frames f) (sym c.in-Log.is)
+    (c.log.ensures.questions frames h (subst (IsInTime (clock_of frames)) c.in-Log.is in_time))

@@ -6,6 +6,7 @@ use Rattle.matcher_table.specs.Contents.{contents_of}
 use Rattle.held_slots.proofs.TruthLaws.{table_sound}
 use Rattle.hub_core.proofs.HeldLemmas.{held-logged}
 use Rattle.hub_core.proofs.EvaluationLemmas.{all_logs, evaluated_held, asked_are}
+use Rattle.hub_core.proofs.LiveQuestionsLemmas.{ask_by}
 use Rattle.hub_core.proofs.TableLemmas.{table_held, all-shown, places-shown}
 use Rattle.hub_core.proofs.lives.Lives.log.Goals as goal
 
@@ -17,7 +18,7 @@ log_all-requires-clause-held g c =
 pub invariant_of-result : goal.invariant_of-result
 invariant_of-result g c =
     let table = contents_of c.evaluate.new.table in
-    let shown = c.in_ok-log_all.ensures in
+    let shown = c.in_ok-log_all.ensures.shown in
     let olds = c.args.self.slots.entries in
     let news = c.log_all.new.slots.entries in
     let frame = c.args.frame.now in
@@ -42,10 +43,30 @@ returns-clause-slots g c =
     c.log_all.new.slots.entries
     (evaluated_held g.J.Judge.says (contents_of c.args.self.table) (contents_of c.evaluate.new.table)
     c.args.frame.now c.args.self.slots.entries c.evaluate.ensures.evaluates (table_held c.args.self)).all
-    c.in_ok-log_all.ensures
+    c.in_ok-log_all.ensures.shown
 
 pub returns-clause-ticks : goal.returns-clause-ticks
 returns-clause-ticks g c =
     subst (λ (n : ℕ). HaveRisen n (g.J.Judge.ticks c.args.judge.now) (g.J.Judge.ticks c.evaluate.new.judge))
     (asked_are (contents_of c.args.self.table) c.args.frame.now c.args.self.slots.entries
     (table_sound c.args.self.table) (table_held c.args.self)) c.evaluate.ensures.asked
+
+-- all ask no more than they may
+pub returns-clause-asks : goal.returns-clause-asks
+returns-clause-asks g c =
+    let table = contents_of c.evaluate.new.table in
+    ask_by g.J.Judge.says (contents_of c.args.self.table) table c.args.frame.now c.args.states.now
+    c.args.self.slots.entries c.args.asks.now c.log_all.new.asks (table_sound c.evaluate.new.table)
+    c.evaluate.ensures.evaluates
+    (evaluated_held g.J.Judge.says (contents_of c.args.self.table) table c.args.frame.now c.args.self.slots.entries
+    c.evaluate.ensures.evaluates (table_held c.args.self)).all c.log_all.ensures.asks
+
+-- also where memory is wanting
+pub returns-in_err-log_all-clause-asks : goal.returns-in_err-log_all-clause-asks
+returns-in_err-log_all-clause-asks g c =
+    let table = contents_of c.evaluate.new.table in
+    ask_by g.J.Judge.says (contents_of c.args.self.table) table c.args.frame.now c.args.states.now
+    c.args.self.slots.entries c.args.asks.now c.log_all.new.asks (table_sound c.evaluate.new.table)
+    c.evaluate.ensures.evaluates
+    (evaluated_held g.J.Judge.says (contents_of c.args.self.table) table c.args.frame.now c.args.self.slots.entries
+    c.evaluate.ensures.evaluates (table_held c.args.self)).all c.log_all.ensures.asks
