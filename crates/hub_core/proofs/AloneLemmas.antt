@@ -1,5 +1,5 @@
 -- A client's part of the hub of all, and its private run.
-use Rattle.std.proofs.Common.{◌≡◌, ◌≢◌, ℕ, zero, suc, ◌<◌, ℤ, Bool, true, false, cond, List, [], ◌∷◌, length, map, get_or, Option, Some, None, refl, sym, ap, subst, ◌∙◌, arith, inl, inr}
+use Rattle.std.proofs.Common.{◌≡◌, ◌≢◌, ℕ, suc, ◌<◌, ℤ, Bool, true, false, cond, List, [], ◌∷◌, length, map, get_or, Option, Some, None, refl, sym, ap, subst, ◌∙◌, arith, inl, inr}
 use Rattle.std.specs.Ordering.{int_eq}
 use Rattle.std.specs.Cmp.{signed_Decides}
 use Rattle.std.proofs.lemmas.Bool.{cases_eq}
@@ -23,14 +23,14 @@ use Rattle.matcher_table.proofs.Counting.{place_of, counted_at}
 use Rattle.held_slots.specs.Holdings.{own_tree}
 use Rattle.held_slots.proofs.HoldingLaws.{held_live, held_tree}
 use Rattle.held_slots.proofs.TruthLaws.{table_sound}
-use Rattle.client_engine.specs.InstanceStands.{InstanceStandsFor, linked_of}
+use Rattle.client_engine.specs.InstanceStands.{InstanceStandsFor}
 use Rattle.client_engine.specs.declared.live_id.LiveId.{LiveId}
 use Rattle.hub_core.specs.declared.live_instance.LiveInstance.{LiveInstance}
 use Rattle.hub_core.specs.declared.hub.Hub.{Hub}
 use Rattle.hub_core.specs.HubStands.{SlotStandsFor, HubStandsFor}
 use Rattle.hub_core.specs.SharedTable.{IsHeldIn, AllHeld, slots_of}
 use Rattle.hub_core.specs.Slots.{live_id, same_id, slot_at}
-use Rattle.hub_core.specs.Alone.{live_at, table_of, HoldsSlot, IsSameConfig, IsSameLive, RunsAsAlone}
+use Rattle.hub_core.specs.Alone.{live_at, table_of, HoldsSlot, IsSameLive, RunsAsAlone}
 use Rattle.hub_core.proofs.OneSlotLemmas.{one_slot}
 
 -- what is found among what is held is held

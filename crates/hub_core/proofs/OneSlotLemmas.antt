@@ -5,7 +5,7 @@ use Rattle.matcher_table.specs.declared.shared.SharedMatcher.TheVariants.{Simple
 use Rattle.matcher_table.specs.Slots.{matcher_at, children_of, times_among}
 use Rattle.matcher_table.specs.Tables.{SlotTable}
 use Rattle.matcher_table.specs.TableFacts.{IsSoundTable}
-use Rattle.matcher_table.specs.Trees.{Tree, Trees, trees_of, tree_from, slot_tree}
+use Rattle.matcher_table.specs.Trees.{Tree, trees_of, tree_from, slot_tree}
 use Rattle.matcher_table.proofs.Counting.{one_if_same, places-cons}
 use Rattle.hub_core.proofs.ReachedLemmas.{depth, from_least}
 

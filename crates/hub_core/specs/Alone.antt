@@ -1,5 +1,5 @@
 -- A client in the hub of all, and the same client alone: in a hub that took in its own frames and no others.
-use Rattle.std.specs.Prelude.{◌≡◌, ℕ, ◌<◌, ℤ, Bool, List, map, Option, Some, None}
+use Rattle.std.specs.Prelude.{◌≡◌, ℕ, ◌<◌, ℤ, Bool, map, Option, Some, None}
 use Rattle.atom_record.specs.declared.atom.Atom.{Atom}
 use Rattle.config_types.specs.declared.matcher.SimpleMatcher.{SimpleMatcher}
 use Rattle.metric_meaning.specs.Histories.{History}
