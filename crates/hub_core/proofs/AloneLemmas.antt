@@ -30,7 +30,7 @@ use Rattle.hub_core.specs.declared.hub.Hub.{Hub}
 use Rattle.hub_core.specs.HubStands.{SlotStandsFor, HubStandsFor}
 use Rattle.hub_core.specs.SharedTable.{IsHeldIn, AllHeld, slots_of}
 use Rattle.hub_core.specs.Slots.{live_id, same_id, slot_at}
-use Rattle.hub_core.specs.Alone.{live_at, table_of, HoldsSlot, IsSameLive, RunsAsAlone}
+use Rattle.hub_core.specs.Alone.{live_at, hub_table, HoldsSlot, IsSameLive, RunsAsAlone}
 use Rattle.hub_core.proofs.OneSlotLemmas.{one_slot}
 
 -- what is found among what is held is held
@@ -65,8 +65,8 @@ record Both {J : Type 0} (client : ℤ) (frames : List Frame) (shared alone : Hu
   is_a : live_at client id shared ≡ Some a
   config : LiveConfig
   is_config : config_at id (live frames) ≡ Some config
-  held : IsHeldIn (table_of shared) a
-  held_alone : IsHeldIn (table_of alone) b
+  held : IsHeldIn (hub_table shared) a
+  held_alone : IsHeldIn (hub_table alone) b
   same : b.instance.matchers ≡ a.instance.matchers
 
 module _ {J : Type 0} (client : ℤ) (frames : List Frame) (shared alone : Hub J) (id : ℤ)
@@ -76,32 +76,32 @@ module _ {J : Type 0} (client : ℤ) (frames : List Frame) (shared alone : Hub J
       both.held_alone.slots.each ∙ ap (λ (ms : List LMatcher). length ms) both.same ∙ sym both.held.slots.each
 
   live_shared : (i : ℕ) → i < length both.a.slots
-      → matcher_at (table_of shared).slots (get_or both.a.slots i 0) ≢ None
+      → matcher_at (hub_table shared).slots (get_or both.a.slots i 0) ≢ None
   live_shared i h =
-      held_live (table_of shared) both.a.slots both.a.instance.matchers both.held.slots i
+      held_live (hub_table shared) both.a.slots both.a.instance.matchers both.held.slots i
       (omega (arith, h, both.held.slots.each))
 
   live_alone : (i : ℕ) → i < length both.a.slots
-      → matcher_at (table_of alone).slots (get_or both.b.slots i 0) ≢ None
+      → matcher_at (hub_table alone).slots (get_or both.b.slots i 0) ≢ None
   live_alone i h =
-      held_live (table_of alone) both.b.slots both.b.instance.matchers both.held_alone.slots i
+      held_live (hub_table alone) both.b.slots both.b.instance.matchers both.held_alone.slots i
       (omega (arith, h, as_long, both.held_alone.slots.each))
 
   -- at each place of their lists the slots have one tree
-  one_tree : (i : ℕ) → i < length both.a.slots → slot_tree (table_of alone).slots (get_or both.b.slots i 0)
-      ≡ slot_tree (table_of shared).slots (get_or both.a.slots i 0)
+  one_tree : (i : ℕ) → i < length both.a.slots → slot_tree (hub_table alone).slots (get_or both.b.slots i 0)
+      ≡ slot_tree (hub_table shared).slots (get_or both.a.slots i 0)
   one_tree i h =
-      held_tree both.b.instance.matchers both.held_alone.in_range both.held_alone.no_cycle (table_of alone) both.b.slots
+      held_tree both.b.instance.matchers both.held_alone.in_range both.held_alone.no_cycle (hub_table alone) both.b.slots
       (table_sound alone.lives.table) both.held_alone.slots i (omega (arith, h, as_long, both.held_alone.slots.each))
       ∙ ap (λ (ms : List LMatcher). own_tree ms i) both.same
-      ∙ sym (held_tree both.a.instance.matchers both.held.in_range both.held.no_cycle (table_of shared) both.a.slots
+      ∙ sym (held_tree both.a.instance.matchers both.held.in_range both.held.no_cycle (hub_table shared) both.a.slots
       (table_sound shared.lives.table) both.held.slots i (omega (arith, h, both.held.slots.each)))
 
 -- a slot of the private table stands for what one of the shared table stands for
 record Meets {J : Type 0} (shared alone : Hub J) (s t : ℕ) : Type 0 where
-  is_live : matcher_at (table_of shared).slots s ≢ None
-  is_live_alone : matcher_at (table_of alone).slots t ≢ None
-  tree : slot_tree (table_of alone).slots t ≡ slot_tree (table_of shared).slots s
+  is_live : matcher_at (hub_table shared).slots s ≢ None
+  is_live_alone : matcher_at (hub_table alone).slots t ≢ None
+  tree : slot_tree (hub_table alone).slots t ≡ slot_tree (hub_table shared).slots s
 
 -- a slot of the private table for one of the shared table, if one of these configurations holds that
 record Pick {J : Type 0} (client : ℤ) (shared alone : Hub J) (s : ℕ) (configs : List LiveConfig) : Type 0 where
@@ -131,8 +131,8 @@ module _ (says : SimpleMatcher → Atom → Bool) {J : Type 0} (client : ℤ) (a
     is_a = is_a;
     config = config;
     is_config = is_config;
-    held = found_held (table_of shared) (live_id client id) a shared.lives.slots.entries h.table.all is_a;
-    held_alone = found_held (table_of alone) (live_id client id) b alone.lives.slots.entries k.table.all is_b;
+    held = found_held (hub_table shared) (live_id client id) a shared.lives.slots.entries h.table.all is_a;
+    held_alone = found_held (hub_table alone) (live_id client id) b alone.lives.slots.entries k.table.all is_b;
     same = ap (λ (l : Linked). l.matchers) (stands_alone.linked ∙ sym stands.linked);
   }
 
@@ -162,10 +162,10 @@ module _ (says : SimpleMatcher → Atom → Bool) {J : Type 0} (client : ℤ) (a
       let at = place_of s b.a.slots counted in (
         get_or b.b.slots at.0 0,
         record {
-          is_live = subst (λ (x : ℕ). matcher_at (table_of shared).slots x ≢ None) at.2
+          is_live = subst (λ (x : ℕ). matcher_at (hub_table shared).slots x ≢ None) at.2
               (live_shared client frames shared alone id b at.0 at.1);
           is_live_alone = live_alone client frames shared alone id b at.0 at.1;
-          tree = one_tree client frames shared alone id b at.0 at.1 ∙ ap (slot_tree (table_of shared).slots) at.2;
+          tree = one_tree client frames shared alone id b at.0 at.1 ∙ ap (slot_tree (hub_table shared).slots) at.2;
         },
       )
 
@@ -227,15 +227,15 @@ module _ (says : SimpleMatcher → Atom → Bool) {J : Type 0} (client : ℤ) (a
         subst (λ (o : Option LiveInstance). 0 < times_among (get_or a.slots i 0) (slots_of o)) (sym is_a)
         (counted_at a.slots i in_a) in
         let met = named (get_or a.slots i 0) (id, counted) in
-        one_slot (table_of alone) (table_sound alone.lives.table) (new_name (get_or a.slots i 0))
+        one_slot (hub_table alone) (table_sound alone.lives.table) (new_name (get_or a.slots i 0))
         (get_or b.slots i 0) met.is_live_alone (live_alone client frames shared alone id pair i in_a)
         (met.tree ∙ sym (one_tree client frames shared alone id pair i in_a)));
       }
 
   -- an evaluation gives it the same result
   same_truth : (s : ℕ) → HoldsSlot client shared s → (judged : SimpleMatcher → Atom → Bool) (atom : Atom)
-      (next next_alone : SlotTable) → Evaluates judged atom (table_of shared) next
-      → Evaluates judged atom (table_of alone) next_alone → result_at next_alone (new_name s) ≡ result_at next s
+      (next next_alone : SlotTable) → Evaluates judged atom (hub_table shared) next
+      → Evaluates judged atom (hub_table alone) next_alone → result_at next_alone (new_name s) ≡ result_at next s
   same_truth s holds judged atom next next_alone e e' =
       let met = named s holds in
       let is_live : matcher_at next.slots s ≢ None =
@@ -257,8 +257,8 @@ module _ (says : SimpleMatcher → Atom → Bool) {J : Type 0} (client : ℤ) (a
     apart = λ s t in_s in_t same.
         let met = named s in_s in
         let met' = named t in_t in
-        one_slot (table_of shared) (table_sound shared.lives.table) s t met.is_live met'.is_live
-        (sym met.tree ∙ ap (slot_tree (table_of alone).slots) same ∙ met'.tree);
+        one_slot (hub_table shared) (table_sound shared.lives.table) s t met.is_live met'.is_live
+        (sym met.tree ∙ ap (slot_tree (hub_table alone).slots) same ∙ met'.tree);
     trees = λ s holds. (named s holds).tree;
     truths = same_truth;
   }

@@ -19,8 +19,8 @@ abbrev pub live_at : {J : Type 0} → ℤ → ℤ → Hub J → Option LiveInsta
 live_at client id hub = slot_at (live_id client id) hub.lives.slots.entries
 
 -- what the hub's table of matchers contains
-abbrev pub table_of : {J : Type 0} → Hub J → SlotTable
-table_of hub = contents_of hub.lives.table
+abbrev pub hub_table : {J : Type 0} → Hub J → SlotTable
+hub_table hub = contents_of hub.lives.table
 
 -- one of the client's configurations holds a slot
 abbrev pub HoldsSlot : {J : Type 0} → ℤ → Hub J → ℕ → Type 0
@@ -48,7 +48,7 @@ pub record RunsAsAlone {J : Type 0} (client : ℤ) (shared alone : Hub J) : Type
   pub live : (id : ℤ) → IsSameLive renamed (live_at client id shared) (live_at client id alone)
   pub apart : (s t : ℕ) → HoldsSlot client shared s → HoldsSlot client shared t → renamed s ≡ renamed t → s ≡ t
   pub trees : (s : ℕ) → HoldsSlot client shared s
-      → slot_tree (table_of alone).slots (renamed s) ≡ slot_tree (table_of shared).slots s
+      → slot_tree (hub_table alone).slots (renamed s) ≡ slot_tree (hub_table shared).slots s
   pub truths : (s : ℕ) → HoldsSlot client shared s → (says : SimpleMatcher → Atom → Bool) (atom : Atom)
-      (next next_alone : SlotTable) → Evaluates says atom (table_of shared) next
-      → Evaluates says atom (table_of alone) next_alone → result_at next_alone (renamed s) ≡ result_at next s
+      (next next_alone : SlotTable) → Evaluates says atom (hub_table shared) next
+      → Evaluates says atom (hub_table alone) next_alone → result_at next_alone (renamed s) ≡ result_at next s
