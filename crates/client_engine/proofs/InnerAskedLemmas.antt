@@ -1,5 +1,5 @@
 -- How many questions the inner keys of a duration cost, one place after the other.
-use Rattle.std.proofs.Common.{◌≡◌, ℕ, zero, ◌+◌, ◌≤◌, ◌<◌, Bool, true, false, List, length, Option, Some, None, if◌then◌else◌, refl, sym, ap, subst, ◌∙◌, arith}
+use Rattle.std.proofs.Common.{◌≡◌, ℕ, ◌+◌, ◌≤◌, ◌<◌, Bool, true, false, List, length, if◌then◌else◌, refl, sym, arith}
 use Rattle.std.proofs.lemmas.Bool.{false≢true}
 use Rattle.duration_metric.specs.InnerKeys.{DurationParams, DurationCall, inner_keys}
 use Rattle.client_engine.specs.AskedFew.{StaysAt, AsksOfPlace, AsksOfAll}

@@ -13,7 +13,6 @@ use Rattle.bucket_clock.specs.Clock.{Saw}
 use Rattle.config_types.specs.declared.parameters.PredSpec.{PredSpec}
 use Rattle.config_links.specs.declared.linked.LMetric.{LMetric}
 use Rattle.config_links.specs.declared.linked.LPredicate.{LPredicate}
-use Rattle.config_links.specs.declared.linked.LState.{LState}
 use Rattle.metric_producer.specs.Rules.{AreAdmitted}
 use Rattle.metric_producer.specs.LaneCalls.{coming, told_by}
 use Rattle.metric_producer.specs.Collecting.{Law}
@@ -27,21 +26,21 @@ use Rattle.metric_lane.specs.declared.lane.Lane.{Lane}
 use Rattle.duration_metric.specs.declared.change.InnerEvent.{InnerEvent}
 use Rattle.duration_metric.specs.declared.change.InnerDelta.{InnerDelta}
 use Rattle.duration_metric.specs.declared.inner.Known.{Known}
-use Rattle.duration_metric.specs.InnerKeys.{DurationParams, DurationCall, inner_keys, inner_state, last_known}
+use Rattle.duration_metric.specs.InnerKeys.{DurationParams, DurationCall, inner_keys, last_known}
 use Rattle.metric_meaning.specs.Histories.{Step, Installation, moment_of, log_after}
 use Rattle.metric_meaning.specs.Ways.{Way}
-use Rattle.metric_meaning.specs.DurationSteps.{measured, inner_events, inner_after}
+use Rattle.metric_meaning.specs.DurationSteps.{measured, inner_events}
 use Rattle.metric_meaning.specs.Touched.{names_atom_itself, acts_below, timed_predicate, is_touched}
 use Rattle.metric_meaning.proofs.TouchedLemmas.{neither}
 use Rattle.metric_meaning.proofs.TouchedDurations.{untouched_inner}
 use Rattle.metric_calls.specs.Askings.{Asking, own_demands, steps_seen, calls_crossed, AsksWell}
-use Rattle.metric_calls.specs.DurationCalls.{first_event_of, event_in, learning, InnerNews, duration_params, duration_asking, listed_after, known_after, told_after, inner_event_at, inner_news}
+use Rattle.metric_calls.specs.DurationCalls.{first_event_of, event_in, learning, InnerNews, duration_params, duration_asking, listed_after, inner_event_at, inner_news}
 use Rattle.metric_calls.proofs.InnerToldLemmas.{TellsInner, KnowsActed, acted, listed_told}
 use Rattle.client_engine.specs.Along.{Along}
 use Rattle.client_engine.specs.AskedFew.{AsksOfAll}
 use Rattle.client_engine.specs.Handed.{Handed}
 use Rattle.client_engine.specs.NextSteps.{logged_step, with_logged, ComeInTime, MayLog}
-use Rattle.client_engine.specs.Questions.{duration_questions, questions_of}
+use Rattle.client_engine.specs.Questions.{duration_questions}
 use Rattle.client_engine.specs.Staying.{stays_by, truth_kept}
 use Rattle.client_engine.specs.Touchers.{tells_one}
 use Rattle.client_engine.specs.declared.stays.Stays.{Stays}
