@@ -1,5 +1,5 @@
 -- How many questions a frame costs all that is live.
-use Rattle.std.proofs.Common.{◌≡◌, ℕ, zero, suc, ◌+◌, ◌≤◌, ◌<◌, ℤ, Bool, true, false, ◌&&◌, cond, true≢false, List, [], ◌∷◌, ◌++◌, length, take, get_or, slice_get, Option, Some, None, refl, sym, ap, subst, ◌∙◌, arith}
+use Rattle.std.proofs.Common.{◌≡◌, ℕ, zero, suc, ◌+◌, ◌≤◌, ℤ, Bool, true, false, ◌&&◌, cond, true≢false, List, [], ◌∷◌, ◌++◌, take, slice_get, Option, Some, None, refl, sym, ap, subst, ◌∙◌, arith}
 use Rattle.std.specs.Cmp.{IsEquivalence}
 use Rattle.std.specs.Ordering.{int_eq}
 use Rattle.std.specs.List.{sum_by, IsDistinct}
@@ -23,11 +23,11 @@ use Rattle.state_slicer.specs.StateBooks.{StateBookStandsFor}
 use Rattle.metric_meaning.specs.Histories.{log_of_history}
 use Rattle.metric_meaning.specs.ShownFrames.{shown_as}
 use Rattle.metric_meaning.proofs.PartedLemmas.{sum_by-zero}
-use Rattle.matcher_table.specs.Tables.{SlotTable, IsSoundTable}
+use Rattle.matcher_table.specs.Tables.{SlotTable}
+use Rattle.matcher_table.specs.TableFacts.{IsSoundTable}
 use Rattle.hub_meaning.specs.SessionLog.{own, log_frames, clock_of}
 use Rattle.hub_meaning.specs.Acceptance.{LiveConfig}
 use Rattle.hub_meaning.specs.LiveConfigs.{config_at, live, history_of, truths_at}
-use Rattle.config_links.specs.Verdict.{linked_form}
 use Rattle.config_links.specs.declared.linked.Linked.{Linked}
 use Rattle.client_engine.specs.Handed.{BookOfStates}
 use Rattle.client_engine.specs.InstanceStands.{AsksAtMost, IsView, linked_of}
@@ -40,8 +40,8 @@ use Rattle.hub_core.specs.FrameTruths.{truths_by}
 use Rattle.hub_core.specs.HubStands.{SlotStandsFor, LivesStandFor, HubStandsFor}
 use Rattle.hub_core.specs.LiveQuestions.{config_questions, name_questions, questions_in, LiveAsks, AllAsk, AllAskBy}
 use Rattle.hub_core.specs.SharedTable.{IsHeldIn, AllHeld}
-use Rattle.hub_core.specs.SlotLogs.{results_for, EvaluatesFor}
-use Rattle.hub_core.specs.Slots.{live_id, same_id, slot_at}
+use Rattle.hub_core.specs.SlotLogs.{EvaluatesFor}
+use Rattle.hub_core.specs.Slots.{same_id, slot_at}
 use Rattle.hub_core.proofs.EvaluationLemmas.{truths_are, is_view, truths_shown, results_are}
 use Rattle.hub_meaning.proofs.LiveConfigLaws.{history_of-log}
 use Rattle.hub_meaning.proofs.SessionLogLaws.{clock_of-own, log_frames-own}
@@ -128,13 +128,16 @@ module _ (says : SimpleMatcher → Atom → Bool) where
   held_at : (table : SlotTable) (name : LiveId) (rows : List (LiveId × LiveInstance)) (it : LiveInstance)
       → AllHeld table rows → slot_at name rows ≡ Some it → IsHeldIn table it
   held_at table name [] it all is = absurd (none-some it is)
-  held_at table name (row ∷ rows) it all is = by (same_id name row.0) is where
+  held_at table name (row ∷ rows) it all is =
+      by (same_id name row.0) (held_at table name rows it (All-tail (λ (r : LiveId × LiveInstance). IsHeldIn table r.1)
+      row rows all)) is where
     P : LiveId × LiveInstance → Type 0
     P row = IsHeldIn table row.1
 
-    by : (here : Bool) → cond here (Some row.1) (slot_at name rows) ≡ Some it → IsHeldIn table it
-    by true found = subst (IsHeldIn table) (same_Some row.1 it found) (All-head P row rows all)
-    by false found = held_at table name rows it (All-tail P row rows all) found
+    by : (here : Bool) → (slot_at name rows ≡ Some it → IsHeldIn table it)
+        → cond here (Some row.1) (slot_at name rows) ≡ Some it → IsHeldIn table it
+    by true rest found = subst (IsHeldIn table) (same_Some row.1 it found) (All-head P row rows all)
+    by false rest found = rest found
 
   -- the results of slots are the truths that the judge says
   pub ask_by : (before table : SlotTable) (shown : LogFrame) (book : BookOfStates)

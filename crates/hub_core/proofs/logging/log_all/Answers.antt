@@ -23,12 +23,12 @@ loop-place-preserved g c =
           rw (w.slots-is, w.asks-is) (record {
             part = next_slot (contents_of c.args.table.now) c.args.frame.now c.args.states.now c.loop-place.place
                 c.args.slots.now.entries c.loop-place.slots.entries w.in-Some.live.now w.log.new.self
-                c.loop-place.invariant.part (sym w.in-Some.ensures.value) w.in_ok-log.ensures;
+                c.loop-place.invariant.part (sym w.in-Some.ensures.value) w.in_ok-log.ensures.shown;
             len = index_map_len-with_value_at c.loop-place.slots c.loop-place.place w.log.new.self
                 ∙ c.loop-place.invariant.len;
             asks = rows_on (contents_of c.args.table.now) c.args.frame.now c.args.states.now c.loop-place.place
                 c.args.slots.now.entries c.loop-place.slots.entries w.in-Some.live.now c.args.asks.now c.loop-place.asks
-                w.log.new.asks c.len.ensures.unique c.loop-place.invariant.part (sym w.in-Some.ensures.value)
+                w.log.new.asks c.len-place-end.ensures.unique c.loop-place.invariant.part (sym w.in-Some.ensures.value)
                 c.loop-place.invariant.asks w.in_ok-log.ensures.asks;
           })
       | in_default w ↦
@@ -54,5 +54,5 @@ returns-in_err-log-clause-asks g c =
     c.args.slots.now.entries c.args.asks.now c.log.new.asks
     (rows_on (contents_of c.args.table.now) c.args.frame.now c.args.states.now c.loop-place.place
     c.args.slots.now.entries c.loop-place.slots.entries c.in-Some.live.now c.args.asks.now c.loop-place.asks
-    c.log.new.asks c.len.ensures.unique c.loop-place.invariant.part (sym c.in-Some.ensures.value)
+    c.log.new.asks c.len-place-end.ensures.unique c.loop-place.invariant.part (sym c.in-Some.ensures.value)
     c.loop-place.invariant.asks c.log.ensures.asks)

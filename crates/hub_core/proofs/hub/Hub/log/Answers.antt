@@ -49,8 +49,8 @@ returns-clause-questions g c = λ frames h in_time.
     (c.in_ok-tell.ensures.states log h.books.states) h c.log.ensures.asks
 
 -- also where memory is wanting
-pub returns-in_err-log-clause-questions : goal.returns-in_err-log-clause-questions
-returns-in_err-log-clause-questions g c = λ frames h in_time.
+pub returns-in_err-self-clause-questions : goal.returns-in_err-self-clause-questions
+returns-in_err-self-clause-questions g c = λ frames h in_time.
     let log = log_frames frames in
     hub_asks g.J.Judge.says c.args.self frames c.shown_of-shown.result.now c.tell.new.self.states c.args.frame
     c.args.asks.now c.log.new.asks in_time
