@@ -223,13 +223,13 @@ module _ (says : SimpleMatcher → Atom → Bool) {J : Type 0} (client : ℤ) (a
         stands = at.instance;
         stands_alone = at_alone.instance;
         slots = made_along new_name a.slots b.slots (as_long client frames shared alone id pair) (λ i in_a.
-        let counted : 0 < times_among (get_or a.slots i 0) (slots_of (live_at client id shared)) =
-        subst (λ (o : Option LiveInstance). 0 < times_among (get_or a.slots i 0) (slots_of o)) (sym is_a)
-        (counted_at a.slots i in_a) in
-        let met = named (get_or a.slots i 0) (id, counted) in
-        one_slot (hub_table alone) (table_sound alone.lives.table) (new_name (get_or a.slots i 0))
-        (get_or b.slots i 0) met.is_live_alone (live_alone client frames shared alone id pair i in_a)
-        (met.tree ∙ sym (one_tree client frames shared alone id pair i in_a)));
+            let counted : 0 < times_among (get_or a.slots i 0) (slots_of (live_at client id shared)) =
+            subst (λ (o : Option LiveInstance). 0 < times_among (get_or a.slots i 0) (slots_of o)) (sym is_a)
+            (counted_at a.slots i in_a) in
+            let met = named (get_or a.slots i 0) (id, counted) in
+            one_slot (hub_table alone) (table_sound alone.lives.table) (new_name (get_or a.slots i 0))
+            (get_or b.slots i 0) met.is_live_alone (live_alone client frames shared alone id pair i in_a)
+            (met.tree ∙ sym (one_tree client frames shared alone id pair i in_a)));
       }
 
   -- an evaluation gives it the same result

@@ -131,13 +131,13 @@ module _ (says : SimpleMatcher → Atom → Bool) where
   held_at table name (row ∷ rows) it all is =
       by (same_id name row.0) (held_at table name rows it (All-tail (λ (r : LiveId × LiveInstance). IsHeldIn table r.1)
       row rows all)) is where
-    P : LiveId × LiveInstance → Type 0
-    P row = IsHeldIn table row.1
+        P : LiveId × LiveInstance → Type 0
+        P row = IsHeldIn table row.1
 
-    by : (here : Bool) → (slot_at name rows ≡ Some it → IsHeldIn table it)
-        → cond here (Some row.1) (slot_at name rows) ≡ Some it → IsHeldIn table it
-    by true rest found = subst (IsHeldIn table) (same_Some row.1 it found) (All-head P row rows all)
-    by false rest found = rest found
+        by : (here : Bool) → (slot_at name rows ≡ Some it → IsHeldIn table it)
+            → cond here (Some row.1) (slot_at name rows) ≡ Some it → IsHeldIn table it
+        by true rest found = subst (IsHeldIn table) (same_Some row.1 it found) (All-head P row rows all)
+        by false rest found = rest found
 
   -- the results of slots are the truths that the judge says
   pub ask_by : (before table : SlotTable) (shown : LogFrame) (book : BookOfStates)

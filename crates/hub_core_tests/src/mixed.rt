@@ -111,7 +111,10 @@ fn text_of(
             format!(in alloc; "{word} {at} {number}")
         }
         Some(client) => {
-            let (word, id) = (chance.word(row.word("do")), chance.below(2).saturating_add(7));
+            let (word, id) = (
+                chance.word(row.word("do")),
+                chance.below(2).saturating_add(7),
+            );
             format!(in alloc; "{word} {client} {id}")
         }
     }
