@@ -94,7 +94,7 @@ fn obey<S: Source, K: Sink>(alloc: Global, command: Command, input: &mut S, out:
         → input.new ≡ input.old }
 {
     match command {
-        Command::Replay => replay::<S, K, Brand>(Blank::new(1), alloc, input, out),
+        Command::Replay => replay(alloc, input, out),
         Command::Check => check(alloc, input, out),
         Command::Load { seed, frames } => load(alloc, seed, frames, out),
         Command::Unknown => Ending::Usage,
@@ -123,7 +123,15 @@ fn ending_after(answer: &Result<Finding, CheckError>) -> Ending
 }
 
 /// Reads the session frame by frame, and answers its commands. The questions of conditions are on a counter of its own.
-fn replay<S: Source, K: Sink, L: Ledger>(
+fn replay<S: Source, K: Sink>(alloc: Global, input: &mut S, out: &mut K) -> Ending
+    ensures { IsRun (ports (S.state input.old) (K.state out.old))
+        (ports (S.state input.new) (K.state out.new)) result }
+{
+    counted_replay::<S, K, Brand>(Blank::new(1), alloc, input, out)
+}
+
+/// The same, where a new ledger counts the questions.
+fn counted_replay<S: Source, K: Sink, L: Ledger>(
     blank: Blank,
     alloc: Global,
     input: &mut S,

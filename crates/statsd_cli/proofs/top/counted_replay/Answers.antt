@@ -2,7 +2,7 @@
 use Rattle.std.proofs.Common.{Err, ap, subst}
 use Rattle.session_frames.specs.Frames.{IsInTime}
 use Rattle.statsd_cli.proofs.RunLemmas.{begins_along, clock_along, ends_done, ends_refused, comes_nearer, goes_on, ends_in_reply, ends_in_step}
-use Rattle.statsd_cli.proofs.top.replay.Goals as goal
+use Rattle.statsd_cli.proofs.top.counted_replay.Goals as goal
 
 pub frames-init : goal.frames-init
 frames-init g c = begins_along _ _ _ _ c.new-reader.ensures c.new-hub.ensures.stands
