@@ -1,7 +1,7 @@
 use Rattle.std.proofs.Common.{rules}
 use Rattle.condition_links_tests.proofs.samples.asked.Goals as goal
 
-pub counted-requires-clause-sound : goal.query-requires-clause-sound
+pub counted-requires-clause-sound : goal.counted-requires-clause-sound
 counted-requires-clause-sound c = record {
   few = search rules;
   root = search rules;
