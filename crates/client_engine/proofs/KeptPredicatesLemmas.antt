@@ -1,13 +1,16 @@
 -- Predicates and their tables, one by one: lemmas on `specs/KeptPredicates.antt` and `specs/Known.antt`.
-use Rattle.std.proofs.Common.{◌≡◌, ℕ, zero, suc, ◌+◌, ◌<◌, ◌≤◌, Bool, List, [], ◌∷◌, ◌++◌, length, map, get_or, set, take, drop, refl, sym, ap, subst, ◌∙◌, append_assoc, arith}
+use Rattle.std.proofs.Common.{◌≡◌, ℕ, zero, suc, ◌+◌, ◌<◌, ◌≤◌, ◌||◌, Bool, true, false, List, [], ◌∷◌, ◌++◌, length, map, get_or, set, take, drop, replicate, refl, sym, ap, subst, ◌∙◌, append_assoc, arith, inl, inr}
 use Rattle.std.specs.Prelude.{Option, Some, None, IfSome}
 use Rattle.std.specs.List.{range_with_len}
-use Rattle.std.proofs.lemmas.List.{append-nil, length-map, get_or-map, take_more, take_more_set, take_all, drop_all, drop_more, drop-set-lt, drop-drop}
+use Rattle.std.proofs.lemmas.Bool.{cases_Bool, cases_eq, true≢false}
+use Rattle.std.proofs.lemmas.List.{append-nil, length-map, length-set, length-replicate, get_or-map, get_or-replicate, get_or-set_same, get_or-set_other, drop_all, drop_more}
 use Rattle.std.proofs.lemmas.List.FromFn.{length-map-range_with_len}
 use Rattle.atom_record.specs.declared.atom.Atom.{Atom}
 use Rattle.atom_record.specs.declared.log.LogFrame.TheVariants.{Tick, AtomAt, Pull}
 use Rattle.atom_record.specs.declared.log.PullOutcome.{PullOutcome}
 use Rattle.config_links.specs.declared.linked.LMetric.{LMetric}
+use Rattle.config_links.specs.declared.linked.LPredBody.{LPredBody}
+use Rattle.config_links.specs.declared.linked.LPredBody.TheVariants.{Simple, Combo}
 use Rattle.config_links.specs.declared.linked.LPredicate.{LPredicate}
 use Rattle.config_links.specs.SoundConfig.{MayBeWithin}
 use Rattle.condition_links.specs.Conditions.{predicate_truth, root_truth, condition_of, IsSoundTree, AreTables}
@@ -16,15 +19,22 @@ use Rattle.predicate_state.specs.declared.truth.Truth.{Truth}
 use Rattle.predicate_state.specs.declared.truth.Truth.TheVariants.{True}
 use Rattle.predicate_state.specs.PredicateTable.{PredicateTable}
 use Rattle.report_writer.specs.declared.tree.Drop64.{Drop64}
-use Rattle.metric_meaning.specs.Histories.{Step}
+use Rattle.field_select.specs.LeafValues.{key_of}
+use Rattle.metric_meaning.specs.Histories.{Step, truth_at}
+use Rattle.metric_meaning.specs.Touched.{acts_on}
 use Rattle.metric_meaning.specs.Readings.{LeafReading}
 use Rattle.metric_meaning.specs.MetricConditions.{metric_binds, condition_tree, condition_truth}
-use Rattle.metric_meaning.specs.PredicateSteps.{table_spec, table_with, table_after, tables_after, atom_events, drop_above_zero}
+use Rattle.metric_meaning.specs.PredicateSteps.{named_truth, first_event, on_key, table_spec, table_with, table_after, tables_after, atom_events, drop_above_zero}
 use Rattle.metric_meaning.proofs.PredicateStepsLemmas.{table_after-push, tables_after-idle}
 use Rattle.client_engine.specs.Known.{Known, KnowsStep, drops_in}
 use Rattle.client_engine.specs.NextSteps.{logged_step}
-use Rattle.client_engine.specs.KeptPredicates.{HaveTheirSpecs, CanBeKept, AreKept, tables_with}
-use Rattle.client_engine.proofs.TracksLemmas.{same_here, map-set_same}
+use Rattle.client_engine.specs.Lists.{is_in, AreListed, places_under}
+use Rattle.client_engine.specs.Marks.{IsMarked, AreAllMarked}
+use Rattle.client_engine.specs.KeptPredicates.{HaveTheirSpecs, CanBeKept, AreKept, AreActedOn, tables_with, acting_matchers}
+use Rattle.client_engine.proofs.ListsLemmas.{none_hold}
+use Rattle.client_engine.proofs.MarksLemmas.{get_or_any, marked_within}
+use Rattle.client_engine.proofs.TouchersLemmas.{own_holds}
+use Rattle.client_engine.proofs.TracksLemmas.{map-set_same}
 
 -- what an atom makes of tables that know some steps is what they know with the atom
 pub acts_after : (predicates : List LPredicate) (steps : List Step) (at : ℕ) (atom : Atom) (truths : List Bool)
@@ -93,61 +103,126 @@ acted_length truths atom (predicate ∷ predicates) [] same = absurd (omega (ari
 acted_length truths atom (predicate ∷ predicates) (table ∷ tables) same =
     ap suc (acted_length truths atom predicates tables (omega (arith, same)))
 
--- An atom acted on so many of the predicates, and the other tables are as they were.
-pub record AreActedOn (truths : List Bool) (atom : Atom) (predicates : List LPredicate)
-    (old now : List PredicateTable) (place : ℕ) : Type 0 where
-  pub specs : HaveTheirSpecs predicates now
-  pub done : take place now ≡ take place (tables_with truths atom predicates old)
-  pub rest : drop place now ≡ drop place old
+-- a list that has a place has an item
+some_item : {X : Type 0} (xs : List X) (place : ℕ) → place < length xs → X
+some_item [] place within = absurd (omega (arith, within))
+some_item (x ∷ xs) place within = x
+
+-- two lists are one where they have the same at each place
+same_lists : {X : Type 0} (xs ys : List X) → length xs ≡ length ys
+    → ((place : ℕ) (none : X) → place < length xs → get_or xs place none ≡ get_or ys place none) → xs ≡ ys
+same_lists [] [] same each = refl
+same_lists [] (y ∷ ys) same each = absurd (omega (arith, same))
+same_lists (x ∷ xs) [] same each = absurd (omega (arith, same))
+same_lists (x ∷ xs) (y ∷ ys) same each =
+    ap (λ first. first ∷ xs) (each 0 x (omega arith))
+    ∙ ap (λ rest. y ∷ rest) (same_lists xs ys (omega (arith, same))
+    (λ place none within. each (suc place) none (omega (arith, within))))
+
+-- nothing happens to a table without events
+no_events : (predicate : LPredicate) (truths : List Bool) (atom : Atom) → acts_on truths predicate ≡ false
+    → atom_events predicate.body truths atom ≡ []
+no_events predicate truths atom off = of_body predicate.body off where
+  three_off : (stop_all stop start : Bool) → (stop_all || (stop || start)) ≡ false
+      → first_event stop_all stop start ≡ None
+  three_off true stop start off = absurd (true≢false off)
+  three_off false true start off = absurd (true≢false off)
+  three_off false false true off = absurd (true≢false off)
+  three_off false false false off = refl
+
+  of_body : (body : LPredBody) → acts_on truths (record predicate { body = body }) ≡ false
+      → atom_events body truths atom ≡ []
+  of_body (Simple start stop stop_all dims spec) off =
+      ap (on_key (key_of dims atom))
+      (three_off (named_truth stop_all truths) (named_truth stop truths) (named_truth start truths) off)
+  of_body (Combo op children) off = refl
 
 module _ (truths : List Bool) (atom : Atom) (predicates : List LPredicate) (old : List PredicateTable)
     (specs : HaveTheirSpecs predicates old) where
   -- it acted on none yet
-  pub none_acted : AreActedOn truths atom predicates old old 0
-  none_acted = record { specs = specs; done = refl; rest = refl }
+  pub none_acted : AreActedOn truths atom predicates old old (replicate (length predicates) false)
+  none_acted = record {
+    specs = specs;
+    marked = length-replicate (length predicates) false;
+    done = λ place one none within on.
+        absurd (true≢false (sym on ∙ get_or-replicate (length predicates) place false true within));
+    rest = λ place none off. refl;
+  }
 
-  -- whatever happens to one table, it is kept as its predicate says
-  pub still_kept : (now : List PredicateTable) (place : ℕ) (table none : PredicateTable)
-      → AreActedOn truths atom predicates old now place → place < length predicates
-      → table.spec ≡ (get_or now place none).spec → HaveTheirSpecs predicates (set now place table)
-  still_kept now place table none are within same =
-      let many = as_many predicates now are.specs in
-      map-set_same (λ (t : PredicateTable). t.spec) now place table none (omega (arith, many, within)) same ∙ are.specs
+  module _ (now : List PredicateTable) (marks : List Bool) (place : ℕ) (table none : PredicateTable)
+      (are : AreActedOn truths atom predicates old now marks) (off : get_or marks place true ≡ false) where
+    -- a place that isn't marked is one of a predicate
+    pub acting_within : place < length predicates
+    acting_within = subst (λ n. place < n) are.marked (marked_within marks place off)
 
-  -- it acted on one more
-  pub one_acted : (now : List PredicateTable) (place : ℕ) (table none : PredicateTable) (one : LPredicate)
-      → AreActedOn truths atom predicates old now place → place < length predicates
-      → table ≡ table_with (atom_events (get_or predicates place one).body truths atom) (get_or now place none)
-      → table.spec ≡ (get_or now place none).spec
-      → AreActedOn truths atom predicates old (set now place table) (place + 1)
-  one_acted now place table none one are within is same =
-      let acted = tables_with truths atom predicates old in
+    there : place < length now
+    there = omega (arith, acting_within, as_many predicates now are.specs)
+
+    -- whatever happens to one table, it is kept as its predicate says
+    pub still_kept : table.spec ≡ (get_or now place none).spec → HaveTheirSpecs predicates (set now place table)
+    still_kept same = map-set_same (λ (t : PredicateTable). t.spec) now place table none there same ∙ are.specs
+
+    -- it acted on one more
+    pub one_acted : (one : LPredicate)
+        → table ≡ table_with (atom_events (get_or predicates place one).body truths atom) (get_or now place none)
+        → table.spec ≡ (get_or now place none).spec
+        → AreActedOn truths atom predicates old (set now place table) (set marks place true)
+    one_acted one is same = record {
+      specs = still_kept same;
+      marked = length-set marks place true ∙ are.marked;
+      done = λ other some rest within on. elim (cases_eq other place) [
+        | inl same_place ↦
+            subst (λ p. get_or (set now place table) p rest
+            ≡ table_with (atom_events (get_or predicates p some).body truths atom) (get_or old p rest)) (sym same_place)
+            (get_or-set_same now place table rest there ∙ is
+            ∙ ap (λ (p : LPredicate). table_with (atom_events p.body truths atom) (get_or now place none))
+            (get_or_any predicates place one some acting_within)
+            ∙ ap (table_with (atom_events (get_or predicates place some).body truths atom))
+            (get_or_any now place none rest there ∙ are.rest place rest off))
+        | inr differ ↦
+            get_or-set_other now place other table rest differ
+            ∙ are.done other some rest within (sym (get_or-set_other marks place other true true differ) ∙ on)
+      ];
+      rest = λ other rest still. elim (cases_eq other place) [
+        | inl same_place ↦
+            absurd (true≢false (sym (get_or-set_same marks place true true (marked_within marks place off))
+            ∙ subst (λ p. get_or (set marks place true) p true ≡ false) same_place still))
+        | inr differ ↦
+            get_or-set_other now place other table rest differ
+            ∙ are.rest other rest (sym (get_or-set_other marks place other true true differ) ∙ still)
+      ];
+    }
+
+  -- it acted on all of which a matcher holds, where these are listed
+  pub all_acted : (lists : List (List ℕ)) (now : List PredicateTable) (marks : List Bool)
+      → AreListed lists acting_matchers predicates → AreActedOn truths atom predicates old now marks
+      → AreAllMarked (places_under lists (λ matcher. truth_at matcher truths)) marks
+      → now ≡ tables_with truths atom predicates old
+  all_acted lists now marks listed are marked =
+      let holds : ℕ → Bool = λ matcher. truth_at matcher truths in
       let many = as_many predicates now are.specs in
       let were = as_many predicates old specs in
-      let become = acted_length truths atom predicates old were in
-      let there : place < length now = omega (arith, many, within) in
-      record {
-        specs = still_kept now place table none are within same;
-        done = take_more_set now place table there
-            ∙ ap (λ l. l ++ table ∷ []) are.done
-            ∙ ap (λ t. take place acted ++ t ∷ []) (is
-            ∙ ap (table_with (atom_events (get_or predicates place one).body truths atom))
-            (same_here now old place none are.rest)
-            ∙ sym (acted_there truths atom predicates old place one none within (omega (arith, were, within))))
-            ∙ sym (take_more acted place none (omega (arith, become, within)));
-        rest = drop-set-lt (place + 1) now place table (omega arith) ∙ sym (drop-drop 1 place now)
-            ∙ ap (drop 1) are.rest ∙ drop-drop 1 place old;
-      }
-
-  -- it acted on all
-  pub all_acted : (now : List PredicateTable) (place : ℕ) → AreActedOn truths atom predicates old now place
-      → length predicates ≤ place → now ≡ tables_with truths atom predicates old
-  all_acted now place are ends =
-      let acted = tables_with truths atom predicates old in
-      let many = as_many predicates now are.specs in
-      let become = acted_length truths atom predicates old (as_many predicates old specs) in
-      sym (take_all place now (omega (arith, many, ends))) ∙ are.done
-      ∙ take_all place acted (omega (arith, become, ends))
+      same_lists now (tables_with truths atom predicates old)
+      (many ∙ sym (acted_length truths atom predicates old were))
+      (λ place none within.
+      let inside : place < length predicates = omega (arith, many, within) in
+      let one = some_item predicates place inside in
+      let predicate = get_or predicates place one in
+      let there = sym (acted_there truths atom predicates old place one none inside (omega (arith, were, inside))) in
+      elim (cases_Bool (get_or marks place true)) [
+        | inl on ↦ are.done place one none inside on ∙ there
+        | inr off ↦
+            let out : is_in place (places_under lists holds) ≡ false =
+            elim (cases_Bool (is_in place (places_under lists holds))) [
+              | inl among ↦ absurd (true≢false (sym (marked place among) ∙ off))
+              | inr isnt ↦ isnt
+            ] in
+            let quiet = sym (own_holds predicate truths)
+            ∙ none_hold lists holds (acting_matchers predicate) place (listed place one inside) out in
+            are.rest place none off
+            ∙ sym (ap (λ events. table_with events (get_or old place none)) (no_events predicate truths atom quiet))
+            ∙ there
+      ])
 
 -- one more predicate's drops are told
 pub one_told : (predicates : List LPredicate) (tables : List PredicateTable) (place : ℕ) (one : LPredicate)

@@ -1,6 +1,8 @@
 pub mod GroupsLemmas
 pub mod LeavesLemmas
 pub mod MatchedLemmas
+pub mod ListsLemmas
+pub mod MarksLemmas
 pub mod KeptPredicatesLemmas
 pub mod TouchersLemmas
 pub mod ShownLemmas
@@ -30,5 +32,8 @@ pub mod SumsLemmas
 pub mod InTimeLemmas
 pub mod LongestLemmas
 pub mod TracksLemmas
+pub mod SleepingLemmas
+pub mod WokenLemmas
+pub mod ListeningLemmas
 pub mod InstanceLemmas
 pub mod AskedLemmas

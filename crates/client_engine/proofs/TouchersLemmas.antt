@@ -22,7 +22,7 @@ use Rattle.metric_meaning.specs.Touched.{acts_on, acts_at, acts_below}
 use Rattle.client_engine.specs.Touchers.{place_named, own_matchers, matchers_found, matchers_below, touchers, all_touchers, one_holds}
 
 -- a matcher that is named holds
-named_holds : (place : Option ℕ) (truths : List Bool) → one_holds truths (place_named place) ≡ named_truth place truths
+pub named_holds : (place : Option ℕ) (truths : List Bool) → one_holds truths (place_named place) ≡ named_truth place truths
 named_holds None truths = refl
 named_holds (Some place) truths = or_false (truth_at place truths) where
   or_false : (b : Bool) → (b || false) ≡ b
@@ -30,7 +30,7 @@ named_holds (Some place) truths = or_false (truth_at place truths) where
   or_false false = refl
 
 -- one of the matchers of a predicate holds exactly where the atom acts on it
-own_holds : (predicate : LPredicate) (truths : List Bool)
+pub own_holds : (predicate : LPredicate) (truths : List Bool)
     → one_holds truths (own_matchers predicate.body) ≡ acts_on truths predicate
 own_holds predicate truths = of_body predicate.body where
   of_body : (body : LPredBody)

@@ -1,5 +1,5 @@
 -- What is always so of kept predicates and their tables, and what an atom makes of the tables: for private clauses.
-use Rattle.std.specs.Prelude.{◌≡◌, ◌≤◌, Bool, List, [], ◌∷◌, map, length, All}
+use Rattle.std.specs.Prelude.{◌≡◌, ℕ, ◌<◌, ◌≤◌, Bool, true, false, List, [], ◌∷◌, map, length, get_or, All}
 use Rattle.atom_record.specs.declared.atom.Atom.{Atom}
 use Rattle.link_graph.specs.Links.{AreInRange, HasNoCycle}
 use Rattle.config_links.specs.declared.linked.LPredicate.{LPredicate}
@@ -9,6 +9,8 @@ use Rattle.config_links.specs.SoundConfig.{most_predicates, IsBound}
 use Rattle.condition_links.specs.Conditions.{predicate_names}
 use Rattle.predicate_state.specs.PredicateTable.{PredicateTable}
 use Rattle.metric_meaning.specs.PredicateSteps.{table_spec, table_with, atom_events}
+use Rattle.client_engine.specs.Marks.{IsMarked}
+use Rattle.client_engine.specs.Touchers.{own_matchers}
 
 -- a table's keys have as many leaves as the predicate's dimensions
 abbrev pub HasItsLeaves : LPredBody → Type 0
@@ -47,3 +49,19 @@ tables_with truths atom [] tables = []
 tables_with truths atom (predicate ∷ predicates) [] = []
 tables_with truths atom (predicate ∷ predicates) (table ∷ tables) =
     table_with (atom_events predicate.body truths atom) table ∷ tables_with truths atom predicates tables
+
+-- the matchers whose atoms act on a predicate
+abbrev pub acting_matchers : LPredicate → List ℕ
+acting_matchers predicate = own_matchers predicate.body
+
+-- An atom acted on the predicates that are marked, and the other tables are as they were.
+pub record AreActedOn (truths : List Bool) (atom : Atom) (predicates : List LPredicate)
+    (old now : List PredicateTable) (marks : List Bool) : Type 0 where
+  pub specs : HaveTheirSpecs predicates now
+  pub marked : length marks ≡ length predicates
+  pub done : (place : ℕ) (one : LPredicate) (none : PredicateTable) → place < length predicates
+      → IsMarked marks place
+      → get_or now place none
+      ≡ table_with (atom_events (get_or predicates place one).body truths atom) (get_or old place none)
+  pub rest : (place : ℕ) (none : PredicateTable) → get_or marks place true ≡ false
+      → get_or now place none ≡ get_or old place none

@@ -2,8 +2,11 @@ pub mod Leaves
 pub mod Groups
 pub mod Known
 pub mod Handed
-pub mod KeptPredicates
 pub mod Touchers
+pub mod Lists
+pub mod Marks
+pub mod KeptPredicates
+pub mod Waking
 pub mod NextSteps
 pub mod Bringing
 pub mod Opens
@@ -29,3 +32,4 @@ pub mod Tracks
 pub mod Running
 pub mod InstanceParts
 pub mod InstanceStands
+pub mod Woken

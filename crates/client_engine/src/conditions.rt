@@ -10,11 +10,16 @@ ghost use Rattle.metric_calls.specs.DurationCalls.{event_in};
 ghost use Rattle.client_engine.specs.NextSteps.{logged_step};
 ghost use Rattle.client_engine.specs.Known.{KnowsAfter, KnowsStep, drops_in};
 ghost use Rattle.client_engine.specs.KeptPredicates.{CanBeKept};
+ghost use Rattle.client_engine.specs.Waking.{touchers_named};
 
 use crate::asked::{Asked, InnerKey, ask_all};
 use crate::inner::key_event;
-use crate::tables::{act_on_all, drops_of, new_tables};
-use crate::touchers::{names_atom_itself, one_holds, timed_predicate, touchers_of_all};
+use crate::lists::add_matched;
+use crate::marks::no_marks;
+use crate::tables::{Act, act_on_each, drops_of, new_tables};
+use crate::touchers::{
+    actors_of_all, names_atom_itself, one_holds, timed_predicate, touchers_of_all,
+};
 use atom_record::{Atom, DimKey, LogFrame};
 use condition_links::{Steps, query};
 use config_links::{CondTree, LMetric, LPredBody, LPredicate};
@@ -36,6 +41,11 @@ pub struct Conditions {
     tables: Vec<PredTable>,
     /// Of each predicate, the matchers that start or stop it, or one that is reached from it.
     touchers: Seq<Seq<u32>>,
+    /// Under each matcher, the predicates that it starts or stops.
+    actors: Vec<Seq<usize>>,
+    /// The predicates on which the present atom acts, and those on which it did. Only the room is kept.
+    acting: Vec<usize>,
+    marks: Vec<bool>,
     /// The fields of a combination.
     no_fields: FieldSet,
     /// What a metric asks of each predicate. Only the room is kept from metric to metric.
@@ -43,9 +53,10 @@ pub struct Conditions {
 }
 
 impl Model for Conditions {
-    ghost use Rattle.std.specs.Prelude.{◌≡◌, []};
+    ghost use Rattle.std.specs.Prelude.{◌≡◌, [], length};
     ghost use Rattle.client_engine.specs.Known.{Known};
-    ghost use Rattle.client_engine.specs.KeptPredicates.{AreKept};
+    ghost use Rattle.client_engine.specs.KeptPredicates.{AreKept, acting_matchers};
+    ghost use Rattle.client_engine.specs.Lists.{AreListed};
     ghost use Rattle.client_engine.specs.Touchers.{all_touchers};
 
     ghost Value = { Known };
@@ -54,7 +65,9 @@ impl Model for Conditions {
 
     ghost invariant = { λ it. AreKept it.tree.nodes it.tables.items
         × (it.touchers ≡ all_touchers it.tree.nodes)
-        × (it.no_fields ≡ record { atom_id = 0; leaves = [] }) };
+        × (it.no_fields ≡ record { atom_id = 0; leaves = [] })
+        × AreListed it.actors.items acting_matchers it.tree.nodes
+        × (length it.marks.items ≡ length it.tree.nodes) };
 }
 
 impl Conditions {
@@ -67,6 +80,8 @@ impl Conditions {
         let kept = predicates.as_slice();
         let tables = new_tables(alloc, kept)?;
         let touchers = touchers_of_all(alloc, kept)?;
+        let actors = actors_of_all(alloc, kept)?;
+        let marks = no_marks(alloc, kept.len())?;
         Ok(Conditions {
             tree: CondTree {
                 root: None,
@@ -74,6 +89,9 @@ impl Conditions {
             },
             tables,
             touchers,
+            actors,
+            acting: Vec::new(alloc),
+            marks,
             no_fields: FieldSet {
                 atom_id: 0,
                 leaves: Seq::new(alloc),
@@ -94,8 +112,18 @@ impl Conditions {
     {
         match frame {
             LogFrame::AtomAt { atom, .. } => {
-                let predicates = self.tree.nodes.as_slice();
-                act_on_all(alloc, predicates, self.tables.as_mut_slice(), atom, matched)
+                self.acting.clear();
+                add_matched(self.actors.as_slice(), matched, &mut self.acting)?;
+                self.marks.fill(false);
+                act_on_each(
+                    alloc,
+                    self.tree.nodes.as_slice(),
+                    self.tables.as_mut_slice(),
+                    self.marks.as_mut_slice(),
+                    self.acting.as_slice(),
+                    &Act { atom, matched },
+                )?;
+                Ok(())
             }
             _ => Ok(()),
         }
@@ -119,6 +147,19 @@ impl Conditions {
         match root {
             Some(root) => self.touches_at(root, matched),
             None => false,
+        }
+    }
+
+    /// The matchers that start or stop the predicate that is named, or one that is reached from it; none if none is named.
+    pub fn touchers_of(&self, root: Option<u32>) -> &[u32]
+        ensures { result.now ≡ touchers_named self.now.predicates root }
+    {
+        match root {
+            Some(root) => match self.touchers.get(root as usize) {
+                Some(matchers) => matchers.as_slice(),
+                None => &[],
+            },
+            None => &[],
         }
     }
 

@@ -7,11 +7,12 @@ ghost use Rattle.client_engine.specs.Running.{linked_of};
 
 use crate::brought::Brought;
 use crate::conditions::Conditions;
+use crate::listeners::Listeners;
 use crate::opening::Opening;
-use crate::parts::{Drops, log_all, report_all, tracks_of, tree_of};
+use crate::parts::{Drops, tree_of};
 use crate::request::ReportRequest;
 use crate::state_drops::{dropped_atoms, state_drops};
-use crate::track::Track;
+use crate::tracks::Tracks;
 use atom_record::LogFrame;
 use condition_links::Steps;
 use config_links::{LMatcher, LState, Linked};
@@ -40,7 +41,8 @@ pub struct Instance {
     matchers: Seq<LMatcher>,
     conditions: Conditions,
     states: Seq<LState>,
-    tracks: Vec<Track>,
+    tracks: Tracks,
+    listeners: Listeners,
     base: u64,
     last: u64,
 }
@@ -49,9 +51,11 @@ impl Model for Instance {
     ghost use Rattle.std.specs.Coded.{codes};
     ghost use Rattle.config_types.specs.contracts.matcher.Test as test;
     ghost use Rattle.client_engine.specs.Running.{Running};
-    ghost use Rattle.std.specs.Prelude.{All};
+    ghost use Rattle.std.specs.Prelude.{◌≡◌, length, map, All};
     ghost use Rattle.client_engine.specs.Finding.{MayAsk};
-    ghost use Rattle.client_engine.specs.Tracks.{AllAskWithin};
+    ghost use Rattle.client_engine.specs.Tracks.{metric_in, AllAskWithin};
+    ghost use Rattle.client_engine.specs.Waking.{Listens};
+    ghost use Rattle.client_engine.specs.Woken.{AllDue};
 
     ghost Value = { Running };
 
@@ -61,12 +65,15 @@ impl Model for Instance {
       matchers = it.matchers;
       known = it.conditions;
       states = it.states;
-      tracks = it.tracks.items;
+      tracks = it.tracks.list.items;
       base = it.base;
       last = it.last;
     } };
 
-    ghost invariant = { λ it. All MayAsk it.matchers × AllAskWithin it.conditions it.tracks.items };
+    ghost invariant = { λ it. All MayAsk it.matchers × AllAskWithin it.conditions it.tracks.list.items
+        × Listens it.listeners it.conditions.predicates (map metric_in it.tracks.list.items)
+        × AllDue it.tracks.due it.tracks.list.items
+        × (length it.tracks.marks.items ≡ length it.tracks.list.items) };
 }
 
 impl Instance {
@@ -104,13 +111,15 @@ impl Instance {
             matchers: matchers.as_slice(),
             pulls,
         };
-        let tracks = tracks_of(alloc, metrics, &opening, &mut conditions)?;
+        let tracks = Tracks::new(alloc, metrics, &opening, &mut conditions)?;
+        let listeners = Listeners::new(alloc, tracks.list.as_slice(), &conditions)?;
         Ok(Instance {
             alloc,
             matchers,
             conditions,
             states,
             tracks,
+            listeners,
             base,
             last: base,
         })
@@ -124,7 +133,8 @@ impl Instance {
     }
 
     /// A frame of the log comes as it is shown, with the truth of each matcher for an atom, and the states after it: it
-    /// acts on predicates, and then comes to each metric. After want of memory the configuration is of no use.
+    /// acts on predicates, and then comes to the metrics of which it can change something. After want of memory the
+    /// configuration is of no use.
     pub fn apply<L: Ledger>(
         &mut self,
         frame: &LogFrame,
@@ -148,11 +158,12 @@ impl Instance {
             states: self.states.as_slice(),
             book: view.states,
         };
-        log_all(
+        self.listeners.find(&brought)?;
+        self.tracks.log(
             self.alloc,
-            &mut self.conditions,
-            &mut self.tracks,
+            self.listeners.woken(),
             &brought,
+            &mut self.conditions,
             asks,
         )
     }
@@ -169,7 +180,7 @@ impl Instance {
     {
         let last = self.last;
         self.last = request.at;
-        let metrics = report_all(self.alloc, self.base, &mut self.tracks, request)?;
+        let metrics = self.tracks.report(self.alloc, self.base, request)?;
         let drops = self.drops(states)?;
         Ok(tree_of(request, last, metrics, drops))
     }

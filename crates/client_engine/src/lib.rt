@@ -12,7 +12,10 @@ mod instance;
 mod integers;
 mod kinds;
 mod leaves;
+mod listeners;
+mod lists;
 mod live_id;
+mod marks;
 mod matched;
 mod messages;
 mod moments;
@@ -27,6 +30,7 @@ mod stays;
 mod tables;
 mod touchers;
 mod track;
+mod tracks;
 mod turns;
 
 pub use instance::{Instance, LogView};

@@ -7,7 +7,14 @@ ghost use Rattle.metric_meaning.specs.PredicateSteps.{named_truth};
 pub fn is_true_at(matched: &[bool], place: u32) -> bool
     ensures { result ≡ truth_at place matched.now }
 {
-    match matched.get(place as usize) {
+    is_true_from(matched, place as usize)
+}
+
+/// The same of a place that counts from 0.
+pub fn is_true_from(matched: &[bool], place: usize) -> bool
+    ensures { result ≡ truth_at place matched.now }
+{
+    match matched.get(place) {
         Some(truth) => *truth,
         None => false,
     }

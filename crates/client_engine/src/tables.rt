@@ -1,10 +1,12 @@
 //! The tables of predicates, each at the place of its predicate.
-ghost use Rattle.std.specs.Prelude.{◌≡◌, ◌≤◌, ◌++◌, [], length, OnOk, IfOk};
+ghost use Rattle.std.specs.Prelude.{◌≡◌, ◌≤◌, ◌++◌, [], length, replicate, false, OnOk, IfOk};
 ghost use Rattle.std.specs.List.{All};
 ghost use Rattle.metric_meaning.specs.PredicateSteps.{table_spec, tables_after, first_event, named_truth, atom_events, table_with, drop_above_zero};
 ghost use Rattle.client_engine.specs.Known.{drops_in};
-ghost use Rattle.client_engine.specs.KeptPredicates.{HasItsLeaves, KeepsItsLeaves, HasBound, HaveTheirSpecs, tables_with};
+ghost use Rattle.client_engine.specs.KeptPredicates.{HasItsLeaves, KeepsItsLeaves, HasBound, HaveTheirSpecs, AreActedOn};
+ghost use Rattle.client_engine.specs.Marks.{AreAllMarked};
 
+use crate::marks::is_marked;
 use crate::matched::is_true_if_named;
 use atom_record::Atom;
 use config_links::{LPredBody, LPredicate};
@@ -45,23 +47,38 @@ fn spec_of(body: &LPredBody) -> PredSpec
     }
 }
 
-/// An atom acts on each of these predicates.
-pub fn act_on_all(
+/// What acts on predicates: an atom, with the truth of each matcher.
+#[derive(Clone, Copy)]
+pub struct Act<'a> {
+    pub atom: &'a Atom,
+    pub matched: &'a [bool],
+}
+
+/// An atom acts on the predicates at these places, on each once.
+pub fn act_on_each(
     alloc: Global,
     predicates: &[LPredicate],
     tables: &mut [PredTable],
-    atom: &Atom,
-    matched: &[bool],
+    marks: &mut [bool],
+    places: &[usize],
+    act: &Act<'_>,
 ) -> Result<(), AllocError>
     requires leaves { All KeepsItsLeaves predicates.now }
     requires specs { HaveTheirSpecs predicates.now tables.old }
-    ensures tables { OnOk result
-        (tables.new ≡ tables_with matched.now atom.now predicates.now tables.old) }
+    requires marks { marks.old ≡ replicate (length predicates.now) false }
+    ensures acted { OnOk result (AreActedOn act.now.matched.now act.now.atom.now predicates.now tables.old
+        tables.new marks.new) }
+    ensures all { OnOk result (AreAllMarked places.now marks.new) }
     ensures specs { HaveTheirSpecs predicates.now tables.new }
+    ensures marks { length marks.new ≡ length predicates.now }
 {
-    for place in 0..predicates.len() {
-        let predicate = &predicates[place];
-        act_on(alloc, &predicate.body, &mut tables[place], atom, matched)?;
+    for turn in 0..places.len() {
+        let place = places[turn];
+        if !is_marked(marks, place) {
+            marks[place] = true;
+            let body = &predicates[place].body;
+            act_on(alloc, body, &mut tables[place], act.atom, act.matched)?;
+        }
     }
     Ok(())
 }

@@ -6,8 +6,11 @@ ghost use Rattle.config_links.specs.SoundConfig.{most_predicates};
 ghost use Rattle.condition_links.specs.Conditions.{predicate_names};
 ghost use Rattle.metric_meaning.specs.Histories.{truth_at};
 ghost use Rattle.metric_meaning.specs.Touched.{names_atom_itself, timed_predicate};
+ghost use Rattle.client_engine.specs.KeptPredicates.{acting_matchers};
+ghost use Rattle.client_engine.specs.Lists.{AreListed};
 ghost use Rattle.client_engine.specs.Touchers.{place_named, own_matchers, touchers, all_touchers, one_holds};
 
+use crate::lists::list_under;
 use crate::matched::{is_true_at, is_true_if_named};
 use config_links::{LKind, LMetric, LPredBody, LPredicate};
 use link_graph::reached_from;
@@ -27,6 +30,22 @@ pub fn touchers_of_all(
     for root in 0..predicates.len() {
         let list = touchers_of(alloc, predicates, root as u32)?;
         lists.push(list)?;
+    }
+    Ok(lists)
+}
+
+/// Under each matcher, the places of the predicates that it starts or stops.
+pub fn actors_of_all(
+    alloc: Global,
+    predicates: &[LPredicate],
+) -> Result<Vec<Seq<usize>>, AllocError>
+    ensures { IfOk result (λ lists. AreListed lists.items acting_matchers predicates.now) }
+{
+    let mut lists = Vec::new(alloc);
+    for place in 0..predicates.len() {
+        let mut matchers = Seq::new(alloc);
+        add_matchers(&mut matchers, &predicates[place].body, true)?;
+        list_under(alloc, &mut lists, matchers.as_slice(), place)?;
     }
     Ok(lists)
 }

@@ -12,6 +12,7 @@ ghost use Rattle.client_engine.specs.Opens.{IsOpeningOf};
 ghost use Rattle.client_engine.specs.Finding.{MayAsk, CanBeMatched};
 ghost use Rattle.client_engine.specs.TrackStands.{LaneAlong, TrackStandsFor};
 ghost use Rattle.client_engine.specs.Tracks.{CanBeTracked};
+ghost use Rattle.client_engine.specs.Woken.{IsDue};
 
 use crate::brought::Brought;
 use crate::conditions::Conditions;
@@ -112,6 +113,22 @@ impl Track {
             MetricLane::Longest(lane) => longest::log(
                 lane, alloc, metric, brought, conditions, asks,
             ),
+        }
+    }
+
+    /// A time before which none of its buckets ends, in nanoseconds.
+    pub fn next_end(&self) -> u64
+        ensures { IsDue result self.now }
+    {
+        match &self.lane {
+            MetricLane::Counts(lane) => lane.next_end(),
+            MetricLane::Values(lane) => lane.next_end(),
+            MetricLane::PulledValues(lane) => lane.next_end(),
+            MetricLane::Gauges(lane) => lane.next_end(),
+            MetricLane::PulledGauges(lane) => lane.next_end(),
+            MetricLane::Events(lane) => lane.next_end(),
+            MetricLane::Sums(lane) => lane.next_end(),
+            MetricLane::Longest(lane) => lane.next_end(),
         }
     }
 

@@ -1,9 +1,10 @@
 -- One more frame, one more report: what the lane's clock and its producer do together.
-use Rattle.std.proofs.Common.{◌≡◌, ℕ, Bool, List, [], ◌∷◌, ◌++◌, Option, Some, None, sym, ap, subst, ◌∙◌, append_assoc, arith}
-use Rattle.bucket_meaning.specs.Ends.{Moment}
+use Rattle.std.proofs.Common.{◌≡◌, ℕ, Bool, List, [], ◌∷◌, ◌++◌, ◌<◌, ◌&&◌, ◌||◌, ◌==◌, not, true, false, nat_lt, nat_le, Option, Some, None, refl, sym, ap, subst, ◌∙◌, append_assoc, append-nil, arith}
+use Rattle.bucket_meaning.specs.Ends.{Moment, crosses}
 use Rattle.bucket_clock.specs.declared.crossings.Crossings.{Crossings}
 use Rattle.bucket_clock.specs.Sound.{Times}
 use Rattle.bucket_clock.specs.Clock.{Told, Saw, Answers, boundaries, last_time, moments_told}
+use Rattle.bucket_clock.proofs.ClockLemmas.{none_made}
 use Rattle.metric_producer.specs.Calls.{Call, Crossed, Took}
 use Rattle.metric_producer.specs.Moves.{Moves, MovesAll}
 use Rattle.metric_producer.specs.LaneCalls.{crossing, crossing_of, cutting, handed_on}
@@ -13,7 +14,7 @@ use Rattle.metric_producer.proofs.ClockOfCalls.{handed_on_is}
 use Rattle.metric_producer.specs.declared.row.Row.{Row}
 use Rattle.metric_producer.specs.declared.row.Closed.{Closed}
 use Rattle.metric_producer.specs.Collecting.{Law, demands_of, Gives}
-use Rattle.metric_lane.specs.LaneClock.{HasClock, MayCross, ClockCrosses}
+use Rattle.metric_lane.specs.LaneClock.{HasClock, MayCross, ClockCrosses, NoEndBefore}
 use Rattle.metric_lane.specs.LaneStands.{GetsFrame, GetsCut, GetsReport, told_at}
 use Rattle.metric_lane.specs.declared.lane.Lane.{Lane}
 
@@ -62,6 +63,28 @@ answered Event After (Some old) (Some new) base size told moment answer crosses 
       };
     }
 
+-- an end is crossed by a frame that is no pull exactly where it isn't after it
+crossed_up_to : (moment : Moment) (end : ℕ) → moment.is_pull ≡ false → crosses moment end ≡ nat_le end moment.at
+crossed_up_to moment end isnt = by_both isnt
+  where
+    by_both : moment.is_pull ≡ false
+        → (nat_lt end moment.at || (end == moment.at && not moment.is_pull)) ≡ nat_le end moment.at
+    by_both no_pull = rw no_pull (grind arith)
+
+-- a frame that is no pull and comes before the next end crosses none, and the clock stays as it is
+none_crossed : (clock : Option Times) (moment : Moment) (time : ℕ) → NoEndBefore time clock → moment.at < time
+    → moment.is_pull ≡ false → ClockCrosses clock clock moment None
+none_crossed None moment time later before isnt = (refl, refl)
+none_crossed (Some clock) moment time none before isnt = λ may.
+    let later = none (omega (arith, before)) in
+    let end = later.later in
+    let beyond : crosses moment clock.next_end ≡ false =
+    crossed_up_to moment clock.next_end isnt ∙ grind (arith, end, before) in (
+      (beyond, refl),
+      none_made clock moment later.sound.least_size later.sound.in_bucket may.0 moment.at (omega (arith, end, before))
+          (λ end some. crossed_up_to moment end isnt) (omega (arith, end, before)),
+    )
+
 -- one call, as a list of calls
 pub moves_one : {P Params Event After X K C R : Type 0} (law : Law P Params Event After X K C R) (old new : P)
     (call : Call Event After) → Moves law old new call → MovesAll law old new (call ∷ [])
@@ -91,6 +114,13 @@ module _ {P Params Event After X K C Value : Type 0} (law : Law P Params Event A
   crossing_on old new moment crossings crosses moves =
       frame_on old new moment (Some crossings) crosses
       (moves_one law old.producer new.producer (Crossed crossings) moves)
+
+  -- a frame that is no pull and comes before the next end leaves the lane as it is
+  pub frame_before_end : (lane : Lane P Event After Value) (moment : Moment) (time : ℕ) → NoEndBefore time lane.clock
+      → moment.at < time → moment.is_pull ≡ false → GetsFrame law lane lane moment
+  frame_before_end lane moment time later before isnt =
+      frame_on lane lane moment None (none_crossed lane.clock moment time later before isnt)
+      (λ params calls stands admitted. subst (law.stands lane.producer params) (sym (append-nil calls)) stands)
 
   -- a report: the cut first, and then what is kept
   pub report_on : (old middle new : Lane P Event After Value) (at : ℕ) (include_current : Bool) (closed : Closed Value)

@@ -3,7 +3,7 @@ use Rattle.std.specs.Prelude.{◌≡◌, ℕ, ◌<◌, ◌≤◌, Bool, true, fa
 use Rattle.bucket_meaning.specs.Limits.{time_limit}
 use Rattle.bucket_meaning.specs.Ends.{Moment}
 use Rattle.bucket_clock.specs.declared.crossings.Crossings.{Crossings}
-use Rattle.bucket_clock.specs.Sound.{Times}
+use Rattle.bucket_clock.specs.Sound.{Times, IsSound}
 use Rattle.bucket_clock.specs.Clock.{Told, Saw, Cut, ends_of, Answers, ClockStandsFor, TakesCall}
 
 -- a clock with this base and this size that was told this
@@ -53,3 +53,13 @@ ClockIsCut old new at true = (new ≡ Some (record old { start = at }))
 abbrev pub ClockCuts : Option Times → Option Times → ℕ → Bool → Type 0
 ClockCuts None new at was_cut = (new ≡ None) × (was_cut ≡ false)
 ClockCuts (Some old) new at was_cut = MayCut (Some old) at → ClockIsCut old new at was_cut
+
+-- a clock whose next end doesn't come before a time
+pub record EndsNoSooner (clock : Times) (time : ℕ) : Type 0 where
+  pub sound : IsSound clock.base clock.size clock.start clock.next_end
+  pub later : time ≤ clock.next_end
+
+-- no bucket ends before this time; without buckets none does, and nothing is said of 0
+abbrev pub NoEndBefore : ℕ → Option Times → Type 0
+NoEndBefore time None = Unit {0}
+NoEndBefore time (Some clock) = 0 < time → EndsNoSooner clock time

@@ -5,7 +5,7 @@ ghost use Rattle.bucket_clock.specs.Clock.{frame_at};
 ghost use Rattle.metric_producer.specs.Calls.{Call, Got, Learned};
 ghost use Rattle.metric_producer.specs.LaneCalls.{coming};
 ghost use Rattle.metric_producer.specs.Collecting.{demands_of};
-ghost use Rattle.metric_lane.specs.LaneClock.{IsNewClock, ClockCrosses, ClockCuts};
+ghost use Rattle.metric_lane.specs.LaneClock.{IsNewClock, ClockCrosses, ClockCuts, EndsNoSooner, NoEndBefore};
 ghost use Rattle.metric_lane.specs.LaneStands.{
   LaneHas,
   GetsFrame,
@@ -81,6 +81,17 @@ impl<P: Producer> Lane<P> {
         &self.producer
     }
 
+    /// A time before which no bucket ends: the next full end, or one past all times where there are no buckets. A frame
+    /// before it that brings nothing leaves the lane as it is.
+    pub fn next_end(&self) -> u64
+        ensures { NoEndBefore result self.now.clock }
+    {
+        match &self.clock {
+            None => u64::MAX,
+            Some(clock) => end_of(clock),
+        }
+    }
+
     /// A frame of the log, with the event that it brings to a metric of events alone.
     pub fn log(&mut self, at: u64, is_pull: bool, event: Option<P::Event>) -> Result<(), AllocError>
         ensures { OnOk result (LogsEvent P.law self.old self.new
@@ -133,6 +144,14 @@ fn clock_from(base: u64, size: u64) -> Option<Clock>
         return None;
     }
     Some(Clock::new(base, size))
+}
+
+// The next full end of a clock.
+fn end_of(clock: &Clock) -> u64
+    ensures { EndsNoSooner clock.now result }
+{
+    let _base = clock.base();
+    clock.next_end()
 }
 
 // What the frame crosses. A time outside of the open part's, which no frame has, crosses nothing.

@@ -1,10 +1,12 @@
-use Rattle.std.proofs.Common.{◌∙◌, ◌≤◌, [], All, length, sym, ap, subst}
+use Rattle.std.proofs.Common.{◌∙◌, ◌≤◌, [], false, All, length, sym, ap, subst}
+use Rattle.std.proofs.lemmas.List.{length-replicate}
 use Rattle.link_graph.specs.Links.{AreInRange}
 use Rattle.field_select.specs.declared.leaf.FieldSet.{FieldSet}
 use Rattle.config_links.specs.SoundConfig.{most_predicates}
 use Rattle.condition_links.specs.Conditions.{predicate_names}
 use Rattle.metric_meaning.specs.PredicateSteps.{tables_after}
-use Rattle.client_engine.specs.KeptPredicates.{HasBound}
+use Rattle.client_engine.specs.KeptPredicates.{HasBound, acting_matchers}
+use Rattle.client_engine.specs.Lists.{AreListed}
 use Rattle.client_engine.specs.Touchers.{all_touchers}
 use Rattle.client_engine.proofs.KeptPredicatesLemmas.{new_kept}
 use Rattle.client_engine.proofs.conditions.Conditions.new.Goals as goal
@@ -30,5 +32,8 @@ invariant_of-result c = (
   new_kept c.args.predicates c.in_ok-tables.tables.items c.requires.can_be_kept
       (c.in_ok-tables.ensures ∙ ap (λ predicates. tables_after predicates []) c.as_slice-kept.ensures),
   c.in_ok-touchers.ensures ∙ ap all_touchers c.as_slice-kept.ensures,
-  ap (λ leaves. let fields : FieldSet = record { atom_id = 0; leaves = leaves } in fields) c.new.ensures,
+  ap (λ leaves. let fields : FieldSet = record { atom_id = 0; leaves = leaves } in fields) c.new-2.ensures,
+  subst (AreListed c.in_ok-actors.actors.items acting_matchers) c.as_slice-kept.ensures c.in_ok-actors.ensures,
+  ap length c.in_ok-marks.ensures ∙ length-replicate (length c.as_slice-kept.result.now) false
+      ∙ ap length c.as_slice-kept.ensures,
 )

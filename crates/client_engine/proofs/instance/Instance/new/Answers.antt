@@ -1,11 +1,13 @@
 -- Whatever log the books stand for, the instance is a new one.
-use Rattle.std.proofs.Common.{[], refl, sym, subst, length, map, ap, ◌∙◌}
+use Rattle.std.proofs.Common.{List, [], refl, sym, subst, length, map, ap, ◌∙◌}
 use Rattle.std.specs.List.{All}
 use Rattle.client_engine.specs.Finding.{MayAsk}
 use Rattle.client_engine.specs.Known.{Known, KnowsAfter}
 use Rattle.client_engine.specs.Running.{Running}
 use Rattle.client_engine.specs.declared.opening.Opening.{Opening}
+use Rattle.client_engine.specs.declared.track.Track.{Track}
 use Rattle.client_engine.specs.Tracks.{metric_in, AsksWithin, AreNew}
+use Rattle.client_engine.specs.Waking.{Listens}
 use Rattle.client_engine.proofs.InstanceLemmas.{sound_kept, all_tracked, sound_asked, sound_askable, linked_whole, fresh}
 use Rattle.client_engine.proofs.instance.Instance.new.Goals as goal
 
@@ -14,42 +16,46 @@ pub new-requires : goal.new-requires
 new-requires c = record { can_be_kept = sound_kept c.args.linked c.requires.sound }
 
 -- the metrics can be tracked
-pub tracks_of-requires-clause-ready : goal.tracks_of-requires-clause-ready
-tracks_of-requires-clause-ready c = all_tracked c.args.linked c.requires.sound
+pub new-requires-2-clause-ready : goal.new-requires-2-clause-ready
+new-requires-2-clause-ready c = all_tracked c.args.linked c.requires.sound
 
 -- each asks for one of the predicates
-pub tracks_of-requires-clause-within : goal.tracks_of-requires-clause-within
-tracks_of-requires-clause-within c =
+pub new-requires-2-clause-within : goal.new-requires-2-clause-within
+new-requires-2-clause-within c =
     subst (λ ps. All (AsksWithin (length ps)) c.args.linked.metrics) (sym c.in_ok-conditions.ensures.predicates)
     (sound_asked c.args.linked c.requires.sound)
 
 -- and the matchers may be asked
-pub tracks_of-requires-clause-askable : goal.tracks_of-requires-clause-askable
-tracks_of-requires-clause-askable c =
+pub new-requires-2-clause-askable : goal.new-requires-2-clause-askable
+new-requires-2-clause-askable c =
     subst (All MayAsk) (sym c.as_slice.ensures) (sound_askable c.args.linked c.requires.sound)
 
 -- so it is of the instance
 pub invariant_of-result : goal.invariant_of-result
 invariant_of-result c =
-    let known = c.tracks_of.new.conditions in
-    let metrics = map metric_in c.in_ok-tracks.tracks.items in (
+    let known = c.new-2.new.conditions in
+    let metrics = map metric_in c.in_ok-tracks.tracks.list.items in (
       sound_askable c.args.linked c.requires.sound,
-      subst (λ (k : Known). All (AsksWithin (length k.predicates)) metrics) (sym c.tracks_of.ensures.known)
+      subst (λ (k : Known). All (AsksWithin (length k.predicates)) metrics) (sym c.new-2.ensures.known)
           (subst (λ ps. All (AsksWithin (length ps)) metrics) (sym c.in_ok-conditions.ensures.predicates)
           (subst (All (AsksWithin (length c.args.linked.predicates))) (sym c.in_ok-tracks.ensures.new.metrics_are)
           (sound_asked c.args.linked c.requires.sound))),
+      subst (λ (tracks : List Track). Listens c.in_ok-listeners.listeners known.predicates (map metric_in tracks))
+          c.as_slice-2.ensures.value c.in_ok-listeners.ensures,
+      c.in_ok-tracks.ensures.due,
+      c.in_ok-tracks.ensures.marks,
     )
 
 -- what the tracks found is what predicates know
 pub returns-clause-fresh : goal.returns-clause-fresh
 returns-clause-fresh c = λ log pulls states.
     let linked = c.args.linked in
-    let same = c.tracks_of.ensures.known in
-    let tracks = c.in_ok-tracks.tracks.items in
+    let same = c.new-2.ensures.known in
+    let tracks = c.in_ok-tracks.tracks.list.items in
     let opening : Opening = record { base = c.args.base; matchers = c.as_slice.result; pulls = c.args.pulls } in
     let it : Running = record {
       matchers = linked.matchers;
-      known = c.tracks_of.new.conditions;
+      known = c.new-2.new.conditions;
       states = linked.states;
       tracks = tracks;
       base = c.args.base;
@@ -66,12 +72,12 @@ returns-clause-linked c =
     let linked = c.args.linked in
     let it : Running = record {
       matchers = linked.matchers;
-      known = c.tracks_of.new.conditions;
+      known = c.new-2.new.conditions;
       states = linked.states;
-      tracks = c.in_ok-tracks.tracks.items;
+      tracks = c.in_ok-tracks.tracks.list.items;
       base = c.args.base;
       last = c.args.base;
     } in
     linked_whole linked it refl
-    (ap (λ (known : Known). known.predicates) c.tracks_of.ensures.known ∙ c.in_ok-conditions.ensures.predicates) refl
+    (ap (λ (known : Known). known.predicates) c.new-2.ensures.known ∙ c.in_ok-conditions.ensures.predicates) refl
     c.in_ok-tracks.ensures.new.metrics_are

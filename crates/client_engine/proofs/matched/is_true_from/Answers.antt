@@ -1,6 +1,6 @@
 use Rattle.std.proofs.Common.{◌∙◌, arith}
 use Rattle.client_engine.proofs.MatchedLemmas.{truth_there, truth_past}
-use Rattle.client_engine.proofs.matched.is_true_at.Goals as goal
+use Rattle.client_engine.proofs.matched.is_true_from.Goals as goal
 
 -- a truth stands there
 pub returns-in-Some : goal.returns-in-Some

@@ -1,0 +1,79 @@
+-- The metrics of a configuration while a frame comes to those that it wakes, and when the next bucket of theirs ends. For
+-- private clauses.
+use Rattle.std.specs.Prelude.{◌≡◌, ℕ, ◌+◌, ◌≤◌, ◌<◌, Bool, true, false, List, [], ◌∷◌, length, map, get_or, All, Option, if◌then◌else◌}
+use Rattle.atom_record.specs.declared.log.LogFrame.{LogFrame}
+use Rattle.bucket_clock.specs.Sound.{Times}
+use Rattle.config_links.specs.declared.linked.LMetric.{LMetric}
+use Rattle.metric_lane.specs.LaneClock.{NoEndBefore}
+use Rattle.metric_meaning.specs.Histories.{Step, Installation}
+use Rattle.client_engine.specs.Handed.{Handed}
+use Rattle.client_engine.specs.NextSteps.{MayLog, TakesFrame}
+use Rattle.client_engine.specs.Questions.{questions_of}
+use Rattle.client_engine.specs.Tracks.{metric_in, AllStandFor}
+use Rattle.client_engine.specs.TrackStands.{TrackStandsFor}
+use Rattle.client_engine.specs.Marks.{IsMarked}
+use Rattle.client_engine.specs.declared.track.MetricLane.{MetricLane}
+use Rattle.client_engine.specs.declared.track.MetricLane.TheVariants.{Counts, Values, PulledValues, Gauges, PulledGauges, Events, Sums, Longest}
+use Rattle.client_engine.specs.declared.track.Track.{Track}
+
+-- the clock of a lane
+abbrev pub clock_of_lane : MetricLane → Option Times
+clock_of_lane (Counts lane) = lane.clock
+clock_of_lane (Values lane) = lane.clock
+clock_of_lane (PulledValues lane) = lane.clock
+clock_of_lane (Gauges lane) = lane.clock
+clock_of_lane (PulledGauges lane) = lane.clock
+clock_of_lane (Events lane) = lane.clock
+clock_of_lane (Sums lane) = lane.clock
+clock_of_lane (Longest lane) = lane.clock
+
+-- no bucket of a metric ends before this time
+abbrev pub IsDue : ℕ → Track → Type 0
+IsDue time track = NoEndBefore time (clock_of_lane track.lane)
+
+-- no bucket of any of these does
+abbrev pub AllDue : ℕ → List Track → Type 0
+AllDue time tracks = All (IsDue time) tracks
+
+-- the sum of a number over the metrics that are marked
+abbrev pub sum_marked : (LMetric → ℕ) → List Bool → List LMetric → ℕ
+sum_marked f [] metrics = 0
+sum_marked f (mark ∷ marks) [] = 0
+sum_marked f (mark ∷ marks) (metric ∷ metrics) = (if mark then f metric else 0) + sum_marked f marks metrics
+
+-- the questions of the metrics that are marked
+abbrev pub marked_questions : List Bool → List LMetric → Installation → List Step → LogFrame → List Bool → ℕ
+marked_questions marks metrics installed steps frame truths =
+    sum_marked (λ metric. questions_of (metric ∷ []) installed steps frame truths) marks metrics
+
+-- A frame that is shown so, with these truths, came to the metrics that are marked; the others are as they were. A
+-- counter of questions rose by no more than theirs, and no bucket ends before a time.
+pub record AreWoken (given : Handed) (shown : LogFrame) (truths : List Bool) (first : List Track) (before : ℕ)
+    (now : List Track) (marks : List Bool) (after due : ℕ) : Type 0 where
+  pub len : length now ≡ length first
+  pub marked : length marks ≡ length first
+  pub metrics : map metric_in now ≡ map metric_in first
+  pub asleep : (place : ℕ) (none : Track) → get_or marks place true ≡ false
+      → get_or now place none ≡ get_or first place none
+  pub awake : (place : ℕ) (none : Track) → place < length first → IsMarked marks place
+      → TakesFrame TrackStandsFor given shown truths (get_or first place none) (get_or now place none)
+  pub asked : (installed : Installation) (steps : List Step) (frame : LogFrame) → AllStandFor installed steps first
+      → MayLog installed steps given shown frame truths
+      → after ≤ before + marked_questions marks (map metric_in first) installed steps shown truths
+  pub ends : AllDue due now
+
+module _ (given : Handed) (shown : LogFrame) (truths : List Bool) (old : List Track) (marks : List Bool) (here due : ℕ)
+  where
+    -- wherever the frame came to those that were marked, what comes next is so of those that are marked then
+    abbrev pub OnMoreWoken : ((List Track → List Bool → ℕ → ℕ → Type 0) → Type 0) → Type 0
+    OnMoreWoken next =
+        (first : List Track) (before : ℕ) → AreWoken given shown truths first before old marks here due
+        → next (AreWoken given shown truths first before)
+
+    -- wherever it did, the counter is no higher now than the questions of all allow
+    abbrev pub FewAsked : ℕ → Type 0
+    FewAsked after =
+        (first : List Track) (before : ℕ) → AreWoken given shown truths first before old marks here due
+        → (installed : Installation) (steps : List Step) (frame : LogFrame) → AllStandFor installed steps first
+        → MayLog installed steps given shown frame truths
+        → after ≤ before + questions_of (map metric_in first) installed steps shown truths

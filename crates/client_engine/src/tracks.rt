@@ -1,0 +1,195 @@
+//! The metrics of a configuration with their lanes, and when the next bucket of theirs ends.
+ghost use Rattle.std.specs.Prelude.{◌≡◌, ◌<◌, length, map, replicate, false, OnOk, IfOk};
+ghost use Rattle.std.specs.List.{All};
+ghost use Rattle.bucket_meaning.specs.Limits.{time_limit};
+ghost use Rattle.client_engine.specs.AskedFew.{AsksFew};
+ghost use Rattle.client_engine.specs.Bringing.{TakesBrought, handed_with};
+ghost use Rattle.client_engine.specs.Finding.{MayAsk, CanBeMatched};
+ghost use Rattle.client_engine.specs.Tracks.{CanBeTracked, metric_in, AsksWithin, AllAskWithin, AreNew, AllStandFor, AllReport};
+ghost use Rattle.client_engine.specs.Waking.{OthersSleep};
+ghost use Rattle.client_engine.specs.Marks.{IsMarked, AreAllMarked, KeepsMarks};
+ghost use Rattle.client_engine.specs.Woken.{AllDue, AreWoken, OnMoreWoken, FewAsked};
+
+use crate::brought::Brought;
+use crate::conditions::Conditions;
+use crate::marks::{is_marked, no_marks};
+use crate::moments::comes_by_pull;
+use crate::opening::Opening;
+use crate::parts::{log_all, report_all, tracks_of};
+use crate::request::ReportRequest;
+use crate::track::Track;
+use condition_links::Steps;
+use config_links::LMetric;
+use report_writer::MetricTree;
+use sd_base::Seq;
+use session_frames::time_of;
+use std::alloc::{AllocError, Global};
+use std::mem;
+use std::sync::ledger::Ledger;
+
+/// The metrics of a configuration with their lanes.
+#[derive(Drop)]
+pub struct Tracks {
+    pub list: Vec<Track>,
+    /// Which of them the present frame came to already. Only the room is kept from frame to frame.
+    marks: Vec<bool>,
+    /// A time before which none of their buckets ends, in nanoseconds. It is 0 while a frame or a report is on its way.
+    due: u64,
+}
+
+impl Tracks {
+    /// The tracks of metrics, which begin where they are installed.
+    pub fn new(
+        alloc: Global,
+        metrics: Seq<LMetric>,
+        opening: &Opening<'_>,
+        conditions: &mut Conditions,
+    ) -> Result<Tracks, AllocError>
+        requires fits { opening.now.base < time_limit }
+        requires ready { All CanBeTracked metrics }
+        requires within { All (AsksWithin (length conditions.old.predicates)) metrics }
+        requires askable { All MayAsk opening.now.matchers.now }
+        ensures new { IfOk result (λ it. AreNew opening.now conditions.old metrics it.list.items) }
+        ensures known { conditions.new ≡ conditions.old }
+        ensures due { IfOk result (λ it. AllDue it.due it.list.items) }
+        ensures marks { IfOk result (λ it. length it.marks.items ≡ length it.list.items) }
+    {
+        let list = tracks_of(alloc, metrics, opening, conditions)?;
+        let marks = no_marks(alloc, list.len())?;
+        let due = least_end(list.as_slice());
+        Ok(Tracks { list, marks, due })
+    }
+
+    /// A frame of the log comes, which wakes the metrics at these places. A pull comes to each, and so does a frame with
+    /// which a bucket may end; another one to those that it wakes.
+    pub fn log<L: Ledger>(
+        &mut self,
+        alloc: Global,
+        woken: &[usize],
+        brought: &Brought<'_>,
+        conditions: &mut Conditions,
+        asks: &mut Steps<L>,
+    ) -> Result<(), AllocError>
+        requires within { AllAskWithin conditions.old self.old.list.items }
+        requires matched { CanBeMatched brought.now }
+        requires others { OthersSleep woken.now conditions.old.predicates brought.now.states.now
+            brought.now.frame.now brought.now.matched.now (map metric_in self.old.list.items) }
+        requires due { AllDue self.old.due self.old.list.items }
+        requires marks { length self.old.marks.items ≡ length self.old.list.items }
+        ensures logs { OnOk result (TakesBrought AllStandFor
+            conditions.old brought.now self.old.list.items self.new.list.items) }
+        ensures metrics { map metric_in self.new.list.items ≡ map metric_in self.old.list.items }
+        ensures known { conditions.new ≡ conditions.old }
+        ensures asks { AsksFew AllStandFor (map metric_in self.old.list.items)
+            conditions.old brought.now self.old.list.items asks.old asks.new }
+        ensures due { AllDue self.new.due self.new.list.items }
+        ensures marks { length self.new.marks.items ≡ length self.new.list.items }
+    {
+        let due = mem::replace(&mut self.due, 0);
+        if time_of(brought.frame) >= due || comes_by_pull(brought.frame) {
+            log_all(alloc, conditions, &mut self.list, brought, asks)?;
+            self.due = least_end(self.list.as_slice());
+            return Ok(());
+        }
+        self.marks.fill(false);
+        self.due = self.wake_all(alloc, woken, due, brought, conditions, asks)?;
+        Ok(())
+    }
+
+    // A frame comes to the metrics at these places. The answer is a time before which no bucket ends.
+    fn wake_all<L: Ledger>(
+        &mut self,
+        alloc: Global,
+        woken: &[usize],
+        due: u64,
+        brought: &Brought<'_>,
+        conditions: &mut Conditions,
+        asks: &mut Steps<L>,
+    ) -> Result<u64, AllocError>
+        requires within { AllAskWithin conditions.old self.old.list.items }
+        requires matched { CanBeMatched brought.now }
+        requires due { AllDue due self.old.list.items }
+        requires marks { self.old.marks.items ≡ replicate (length self.old.list.items) false }
+        ensures woken { IfOk result (AreWoken (handed_with conditions.old brought.now) brought.now.frame.now
+            brought.now.matched.now self.old.list.items asks.old self.new.list.items self.new.marks.items asks.new) }
+        ensures all { OnOk result (AreAllMarked woken.now self.new.marks.items) }
+        ensures metrics { map metric_in self.new.list.items ≡ map metric_in self.old.list.items }
+        ensures known { conditions.new ≡ conditions.old }
+        ensures asks { AsksFew AllStandFor (map metric_in self.old.list.items)
+            conditions.old brought.now self.old.list.items asks.old asks.new }
+        ensures due { self.new.due ≡ self.old.due }
+        ensures marks { length self.new.marks.items ≡ length self.new.list.items }
+    {
+        let mut next = due;
+        for turn in 0..woken.len() {
+            next = self.wake(alloc, woken[turn], next, brought, conditions, asks)?;
+        }
+        Ok(next)
+    }
+
+    // A frame comes to the metric at a place, unless it came to it before. Before the time that is handed in no bucket
+    // ended; the answer is one before which none ends now.
+    fn wake<L: Ledger>(
+        &mut self,
+        alloc: Global,
+        place: usize,
+        due: u64,
+        brought: &Brought<'_>,
+        conditions: &mut Conditions,
+        asks: &mut Steps<L>,
+    ) -> Result<u64, AllocError>
+        requires within { AllAskWithin conditions.old self.old.list.items }
+        requires matched { CanBeMatched brought.now }
+        requires marks { length self.old.marks.items ≡ length self.old.list.items }
+        ensures woken { OnMoreWoken (handed_with conditions.old brought.now) brought.now.frame.now brought.now.matched.now
+            self.old.list.items self.old.marks.items asks.old due
+            (λ woken. IfOk result (woken self.new.list.items self.new.marks.items asks.new)) }
+        ensures here { OnOk result (IsMarked self.new.marks.items place) }
+        ensures stay { KeepsMarks self.old.marks.items self.new.marks.items }
+        ensures metrics { map metric_in self.new.list.items ≡ map metric_in self.old.list.items }
+        ensures known { conditions.new ≡ conditions.old }
+        ensures asks { FewAsked (handed_with conditions.old brought.now) brought.now.frame.now brought.now.matched.now
+            self.old.list.items self.old.marks.items asks.old due asks.new }
+        ensures due { self.new.due ≡ self.old.due }
+        ensures marks { length self.new.marks.items ≡ length self.new.list.items }
+    {
+        if is_marked(self.marks.as_slice(), place) {
+            return Ok(due);
+        }
+        self.marks[place] = true;
+        let track = &mut self.list[place];
+        track.log(alloc, brought, conditions, asks)?;
+        Ok(due.min(track.next_end()))
+    }
+
+    /// What a report shows of each metric that is shown, in order.
+    pub fn report(
+        &mut self,
+        alloc: Global,
+        base: u64,
+        request: ReportRequest,
+    ) -> Result<Seq<MetricTree>, AllocError>
+        requires marks { length self.old.marks.items ≡ length self.old.list.items }
+        ensures reports { IfOk result
+            (AllReport base request self.old.list.items self.new.list.items) }
+        ensures metrics { map metric_in self.new.list.items ≡ map metric_in self.old.list.items }
+        ensures due { AllDue self.new.due self.new.list.items }
+        ensures marks { length self.new.marks.items ≡ length self.new.list.items }
+    {
+        self.due = 0;
+        let trees = report_all(alloc, base, &mut self.list, request)?;
+        self.due = least_end(self.list.as_slice());
+        Ok(trees)
+    }
+}
+
+// A time before which no bucket of any of these ends.
+fn least_end(tracks: &[Track]) -> u64
+    ensures { AllDue result tracks.now }
+{
+    let mut least = u64::MAX;
+    for place in 0..tracks.len() {
+        least = least.min(tracks[place].next_end());
+    }
+    least
+}
