@@ -23,6 +23,7 @@ from session_text.layout import (
 )
 
 from compared.atoms import MOST_ID, BadAtom, read_atom
+from compared.balance import unbalanced
 from compared.decoding import TooLarge, Unsupported, WireFault, decoded
 from compared.meaning import Books, Instance
 from compared.verdict import Checked, line_of
@@ -170,9 +171,17 @@ class Session:
         found = self.refusal(frame.client, frame.config)
         if isinstance(found, tuple):
             return found
-        kind = REPLACED if frame.client in self.live else INSTALLED
+        answer = (REPLACED, self.last_report(frame.client)) if frame.client in self.live else (INSTALLED, b"")
         self.live[frame.client] = Instance(found, frame.client, self.books)
-        return kind, b""
+        return answer
+
+    def last_report(self, client):
+        """Ends a configuration: what it hadn't told. Then nothing of it waits, and its books balance."""
+        ended = self.live.pop(client)
+        told = ended.report(True)
+        if unbalanced(ended):
+            raise AssertionError(f"the books of the metrics {unbalanced(ended)} of {client} don't balance")
+        return told
 
     def answer(self, frame):
         """The kind and the body of the reply to a command."""
@@ -181,8 +190,7 @@ class Session:
         if frame.client not in self.live:
             return NO_CONFIG, b""
         if frame.kind == REMOVE:
-            del self.live[frame.client]
-            return REMOVED, b""
+            return REMOVED, self.last_report(frame.client)
         return REPORTED, self.live[frame.client].report(frame.is_cut)
 
     def step(self, frame):

@@ -7,5 +7,5 @@ TYPES = {"int": INT, "long": LONG, "bool": BOOL, "str": STR, "raw": RAW, "bits":
 
 FLAGS = {"exclusive": 1, "primary": 2, "reset": 4}
 
-INSTALLED, REPLACED, REFUSED, REMOVED, NO_CONFIG, REPORTED, CLIENT_FULL = 1, 2, 3, 4, 5, 6, 7
+INSTALLED, REFUSED, NO_CONFIG, REPORTED, CLIENT_FULL, REPLACED, REMOVED = 1, 3, 5, 6, 7, 8, 9
 TOO_LARGE, WIRE, UNSUPPORTED, LINK = 1, 2, 3, 4

@@ -20,14 +20,16 @@ from .reading import Cursor, client_words, is_text
 
 NAMES = {
     INSTALLED: "installed",
-    REPLACED: "replaced",
     REFUSED: "refused",
-    REMOVED: "removed",
     NO_CONFIG: "no_config",
     REPORTED: "report",
     CLIENT_FULL: "client_full",
+    REPLACED: "replaced",
+    REMOVED: "removed",
 }
 
+# The kinds whose body is a report: what was asked for, or the last one of a configuration that is replaced or removed.
+WITH_REPORT = (REPORTED, REPLACED, REMOVED)
 
 # How long a reply is, at least, and less than what.
 LEAST, TOO_MUCH = 13, 2**40
@@ -79,13 +81,13 @@ def reply_lines(content, config):
     cursor = Cursor(content)
     kind = cursor.number("B")
     if kind not in NAMES:
-        raise Fault(f"expected a kind of replies from 1 to 7, got {kind}")
+        raise Fault(f"expected a kind of replies, 1, 3 or 5 to 9, got {kind}")
     words, more = [NAMES[kind], *client_words(cursor)], []
     if kind == REFUSED:
         word, told = refusal(cursor, config)
         words.append(word)
         more = ["  " + line for line in told]
-    elif kind == REPORTED:
+    elif kind in WITH_REPORT:
         more = report_lines(cursor.rest())
     elif kind == CLIENT_FULL:
         words.append(str(cursor.number("I")))

@@ -1,5 +1,5 @@
 -- The active keys: as a walk over the inner keys finds them, and as the calls tell of them.
-use Rattle.std.proofs.Common.{◌≡◌, ℕ, ◌+◌, ◌≤◌, Bool, true, false, ◌||◌, nat_lt, if◌then◌else◌, List, [], ◌∷◌, ◌++◌, map, length, take, zero, suc, Option, Some, None, ⊎_elim, refl, sym, ap, subst, ◌∙◌, arith, append-nil, append_assoc}
+use Rattle.std.proofs.Common.{◌≡◌, ℕ, ◌+◌, ◌≤◌, Bool, true, false, ◌||◌, nat_lt, if◌then◌else◌, List, [], ◌∷◌, ◌++◌, map, length, take, zero, suc, Option, Some, None, ⊎_elim, refl, sym, ap, subst, ◌∙◌, arith, append-nil}
 use Rattle.std.specs.List.{flat_map, last_or, IsDistinct, AllByRecursion}
 use Rattle.std.specs.Option.{unwrap_or}
 use Rattle.std.proofs.lemmas.Bool.{cases_Bool, false≢true}
@@ -47,6 +47,20 @@ pub firsts-append : (seen keys more : List MetricKey)
     → firsts is_same_key seen (keys ++ more) ≡ firsts is_same_key (firsts is_same_key seen keys) more
 firsts-append seen [] more = refl
 firsts-append seen (key ∷ keys) more = firsts-append (with_key is_same_key seen key) keys more
+
+-- the first keys of the first keys are all of them
+pub firsts_stable : (seen keys : List MetricKey) → firsts is_same_key [] seen ≡ seen
+    → firsts is_same_key [] (firsts is_same_key seen keys) ≡ firsts is_same_key seen keys
+firsts_stable seen [] stable = stable
+firsts_stable seen (key ∷ keys) stable =
+    firsts_stable (with_key is_same_key seen key) keys (by (is_among is_same_key key seen) refl) where
+      by : (b : Bool) → is_among is_same_key key seen ≡ b
+          → firsts is_same_key [] (if b then seen else seen ++ key ∷ []) ≡ (if b then seen else seen ++ key ∷ [])
+      by true is = stable
+      by false is =
+          firsts-append [] seen (key ∷ [])
+          ∙ ap (λ l. with_key is_same_key l key) stable
+          ∙ ap (λ b. if b then seen else seen ++ key ∷ []) is
 
 few_with : (seen : List MetricKey) (key : MetricKey) (known : Bool)
     → length (if known then seen else seen ++ key ∷ []) ≤ length seen + 1
@@ -105,19 +119,6 @@ since-other spec calls call none =
     ∙ ap (λ l. outputs (active_told spec) calls ++ l) none
     ∙ append-nil (outputs (active_told spec) calls))
 
--- a walk over the rows, one row more
-pub walk_more : (done : List (LeafKey × Inner)) (row : LeafKey × Inner)
-    → firsts is_same_key (active_in done) (row_out row) ≡ active_in (done ++ row ∷ [])
-walk_more done row =
-    sym (ap (firsts is_same_key []) (outs_push done row)
-    ∙ firsts-append [] (flat_map row_out done) (row_out row)) where
-      outs_push : (done : List (LeafKey × Inner)) (row : LeafKey × Inner)
-          → flat_map row_out (done ++ row ∷ []) ≡ flat_map row_out done ++ row_out row
-      outs_push [] row = append-nil (row_out row)
-      outs_push (first ∷ done) row =
-          ap (λ l. row_out first ++ l) (outs_push done row)
-          ∙ sym (append_assoc (row_out first) (flat_map row_out done) (row_out row))
-
 -- what holds of all of a list holds of its last
 at_last : (P : MetricKey → Type 0) (keys : List MetricKey) (key : MetricKey) → AllByRecursion P (keys ++ key ∷ []) → P key
 at_last P [] key all = all.0
@@ -155,13 +156,3 @@ pub stands_twice : (keys : List MetricKey) (n : ℕ) (seen : List MetricKey) (ke
     → take n keys ≡ seen ++ key ∷ [] → is_among is_same_key key seen ≡ true → ¬ IsDistinct is_same_key keys
 stands_twice keys n seen key taken among distinct =
     last_twice seen key among (subst (IsDistinct is_same_key) taken (distinct_taken n keys distinct))
-
--- a new key more leaves each there once
-pub once_more : (active : List MetricKey) (key : MetricKey) → IsDistinct is_same_key active
-    → IsDistinct is_same_key (with_key is_same_key active key)
-once_more active key once = firsts-distinct is_same_key active (key ∷ []) once
-
--- no key is there twice where none is
-pub once_none : IsDistinct is_same_key []
-unfolding IsDistinct
-once_none = tt

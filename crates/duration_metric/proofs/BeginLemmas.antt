@@ -17,7 +17,7 @@ use Rattle.dim_table.proofs.KeyLemmas.{Contains-from_place, is_among-from_Contai
 use Rattle.metric_kinds.specs.Keys.{is_same_key}
 use Rattle.metric_kinds.specs.Runs.{newly}
 use Rattle.duration_metric.specs.declared.sum.Span.{Span}
-use Rattle.duration_metric.specs.SumSteps.{begun, BeginsRun, HasSpans, HasBegun, BeginsAll}
+use Rattle.duration_metric.specs.SumSteps.{begun, BeginsRun, BeginsOut, HasSpans, HasBegun, BeginsAll}
 
 -- the keys of rows by key
 pub keys_of-spans : (span : MetricKey → Span) (ks : List MetricKey) → keys_of (map (λ key. (key, span key)) ks) ≡ ks
@@ -171,6 +171,18 @@ begins_more first old new before some key at begins one bound span seen lost fre
       last_one false true is = refl
       last_one false false is = absurd (true≢false (sym is))
 
+-- the key of one row more, if it counts for one
+pub begins_out : (first old new : Table MetricKey Span) (some outs : List MetricKey) (at : ℕ)
+    → BeginsAll first old [] some at → BeginsOut old new outs at → BeginsAll first new [] (some ++ outs) at
+begins_out first old new some outs at begins one = ⊎_elim
+    (λ (none : (outs ≡ []) × (new ≡ old)).
+    subst (λ ks. BeginsAll first new [] ks at) (sym (ap (λ l. some ++ l) none.0 ∙ append-nil some))
+    (subst (λ (t : Table MetricKey Span). BeginsAll first t [] some at) (sym none.1) begins))
+    (λ (more : (key : MetricKey) × (outs ≡ key ∷ []) × BeginsRun old new [] key at).
+    subst (λ ks. BeginsAll first new [] ks at) (sym (ap (λ l. some ++ l) more.1))
+    (begins_more first old new [] some more.0 at begins more.2))
+    one
+
 -- where the keys stay, none comes anew
 none_newly : (all keys : List MetricKey)
     → ((key : MetricKey) → is_among is_same_key key keys ≡ true → is_among is_same_key key all ≡ true)
@@ -192,7 +204,7 @@ pub newly-same : (keys : List MetricKey) → newly is_same_key keys keys ≡ []
 newly-same keys = none_newly keys keys (λ key is. is)
 
 -- all keys are new where none was active
-newly-none : (keys : List MetricKey) → newly is_same_key [] keys ≡ keys
+pub newly-none : (keys : List MetricKey) → newly is_same_key [] keys ≡ keys
 newly-none [] = refl
 newly-none (key ∷ keys) = ap (λ l. key ∷ l) (newly-none keys)
 

@@ -19,10 +19,14 @@ use Rattle.predicate_state.specs.PredicateTable.{LeafKey}
 use Rattle.duration_metric.specs.declared.inner.Inner.{Inner}
 use Rattle.duration_metric.specs.declared.inner.InnerTable.{InnerTable}
 use Rattle.duration_metric.specs.Tallies.{row_out, row_tallied, how_often, was_touched, IsTallied}
-use Rattle.duration_metric.specs.SumSteps.{active_in, fresh_in, fresh_out, found_out, fresh_at}
+use Rattle.duration_metric.specs.SumSteps.{active_in, fresh_in, found_out, fresh_at}
 use Rattle.duration_metric.proofs.ActiveLemmas.{firsts-append}
 use Rattle.duration_metric.proofs.StepLemmas.{next_got, past_all}
 use Rattle.duration_metric.proofs.TallyLemmas.{how_often-append, how_often-among}
+
+-- the output key for which a row counts, where the tally has it not
+abbrev fresh_out : (MetricKey → ℕ) → LeafKey × Inner → List MetricKey
+fresh_out tally row = fresh_in tally (row_out row)
 
 module _ (tally : MetricKey → ℕ) where
   abbrev is_new : MetricKey → Bool
@@ -133,7 +137,7 @@ module _ (tally : MetricKey → ℕ) (rows : List (LeafKey × Inner)) where
   so_far n = firsts is_same_key [] (flat_map (fresh_out tally) (take n rows))
 
   one_row : (n : ℕ) (found : Option (LeafKey × Inner)) → slice_get rows n ≡ found
-      → firsts is_same_key (so_far n) (found_out tally found) ≡ so_far (n + 1)
+      → firsts is_same_key (so_far n) (fresh_in tally (found_out found)) ≡ so_far (n + 1)
   one_row n None none =
       let all = past_all rows n none in
       ap (λ l. firsts is_same_key [] (flat_map (fresh_out tally) l))
@@ -159,7 +163,7 @@ module _ (tally : MetricKey → ℕ) (rows : List (LeafKey × Inner)) where
 
   -- a row's new keys are among those of the rows so far
   in_flat : (some : List (LeafKey × Inner)) (n place : ℕ) (key : MetricKey) → place < n
-      → is_among is_same_key key (found_out tally (slice_get some place)) ≡ true
+      → is_among is_same_key key (fresh_in tally (found_out (slice_get some place))) ≡ true
       → is_among is_same_key key (flat_map (fresh_out tally) (take n some)) ≡ true
   in_flat some zero place key below there = absurd (omega (arith, below))
   in_flat [] (suc n) place key below there = absurd (true≢false (sym there))
@@ -237,7 +241,7 @@ none_new tally (key ∷ keys) has =
       or_later false c is = is
 
 -- a row's share of what is counted
-row_share : (key : MetricKey) (rows : List (LeafKey × Inner)) (at : ℕ) (row : LeafKey × Inner)
+pub row_share : (key : MetricKey) (rows : List (LeafKey × Inner)) (at : ℕ) (row : LeafKey × Inner)
     → slice_get rows at ≡ Some row → how_often key (row_tallied row) ≤ how_often key (flat_map row_tallied rows)
 row_share key [] at row there = absurd (none-some row there)
 row_share key (first ∷ rows) zero row there =
@@ -248,21 +252,17 @@ row_share key (first ∷ rows) (suc at) row there =
 
 -- a row that wasn't touched has no new key
 untouched : (it : InnerTable) (tally : MetricKey → ℕ) → IsTallied it tally → (at : ℕ) (found : Option (LeafKey × Inner))
-    → slice_get it.keys.rows at ≡ found → was_touched it.touched at ≡ false → found_out tally found ≡ []
+    → slice_get it.keys.rows at ≡ found → was_touched it.touched at ≡ false → fresh_in tally (found_out found) ≡ []
 untouched it tally right at None none free = refl
 untouched it tally right at (Some row) there free =
-    let steady = right.steady at row there
-    (ap (λ b. row.1.tallied || not b) free ∙ or_true row.1.tallied) in
+    let steady = right.steady at row there free in
     none_new tally (row_out row)
     (λ key among.
     let own : nat_lt 0 (how_often key (row_tallied row)) ≡ true =
     ap (λ l. nat_lt 0 (how_often key l)) steady ∙ how_often-among key (row_out row) ∙ among in
     let share = row_share key it.keys.rows at row there in
     let counts = right.all key in
-    grind (arith, own, share, counts)) where
-      or_true : (b : Bool) → (b || true) ≡ true
-      or_true true = refl
-      or_true false = refl
+    grind (arith, own, share, counts))
 
 -- the new keys of the rows at the touched places, in order, are those of all active keys
 pub fresh_found : (it : InnerTable) (tally : MetricKey → ℕ) (sorted : List ℕ) → IsPermutation it.touched sorted
@@ -277,25 +277,3 @@ fresh_found it tally sorted same order right =
     (list_any-IsPermutation (λ other. other == at) it.touched sorted same ∙ free))
     ∙ ap (firsts is_same_key []) (fresh_flat tally rows)
     ∙ firsts-fresh tally [] (flat_map row_out rows)
-
--- the new keys of one place more
-pub lists_next : (tally : MetricKey → ℕ) (rows : List (LeafKey × Inner)) (places : List ℕ) (i place : ℕ)
-    (old new : List MetricKey) → take (i + 1) places ≡ take i places ++ place ∷ []
-    → old ≡ firsts is_same_key [] (flat_map (fresh_at tally rows) (take i places))
-    → new ≡ firsts is_same_key old (fresh_at tally rows place)
-    → new ≡ firsts is_same_key [] (flat_map (fresh_at tally rows) (take (i + 1) places))
-lists_next tally rows places i place old new more so_far is =
-    let f = fresh_at tally rows in
-    is ∙ ap (λ l. firsts is_same_key l (f place)) so_far
-    ∙ sym (ap (λ l. firsts is_same_key [] (flat_map f l)) more
-    ∙ ap (firsts is_same_key []) (flat_map-append f (take i places) (place ∷ [])
-    ∙ ap (λ l. flat_map f (take i places) ++ l) (append-nil (f place)))
-    ∙ firsts-append [] (flat_map f (take i places)) (f place))
-
--- the new keys of a row that counts for these
-pub lists_row : (tally : MetricKey → ℕ) (rows : List (LeafKey × Inner)) (place : ℕ) (row : LeafKey × Inner)
-    (out fresh : List MetricKey) → slice_get rows place ≡ Some row → out ≡ row_out row
-    → firsts is_same_key fresh (fresh_in tally out) ≡ firsts is_same_key fresh (fresh_at tally rows place)
-lists_row tally rows place row out fresh there is =
-    ap (λ l. firsts is_same_key fresh (fresh_in tally l)) is
-    ∙ ap (λ found. firsts is_same_key fresh (found_out tally found)) (sym there)

@@ -9,16 +9,16 @@ use Rattle.atom_record.specs.declared.value.MetricKey.{MetricKey}
 use Rattle.bucket_meaning.specs.Kept.{count_in_u64}
 use Rattle.dim_table.specs.declared.answer.Admit.{Admit}
 use Rattle.dim_table.specs.declared.answer.Admit.TheVariants.{At, Full}
-use Rattle.dim_table.specs.Table.{Table, keys, set_value_at, without, IsThere, IsNew, Admits}
+use Rattle.dim_table.specs.Table.{Table, keys, set_value_at, with_value_at, without, IsThere, IsNew, Admits}
 use Rattle.dim_table.proofs.KeyLemmas.{Contains-from_place}
 use Rattle.predicate_state.specs.PredicateStates.{PredicateState, without_key, state_after_stop_all}
 use Rattle.predicate_state.specs.PredicateTable.{LeafKey, same_leaves}
 use Rattle.duration_metric.specs.declared.inner.Known.{Known}
 use Rattle.duration_metric.specs.declared.inner.Inner.{Inner}
 use Rattle.duration_metric.specs.declared.inner.InnerTable.{InnerTable}
-use Rattle.duration_metric.specs.InnerStands.{row_count, state_in, AreKnown, ChangesTo, SetsCount, ListsKey, with_other}
+use Rattle.duration_metric.specs.InnerStands.{row_count, state_in, AreKnown, ChangesTo, SetsCount, ListsKey}
 use Rattle.duration_metric.specs.Tallies.{row_tallied, left_key, IsTallied}
-use Rattle.duration_metric.proofs.TallyLemmas.{releases, lists_more, takes_tallied, clears_tallied}
+use Rattle.duration_metric.proofs.TallyLemmas.{other_count, lists_more, takes_tallied, clears_tallied}
 
 -- the keys with their counts are the keys
 pub keys_of-counts : (rows : List (LeafKey × Inner)) → keys_of (map row_count rows) ≡ keys_of rows
@@ -102,10 +102,13 @@ parts_are it one other touched places gone left keys_are touched_are gone_are =
 -- a key has another count
 pub sets_count : (old new : InnerTable) (place count : ℕ) (was : Inner)
     → slice_get (values_of old.keys.rows) place ≡ Some was
-    → new ≡ with_other old place was (record was { count = count; tallied = false })
+    → new ≡ record old {
+      keys = with_value_at old.keys place (record was { count = count });
+      touched = old.touched ++ place ∷ [];
+    }
     → SetsCount old new place count
 sets_count old new place count was at is =
-    let now : Inner = record was { count = count; tallied = false } in
+    let now : Inner = record was { count = count } in
     record {
       nesting_is = ap (λ (t : InnerTable). t.nesting) is;
       bound_is = ap (λ (t : InnerTable). t.keys.bound) is;
@@ -114,7 +117,8 @@ sets_count old new place count was at is =
       known_are = λ known absent all.
           subst (λ (t : InnerTable). AreKnown known t.keys.rows) (sym is)
           (known-set known old.keys.rows place was now at refl all);
-      tally_is = λ settled tally right. releases old new place was now at refl is tally right;
+      tally_is = λ settled tally right. subst (λ (t : InnerTable). IsTallied t tally) (sym is)
+          (other_count old place count was at tally right);
     }
 
 -- a key is taken out, and what the tally counted for it is put down

@@ -8,6 +8,8 @@ pub mod BeginLemmas
 pub mod StepLemmas
 pub mod CountedLemmas
 pub mod RecountLemmas
+pub mod BegunLemmas
+pub mod ReleaseLemmas
 pub mod ChangedLemmas
 pub mod InnerBoundLemmas
 pub mod SumMovesLemmas

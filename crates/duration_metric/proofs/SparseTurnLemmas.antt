@@ -8,11 +8,11 @@ use Rattle.std.proofs.lemmas.List.{length-map}
 use Rattle.std.proofs.lemmas.Option.{same_Some, none-some}
 use Rattle.atom_record.specs.declared.value.MetricKey.{MetricKey}
 use Rattle.bucket_meaning.specs.Kept.{count_in_u64}
-use Rattle.bucket_meaning.specs.Marks.{Mark, Lost}
+use Rattle.bucket_meaning.specs.Marks.{Mark, Came, Lost}
 use Rattle.config_types.specs.declared.parameters.PredSpec.{PredSpec}
 use Rattle.dim_table.specs.declared.answer.Admit.{Admit}
 use Rattle.dim_table.specs.declared.answer.Admit.TheVariants.{At, Full}
-use Rattle.dim_table.specs.Table.{Table, keys, IsThere, IsNew, Admits, with_value_at, without}
+use Rattle.dim_table.specs.Table.{Table, keys, IsThere, IsNew, Admits, set_value_at, with_value_at, without}
 use Rattle.dim_table.proofs.KeyLemmas.{Contains-from_place, missing}
 use Rattle.predicate_state.specs.declared.event.PredEvent.{PredEvent}
 use Rattle.predicate_state.specs.declared.event.PredEvent.TheVariants.{Start, Stop, StopAll}
@@ -22,12 +22,14 @@ use Rattle.predicate_state.proofs.KeyCountLemmas.{lookup_absent, value_at_positi
 use Rattle.metric_producer.specs.Calls.{Got, Learned}
 use Rattle.duration_metric.specs.declared.change.InnerEvent.{InnerEvent}
 use Rattle.duration_metric.specs.declared.change.InnerChange.{InnerChange}
+use Rattle.duration_metric.specs.declared.inner.Known.{Known}
 use Rattle.duration_metric.specs.declared.sparse_books.SparseBooks.{SparseBooks}
 use Rattle.duration_metric.specs.declared.sparse_keys.SparseEntry.{SparseEntry}
 use Rattle.duration_metric.specs.declared.sparse_keys.SparseKeys.{SparseKeys}
 use Rattle.duration_metric.specs.InnerKeys.{known_by}
-use Rattle.duration_metric.specs.SparseCalls.{sparse_comes}
-use Rattle.duration_metric.specs.SparseEntries.{entry_count, sparse_state, KeysStand, entry_marks, row_marks, started_entry, told_entry, fresh_entry, TakesKeyEvent, ListsKey, LearnsDelta}
+use Rattle.duration_metric.specs.SparseCalls.{arrival_for, sparse_comes}
+use Rattle.duration_metric.specs.SparseEntries.{entry_count, sparse_state, KeysStand, found_told, entry_marks, row_marks, started_entry, told_entry, fresh_entry, TakesKeyEvent, ListsKey, LearnsDelta}
+use Rattle.duration_metric.specs.Tallies.{known_key}
 use Rattle.duration_metric.specs.SparseBooksStand.{TakesLongestMarks}
 use Rattle.duration_metric.proofs.SparseRowLemmas.{Row, same_decides, keys_counted}
 use Rattle.duration_metric.proofs.SparseStepLemmas.{left_by, marks_are, recounted, passes, starts}
@@ -57,6 +59,28 @@ own_row rows place key row at own =
     let there = row_of_key rows place key own in
     let is : row ≡ (key, there.0) = same_Some row (key, there.0) (at ∙ there.1) in
     there.1 ∙ ap (λ (r : Row). Some (key, r.1)) (sym is)
+
+-- a row whose value was written
+row_set : (rows : List Row) (place : ℕ) (key : LeafKey) (was now : SparseEntry) → slice_get rows place ≡ Some (key, was)
+    → slice_get (set_value_at rows place now) place ≡ Some (key, now)
+row_set [] place key was now at = absurd (none-some (key, was) at)
+row_set (first ∷ rows) zero key was now at =
+    ap (λ (r : Row). Some (r.0, now)) (same_Some first (key, was) at)
+row_set (first ∷ rows) (suc place) key was now at = row_set rows place key was now at
+
+-- another count leaves what was told
+pub told_after : (old new : Table LeafKey SparseEntry) (place : ℕ) (key : LeafKey) (entry : SparseEntry) (count : ℕ)
+    → slice_get old.rows place ≡ Some (key, entry) → new ≡ with_value_at old place (record entry { count = count })
+    → found_told (slice_get new.rows place) ≡ known_key entry.known
+told_after old new place key entry count there is =
+    ap (λ (t : Table LeafKey SparseEntry). found_told (slice_get t.rows place)) is
+    ∙ ap found_told (row_set old.rows place key entry (record entry { count = count }) there)
+
+-- a time arrives for the key that was told
+pub arrival_told : (known : Option Known) (time : ℕ)
+    → map (λ key. Came (key, time)) (known_key known) ≡ arrival_for known time
+arrival_told None time = refl
+arrival_told (Some known) time = refl
 
 -- the entry that a look-up finds is that of the row at the key's place
 pub own_entry : (rows : List Row) (place : ℕ) (key : LeafKey) (entry gone : SparseEntry)

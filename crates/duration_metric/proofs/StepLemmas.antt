@@ -1,27 +1,23 @@
 -- One step of each loop of a producer of sums.
 use Rattle.std.proofs.Common.{◌≡◌, ℕ, zero, suc, ◌+◌, ◌*◌, ◌-◌, ◌^◌, ◌<◌, ◌≤◌, true, false, ◌||◌, List, [], ◌∷◌, ◌++◌, map, take, length, get_or, slice_get, Some, None, refl, sym, ap, subst, ◌∙◌, arith, ⊎_elim, append-nil, append_assoc}
 use Rattle.std.specs.List.{flat_map, list_any}
+use Rattle.std.specs.Map.{keys_of}
 use Rattle.std.proofs.lemmas.Bool.{cases_Bool}
-use Rattle.std.proofs.lemmas.List.{length-append, length-map, take_more}
+use Rattle.std.proofs.lemmas.List.{length-append, length-map, map-append, take_more}
 use Rattle.std.proofs.Math.Nat.{mul-le-mul_right}
 use Rattle.std.proofs.lemmas.Grind.{flat_map-append}
-use Rattle.std.proofs.lemmas.Option.{none-some, slice_get_within, get_or_from_slice_get}
+use Rattle.std.proofs.lemmas.Option.{none-some, same_Some, slice_get_within, get_or_from_slice_get}
 use Rattle.atom_record.specs.Equal.{metric_key_exact}
 use Rattle.atom_record.specs.declared.value.MetricKey.{MetricKey}
-use Rattle.bucket_meaning.specs.Guard.{is_among, firsts}
+use Rattle.bucket_meaning.specs.Guard.{is_among}
 use Rattle.bucket_meaning.specs.Kept.{count_in_u64}
 use Rattle.kept_rows.specs.KeptRows.{Keeping, IsKept, AddsRows}
 use Rattle.metric_producer.specs.declared.row.Row.{Row}
 use Rattle.metric_producer.proofs.KeysLemmas.{other_way}
 use Rattle.metric_kinds.specs.Keys.{is_same_key}
 use Rattle.metric_kinds.specs.Counts.{row_weight}
-use Rattle.predicate_state.specs.PredicateTable.{LeafKey}
-use Rattle.duration_metric.specs.declared.inner.Inner.{Inner}
 use Rattle.duration_metric.specs.declared.sum.Span.{Span}
 use Rattle.duration_metric.specs.SumStands.{span_row, whole_row, whole_rows}
-use Rattle.duration_metric.specs.Tallies.{row_out}
-use Rattle.duration_metric.specs.SumSteps.{active_in}
-use Rattle.duration_metric.proofs.ActiveLemmas.{walk_more}
 
 -- a key is among some by either order of the test
 pub among_is : (key : MetricKey) (ks : List MetricKey) → list_any (is_same_key key) ks ≡ is_among is_same_key key ks
@@ -50,14 +46,6 @@ pub past_all : {X : Type 0} (xs : List X) (i : ℕ) → slice_get xs i ≡ None 
 past_all [] i none = omega arith
 past_all (x ∷ xs) zero none = absurd (none-some x (sym none))
 past_all (x ∷ xs) (suc i) none = omega (arith, past_all xs i none)
-
--- a walk over the inner keys, one more
-pub gathers : (rows : List (LeafKey × Inner)) (place : ℕ) (row : LeafKey × Inner) (old new : List MetricKey)
-    → slice_get rows place ≡ Some row → old ≡ active_in (take place rows)
-    → new ≡ firsts is_same_key old (row_out row) → new ≡ active_in (take (place + 1) rows)
-gathers rows place row old new at so_far more =
-    more ∙ ap (λ l. firsts is_same_key l (row_out row)) so_far ∙ walk_more (take place rows) row
-    ∙ ap active_in (sym (next_got rows place row at))
 
 -- nothing is added
 pub adds_none : (it : Keeping (Row ℕ)) → AddsRows row_weight it it []
@@ -122,6 +110,34 @@ adds_bucket first size turn start keys old mid new at so_far later =
     ∙ sym (append-nil (map (whole_row (first + turn * size) size) keys)))
     ∙ sym (whole_rows-split first size turn 1 keys))
     (adds_more old mid new (whole_rows first size turn keys) (map (whole_row start size) keys) so_far later)
+
+-- as many keys as rows
+pub keys-length : (rows : List (MetricKey × Span)) → length (keys_of rows) ≡ length rows
+keys-length [] = refl
+keys-length (row ∷ rows) = ap suc (keys-length rows)
+
+-- the row of one key more of a full bucket
+pub adds_whole : (start size end n : ℕ) (rows : List (MetricKey × Span)) (entry : MetricKey × Span) (row : Row ℕ)
+    (old mid new : Keeping (Row ℕ)) → slice_get rows n ≡ Some entry → end ≡ start + size
+    → row ≡ record { key = entry.0; start = start; end = end; value = size }
+    → AddsRows row_weight old mid (map (whole_row start size) (take n (keys_of rows)))
+    → AddsRows row_weight mid new (row ∷ [])
+    → AddsRows row_weight old new (map (whole_row start size) (take (n + 1) (keys_of rows)))
+adds_whole start size end n rows entry row old mid new there ends is so_far later =
+    let keys = keys_of rows in
+    let one : whole_row start size entry.0 ≡ row =
+    sym (is ∙ ap (λ e. record { key = entry.0; start = start; end = e; value = size }) ends) in
+    subst (AddsRows row_weight old new)
+    (sym (ap (map (whole_row start size)) (next_got keys n entry.0 (key_there rows n entry there))
+    ∙ map-append (whole_row start size) (take n keys) (entry.0 ∷ [])
+    ∙ ap (λ r. map (whole_row start size) (take n keys) ++ r ∷ []) one))
+    (adds_more old mid new (map (whole_row start size) (take n keys)) (row ∷ []) so_far later) where
+      key_there : (rows : List (MetricKey × Span)) (n : ℕ) (entry : MetricKey × Span) → slice_get rows n ≡ Some entry
+          → slice_get (keys_of rows) n ≡ Some entry.0
+      key_there [] n entry there = absurd (none-some entry there)
+      key_there (first ∷ rows) zero entry there =
+          ap (λ (e : MetricKey × Span). Some e.0) (same_Some first entry there)
+      key_there (first ∷ rows) (suc n) entry there = key_there rows n entry there
 
 -- all others are counted
 pub adds_rest : (first size turn full number : ℕ) (keys : List MetricKey) (old mid new : Keeping (Row ℕ))

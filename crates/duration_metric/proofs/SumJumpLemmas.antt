@@ -1,14 +1,18 @@
 -- What a closed part, and the full buckets after it, make of the rows and of the books.
-use Rattle.std.proofs.Common.{◌≡◌, ℕ, zero, suc, ◌+◌, ◌*◌, ◌^◌, ◌<◌, ◌≤◌, List, [], ◌∷◌, ◌++◌, map, length, refl, sym, ap, subst, ◌∙◌, arith, append-nil}
+use Rattle.std.proofs.Common.{◌≡◌, ℕ, zero, suc, ◌+◌, ◌*◌, ◌^◌, ◌<◌, ◌≤◌, List, [], ◌∷◌, ◌++◌, map, take, length, refl, sym, ap, subst, ◌∙◌, arith, append-nil}
 use Rattle.std.specs.List.{flat_map, IsDistinct}
+use Rattle.std.specs.Map.{keys_of}
 use Rattle.std.proofs.lemmas.Grind.{flat_map-append}
+use Rattle.std.proofs.lemmas.List.{take_all}
 use Rattle.std.proofs.Math.Seq.{take-nil}
+use Rattle.atom_record.specs.Equal.{metric_key_exact}
 use Rattle.atom_record.specs.declared.value.MetricKey.{MetricKey}
 use Rattle.bucket_meaning.specs.Ends.{ends_from}
-use Rattle.bucket_meaning.specs.Guard.{admitted, dropped}
+use Rattle.bucket_meaning.specs.Guard.{is_among, firsts, admitted, dropped}
 use Rattle.bucket_meaning.specs.Kept.{count_in_u64}
 use Rattle.bucket_meaning.specs.Marks.{Mark, Part, Books, books_from, boundary_marks}
 use Rattle.bucket_meaning.specs.Rows.{drops, rows_of, closed_rows}
+use Rattle.bucket_meaning.proofs.GuardLemmas.{is_among-firsts, none_dropped_all}
 use Rattle.dim_table.specs.Table.{Table}
 use Rattle.kept_rows.specs.KeptRows.{Keeping, IsKept, AddsRows}
 use Rattle.metric_producer.specs.declared.row.Row.{Row}
@@ -20,7 +24,9 @@ use Rattle.metric_kinds.proofs.FullBuckets.{active_from, full_parts, after_full,
 use Rattle.duration_metric.specs.declared.sum.Span.{Span}
 use Rattle.duration_metric.specs.declared.sum.SumProducer.{SumProducer}
 use Rattle.duration_metric.specs.SumStands.{span_of, span_row, whole_row, whole_rows, HoldsSums}
-use Rattle.duration_metric.specs.SumSteps.{HasBegun, BeginsAll, ClosesRows}
+use Rattle.duration_metric.specs.SumSteps.{HasSpans, HasBegun, BeginsAll, ClosesRows}
+use Rattle.duration_metric.proofs.ActiveLemmas.{firsts_stable}
+use Rattle.duration_metric.proofs.BeginLemmas.{keys_of-spans, newly-none}
 use Rattle.duration_metric.proofs.SpanLemmas.{part_rows, spans_fresh}
 
 -- the rows of all closed parts, with one part more
@@ -46,10 +52,58 @@ parts_whole bound keys few once start size sized (suc n) =
     (full_rows bound keys few once size sized start)
     ∙ ap (λ rows. map (whole_row start size) keys ++ rows) (parts_whole bound keys few once (start + size) size sized n)
 
+-- a part opens, in which nothing came so far
+module _ (old new : Table MetricKey Span) (bound : ℕ) (outs keys : List MetricKey) (stop others : ℕ)
+    (few : length keys ≤ bound) (firsts_are : firsts is_same_key [] outs ≡ keys)
+    (begins : BeginsAll old new [] outs stop) (empty : old.rows ≡ []) (bound_is : old.bound ≡ bound)
+    (dropped_are : old.dropped ≡ count_in_u64 others) where
+  abbrev span : MetricKey → Span
+  span = span_of (active_from keys stop ∷ [])
+
+  -- the keys for which inner keys count begin
+  outs_begun : HasBegun new bound span [] (newly is_same_key [] outs) others
+  outs_begun = begins bound span [] others
+      (λ key unseen there absent. spans_fresh [] (active_from keys stop) [] key unseen
+      (ap (is_among is_same_key key) (sym firsts_are)
+      ∙ is_among-firsts is_same_key metric_key_exact key [] outs ∙ there)
+      absent)
+      (record {
+        bound_is = bound_is;
+        rows = empty ∙ sym (ap (map (λ key. (key, span key))) (take-nil bound));
+        dropped_are = dropped_are;
+      })
+
+  all_admitted : admitted is_same_key bound outs ≡ firsts is_same_key [] outs
+  all_admitted = take_all bound (firsts is_same_key [] outs) (omega (arith, ap length firsts_are, few))
+
+  none_more : outs_begun.more ≡ 0
+  none_more =
+      let none = none_dropped_all is_same_key metric_key_exact bound outs all_admitted in
+      omega (arith, outs_begun.counted, none, ap (dropped is_same_key bound) (newly-none outs))
+
+  same_keys : admitted is_same_key bound (newly is_same_key [] outs) ≡ admitted is_same_key bound keys
+  same_keys =
+      ap (admitted is_same_key bound) (newly-none outs)
+      ∙ ap (take bound) (sym (firsts_stable [] outs refl) ∙ ap (firsts is_same_key []) firsts_are)
+
+  -- each active key has a span that begins, and no other key has one
+  pub opened : HasSpans new bound span keys others
+  opened = record {
+    bound_is = outs_begun.has.bound_is;
+    rows = outs_begun.has.rows ∙ ap (map (λ key. (key, span key))) same_keys;
+    dropped_are = outs_begun.has.dropped_are ∙ ap count_in_u64 (omega (arith, none_more));
+  }
+
+  pub opened_keys : keys_of new.rows ≡ keys
+  opened_keys =
+      ap keys_of opened.rows ∙ keys_of-spans span (admitted is_same_key bound keys)
+      ∙ sym same_keys ∙ ap (admitted is_same_key bound) (newly-none outs) ∙ all_admitted ∙ firsts_are
+
 module _ (old mid : SumProducer) (kept : Keeping (Row ℕ)) (new : Table MetricKey Span) (end size n stop bound : ℕ)
-    (keys : List MetricKey) (last others : ℕ) (books : Books (Active MetricKey)) (stops : stop ≡ end + n * size)
+    (keys outs : List MetricKey) (last others : ℕ) (books : Books (Active MetricKey)) (stops : stop ≡ end + n * size)
     (closes : ClosesRows old mid end) (adds : AddsRows row_weight mid.kept kept (whole_rows end size n keys))
-    (begins : BeginsAll mid.table new [] keys stop) (holds : HoldsSums old bound keys last others books)
+    (begins : BeginsAll mid.table new [] outs stop) (firsts_are : firsts is_same_key [] outs ≡ keys)
+    (holds : HoldsSums old bound keys last others books)
     (later : last ≤ end) (fits : end < 2 ^ 63) (sized : 0 < size) where
   abbrev part : Part (Active MetricKey)
   part = record { start = books.start; end = end; came = books.came }
@@ -76,26 +130,13 @@ module _ (old mid : SumProducer) (kept : Keeping (Row ℕ)) (new : Table MetricK
   opening = active_from keys stop
 
   -- the active keys begin anew
-  jumped_begun : HasBegun new bound (span_of (opening ∷ [])) [] (newly is_same_key [] keys) others
+  jumped_begun : HasSpans new bound (span_of (opening ∷ [])) keys others
   jumped_begun =
       let table = ap (λ (it : SumProducer). it.table) closes.same in
-      begins bound (span_of (opening ∷ [])) [] others (spans_fresh [] opening [])
-      (record {
-        bound_is = ap (λ (t : Table MetricKey Span). t.bound) table ∙ holds.bound_is;
-        rows = ap (λ (t : Table MetricKey Span). t.rows) table
-            ∙ sym (ap (map (λ key. (key, span_of (opening ∷ []) key))) (take-nil bound));
-        dropped_are = ap (λ (t : Table MetricKey Span). t.dropped) table ∙ holds.dropped;
-      })
-
-  none_lost : jumped_begun.more ≡ 0
-  none_lost =
-      let none = none_dropped_first bound keys holds.few stop in
-      omega (
-        arith,
-        jumped_begun.counted,
-        none,
-        ap (dropped is_same_key bound) (append-nil (newly is_same_key [] keys)),
-      )
+      opened mid.table new bound outs keys stop others holds.few firsts_are begins
+      (ap (λ (t : Table MetricKey Span). t.rows) table)
+      (ap (λ (t : Table MetricKey Span). t.bound) table ∙ holds.bound_is)
+      (ap (λ (t : Table MetricKey Span). t.dropped) table ∙ holds.dropped)
 
   abbrev jumped_it : SumProducer
   jumped_it = record mid { start = stop; kept = kept; table = new }
@@ -111,7 +152,7 @@ module _ (old mid : SumProducer) (kept : Keeping (Row ℕ)) (new : Table MetricK
 
   jumped_holds : (lost : ℕ) → HoldsSums jumped_it bound keys stop others (jumped_books stop lost)
   jumped_holds lost = record {
-    bound_is = jumped_begun.has.bound_is;
+    bound_is = jumped_begun.bound_is;
     start = refl;
     came_last = refl;
     few = holds.few;
@@ -119,11 +160,10 @@ module _ (old mid : SumProducer) (kept : Keeping (Row ℕ)) (new : Table MetricK
     rises = (omega arith, tt);
     so_far = omega arith;
     all_once = (holds.once, tt);
-    table = jumped_begun.has.rows
+    table = jumped_begun.rows
         ∙ ap (λ ks. map (λ key. (key, span_of (opening ∷ []) key)) (admitted is_same_key bound ks))
-        (sym (append-nil (newly is_same_key [] keys)));
-    dropped = jumped_begun.has.dropped_are ∙ ap (λ m. count_in_u64 (others + m)) none_lost
-        ∙ ap count_in_u64 (omega arith);
+        (sym (append-nil (newly is_same_key [] keys) ∙ newly-none keys));
+    dropped = jumped_begun.dropped_are;
     kept = jumped_kept;
     missing = holds.missing;
   }

@@ -1,13 +1,14 @@
 -- A producer of sums holds its books through a cut, a crossing and a report, and begins with none.
-use Rattle.std.proofs.Common.{◌≡◌, ℕ, suc, ◌+◌, ◌*◌, ◌^◌, ◌<◌, ◌≤◌, List, [], ◌∷◌, ◌++◌, map, slice_get, refl, sym, ap, subst, ◌∙◌, arith, append-nil}
+use Rattle.std.proofs.Common.{◌≡◌, ℕ, suc, ◌+◌, ◌*◌, ◌^◌, ◌<◌, ◌≤◌, nat_lt, [], ◌∷◌, ◌++◌, map, slice_get, refl, sym, ap, subst, ◌∙◌, arith, append-nil}
 use Rattle.std.specs.List.{flat_map, IsDistinct}
+use Rattle.std.specs.Map.{keys_of}
 use Rattle.std.proofs.lemmas.Option.{none-some}
 use Rattle.std.proofs.Math.Seq.{take-nil}
 use Rattle.atom_record.specs.declared.value.MetricKey.{MetricKey}
 use Rattle.bucket_clock.specs.declared.crossings.Crossings.{Crossings}
 use Rattle.bucket_clock.specs.Clock.{last_end}
 use Rattle.bucket_meaning.specs.Ends.{ends_from}
-use Rattle.bucket_meaning.specs.Guard.{dropped}
+use Rattle.bucket_meaning.specs.Guard.{firsts}
 use Rattle.bucket_meaning.specs.Marks.{books_from, boundary_marks}
 use Rattle.bucket_meaning.specs.Rows.{drops}
 use Rattle.dim_table.specs.Table.{Table}
@@ -16,6 +17,7 @@ use Rattle.metric_producer.specs.declared.row.Row.{Row}
 use Rattle.metric_producer.specs.Calls.{Crossed, CutAt, Took, Standing, standing_of}
 use Rattle.metric_producer.specs.Moves.{Moves}
 use Rattle.metric_producer.proofs.RuleLemmas.{answer_fits}
+use Rattle.metric_kinds.specs.Keys.{is_same_key}
 use Rattle.metric_kinds.specs.Counts.{row_weight}
 use Rattle.metric_kinds.specs.Durations.{sum_kind, active_edges}
 use Rattle.duration_metric.specs.declared.inner.InnerTable.{InnerTable}
@@ -24,26 +26,27 @@ use Rattle.duration_metric.specs.declared.sum.SumProducer.{SumProducer}
 use Rattle.duration_metric.specs.InnerKeys.{DurationParams, DurationCall, duration_demands}
 use Rattle.duration_metric.specs.InnerStands.{InnersStandFor}
 use Rattle.duration_metric.specs.SumCalls.{active_since}
-use Rattle.duration_metric.specs.Tallies.{how_often, tally_at, is_counted, row_tallied, IsTallied, IsSettled}
+use Rattle.duration_metric.specs.Tallies.{how_often, tally_at, is_counted, row_out, row_tallied, CountsSame, IsTallied, IsSettled}
 use Rattle.duration_metric.specs.SumStands.{span_of, whole_rows, HoldsSums, SumStandsFor, sum_law}
 use Rattle.duration_metric.specs.SumSteps.{active_in, BeginsAll, ClosesRows, Opens}
 use Rattle.duration_metric.proofs.KnownLemmas.{takes_other}
 use Rattle.duration_metric.proofs.ActiveLemmas.{since-other}
 use Rattle.duration_metric.proofs.InnerBoundLemmas.{same_drops}
 use Rattle.duration_metric.proofs.SumMovesLemmas.{standing-push, moves_by, counted_on}
-use Rattle.duration_metric.proofs.SumJumpLemmas.{jumps, jumps_dropped}
+use Rattle.duration_metric.proofs.SumJumpLemmas.{opened_keys, jumps, jumps_dropped}
 
 -- the tally of inner keys that stay is as right as before
-same_tally : (old new : SumProducer) → new.inner ≡ old.inner → new.tally ≡ old.tally
+same_tally : (old new : SumProducer) → new.inner ≡ old.inner → CountsSame old.tally new.tally
     → IsTallied old.inner (tally_at old.tally) → IsTallied new.inner (tally_at new.tally)
-same_tally old new inner tally right =
+same_tally old new inner counts right =
+    let same : tally_at old.tally ≡ tally_at new.tally = λ i key. sym (counts key) i in
     subst (λ (t : InnerTable). IsTallied t (tally_at new.tally)) (sym inner)
-    (subst (λ t. IsTallied old.inner (tally_at t)) (sym tally) right)
+    (subst (IsTallied old.inner) same right)
 
 -- a report cut the open part
-pub cuts : (old mid new : SumProducer) (active : List MetricKey) (at : ℕ) → active ≡ active_in old.inner.keys.rows
-    → ClosesRows old mid at → Opens mid new active → Moves sum_law old new (CutAt at)
-cuts old mid new active at gathered closes opens = moves_by old new (CutAt at)
+pub cuts : (old mid new : SumProducer) (at : ℕ) → ClosesRows old mid at → Opens mid new
+    → Moves sum_law old new (CutAt at)
+cuts old mid new at closes opens = moves_by old new (CutAt at)
     (λ params calls books has may.
     let spec = params.spec in
     let call : DurationCall = CutAt at in
@@ -51,35 +54,36 @@ cuts old mid new active at gathered closes opens = moves_by old new (CutAt at)
     let keys = active_since spec calls in
     let standing = standing-push params calls call in
     let start : mid.start ≡ at = ap (λ (it : SumProducer). it.start) closes.same in
-    let are : active ≡ keys = gathered ∙ (has.settled may.0.settled).1 in
-    let tally : new.tally ≡ old.tally = ap (λ (it : SumProducer). it.tally) (opens.same ∙ ap (λ (it : SumProducer).
-    record it { table = new.table }) closes.same) in
+    let outs = flat_map row_out mid.inner.keys.rows in
+    let are : firsts is_same_key [] outs ≡ keys =
+    ap (λ (it : SumProducer). active_in it.inner.keys.rows) closes.same ∙ (has.settled may.0.settled).1 in
+    let counts : CountsSame old.tally new.tally =
+    λ key. ap (λ (it : SumProducer). tally_at it.tally key) opens.same ∙ closes.counts key in
     let inner : new.inner ≡ old.inner = ap (λ (it : SumProducer). it.inner) (opens.same ∙ ap (λ (it : SumProducer).
     record it { table = new.table }) closes.same) in
     let reported : new.reported ≡ old.reported = ap (λ (it : SumProducer). it.reported) (opens.same ∙ ap (λ (it :
     SumProducer). record it { table = new.table }) closes.same) in
-    let begins : BeginsAll mid.table new.table [] keys at =
-    subst (λ ks. BeginsAll mid.table new.table [] ks at) are
-    (subst (BeginsAll mid.table new.table [] active) start opens.begins) in
+    let begins : BeginsAll mid.table new.table [] outs at =
+    subst (BeginsAll mid.table new.table [] outs) start opens.begins in
     let none : AddsRows row_weight mid.kept mid.kept [] =
     λ all is. subst (λ rows. IsKept row_weight rows mid.kept) (sym (append-nil all)) is in
     let stops : at ≡ at + 0 * params.size = omega arith in
     let new_is : record mid { start = at; kept = mid.kept; table = new.table } ≡ new =
     ap (λ s. record mid { start = s; table = new.table }) (sym start) ∙ sym opens.same in
-    let holds = jumps old mid mid.kept new.table at params.size 0 at spec.bound keys
-    (standing_of (duration_demands params) calls).last has.others books stops closes none begins has.holds
+    let holds = jumps old mid mid.kept new.table at params.size 0 at spec.bound keys outs
+    (standing_of (duration_demands params) calls).last has.others books stops closes none begins are has.holds
     may.0.timely.not_before may.0.timely.fits may.0.sized in
-    let dropped = jumps_dropped old mid mid.kept new.table at params.size 0 at spec.bound keys
-    (standing_of (duration_demands params) calls).last has.others books stops closes none begins has.holds
+    let dropped = jumps_dropped old mid mid.kept new.table at params.size 0 at spec.bound keys outs
+    (standing_of (duration_demands params) calls).last has.others books stops closes none begins are has.holds
     may.0.timely.not_before may.0.timely.fits may.0.sized in
     let result = books_from (drops sum_kind spec.bound) books
     (boundary_marks (active_edges keys) (ends_from at params.size 1)) in
     record {
       inner = subst (λ (t : InnerTable). InnersStandFor t spec now) (sym inner)
           (takes_other old.inner spec calls call refl (λ key. refl) has.inner);
-      tally = same_tally old new inner tally has.tally;
+      tally = same_tally old new inner counts has.tally;
       counted = counted_on new.tally spec calls call refl
-          (λ key. has.counted key ∙ ap (λ t. is_counted t key) (sym tally));
+          (λ key. has.counted key ∙ ap (nat_lt 0) (sym (counts key)));
       settled = λ none. (
         subst IsSettled (sym inner) (has.settled may.0.settled).0,
         ap (λ (t : InnerTable). active_in t.keys.rows) inner ∙ (has.settled may.0.settled).1
@@ -103,16 +107,17 @@ cuts old mid new active at gathered closes opens = moves_by old new (CutAt at)
     })
 
 -- ends of buckets were crossed
-pub crosses : (old mid new : SumProducer) (active : List MetricKey) (kept : Keeping (Row ℕ)) (start : ℕ)
-    (crossings : Crossings) → active ≡ active_in old.inner.keys.rows → ClosesRows old mid crossings.first_end
-    → (last_end crossings < 2 ^ 63 → start ≡ last_end crossings)
-    → (last_end crossings < 2 ^ 63 → AddsRows row_weight mid.kept kept
-    (whole_rows crossings.first_end crossings.size crossings.full_buckets active))
-    → Opens (record mid { kept = kept; start = start }) new active → Moves sum_law old new (Crossed crossings)
-crosses old mid new active kept start crossings gathered closes is_last adds opens =
-    moves_by old new (Crossed crossings)
+pub crosses : (old mid part : SumProducer) (kept : Keeping (Row ℕ)) (start : ℕ) (crossings : Crossings)
+    → ClosesRows old mid crossings.first_end → (last_end crossings < 2 ^ 63 → start ≡ last_end crossings)
+    → Opens (record mid { start = start }) part
+    → (last_end crossings < 2 ^ 63 → AddsRows row_weight part.kept kept
+    (whole_rows crossings.first_end crossings.size crossings.full_buckets (keys_of part.table.rows)))
+    → Moves sum_law old (record part { kept = kept }) (Crossed crossings)
+crosses old mid part kept start crossings closes is_last opens adds =
+    moves_by old (record part { kept = kept }) (Crossed crossings)
     (λ params calls books has may.
     let spec = params.spec in
+    let new : SumProducer = record part { kept = kept } in
     let demands = duration_demands params in
     let call : DurationCall = Crossed crossings in
     let now = calls ++ call ∷ [] in
@@ -123,33 +128,42 @@ crosses old mid new active kept start crossings gathered closes is_last adds ope
     let fits = answer_fits demands (standing_of demands calls) crossings may.0 in
     let stops : start ≡ first + n * size = is_last fits in
     let standing = standing-push params calls call in
-    let are : active ≡ keys = gathered ∙ (has.settled may.0.settled).1 in
-    let tally : new.tally ≡ old.tally =
-    ap (λ (it : SumProducer). it.tally) opens.same ∙ ap (λ (it : SumProducer). it.tally) closes.same in
+    let outs = flat_map row_out mid.inner.keys.rows in
+    let are : firsts is_same_key [] outs ≡ keys =
+    ap (λ (it : SumProducer). active_in it.inner.keys.rows) closes.same ∙ (has.settled may.0.settled).1 in
+    let counts : CountsSame old.tally new.tally =
+    λ key. ap (λ (it : SumProducer). tally_at it.tally key) opens.same ∙ closes.counts key in
     let inner : new.inner ≡ old.inner =
     ap (λ (it : SumProducer). it.inner) opens.same ∙ ap (λ (it : SumProducer). it.inner) closes.same in
     let reported : new.reported ≡ old.reported =
     ap (λ (it : SumProducer). it.reported) opens.same ∙ ap (λ (it : SumProducer). it.reported) closes.same in
-    let begins : BeginsAll mid.table new.table [] keys start =
-    subst (λ ks. BeginsAll mid.table new.table [] ks start) are opens.begins in
+    let begins : BeginsAll mid.table part.table [] outs start = opens.begins in
+    let table = ap (λ (it : SumProducer). it.table) closes.same in
+    let shown : keys_of part.table.rows ≡ keys =
+    opened_keys mid.table part.table spec.bound outs keys start has.others has.holds.few are begins
+    (ap (λ (t : Table MetricKey Span). t.rows) table)
+    (ap (λ (t : Table MetricKey Span). t.bound) table ∙ has.holds.bound_is)
+    (ap (λ (t : Table MetricKey Span). t.dropped) table ∙ has.holds.dropped) in
     let added : AddsRows row_weight mid.kept kept (whole_rows first size n keys) =
-    subst (λ ks. AddsRows row_weight mid.kept kept (whole_rows first size n ks)) are (adds fits) in
+    subst (λ ks. AddsRows row_weight mid.kept kept (whole_rows first size n ks)) shown
+    (subst (λ k. AddsRows row_weight k kept (whole_rows first size n (keys_of part.table.rows)))
+    (ap (λ (it : SumProducer). it.kept) opens.same) (adds fits)) in
     let sized : 0 < size = omega (arith, may.0.sized, may.0.answer.size) in
     let later : (standing_of demands calls).last ≤ first =
     omega (arith, has.in_bucket may.0.sized, may.0.answer.first_end) in
     let first_fits : first < 2 ^ 63 = omega (arith, fits) in
-    let holds = jumps old mid kept new.table first size n start spec.bound keys (standing_of demands calls).last
-    has.others books stops closes added begins has.holds later first_fits sized in
-    let dropped = jumps_dropped old mid kept new.table first size n start spec.bound keys
-    (standing_of demands calls).last has.others books stops closes added begins has.holds later first_fits sized in
+    let holds = jumps old mid kept part.table first size n start spec.bound keys outs (standing_of demands calls).last
+    has.others books stops closes added begins are has.holds later first_fits sized in
+    let dropped = jumps_dropped old mid kept part.table first size n start spec.bound keys outs
+    (standing_of demands calls).last has.others books stops closes added begins are has.holds later first_fits sized in
     let result = books_from (drops sum_kind spec.bound) books
     (boundary_marks (active_edges keys) (ends_from first size (suc n))) in
     record {
       inner = subst (λ (t : InnerTable). InnersStandFor t spec now) (sym inner)
           (takes_other old.inner spec calls call refl (λ key. refl) has.inner);
-      tally = same_tally old new inner tally has.tally;
+      tally = same_tally old new inner counts has.tally;
       counted = counted_on new.tally spec calls call refl
-          (λ key. has.counted key ∙ ap (λ t. is_counted t key) (sym tally));
+          (λ key. has.counted key ∙ ap (nat_lt 0) (sym (counts key)));
       settled = λ none. (
         subst IsSettled (sym inner) (has.settled may.0.settled).0,
         ap (λ (t : InnerTable). active_in t.keys.rows) inner ∙ (has.settled may.0.settled).1
@@ -171,8 +185,8 @@ crosses old mid new active kept start crossings gathered closes is_last adds ope
           (subst (λ ks. HoldsSums new spec.bound ks (last_end crossings) has.others result)
           (sym (since-other spec calls call refl))
           (subst (λ at. HoldsSums new spec.bound keys at has.others result) stops
-          (subst (λ (it : SumProducer). HoldsSums it spec.bound keys start has.others result) (sym opens.same)
-          holds)));
+          (subst (λ (it : SumProducer). HoldsSums it spec.bound keys start has.others result)
+          (sym (ap (λ (it : SumProducer). record it { kept = kept }) opens.same)) holds)));
     })
 
 -- what was kept was handed out

@@ -2,7 +2,7 @@
 use Rattle.std.proofs.Common.{◌≡◌, ℕ, ◌+◌, ◌-◌, ◌≤◌, List, [], ◌∷◌, ◌++◌, Result, Ok, Err, OnOk, refl, sym, ap, subst, ◌∙◌, arith}
 use Rattle.std.proofs.lemmas.Option.{none-some}
 use Rattle.atom_record.specs.declared.value.MetricKey.{MetricKey}
-use Rattle.bucket_meaning.specs.Guard.{is_among, dropped}
+use Rattle.bucket_meaning.specs.Guard.{is_among}
 use Rattle.bucket_meaning.specs.Marks.{Books}
 use Rattle.bucket_meaning.specs.Meaning.{marks_on, books_by}
 use Rattle.bucket_meaning.specs.Rows.{drops}

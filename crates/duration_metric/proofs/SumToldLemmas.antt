@@ -1,11 +1,12 @@
 -- A producer of sums holds its books where a condition is told.
-use Rattle.std.proofs.Common.{◌≡◌, ℕ, ◌+◌, ◌≤◌, Bool, true, false, not, ◌||◌, nat_lt, List, [], ◌∷◌, ◌++◌, filter, length, refl, sym, ap, subst, ◌∙◌, arith, ⊎_elim}
+use Rattle.std.proofs.Common.{inl, ◌≡◌, ℕ, ◌+◌, ◌≤◌, Bool, true, false, not, ◌||◌, nat_lt, List, [], ◌∷◌, ◌++◌, filter, length, IsPermutation, IsSorted, refl, sym, ap, subst, ◌∙◌, arith, ⊎_elim}
 use Rattle.std.specs.List.{flat_map, IsDistinct}
+use Rattle.std.specs.Ordering.{nat_cmp}
 use Rattle.std.proofs.lemmas.Bool.{cases_Bool}
 use Rattle.std.proofs.lemmas.List.Folds.{list_any-append}
 use Rattle.atom_record.specs.Equal.{metric_key_exact}
 use Rattle.atom_record.specs.declared.value.MetricKey.{MetricKey}
-use Rattle.bucket_meaning.specs.Guard.{is_among, firsts, dropped}
+use Rattle.bucket_meaning.specs.Guard.{is_among, firsts}
 use Rattle.bucket_meaning.specs.Marks.{Books, books_from}
 use Rattle.bucket_meaning.specs.Rows.{drops}
 use Rattle.bucket_meaning.proofs.GuardLemmas.{is_among-firsts}
@@ -26,12 +27,14 @@ use Rattle.duration_metric.specs.declared.sum.SumProducer.{SumProducer}
 use Rattle.duration_metric.specs.InnerKeys.{DurationParams, DurationCall, duration_demands, last_known}
 use Rattle.duration_metric.specs.InnerStands.{InnersStandFor, TakesDelta}
 use Rattle.duration_metric.specs.SumCalls.{active_after, active_since}
-use Rattle.duration_metric.specs.Tallies.{row_out, how_often, tally_at, is_counted, row_tallied, AreSteady, IsTallied}
+use Rattle.duration_metric.specs.Tallies.{row_out, how_often, tally_at, is_counted, row_tallied, CountsSame, AreSteady, IsTallied}
 use Rattle.duration_metric.specs.SumStands.{HoldsSums, HasSums, sum_law}
-use Rattle.duration_metric.specs.SumSteps.{active_in, StepsSome, BeginsAll, fresh_in, Recounts, LowersAll}
+use Rattle.duration_metric.specs.SumSteps.{active_in, outs_at, fresh_at, CountsRight, StepsSome, BeginsAll, fresh_in, Recounts, Releases, LowersAll}
 use Rattle.duration_metric.proofs.KnownLemmas.{inner_state-other}
 use Rattle.duration_metric.proofs.ActiveLemmas.{active_is, few_active, active_once, since-learned}
 use Rattle.duration_metric.proofs.BeginLemmas.{begins_newly}
+use Rattle.duration_metric.proofs.CountedLemmas.{fresh_found}
+use Rattle.duration_metric.proofs.RecountLemmas.{steady_sorted}
 use Rattle.duration_metric.proofs.TallyLemmas.{steady_outs, how_often-among}
 use Rattle.duration_metric.proofs.InnerBoundLemmas.{same_drops, few_listed}
 use Rattle.duration_metric.proofs.SumMovesLemmas.{standing-push, moves_by}
@@ -67,13 +70,16 @@ same_state unknown counts_are dropped_is =
     λ i. record { unknown = unknown; counts = counts_are i; dropped = dropped_is i }
 
 -- what a condition makes of the inner keys and of the tally
-module _ (it : SumProducer) (inner : InnerTable) (rows : Table LeafKey Inner) (raised lowered : List (MetricKey × ℕ))
-    (fresh : List MetricKey) (params : DurationParams) (calls : List DurationCall) (at : ℕ) (delta : InnerDelta)
+module _ (it : SumProducer) (inner : InnerTable) (rows last : Table LeafKey Inner)
+    (raised lowered left : List (MetricKey × ℕ)) (places : List ℕ) (tolds fresh : List MetricKey)
+    (params : DurationParams) (calls : List DurationCall) (at : ℕ) (delta : InnerDelta)
     (takes : TakesDelta it.inner inner delta)
     (keeps : (tally : MetricKey → ℕ) → IsTallied it.inner tally → IsTallied inner tally)
     (finds : IsTallied inner (tally_at it.tally) → fresh ≡ fresh_in (tally_at it.tally) (active_in inner.keys.rows))
-    (recounts : Recounts inner.keys rows it.tally raised inner.touched [])
+    (order : IsPermutation inner.touched places)
+    (recounts : Recounts inner.keys rows it.tally raised places [])
     (lowers : LowersAll raised lowered inner.gone)
+    (releases : Releases rows last lowered left places [] tolds)
     (stood : InnersStandFor it.inner params.spec calls) (right : IsTallied it.inner (tally_at it.tally)) where
   abbrev spec : PredSpec
   spec = params.spec
@@ -85,7 +91,7 @@ module _ (it : SumProducer) (inner : InnerTable) (rows : Table LeafKey Inner) (r
   active = active_in inner.keys.rows
 
   abbrev new_inner : InnerTable
-  new_inner = record inner { touched = []; gone = []; keys = rows }
+  new_inner = record inner { touched = []; gone = []; keys = last }
 
   told_right : IsTallied inner (tally_at it.tally)
   told_right = keeps (tally_at it.tally) right
@@ -99,28 +105,38 @@ module _ (it : SumProducer) (inner : InnerTable) (rows : Table LeafKey Inner) (r
       let stands = takes spec calls at stood in
       record {
         nesting_is = stands.nesting_is;
-        bound_is = recounts.bound_is ∙ stands.bound_is;
-        state_is = same_state inner.unknown recounts.counts_are recounts.dropped_is ∙ stands.state_is;
-        known_are = recounts.known_are (last_known spec told) stands.known_are;
+        bound_is = releases.bound_is ∙ recounts.bound_is ∙ stands.bound_is;
+        state_is = same_state inner.unknown (releases.counts_are ∙ recounts.counts_are)
+            (releases.dropped_is ∙ recounts.dropped_is) ∙ stands.state_is;
+        known_are = releases.known_are (last_known spec told) (recounts.known_are (last_known spec told) stands.known_are);
       }
 
-  new_steady : AreSteady [] rows.rows
-  new_steady = recounts.steady told_right.steady
+  new_steady : AreSteady [] last.rows
+  new_steady =
+      let before = steady_sorted inner.touched places inner.keys.rows order told_right.steady in
+      (releases.steady (recounts.steady places before)
+      (recounts.looked (λ place row there free. inl (before place row there free)))).0
 
   -- the tally counts the inner keys, and nothing else
-  new_counts : (key : MetricKey) → tally_at lowered key ≡ how_often key (flat_map row_tallied rows.rows)
-  new_counts = lowers (λ key. how_often key (flat_map row_tallied rows.rows))
+  mid_counts : (key : MetricKey) → tally_at lowered key ≡ how_often key (flat_map row_tallied rows.rows)
+  mid_counts = lowers (λ key. how_often key (flat_map row_tallied rows.rows))
       (recounts.tally_is inner.gone told_right.all)
 
-  new_tally : IsTallied new_inner (tally_at lowered)
+  new_counts : (key : MetricKey) → tally_at left key ≡ how_often key (flat_map row_tallied last.rows)
+  new_counts key =
+      let all = releases.tally_is (λ other. omega (arith, mid_counts other)) key in
+      omega (arith, all)
+
+  new_tally : IsTallied new_inner (tally_at left)
   new_tally = record { all = λ key. omega (arith, new_counts key); steady = new_steady }
 
   -- so it has the active keys
-  has_active : (key : MetricKey) → is_among is_same_key key active ≡ is_counted lowered key
+  has_active : (key : MetricKey) → is_among is_same_key key active ≡ is_counted left key
   has_active key =
       is_among-firsts is_same_key metric_key_exact key [] (flat_map row_out inner.keys.rows)
       ∙ sym (how_often-among key (flat_map row_out inner.keys.rows))
-      ∙ ap (λ l. nat_lt 0 (how_often key l)) (sym (steady_outs rows.rows new_steady ∙ recounts.outs_are))
+      ∙ ap (λ l. nat_lt 0 (how_often key l))
+      (sym (steady_outs last.rows new_steady ∙ releases.outs_are ∙ recounts.outs_are))
       ∙ ap (nat_lt 0) (sym (new_counts key))
 
   -- and those that begin weren't active before
@@ -131,34 +147,66 @@ module _ (it : SumProducer) (inner : InnerTable) (rows : Table LeafKey Inner) (r
       λ i. filter (λ key. not (counted key i)) active in
       finds told_right ∙ sym same
 
-  -- a key that isn't gone is counted at least as often as it was
-  not_fewer : (key : MetricKey) → is_among is_same_key key inner.gone ≡ false
-      → tally_at it.tally key ≤ tally_at lowered key
-  not_fewer key stays =
+  -- a key that isn't gone, and wasn't told of a touched row, is counted at least as often as it was
+  not_fewer : (key : MetricKey) → is_among is_same_key key inner.gone ≡ false → is_among is_same_key key tolds ≡ false
+      → tally_at it.tally key ≤ tally_at left key
+  not_fewer key stays other =
       let none : nat_lt 0 (how_often key inner.gone) ≡ false = how_often-among key inner.gone ∙ stays in
       let no_more : how_often key inner.gone ≡ 0 = grind (arith, none) in
-      omega (arith, no_more, recounts.tally_is inner.gone told_right.all key, new_counts key, recounts.grows key)
+      omega (
+        arith,
+        no_more,
+        recounts.tally_is inner.gone told_right.all key,
+        mid_counts key,
+        recounts.grows key,
+        releases.same key other,
+      )
 
-  -- a key that is neither gone nor begins is as active as it was
+  -- a key that is neither, nor begins, is as active as it was
   as_before : ((key : MetricKey) → is_among is_same_key key (active_since spec calls) ≡ is_counted it.tally key)
-      → (key : MetricKey) → is_among is_same_key key (inner.gone ++ fresh) ≡ false
-      → is_counted lowered key ≡ is_among is_same_key key (active_since spec calls)
+      → (key : MetricKey) → is_among is_same_key key ((inner.gone ++ tolds) ++ fresh) ≡ false
+      → is_counted left key ≡ is_among is_same_key key (active_since spec calls)
   as_before counted key other =
       let before = active_since spec calls in
-      let ends = is_among is_same_key key inner.gone in
+      let ends = is_among is_same_key key (inner.gone ++ tolds) in
       let begins = is_among is_same_key key fresh in
       let neither : (ends || begins) ≡ false =
-      sym (list_any-append (λ other. is_same_key other key) inner.gone fresh) ∙ other in
+      sym (list_any-append (λ other. is_same_key other key) (inner.gone ++ tolds) fresh) ∙ other in
+      let stays : (is_among is_same_key key inner.gone || is_among is_same_key key tolds) ≡ false =
+      sym (list_any-append (λ other. is_same_key other key) inner.gone tolds) ∙ first_fails ends begins neither in
       ⊎_elim
       (λ (was : is_among is_same_key key before ≡ true).
-      let more = not_fewer key (first_fails ends begins neither) in
+      let more = not_fewer key (first_fails (is_among is_same_key key inner.gone) (is_among is_same_key key tolds) stays)
+      (second_fails (is_among is_same_key key inner.gone) (is_among is_same_key key tolds) stays) in
       let had : nat_lt 0 (tally_at it.tally key) ≡ true = sym (counted key) ∙ was in
-      let has : nat_lt 0 (tally_at lowered key) ≡ true = grind (arith, more, had) in
+      let has : nat_lt 0 (tally_at left key) ≡ true = grind (arith, more, had) in
       has ∙ sym was)
       (λ (was : is_among is_same_key key before ≡ false).
       sym (has_active key) ∙ sym (newly_among key before active was)
       ∙ ap (is_among is_same_key key) (sym (fresh_is counted)) ∙ second_fails ends begins neither ∙ sym was)
       (cases_Bool (is_among is_same_key key before))
+
+-- the rows that begin at the touched places count for the keys that the tally had not
+pub finds_begun : (inner : InnerTable) (rows : Table LeafKey Inner) (tally : List (MetricKey × ℕ))
+    (sorted places began : List ℕ) → IsPermutation inner.touched sorted → IsSorted nat_cmp sorted → places ≡ sorted
+    → (CountsRight (tally_at tally) inner.keys.rows → outs_at rows.rows began
+    ≡ firsts is_same_key [] (flat_map (fresh_at (tally_at tally) inner.keys.rows) places))
+    → IsTallied inner (tally_at tally) → outs_at rows.rows began ≡ fresh_in (tally_at tally) (active_in inner.keys.rows)
+finds_begun inner rows tally sorted places began same order are begins right =
+    begins (inner.gone, right.all)
+    ∙ ap (λ l. firsts is_same_key [] (flat_map (fresh_at (tally_at tally) inner.keys.rows) l)) are
+    ∙ fresh_found inner (tally_at tally) sorted same order right
+
+-- a tally that counts the same
+pub lowers_same : (raised lowered left : List (MetricKey × ℕ)) (gone : List MetricKey) → LowersAll raised lowered gone
+    → CountsSame lowered left → LowersAll raised left gone
+lowers_same raised lowered left gone lowers same rest all key = same key ∙ lowers rest all key
+
+pub steps_same : (lowered left : List (MetricKey × ℕ)) (old new : Table MetricKey Span) (keys : List MetricKey) (at : ℕ)
+    → CountsSame lowered left → StepsSome old new keys (is_counted lowered) at
+    → StepsSome old new keys (is_counted left) at
+steps_same lowered left old new keys at same steps =
+    subst (λ (f : MetricKey → Bool). StepsSome old new keys f at) (λ i key. nat_lt 0 (sym (same key) i)) steps
 
 -- nothing is touched or gone any more
 pub emptied : (it : SumProducer) (inner : InnerTable) (rows : Table LeafKey Inner) (tally : List (MetricKey × ℕ))
@@ -172,20 +220,22 @@ emptied it inner rows tally table touched gone touched_is gone_is = λ i. record
 }
 
 -- a condition was told
-pub learned : (it : SumProducer) (inner : InnerTable) (rows : Table LeafKey Inner)
-    (raised lowered : List (MetricKey × ℕ)) (fresh : List MetricKey) (part mid new : Table MetricKey Span) (at : ℕ)
-    (delta : InnerDelta) → TakesDelta it.inner inner delta
+pub learned : (it : SumProducer) (inner : InnerTable) (rows last : Table LeafKey Inner)
+    (raised lowered left : List (MetricKey × ℕ)) (places : List ℕ) (tolds fresh : List MetricKey)
+    (part mid new : Table MetricKey Span) (at : ℕ) (delta : InnerDelta) → TakesDelta it.inner inner delta
     → ((tally : MetricKey → ℕ) → IsTallied it.inner tally → IsTallied inner tally)
     → (IsTallied inner (tally_at it.tally) → fresh ≡ fresh_in (tally_at it.tally) (active_in inner.keys.rows))
-    → Recounts inner.keys rows it.tally raised inner.touched [] → LowersAll raised lowered inner.gone
-    → StepsSome it.table part inner.gone (is_counted lowered) at
-    → StepsSome part mid fresh (is_counted lowered) at → BeginsAll mid new [] fresh at
+    → IsPermutation inner.touched places → Recounts inner.keys rows it.tally raised places []
+    → LowersAll raised lowered inner.gone → Releases rows last lowered left places [] tolds
+    → StepsSome it.table part (inner.gone ++ tolds) (is_counted left) at
+    → StepsSome part mid fresh (is_counted left) at → BeginsAll mid new [] fresh at
     → Moves sum_law it
-    (record it { inner = record inner { touched = []; gone = []; keys = rows }; tally = lowered; table = new })
+    (record it { inner = record inner { touched = []; gone = []; keys = last }; tally = left; table = new })
     (Learned at delta)
-learned it inner rows raised lowered fresh part mid new at delta takes keeps finds recounts lowers ends resumes begins =
+learned it inner rows last raised lowered left places tolds fresh part mid new at delta takes keeps finds order recounts
+    lowers releases ends resumes begins =
     moves_by it
-    (record it { inner = record inner { touched = []; gone = []; keys = rows }; tally = lowered; table = new })
+    (record it { inner = record inner { touched = []; gone = []; keys = last }; tally = left; table = new })
     (Learned at delta)
     (λ params calls books has may.
     let spec = params.spec in
@@ -193,41 +243,47 @@ learned it inner rows raised lowered fresh part mid new at delta takes keeps fin
     let now = calls ++ call ∷ [] in
     let keys = active_since spec calls in
     let active = active_in inner.keys.rows in
-    let next : InnerTable = record inner { touched = []; gone = []; keys = rows } in
-    let stands = new_stands it inner rows raised lowered fresh params calls at delta takes keeps finds recounts lowers
+    let next : InnerTable = record inner { touched = []; gone = []; keys = last } in
+    let stands = new_stands it inner rows last raised lowered left places tolds fresh params calls at delta takes
+    keeps finds order recounts lowers releases
     has.inner has.tally in
     let active_now : active ≡ active_after spec now = active_is inner spec now (takes spec calls at has.inner) in
-    let member = has_active it inner rows raised lowered fresh params calls at delta takes keeps finds recounts lowers
+    let member = has_active it inner rows last raised lowered left places tolds fresh params calls at delta takes
+    keeps finds order recounts lowers releases
     has.inner has.tally in
-    let fresh_are = fresh_is it inner rows raised lowered fresh params calls at delta takes keeps finds recounts lowers
+    let fresh_are = fresh_is it inner rows last raised lowered left places tolds fresh params calls at delta takes
+    keeps finds order recounts lowers releases
     has.inner has.tally has.counted in
-    let same_lost : rows.dropped ≡ it.inner.keys.dropped =
+    let same_lost : last.dropped ≡ it.inner.keys.dropped =
     same_drops next spec now stands
     ∙ ap (λ (s : PredicateState LeafKey). s.dropped) (inner_state-other spec calls call refl)
     ∙ sym (same_drops it.inner spec calls has.inner) in
-    let same_outs : active_in rows.rows ≡ active = ap (firsts is_same_key []) recounts.outs_are in
+    let same_outs : active_in last.rows ≡ active =
+    ap (firsts is_same_key []) (releases.outs_are ∙ recounts.outs_are) in
     let few : length active ≤ spec.bound =
-    omega (arith, few_active rows.rows, ap length same_outs, few_listed next spec now stands) in
+    omega (arith, few_active last.rows, ap length same_outs, few_listed next spec now stands) in
     let once : IsDistinct is_same_key active = active_once inner.keys.rows in
     let standing = standing-push params calls call in
-    let same : (λ (key : MetricKey). is_counted lowered key) ≡ (λ (key : MetricKey). is_among is_same_key key active) =
+    let same : (λ (key : MetricKey). is_counted left key) ≡ (λ (key : MetricKey). is_among is_same_key key active) =
     λ i key. sym (member key) i in
-    let kept = as_before it inner rows raised lowered fresh params calls at delta takes keeps finds recounts lowers
+    let kept = as_before it inner rows last raised lowered left places tolds fresh params calls at delta takes
+    keeps finds order recounts lowers releases
     has.inner has.tally has.counted in
-    let steps = steps_changed (is_counted lowered) at it.table part mid spec.bound books.came inner.gone fresh
+    let steps = steps_changed (is_counted left) at it.table part mid spec.bound books.came (inner.gone ++ tolds) fresh
     has.holds.table ends resumes
     (λ key other. kept key other ∙ ap (is_among is_same_key key) (sym has.holds.came_last)) in
     let turns = turned_by it active mid new at spec.bound keys
     (standing_of (duration_demands params) calls).last has.others books has.holds may.0.timely.not_before
     (subst (λ (f : MetricKey → Bool). StepsAll it.table mid f at) same steps)
     (begins_newly mid new keys active fresh at fresh_are begins) few once in
-    let result = record it { inner = next; tally = lowered; table = new } in
+    let result = record it { inner = next; tally = left; table = new } in
     let since : active ≡ active_since spec now = active_now ∙ sym (since-learned spec calls at delta) in
     subst (λ ks. HasSums result params now
     (books_from (drops sum_kind spec.bound) books (turned at keys ks))) active_now
     (record {
       inner = stands;
-      tally = new_tally it inner rows raised lowered fresh params calls at delta takes keeps finds recounts lowers
+      tally = new_tally it inner rows last raised lowered left places tolds fresh params calls at delta takes
+          keeps finds order recounts lowers releases
           has.inner has.tally;
       counted = λ key. ap (is_among is_same_key key) (sym since) ∙ member key;
       settled = λ none. (record { none_touched = refl; none_gone = refl }, same_outs ∙ since);
@@ -240,7 +296,7 @@ learned it inner rows raised lowered fresh part mid new at delta takes keeps fin
           (books_from (drops sum_kind spec.bound) books (turned at keys active))) (sym standing)
           (subst (λ ks. HoldsSums result spec.bound ks at (has.others + turns.more)
           (books_from (drops sum_kind spec.bound) books (turned at keys active))) since
-          (other_inner (record it { table = new }) next lowered spec.bound active at
+          (other_inner (record it { table = new }) next left spec.bound active at
           (has.others + turns.more)
           (books_from (drops sum_kind spec.bound) books (turned at keys active)) turns.holds));
     }))

@@ -7,7 +7,7 @@ use Rattle.std.proofs.lemmas.List.Folds.{list_any-append}
 use Rattle.std.proofs.lemmas.Map.Keys.{IsDistinct-head, IsDistinct-tail}
 use Rattle.std.proofs.lemmas.Option.{none-some, same_Some}
 use Rattle.atom_record.specs.declared.value.MetricKey.{MetricKey}
-use Rattle.dim_table.specs.Table.{set_value_at}
+use Rattle.dim_table.specs.Table.{set_value_at, with_value_at}
 use Rattle.metric_kinds.specs.Keys.{is_same_key}
 use Rattle.predicate_state.specs.PredicateTable.{LeafKey, same_leaves}
 use Rattle.duration_metric.specs.declared.inner.Inner.{Inner}
@@ -54,11 +54,10 @@ after_set (first ∷ rows) (suc place) (suc at) inner row is = ⊎_elim
     inr ((λ e. other.0 (omega (arith, e))), other.1))
     (after_set rows place at inner row is)
 
--- a test that passed with more passes with less
-less_touched : (tallied some more : Bool) → (tallied || not (some || more)) ≡ true → (tallied || not some) ≡ true
-less_touched true some more passes = refl
-less_touched false true more passes = passes
-less_touched false false more passes = refl
+-- neither of two
+first_free : (some more : Bool) → (some || more) ≡ false → some ≡ false
+first_free true more none = none
+first_free false more none = refl
 
 touched-push : (touched : List ℕ) (place at : ℕ)
     → was_touched (touched ++ place ∷ []) at ≡ (was_touched touched at || was_touched (place ∷ []) at)
@@ -75,9 +74,8 @@ touched_itself touched place at is =
 -- one place more is touched
 pub touches : (rows : List (LeafKey × Inner)) (touched : List ℕ) (place : ℕ) → AreSteady touched rows
     → AreSteady (touched ++ place ∷ []) rows
-touches rows touched place steady at row there passes = steady at row there
-    (less_touched row.1.tallied (was_touched touched at) (was_touched (place ∷ []) at)
-    (subst (λ b. (row.1.tallied || not b) ≡ true) (touched-push touched place at) passes))
+touches rows touched place steady at row there free = steady at row there
+    (first_free (was_touched touched at) (was_touched (place ∷ []) at) (sym (touched-push touched place at) ∙ free))
 
 -- an inner key that isn't in the tally any more is put down
 pub releases : (old new : InnerTable) (place : ℕ) (was now : Inner)
@@ -90,17 +88,35 @@ releases old new place was now at off is tally right = subst (λ (t : InnerTable
       let none = ap (λ b. how_often key (freed_key b now.known)) off in
       let more = how_often-append key old.gone (tallied_key was) in
       omega (arith, right.all key, writes, none, more);
-  steady = λ other row there passes. ⊎_elim
+  steady = λ other row there free. ⊎_elim
       (λ (here : (other ≡ place) × (row.1 ≡ now)).
-      absurd (false≢true
-      (sym (ap not (touched_itself old.touched place other here.0)) ∙
-      sym (ap (λ b. b || not (was_touched (old.touched ++ place ∷ []) other))
-      (ap (λ (i : Inner). i.tallied) here.1 ∙ off))
-      ∙ passes)))
+      absurd (false≢true (sym free ∙ touched_itself old.touched place other here.0)))
       (λ (apart : (¬ (other ≡ place)) × (slice_get old.keys.rows other ≡ Some row)).
-      touches old.keys.rows old.touched place right.steady other row apart.1 passes)
+      touches old.keys.rows old.touched place right.steady other row apart.1 free)
       (after_set old.keys.rows place other now row there);
 })
+
+-- an inner key with another count is touched
+pub other_count : (old : InnerTable) (place count : ℕ) (was : Inner)
+    → slice_get (values_of old.keys.rows) place ≡ Some was → (tally : MetricKey → ℕ) → IsTallied old tally
+    → IsTallied (record old {
+      keys = with_value_at old.keys place (record was { count = count });
+      touched = old.touched ++ place ∷ [];
+    }) tally
+other_count old place count was at tally right =
+    let now : Inner = record was { count = count } in
+    record {
+      all = λ key.
+          let writes = tallied-set key old.keys.rows place was now at in
+          let same : how_often key (tallied_key now) ≡ how_often key (tallied_key was) = refl in
+          omega (arith, right.all key, writes, same);
+      steady = λ other row there free. ⊎_elim
+          (λ (here : (other ≡ place) × (row.1 ≡ now)).
+          absurd (false≢true (sym free ∙ touched_itself old.touched place other here.0)))
+          (λ (apart : (¬ (other ≡ place)) × (slice_get old.keys.rows other ≡ Some row)).
+          touches old.keys.rows old.touched place right.steady other row apart.1 free)
+          (after_set old.keys.rows place other now row there);
+    }
 
 -- a row of a list with one more
 get-push : (rows : List (LeafKey × Inner)) (last : LeafKey × Inner) (at : ℕ) (row : LeafKey × Inner)
@@ -148,21 +164,17 @@ abbrev AllSteady : List (LeafKey × Inner) → Type 0
 AllSteady [] = Unit {0}
 AllSteady (row ∷ rows) = (row_tallied row ≡ row_out row) × AllSteady rows
 
-passes_all : (tallied : Bool) → (tallied || true) ≡ true
-passes_all true = refl
-passes_all false = refl
-
 steady_each : (rows : List (LeafKey × Inner)) → AreSteady [] rows → AllSteady rows
 steady_each [] steady = tt
 steady_each (row ∷ rows) steady =
-    (steady 0 row refl (passes_all row.1.tallied), steady_each rows (λ at other there. steady (suc at) other there))
+    (steady 0 row refl refl, steady_each rows (λ at other there. steady (suc at) other there))
 
 each_steady : (touched : List ℕ) (rows : List (LeafKey × Inner)) → AllSteady rows → AreSteady touched rows
 each_steady touched [] all at row there passes = absurd (none-some row there)
 each_steady touched (first ∷ rows) all zero row there passes =
     subst (λ (r : LeafKey × Inner). row_tallied r ≡ row_out r) (same_Some first row there) all.0
 each_steady touched (first ∷ rows) all (suc at) row there passes =
-    each_steady [] rows all.1 at row there (passes_all row.1.tallied)
+    each_steady [] rows all.1 at row there refl
 
 -- so they are in the tally for the keys for which they count
 pub steady_outs : (rows : List (LeafKey × Inner)) → AreSteady [] rows
@@ -252,12 +264,6 @@ clears_tallied old unknown tally right = record {
       omega (arith, right.all out, more);
   steady = λ at row there passes. absurd (none-some row there);
 }
-
--- a place was touched where no row is
-pub touches_none : (old : InnerTable) (place : ℕ) (tally : MetricKey → ℕ) → IsTallied old tally
-    → IsTallied (record old { touched = old.touched ++ place ∷ [] }) tally
-touches_none old place tally right =
-    record { all = right.all; steady = touches old.keys.rows old.touched place right.steady }
 
 -- whether a key stands among some, by how often it does
 pub how_often-among : (key : MetricKey) (keys : List MetricKey)

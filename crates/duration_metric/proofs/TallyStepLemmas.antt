@@ -12,7 +12,7 @@ use Rattle.bucket_meaning.specs.Guard.{is_among}
 use Rattle.flat_form.specs.declared.item.Item.{Item}
 use Rattle.flat_form.specs.Flat.{key_items, number_items, pair_items}
 use Rattle.metric_kinds.specs.Keys.{is_same_key}
-use Rattle.duration_metric.specs.Tallies.{tally_at, Raises, Lowers}
+use Rattle.duration_metric.specs.Tallies.{tally_at, Raises, Lowers, CountsSame}
 use Rattle.duration_metric.proofs.StepLemmas.{among_is, next_got}
 
 -- one key has this now, and the others have what they had
@@ -71,6 +71,16 @@ lowers_by old new key now writes less other = ⊎_elim
     (λ (differs : is_same_key key other ≡ false).
     let count = ap {B = ℕ} (λ b. if b then 1 else 0) differs in
     omega (arith, left_alone old new key now writes other differs, count))
+    (cases_Bool (is_same_key key other))
+
+-- a key that goes, and for which none counted
+pub same_by : (old new : List (MetricKey × ℕ)) (key : MetricKey) → Writes old new key None → tally_at old key ≡ 0
+    → CountsSame old new
+same_by old new key writes none other = ⊎_elim
+    (λ (same : is_same_key key other ≡ true).
+    let own = ap (tally_at old) ((metric_key_exact key other).0 same) in
+    omega (arith, written old new key None writes other same, none, own))
+    (λ (differs : is_same_key key other ≡ false). left_alone old new key None writes other differs)
     (cases_Bool (is_same_key key other))
 
 -- a key that a look-up finds is one of the keys

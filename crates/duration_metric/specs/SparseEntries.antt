@@ -1,5 +1,5 @@
 -- What the inner keys of a longest duration stand for, and what an event makes of them.
-use Rattle.std.specs.Prelude.{◌≡◌, ℕ, ◌+◌, ◌-◌, ◌<◌, ◌≤◌, nat_lt, Bool, false, List, [], ◌∷◌, ◌++◌, map, Some, None, if◌then◌else◌}
+use Rattle.std.specs.Prelude.{◌≡◌, ℕ, ◌+◌, ◌-◌, ◌<◌, ◌≤◌, nat_lt, Bool, false, List, [], ◌∷◌, ◌++◌, map, slice_get, Option, Some, None, if◌then◌else◌}
 use Rattle.std.specs.List.{AllByRecursion, IsDistinct}
 use Rattle.atom_record.specs.declared.value.MetricKey.{MetricKey}
 use Rattle.bucket_meaning.specs.Guard.{is_among}
@@ -19,6 +19,7 @@ use Rattle.duration_metric.specs.declared.sparse_keys.SparseKeys.{SparseKeys}
 use Rattle.duration_metric.specs.declared.sparse_keys.Turn.{Turn}
 use Rattle.duration_metric.specs.declared.sparse_keys.Turn.TheVariants as turns
 use Rattle.duration_metric.specs.InnerKeys.{DurationCall, inner_state, inner_keys, last_known}
+use Rattle.duration_metric.specs.Tallies.{known_key}
 use Rattle.duration_metric.specs.SparseCalls.{is_told_timed, arrival_for, is_on, running_time, sparse_comes}
 
 -- the time of an entry up to an end
@@ -73,11 +74,17 @@ entry_marks at entry = if nat_lt 0 entry.count then arrival_for entry.known (sav
 abbrev pub row_marks : ℕ → LeafKey × SparseEntry → List (Mark (MetricKey × ℕ))
 row_marks at row = entry_marks at row.1
 
--- what a turn brings
-abbrev pub turn_marks : Turn → List (Mark (MetricKey × ℕ))
-turn_marks turns.Stays = []
-turn_marks turns.Lost = Lost ∷ []
-turn_marks (turns.Off key time) = Came (key, time) ∷ []
+-- the output key that was told of a row, if there is one
+abbrev pub found_told : Option (LeafKey × SparseEntry) → List MetricKey
+found_told None = []
+found_told (Some row) = known_key row.1.known
+
+-- what a turn brings, where these rows are left
+abbrev pub turn_marks : List (LeafKey × SparseEntry) → Turn → List (Mark (MetricKey × ℕ))
+turn_marks rows turns.Stays = []
+turn_marks rows turns.Lost = Lost ∷ []
+turn_marks rows (turns.Off key time) = Came (key, time) ∷ []
+turn_marks rows (turns.OffAt place time) = map (λ key. Came (key, time)) (found_told (slice_get rows place))
 
 -- an entry with another count; one that goes on begins anew
 abbrev pub started_entry : Bool → ℕ → SparseEntry → SparseEntry

@@ -17,7 +17,7 @@ use Rattle.duration_metric.specs.declared.inner.Inner.{Inner}
 use Rattle.duration_metric.specs.declared.sum.Span.{Span}
 use Rattle.duration_metric.specs.declared.sum.SumProducer.{SumProducer}
 use Rattle.duration_metric.specs.InnerStands.{row_count, AreKnown}
-use Rattle.duration_metric.specs.Tallies.{row_out, tally_at, how_often, Raises, CountsAll, AreSteady}
+use Rattle.duration_metric.specs.Tallies.{row_out, tally_at, is_counted, how_often, known_key, row_tallied, Raises, Lowers, CountsSame, CountsAll, AreSteady, IsOff, AreLooked}
 use Rattle.duration_metric.specs.SumStands.{span_at, span_row}
 
 -- the active keys, by the rows of the inner keys
@@ -71,47 +71,64 @@ pub record HasBegun (new : Table MetricKey Span) (bound : ℕ) (span : MetricKey
   pub has : HasSpans new bound span (seen ++ came) (lost + more)
   pub counted : dropped is_same_key bound (seen ++ came) ≡ dropped is_same_key bound seen + more
 
+-- the key for which a row counts, if it does, begins
+abbrev pub BeginsOut : Table MetricKey Span → Table MetricKey Span → List MetricKey → ℕ → Type 0
+BeginsOut old new outs at =
+    ((outs ≡ []) × (new ≡ old)) ⊎ ((key : MetricKey) × (outs ≡ key ∷ []) × BeginsRun old new [] key at)
+
 -- whatever came before, these keys come now, apart from those that were active before
 abbrev pub BeginsAll : Table MetricKey Span → Table MetricKey Span → List MetricKey → List MetricKey → ℕ → Type 0
 BeginsAll old new before now at =
     (bound : ℕ) (span : MetricKey → Span) (seen : List MetricKey) (lost : ℕ) → HasFresh span seen before now at
     → HasSpans old bound span seen lost → HasBegun new bound span seen (newly is_same_key before now) lost
 
--- The rows of the open part were kept or counted, and an empty part begins.
+-- The rows of the open part were kept or counted, and an empty part begins. The tally counts as it did.
 pub record ClosesRows (old new : SumProducer) (end : ℕ) : Type 0 where
-  pub same : new ≡ record old { start = end; table = record old.table { rows = [] }; kept = new.kept }
+  pub same : new
+      ≡ record old { start = end; tally = new.tally; table = record old.table { rows = [] }; kept = new.kept }
+  pub counts : CountsSame old.tally new.tally
   pub adds : AddsRows row_weight old.kept new.kept (flat_map (span_row old.start end) old.table.rows)
 
--- These keys began at the start of the open part.
-pub record Opens (old new : SumProducer) (active : List MetricKey) : Type 0 where
+-- The keys for which inner keys count began at the start of the open part.
+pub record Opens (old new : SumProducer) : Type 0 where
   pub same : new ≡ record old { table = new.table }
-  pub begins : BeginsAll old.table new.table [] active old.start
-
--- the output key for which the inner key of a row counts, where the tally has it not
-abbrev pub fresh_out : (MetricKey → ℕ) → LeafKey × Inner → List MetricKey
-fresh_out tally row = filter (λ key. not (nat_lt 0 (tally key))) (row_out row)
+  pub begins : BeginsAll old.table new.table [] (flat_map row_out old.inner.keys.rows) old.start
 
 -- those of some keys that the tally has not
 abbrev pub fresh_in : (MetricKey → ℕ) → List MetricKey → List MetricKey
 fresh_in tally keys = filter (λ key. not (nat_lt 0 (tally key))) keys
 
--- that of a row, if there is one
-abbrev pub found_out : (MetricKey → ℕ) → Option (LeafKey × Inner) → List MetricKey
-found_out tally None = []
-found_out tally (Some row) = fresh_out tally row
+-- the output key for which a row counts, if there is one
+abbrev pub found_out : Option (LeafKey × Inner) → List MetricKey
+found_out None = []
+found_out (Some row) = row_out row
 
--- that of the row at a place
+-- those for which the rows at some places count
+abbrev pub outs_at : List (LeafKey × Inner) → List ℕ → List MetricKey
+outs_at rows places = flat_map (λ place. found_out (slice_get rows place)) places
+
+-- that for which the row at a place counts, where the tally has it not
 abbrev pub fresh_at : (MetricKey → ℕ) → List (LeafKey × Inner) → ℕ → List MetricKey
-fresh_at tally rows place = found_out tally (slice_get rows place)
+fresh_at tally rows place = fresh_in tally (found_out (slice_get rows place))
 
--- What is taken into the tally where one place is looked at: nothing, or the key for which its row counts.
-abbrev pub CountsAt :
-    Table LeafKey Inner → Table LeafKey Inner → List (MetricKey × ℕ) → List (MetricKey × ℕ) → ℕ → Type 0
-CountsAt old new before now place =
-    ((new ≡ old) × (now ≡ before) × ((row : LeafKey × Inner) → slice_get old.rows place ≡ Some row
+-- the tally counts the rows, and some keys more
+abbrev pub CountsRight : (MetricKey → ℕ) → List (LeafKey × Inner) → Type 0
+CountsRight tally rows = (gone : List MetricKey) × CountsAll tally rows gone
+
+-- one place more begins, or none
+abbrev pub with_begun : List ℕ → Bool → ℕ → List ℕ
+with_begun began is_first place = if is_first then began ++ place ∷ [] else began
+
+-- What is taken into the tally where one place is looked at: nothing, or the key for which its row counts, which begins
+-- where none counted for it.
+abbrev pub CountsAt : Table LeafKey Inner → Table LeafKey Inner → List (MetricKey × ℕ) → List (MetricKey × ℕ)
+    → List ℕ → List ℕ → ℕ → Type 0
+CountsAt old new before now some began place =
+    ((new ≡ old) × (now ≡ before) × (began ≡ some) × ((row : LeafKey × Inner) → slice_get old.rows place ≡ Some row
     → (row.1.tallied ≡ true) ⊎ ((row.1.tallied ≡ false) × (row_out row ≡ []))))
     ⊎ ((row : LeafKey × Inner) × (key : MetricKey) × (slice_get old.rows place ≡ Some row) × (row.1.tallied ≡ false)
     × (row_out row ≡ key ∷ []) × Raises before now key
+    × (began ≡ with_begun some (not (is_counted before key)) place)
     × (new ≡ with_value_at old place (record row.1 { tallied = true })))
 
 -- The rows at some places are in the tally, but for those that are left.
@@ -125,7 +142,43 @@ pub record Recounts (first last : Table LeafKey Inner) (before now : List (Metri
   pub tally_is : (gone : List MetricKey) → CountsAll (tally_at before) first.rows gone
       → CountsAll (tally_at now) last.rows gone
   pub grows : (key : MetricKey) → tally_at before key ≤ tally_at now key
-  pub steady : AreSteady places first.rows → AreSteady left last.rows
+  pub steady : (touched : List ℕ) → AreSteady touched first.rows → AreSteady touched last.rows
+  pub looked : AreLooked places first.rows → AreLooked left last.rows
+
+-- the output key that was told of a row, if there is one
+abbrev pub found_told : Option (LeafKey × Inner) → List MetricKey
+found_told None = []
+found_told (Some row) = known_key row.1.known
+
+-- those that were told of the rows at some places
+abbrev pub tolds_at : List (LeafKey × Inner) → List ℕ → List MetricKey
+tolds_at rows places = flat_map (λ place. found_told (slice_get rows place)) places
+
+-- What is taken out of the tally where one place is looked at: nothing, or the key of a row that counts no more.
+abbrev pub ReleasesAt :
+    Table LeafKey Inner → Table LeafKey Inner → List (MetricKey × ℕ) → List (MetricKey × ℕ) → ℕ → Type 0
+ReleasesAt old new before now place =
+    ((new ≡ old) × (now ≡ before) × ((row : LeafKey × Inner) → slice_get old.rows place ≡ Some row
+    → IsOff row → row_tallied row ≡ []))
+    ⊎ ((row : LeafKey × Inner) × (key : MetricKey) × (slice_get old.rows place ≡ Some row) × IsOff row
+    × (known_key row.1.known ≡ key ∷ []) × Lowers before now key
+    × (new ≡ with_value_at old place (record row.1 { tallied = false })))
+
+-- The rows at some places that count no more are out of the tally, but for those that are left. It has the same of other
+-- keys than those that were told of them.
+pub record Releases (first last : Table LeafKey Inner) (before now : List (MetricKey × ℕ)) (places left : List ℕ)
+    (tolds : List MetricKey) : Type 0 where
+  pub bound_is : last.bound ≡ first.bound
+  pub dropped_is : last.dropped ≡ first.dropped
+  pub counts_are : map row_count last.rows ≡ map row_count first.rows
+  pub known_are : (known : LeafKey → Option Known) → AreKnown known first.rows → AreKnown known last.rows
+  pub outs_are : flat_map row_out last.rows ≡ flat_map row_out first.rows
+  pub outs_stay : (at : ℕ) → found_out (slice_get last.rows at) ≡ found_out (slice_get first.rows at)
+  pub tolds_stay : (at : ℕ) → found_told (slice_get last.rows at) ≡ found_told (slice_get first.rows at)
+  pub tally_is : CountsAll (tally_at before) first.rows [] → CountsAll (tally_at now) last.rows []
+  pub same : (key : MetricKey) → is_among is_same_key key tolds ≡ false → tally_at now key ≡ tally_at before key
+  pub steady : AreSteady places first.rows → AreLooked [] first.rows
+      → AreSteady left last.rows × AreLooked [] last.rows
 
 -- whatever the tally counts besides some keys, it counts that alone
 abbrev pub LowersAll : List (MetricKey × ℕ) → List (MetricKey × ℕ) → List MetricKey → Type 0

@@ -1,5 +1,5 @@
 -- What a sum's tally counts: for each output key the inner keys that count for it.
-use Rattle.std.specs.Prelude.{◌≡◌, ℕ, ◌+◌, ◌-◌, ◌==◌, Bool, true, not, ◌||◌, nat_lt, List, [], ◌∷◌, slice_get, Option, Some, None, Result, Ok, Err, if◌then◌else◌}
+use Rattle.std.specs.Prelude.{◌≡◌, ℕ, ◌+◌, ◌-◌, ◌==◌, ◌⊎◌, Bool, true, false, nat_lt, List, [], ◌∷◌, slice_get, Option, Some, None, Result, Ok, Err, if◌then◌else◌}
 use Rattle.std.specs.List.{flat_map, list_any, IsDistinct}
 use Rattle.std.specs.Map.{keys_of, lookup}
 use Rattle.std.specs.Option.{unwrap_or}
@@ -46,6 +46,10 @@ Raises old new key = (other : MetricKey) → tally_at new other ≡ tally_at old
 abbrev pub Lowers : List (MetricKey × ℕ) → List (MetricKey × ℕ) → MetricKey → Type 0
 Lowers old new key = (other : MetricKey) → tally_at new other ≡ tally_at old other - one key other
 
+-- as many are counted for each key
+abbrev pub CountsSame : List (MetricKey × ℕ) → List (MetricKey × ℕ) → Type 0
+CountsSame old new = (key : MetricKey) → tally_at new key ≡ tally_at old key
+
 -- a tally of these counts, or that a key stands there twice
 abbrev pub MakesTally : List (MetricKey × ℕ) → Result (List (MetricKey × ℕ)) FlatError → Type 0
 MakesTally pairs (Ok tally) = tally ≡ pairs
@@ -83,10 +87,19 @@ abbrev pub CountsAll : (MetricKey → ℕ) → List (LeafKey × Inner) → List 
 CountsAll tally rows gone =
     (key : MetricKey) → tally key ≡ how_often key (flat_map row_tallied rows) + how_often key gone
 
--- an inner key that is in the tally, or wasn't touched, is in it for the key for which it counts
+-- an inner key that wasn't touched is in the tally for the key for which it counts
 abbrev pub AreSteady : List ℕ → List (LeafKey × Inner) → Type 0
 AreSteady touched rows = (place : ℕ) (row : LeafKey × Inner) → slice_get rows place ≡ Some row
-    → (row.1.tallied || not (was_touched touched place)) ≡ true → row_tallied row ≡ row_out row
+    → was_touched touched place ≡ false → row_tallied row ≡ row_out row
+
+-- an inner key is in the tally, and counts for no key any more
+abbrev pub IsOff : LeafKey × Inner → Type 0
+IsOff row = (row.1.tallied ≡ true) × (row_out row ≡ [])
+
+-- an inner key that isn't at these places is in the tally for the key for which it counts, or for none any more
+abbrev pub AreLooked : List ℕ → List (LeafKey × Inner) → Type 0
+AreLooked left rows = (place : ℕ) (row : LeafKey × Inner) → slice_get rows place ≡ Some row
+    → was_touched left place ≡ false → (row_tallied row ≡ row_out row) ⊎ IsOff row
 
 -- A tally is as right as the table knows.
 pub record IsTallied (it : InnerTable) (tally : MetricKey → ℕ) : Type 0 where

@@ -1,5 +1,5 @@
 //! The inner keys of a metric of durations: which are listed, how often each was started, and what was told of each.
-ghost use Rattle.std.specs.Prelude.{◌≡◌, ℕ, ◌<◌, ◌≤◌, ◌++◌, List, [], length, position, slice_get, OnOk, IfOk, Contains, None, IfSome, option_to_list};
+ghost use Rattle.std.specs.Prelude.{◌≡◌, ℕ, ◌<◌, ◌≤◌, ◌++◌, List, [], length, position, slice_get, OnOk, Contains, None, IfSome, option_to_list};
 ghost use Rattle.std.specs.Map.{keys_of, lookup};
 ghost use Rattle.std.specs.List.{flat_map};
 ghost use Rattle.std.specs.Option.{option_map, option_copied, option_and_then};
@@ -12,7 +12,7 @@ ghost use Rattle.predicate_state.specs.PredicateStates.{count_after_start, count
 ghost use Rattle.predicate_state.specs.PredicateTable.{LeafKey, same_leaves};
 ghost use Rattle.duration_metric.specs.InnerKeys.{DurationCall, says, inner_keys, told_truth, was_told};
 ghost use Rattle.duration_metric.specs.InnerStands.{state_in, InnersStandFor, ChangesTo, ActsOn, SetsCount, ListsKey, TakesEvent, TakesDelta, TellsOne, TellsAll};
-ghost use Rattle.duration_metric.specs.Tallies.{tallied_key, freed_key, left_key, row_tallied, IsTallied, IsSettled, KeepsTally};
+ghost use Rattle.duration_metric.specs.Tallies.{freed_key, left_key, row_tallied, IsTallied, IsSettled, KeepsTally};
 
 use crate::{InnerChange, InnerDelta, InnerEvent};
 use atom_record::{DimKey, MetricKey};
@@ -74,21 +74,21 @@ impl InnerTable {
     }
 
     /// Lets an event act on its key.
-    pub(crate) fn act(&mut self, ev: InnerEvent, alloc: Global) -> Result<(), AllocError>
+    pub(crate) fn act(&mut self, ev: InnerEvent) -> Result<(), AllocError>
         ensures calls { OnOk result (TakesEvent self.old self.new ev) }
         ensures tally { OnOk result (KeepsTally self.old self.new) }
     {
         let InnerEvent { event, key } = ev;
-        self.apply(event, key, alloc)
+        self.apply(event, key)
     }
 
     // Lets an event act on a key.
-    fn apply(&mut self, event: PredEvent, key: DimKey, alloc: Global) -> Result<(), AllocError>
+    fn apply(&mut self, event: PredEvent, key: DimKey) -> Result<(), AllocError>
         ensures { OnOk result (ActsOn self.old self.new event key) }
     {
         match event {
-            PredEvent::Start => self.start(key, alloc),
-            PredEvent::Stop => self.stop(key, alloc),
+            PredEvent::Start => self.start(key),
+            PredEvent::Stop => self.stop(key),
             PredEvent::StopAll => self.stop_all(),
         }
     }
@@ -126,20 +126,20 @@ impl InnerTable {
     }
 
     // Counts a start of a key.
-    fn start(&mut self, key: DimKey, alloc: Global) -> Result<(), AllocError>
+    fn start(&mut self, key: DimKey) -> Result<(), AllocError>
         ensures { OnOk result (ActsOn self.old self.new Start key) }
     {
         match self.row_of(&key) {
             Some((place, count)) => {
                 let more = add_start(self.nesting, count);
-                self.set_count(place, more, alloc)
+                self.set_count(place, more)
             }
             None => self.append(key, 1),
         }
     }
 
     // Counts a stop of a key.
-    fn stop(&mut self, key: DimKey, alloc: Global) -> Result<(), AllocError>
+    fn stop(&mut self, key: DimKey) -> Result<(), AllocError>
         ensures { OnOk result (ActsOn self.old self.new Stop key) }
     {
         match self.row_of(&key) {
@@ -148,7 +148,7 @@ impl InnerTable {
                 if less == 0 && !self.unknown {
                     return self.remove(&key);
                 }
-                self.set_count(place, less, alloc)
+                self.set_count(place, less)
             }
             None => {
                 if !self.unknown {
@@ -184,18 +184,15 @@ impl InnerTable {
     }
 
     // Gives the key at a place another count.
-    fn set_count(&mut self, place: usize, count: u64, alloc: Global) -> Result<(), AllocError>
+    fn set_count(&mut self, place: usize, count: u64) -> Result<(), AllocError>
         requires { place < length (state_in self.old).counts }
         ensures { OnOk result (SetsCount self.old self.new place count) }
     {
         let Some(inner) = self.keys.value_at(place) else {
             return Ok(());
         };
-        let out = copy_out(inner, alloc)?;
         inner.count = count;
-        inner.tallied = false;
-        self.touched.push(place as u64)?;
-        self.leave(out)
+        self.touched.push(place as u64)
     }
 
     // Lists a new key, or counts that it finds no room.
@@ -310,19 +307,6 @@ fn left(inner: Option<Inner>) -> Option<MetricKey>
         return None;
     };
     freed(inner.tallied, inner.known)
-}
-
-// A copy of the output key for which the tally counts a key.
-fn copy_out(inner: &Inner, alloc: Global) -> Result<Option<MetricKey>, AllocError>
-    ensures { IfOk result (λ out. option_to_list out ≡ tallied_key inner.now) }
-{
-    if !inner.tallied {
-        return Ok(None);
-    }
-    let Some(known) = &inner.known else {
-        return Ok(None);
-    };
-    Ok(Some(known.out.clone_key(alloc)?))
 }
 
 // Whether what was told says just this.

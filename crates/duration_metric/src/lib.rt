@@ -1,7 +1,6 @@
 //! What metrics of durations keep of their inner keys between two reports.
 #![tactic(auto)]
 
-mod active;
 mod change;
 mod counted;
 mod flat;

@@ -90,7 +90,8 @@ impl MaxProducer {
             (Got at (record { event = Start; key = key }))) }
     {
         let turn = self.keys.start(at, key)?;
-        self.books.note(turn)
+        self.books
+            .note(&self.keys.table, turn, self.keys.memory.alloc())
     }
 
     // Stops an inner key once.
@@ -99,7 +100,8 @@ impl MaxProducer {
             (Got at (record { event = Stop; key = key }))) }
     {
         let turn = self.keys.stop(at, key)?;
-        self.books.note(turn)
+        self.books
+            .note(&self.keys.table, turn, self.keys.memory.alloc())
     }
 
     // Stops every inner key for good.
@@ -108,7 +110,8 @@ impl MaxProducer {
             (Got at (record { event = StopAll; key = key }))) }
     {
         let gone = self.keys.stop_all(at, key);
-        self.books.note_all(gone, at)
+        self.books
+            .note_all(&self.keys.table, gone, at, self.keys.memory.alloc())
     }
 }
 

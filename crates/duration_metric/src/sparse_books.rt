@@ -8,11 +8,12 @@ ghost use Rattle.dim_table.specs.Table.{with_value_at};
 ghost use Rattle.kept_rows.specs.KeptRows.{AddsRows};
 ghost use Rattle.metric_kinds.specs.Counts.{row_weight};
 ghost use Rattle.metric_kinds.specs.Durations.{duration_row};
+ghost use Rattle.duration_metric.specs.declared.sparse_keys.Turn.TheVariants.{OffAt};
 ghost use Rattle.duration_metric.specs.SparseTimes.{time_rows, TakesTime};
 ghost use Rattle.duration_metric.specs.SparseBooksStand.{AreNewSparse, TakesLongestMarks, ShowsLongest};
 ghost use Rattle.duration_metric.specs.SparseEntries.{entry_marks, row_marks, turn_marks};
 
-use crate::sparse_keys::{SparseEntry, Turn, leave};
+use crate::sparse_keys::{SparseEntry, Turn, leave, told_at};
 use atom_record::{DimKey, MetricKey};
 use dim_table::{Admit, Guarded};
 use indexmap::map::IntoIter;
@@ -44,9 +45,14 @@ impl SparseBooks {
         }
     }
 
-    /// What an event makes of the inner keys is put down.
-    pub(crate) fn note(&mut self, turn: Turn) -> Result<(), AllocError>
-        ensures { OnOk result (TakesLongestMarks self.old self.new (turn_marks turn)) }
+    /// What an event makes of the inner keys is put down, where these are left.
+    pub(crate) fn note(
+        &mut self,
+        keys: &Guarded<DimKey, SparseEntry>,
+        turn: Turn,
+        alloc: Global,
+    ) -> Result<(), AllocError>
+        ensures { OnOk result (TakesLongestMarks self.old self.new (turn_marks keys.now.rows turn)) }
     {
         match turn {
             Turn::Stays => Ok(()),
@@ -55,19 +61,39 @@ impl SparseBooks {
                 Ok(())
             }
             Turn::Off(key, time) => admit(&mut self.table, key, time),
+            Turn::OffAt(place, time) => self.note_at(keys, place, time, alloc),
+        }
+    }
+
+    // The key at a place went off after a time.
+    fn note_at(
+        &mut self,
+        keys: &Guarded<DimKey, SparseEntry>,
+        place: usize,
+        time: u64,
+        alloc: Global,
+    ) -> Result<(), AllocError>
+        ensures { OnOk result
+            (TakesLongestMarks self.old self.new (turn_marks keys.now.rows (OffAt place time))) }
+    {
+        match told_at(keys, place) {
+            Some(out) => admit_copy(&mut self.table, out, time, alloc),
+            None => Ok(()),
         }
     }
 
     /// All inner keys went off at a time.
     pub(crate) fn note_all(
         &mut self,
+        keys: &Guarded<DimKey, SparseEntry>,
         gone: IntoIter<DimKey, SparseEntry>,
         at: u64,
+        alloc: Global,
     ) -> Result<(), AllocError>
         ensures { OnOk result (TakesLongestMarks self.old self.new (flat_map (row_marks at) gone)) }
     {
         for (_key, entry) in gone {
-            self.note(leave(entry, at))?;
+            self.note(keys, leave(entry, at), alloc)?;
         }
         Ok(())
     }
@@ -106,6 +132,22 @@ fn admit(table: &mut Guarded<MetricKey, u64>, key: MetricKey, time: u64) -> Resu
         Admit::At(place) => lengthen(table, place, time),
         Admit::Full => (),
     }
+    Ok(())
+}
+
+// One more time of a key, which is copied where it is new.
+fn admit_copy(
+    table: &mut Guarded<MetricKey, u64>,
+    key: &MetricKey,
+    time: u64,
+    alloc: Global,
+) -> Result<(), AllocError>
+    ensures { OnOk result (TakesTime table.old table.new key.now time) }
+{
+    let Some(place) = table.place_of(key) else {
+        return admit(table, key.clone_key(alloc)?, time);
+    };
+    lengthen(table, place, time);
     Ok(())
 }
 

@@ -1,15 +1,17 @@
 //! The inner keys of a longest duration: which are on, what was told of them, and for how long they have had a true
 //! condition.
-ghost use Rattle.std.specs.Prelude.{◌≡◌, ◌≤◌, Some, None, position, slice_get, IfOk};
+ghost use Rattle.std.specs.Prelude.{◌≡◌, ◌≤◌, List, Some, None, position, slice_get, IfOk, option_to_list};
 ghost use Rattle.std.specs.List.{flat_map};
 ghost use Rattle.std.specs.Map.{values_of};
+ghost use Rattle.std.specs.Option.{option_copied};
 ghost use Rattle.bucket_meaning.specs.Limits.{most_keys};
 ghost use Rattle.dim_table.specs.Table.{keys, with_value_at};
 ghost use Rattle.predicate_state.specs.declared.event.PredEvent.TheVariants as events;
-ghost use Rattle.predicate_state.specs.PredicateTable.{same_leaves};
+ghost use Rattle.predicate_state.specs.PredicateTable.{LeafKey, same_leaves};
 ghost use Rattle.duration_metric.specs.InnerKeys.{known_by};
 ghost use Rattle.duration_metric.specs.SparseCalls.{is_told_timed};
-ghost use Rattle.duration_metric.specs.SparseEntries.{saved_time, entry_marks, row_marks, turn_marks, started_entry, told_entry, IsOfNoCalls, ListsKey, TakesKeyEvent, LearnsDelta};
+ghost use Rattle.duration_metric.specs.SparseEntries.{saved_time, found_told, entry_marks, row_marks, turn_marks, started_entry, told_entry, IsOfNoCalls, ListsKey, TakesKeyEvent, LearnsDelta};
+ghost use Rattle.duration_metric.specs.Tallies.{known_key};
 ghost use Rattle.duration_metric.specs.declared.sparse_keys.SparseEntry.{SparseEntry};
 
 use crate::inner::{Known, add_start, add_stop};
@@ -41,8 +43,10 @@ pub enum Turn {
     Stays,
     /// A new key found no room.
     Lost,
-    /// A key goes off that counted for this key, after this time.
+    /// A key leaves that counted for this key, after this time.
     Off(MetricKey, u64),
+    /// The key at this place goes off after this time, and stays listed.
+    OffAt(usize, u64),
 }
 
 /// The inner keys.
@@ -72,7 +76,7 @@ impl SparseKeys {
     /// A key is started once more.
     pub(crate) fn start(&mut self, at: u64, key: DimKey) -> Result<Turn, AllocError>
         ensures { IfOk result (λ turn. TakesKeyEvent self.old self.new at
-            (record { event = events.Start; key = key }) (turn_marks turn)) }
+            (record { event = events.Start; key = key }) (turn_marks self.new.table.rows turn)) }
     {
         let Some(place) = self.table.place_of(&key) else {
             return self.append(key, 1, at);
@@ -84,7 +88,7 @@ impl SparseKeys {
     /// A key is stopped once.
     pub(crate) fn stop(&mut self, at: u64, key: DimKey) -> Result<Turn, AllocError>
         ensures { IfOk result (λ turn. TakesKeyEvent self.old self.new at
-            (record { event = events.Stop; key = key }) (turn_marks turn)) }
+            (record { event = events.Stop; key = key }) (turn_marks self.new.table.rows turn)) }
     {
         let Some(place) = self.table.place_of(&key) else {
             return self.stop_absent(at, key);
@@ -98,7 +102,7 @@ impl SparseKeys {
             return Ok(Turn::Stays);
         }
         if self.unknown {
-            let turn = turn_off(entry, at, self.memory.alloc())?;
+            let turn = turn_off(entry, place, at);
             set_count(&mut self.table, place, 0);
             return Ok(turn);
         }
@@ -132,7 +136,7 @@ impl SparseKeys {
     fn stop_absent(&mut self, at: u64, key: DimKey) -> Result<Turn, AllocError>
         requires absent { position (same_leaves key) (keys self.old.table) ≡ None }
         ensures { IfOk result (λ turn. TakesKeyEvent self.old self.new at
-            (record { event = events.Stop; key = key }) (turn_marks turn)) }
+            (record { event = events.Stop; key = key }) (turn_marks self.new.table.rows turn)) }
     {
         if !self.unknown {
             return Ok(Turn::Stays);
@@ -143,7 +147,7 @@ impl SparseKeys {
     // Lists a new key, or says that it found no room.
     fn append(&mut self, key: DimKey, count: u64, at: u64) -> Result<Turn, AllocError>
         requires absent { position (same_leaves key) (keys self.old.table) ≡ None }
-        ensures { IfOk result (λ turn. ListsKey self.old self.new at key count (turn_marks turn)) }
+        ensures { IfOk result (λ turn. ListsKey self.old self.new at key count (turn_marks self.new.table.rows turn)) }
     {
         let entry = SparseEntry {
             count,
@@ -240,7 +244,7 @@ fn is_timed_now(known: &Option<Known>) -> bool
 
 // What becomes of an entry whose key leaves.
 pub(crate) fn leave(entry: SparseEntry, at: u64) -> Turn
-    ensures { turn_marks result ≡ entry_marks at entry }
+    ensures { (rows : List (LeafKey × SparseEntry)) → turn_marks rows result ≡ entry_marks at entry }
 {
     let time = time_of(&entry, at);
     if entry.count == 0 {
@@ -252,15 +256,24 @@ pub(crate) fn leave(entry: SparseEntry, at: u64) -> Turn
     }
 }
 
-// What becomes of an entry whose key goes off and stays listed.
-fn turn_off(entry: &SparseEntry, at: u64, alloc: Global) -> Result<Turn, AllocError>
-    ensures { IfOk result (λ turn. turn_marks turn ≡ entry_marks at entry.now) }
+// What becomes of the entry at a place whose key goes off and stays listed.
+fn turn_off(entry: &SparseEntry, place: usize, at: u64) -> Turn
+    ensures { (rows : List (LeafKey × SparseEntry)) → found_told (slice_get rows place) ≡ known_key entry.now.known
+        → turn_marks rows result ≡ entry_marks at entry.now }
 {
     if entry.count == 0 {
-        return Ok(Turn::Stays);
+        return Turn::Stays;
     }
-    match &entry.known {
-        Some(known) => Ok(Turn::Off(known.out.clone_key(alloc)?, time_of(entry, at))),
-        None => Ok(Turn::Stays),
-    }
+    Turn::OffAt(place, time_of(entry, at))
+}
+
+/// The output key that was told of the key at a place.
+pub(crate) fn told_at(table: &Guarded<DimKey, SparseEntry>, place: usize) -> Option<&MetricKey>
+    ensures { option_to_list (option_copied result) ≡ found_told (slice_get table.now.rows place) }
+{
+    let (_key, entry) = table.pair(place)?;
+    let Some(known) = &entry.known else {
+        return None;
+    };
+    Some(&known.out)
 }

@@ -1,24 +1,24 @@
 //! Sums of durations, by key.
-ghost use Rattle.std.specs.Prelude.{◌≡◌, ℕ, ◌+◌, ◌*◌, ◌^◌, ◌<◌, ◌≤◌, List, [], ◌∷◌, map, length, slice_get, IfOk, OnOk};
+ghost use Rattle.std.specs.Prelude.{◌≡◌, ℕ, ◌+◌, ◌*◌, ◌^◌, ◌<◌, ◌≤◌, List, [], ◌∷◌, map, length, slice_get, OnOk};
 ghost use Rattle.std.specs.List.{flat_map};
 ghost use Rattle.std.specs.Option.{option_copied};
 ghost use Rattle.atom_record.specs.declared.value.MetricKey.{MetricKey};
 ghost use Rattle.bucket_clock.specs.Clock.{last_end};
 ghost use Rattle.bucket_meaning.specs.Limits.{longest_bucket, time_limit, most_keys};
 ghost use Rattle.config_types.specs.declared.parameters.PredSpec.{PredSpec};
+ghost use Rattle.dim_table.specs.Table.{keys};
 ghost use Rattle.kept_rows.specs.KeptRows.{AddsRows};
-ghost use Rattle.bucket_meaning.specs.Guard.{firsts};
-ghost use Rattle.metric_kinds.specs.Keys.{is_same_key};
 ghost use Rattle.metric_kinds.specs.Counts.{row_weight};
-ghost use Rattle.duration_metric.specs.SumCalls.{while_true, known_out};
 ghost use Rattle.duration_metric.specs.InnerKeys.{DurationParams, DurationCall, inner_keys, told_truth, was_told};
 ghost use Rattle.duration_metric.specs.SumStands.{span_at, span_time, span_row, whole_row, whole_rows, SumStandsFor};
-ghost use Rattle.duration_metric.specs.SumSteps.{active_in, StepsSome, BeginsRun, BeginsAll, ClosesRows, Opens};
-ghost use Rattle.duration_metric.specs.Tallies.{out_for, is_counted};
+ghost use Rattle.duration_metric.specs.SumSteps.{found_out, outs_at, found_told, tolds_at, StepsSome, BeginsRun, BeginsOut, BeginsAll, ClosesRows, Opens};
+ghost use Rattle.duration_metric.specs.Tallies.{row_out, is_counted};
 
-use crate::active::ActiveKeys;
-use crate::counted::{count_all, fresh_keys, lower_all};
-use crate::inner::{Inner, InnerTable, Known};
+use crate::counted::{
+    count_all, forget_all, forget_rows, forget_tolds, in_order, lower_all, out_at, release_all,
+    told_at,
+};
+use crate::inner::{Inner, InnerTable};
 use crate::memory::Memory;
 use crate::tally::Tally;
 use crate::{Closed, InnerDelta, InnerEvent, Producer, Row};
@@ -116,19 +116,16 @@ impl SumProducer {
     {
         let start = self.start;
         self.start = end;
+        forget_rows(&mut self.tally, &self.table);
         keep_all(&mut self.kept, start, end, self.table.move_out())
     }
 
-    // Begins a part in which these keys are active from its start on.
-    fn open(&mut self, active: &ActiveKeys) -> Result<(), AllocError>
-        ensures { OnOk result (Opens self.old self.new active.now) }
+    // Begins a part in which the keys for which inner keys count are active from its start on.
+    fn open(&mut self) -> Result<(), AllocError>
+        ensures { OnOk result (Opens self.old self.new) }
     {
-        begin_all(
-            &mut self.table,
-            active.as_slice(),
-            self.start,
-            self.memory.alloc(),
-        )
+        let alloc = self.memory.alloc();
+        begin_all(&mut self.table, &self.inner.keys, self.start, alloc)
     }
 }
 
@@ -172,6 +169,68 @@ fn step_keys(table: &mut Guarded<MetricKey, Span>, tally: &Tally, keys: &[Metric
     }
 }
 
+// Takes the span of the key for which the row at a place counts to a time.
+fn step_out(
+    table: &mut Guarded<MetricKey, Span>,
+    tally: &Tally,
+    keys: &Guarded<DimKey, Inner>,
+    place: u64,
+    at: u64,
+)
+    ensures { StepsSome table.old table.new (found_out (slice_get keys.now.rows place)) (is_counted tally.now) at }
+{
+    let Some(key) = out_at(keys, place) else {
+        return;
+    };
+    step_key(table, tally, key, at);
+}
+
+// Takes the span of the key that was told of the row at a place to a time.
+fn step_told(
+    table: &mut Guarded<MetricKey, Span>,
+    tally: &Tally,
+    keys: &Guarded<DimKey, Inner>,
+    place: u64,
+    at: u64,
+)
+    ensures { StepsSome table.old table.new (found_told (slice_get keys.now.rows place)) (is_counted tally.now) at }
+{
+    let Some(key) = told_at(keys, place) else {
+        return;
+    };
+    step_key(table, tally, key, at);
+}
+
+// Takes the spans of the keys that were told of the rows at some places to a time.
+fn step_tolds(
+    table: &mut Guarded<MetricKey, Span>,
+    tally: &Tally,
+    keys: &Guarded<DimKey, Inner>,
+    places: &[u64],
+    at: u64,
+)
+    ensures { StepsSome table.old table.new (tolds_at keys.now.rows places.now) (is_counted tally.now) at }
+{
+    for place in places {
+        step_told(table, tally, keys, *place, at);
+    }
+}
+
+// Takes the spans of the keys for which the rows at some places count to a time.
+fn step_outs(
+    table: &mut Guarded<MetricKey, Span>,
+    tally: &Tally,
+    keys: &Guarded<DimKey, Inner>,
+    places: &[u64],
+    at: u64,
+)
+    ensures { StepsSome table.old table.new (outs_at keys.now.rows places.now) (is_counted tally.now) at }
+{
+    for place in places {
+        step_out(table, tally, keys, *place, at);
+    }
+}
+
 // Admits a key whose run begins. A key that is there isn't copied.
 fn begin(
     table: &mut Guarded<MetricKey, Span>,
@@ -192,70 +251,51 @@ fn begin(
     Ok(())
 }
 
-// Admits the keys whose runs begin, in order.
-fn begin_all(
+// Admits the key for which the row at a place counts.
+fn begin_out(
     table: &mut Guarded<MetricKey, Span>,
-    keys: &[MetricKey],
+    keys: &Guarded<DimKey, Inner>,
+    place: u64,
     at: u64,
     alloc: Global,
 ) -> Result<(), AllocError>
-    ensures { OnOk result (BeginsAll table.old table.new [] keys.now at) }
+    ensures { OnOk result (BeginsOut table.old table.new (found_out (slice_get keys.now.rows place)) at) }
 {
-    for key in keys {
-        begin(table, key, at, alloc)?;
-    }
-    Ok(())
-}
-
-// Lists the output key of an inner key while its condition is true.
-fn list_while(active: &mut ActiveKeys, known: &Known, alloc: Global) -> Result<(), AllocError>
-    ensures { OnOk result
-        (active.new ≡ firsts is_same_key active.old (while_true known.now.truth known.now.out)) }
-{
-    match known.truth {
-        Truth::True => active.list(&known.out, alloc),
-        Truth::Unknown | Truth::False => Ok(()),
-    }
-}
-
-// Lists the output key that was told of an inner key.
-fn list_known(
-    active: &mut ActiveKeys,
-    known: &Option<Known>,
-    alloc: Global,
-) -> Result<(), AllocError>
-    ensures { OnOk result (active.new ≡ firsts is_same_key active.old (known_out known.now)) }
-{
-    match known {
-        Some(known) => list_while(active, known, alloc),
+    match out_at(keys, place) {
+        Some(key) => begin(table, key, at, alloc),
         None => Ok(()),
     }
 }
 
-// Lists the output key of an inner key that counts.
-fn list_out(active: &mut ActiveKeys, row: &Inner, alloc: Global) -> Result<(), AllocError>
-    ensures { OnOk result
-        (active.new ≡ firsts is_same_key active.old (out_for row.now.count row.now.known)) }
+// Admits the keys for which the rows at some places count, in order.
+fn begin_outs(
+    table: &mut Guarded<MetricKey, Span>,
+    keys: &Guarded<DimKey, Inner>,
+    places: &[u64],
+    at: u64,
+    alloc: Global,
+) -> Result<(), AllocError>
+    ensures { OnOk result (BeginsAll table.old table.new [] (outs_at keys.now.rows places.now) at) }
 {
-    if row.count == 0 {
-        return Ok(());
+    for place in places {
+        begin_out(table, keys, *place, at, alloc)?;
     }
-    list_known(active, &row.known, alloc)
+    Ok(())
 }
 
-// The active keys, each once, in inner order.
-fn gather(inner: &InnerTable, alloc: Global) -> Result<ActiveKeys, AllocError>
-    ensures keys { IfOk result (λ active. active ≡ active_in inner.now.keys.rows) }
-    ensures few { length inner.now.keys.rows ≤ inner.now.keys.bound }
+// Admits the keys for which inner keys count, in inner order.
+fn begin_all(
+    table: &mut Guarded<MetricKey, Span>,
+    keys: &Guarded<DimKey, Inner>,
+    at: u64,
+    alloc: Global,
+) -> Result<(), AllocError>
+    ensures { OnOk result (BeginsAll table.old table.new [] (flat_map row_out keys.now.rows) at) }
 {
-    let mut active = ActiveKeys::new(alloc);
-    for place in 0..inner.keys.len() {
-        let Some((_key, row)) = inner.keys.pair(place) else {
-            return Ok(active);
-        };
-        list_out(&mut active, row, alloc)?;
+    for place in 0..keys.len() {
+        begin_out(table, keys, place as u64, at, alloc)?;
     }
-    Ok(active)
+    Ok(())
 }
 
 // Keeps the row of a span, or counts it; no time has none.
@@ -299,19 +339,22 @@ fn keep_all(
     Ok(())
 }
 
-// Keeps the rows of a full bucket in all of which these keys are active, or counts them.
+// Keeps the rows of a full bucket in all of which the keys of a table are active, or counts them.
 fn keep_bucket(
     kept: &mut KeptRows<Row<u64>>,
-    keys: &[MetricKey],
+    table: &Guarded<MetricKey, Span>,
     start: u64,
     size: u64,
     alloc: Global,
 ) -> Result<(), AllocError>
     ensures { OnOk result (start + size < 2 ^ 63
-        → AddsRows row_weight kept.old kept.new (map (whole_row start size) keys.now)) }
+        → AddsRows row_weight kept.old kept.new (map (whole_row start size) (keys table.now))) }
 {
     let end = start.saturating_add(size);
-    for key in keys {
+    for place in 0..table.len() {
+        let Some((key, _span)) = table.pair(place) else {
+            return Ok(());
+        };
         let row = Row {
             key: key.clone_key(alloc)?,
             start,
@@ -326,24 +369,25 @@ fn keep_bucket(
 // Keeps the rows of the full buckets of a crossing. Where none fits any more the others are counted at once.
 fn keep_full(
     kept: &mut KeptRows<Row<u64>>,
-    keys: &[MetricKey],
+    table: &Guarded<MetricKey, Span>,
     crossings: &Crossings,
     alloc: Global,
 ) -> Result<(), AllocError>
     ensures { OnOk result (last_end crossings.now < 2 ^ 63 → AddsRows row_weight kept.old kept.new
-        (whole_rows crossings.now.first_end crossings.now.size crossings.now.full_buckets keys.now)) }
+        (whole_rows crossings.now.first_end crossings.now.size crossings.now.full_buckets (keys table.now))) }
 {
-    if keys.is_empty() {
+    let active = table.len();
+    if active == 0 {
         return Ok(());
     }
     let full = crossings.full_buckets;
     let mut start = crossings.first_end;
     for turn in 0..full {
         if kept.is_full() {
-            kept.pass((full - turn).saturating_mul(keys.len() as u64));
+            kept.pass((full - turn).saturating_mul(active as u64));
             return Ok(());
         }
-        keep_bucket(kept, keys, start, crossings.size, alloc)?;
+        keep_bucket(kept, table, start, crossings.size, alloc)?;
         start = start.saturating_add(crossings.size);
     }
     Ok(())
@@ -374,47 +418,45 @@ impl Producer for SumProducer {
 
     fn event(&mut self, at: u64, ev: InnerEvent) -> Result<(), AllocError> {
         let _at = at;
-        self.inner.act(ev, self.memory.alloc())
+        self.inner.act(ev)
     }
 
     fn condition(&mut self, at: u64, now: InnerDelta) -> Result<(), AllocError> {
         self.inner.tell(now)?;
         let alloc = self.memory.alloc();
-        let fresh = fresh_keys(&self.inner, &self.tally, alloc)?;
-        // What begins is counted before what ends, so that a key whose count comes back stays in the tally.
         let touched = mem::replace(&mut self.inner.touched, Seq::new(alloc));
-        count_all(
+        let places = in_order(touched.as_slice(), alloc)?;
+        // What begins is counted before what ends, so that a key whose count comes back stays in the tally.
+        let began = count_all(
             &mut self.inner.keys,
             &mut self.tally,
-            touched.as_slice(),
+            places.as_slice(),
             alloc,
         )?;
         let gone = mem::replace(&mut self.inner.gone, Seq::new(alloc));
         lower_all(&mut self.tally, gone.as_slice())?;
-        // A key that stays as active as it was is among neither, and its span stays.
+        release_all(&mut self.inner.keys, &mut self.tally, places.as_slice())?;
+        // A key that stays as active as it was keeps its span.
+        let keys = &self.inner.keys;
         step_keys(&mut self.table, &self.tally, gone.as_slice(), at);
-        step_keys(&mut self.table, &self.tally, fresh.as_slice(), at);
-        begin_all(&mut self.table, fresh.as_slice(), at, alloc)
+        step_tolds(&mut self.table, &self.tally, keys, places.as_slice(), at);
+        step_outs(&mut self.table, &self.tally, keys, began.as_slice(), at);
+        forget_all(&mut self.tally, &self.table, gone.as_slice());
+        forget_tolds(&mut self.tally, &self.table, keys, places.as_slice());
+        begin_outs(&mut self.table, keys, began.as_slice(), at, alloc)
     }
 
     fn cross(&mut self, crossings: Crossings) -> Result<(), AllocError> {
-        let active = gather(&self.inner, self.memory.alloc())?;
         self.close(crossings.first_end)?;
-        keep_full(
-            &mut self.kept,
-            active.as_slice(),
-            &crossings,
-            self.memory.alloc(),
-        )?;
         let full = crossings.full_buckets.saturating_mul(crossings.size);
         self.start = crossings.first_end.saturating_add(full);
-        self.open(&active)
+        self.open()?;
+        keep_full(&mut self.kept, &self.table, &crossings, self.memory.alloc())
     }
 
     fn cut(&mut self, at: u64) -> Result<(), AllocError> {
-        let active = gather(&self.inner, self.memory.alloc())?;
         self.close(at)?;
-        self.open(&active)
+        self.open()
     }
 
     fn take(&mut self) -> Closed<u64> {

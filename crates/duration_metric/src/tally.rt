@@ -1,10 +1,10 @@
 //! For each output key, how many inner keys count for it.
-ghost use Rattle.std.specs.Prelude.{◌≡◌, ◌≤◌, ◌++◌, List, [], length, OnOk, OnErr};
+ghost use Rattle.std.specs.Prelude.{◌≡◌, ◌≤◌, ◌++◌, not, List, [], length, IfOk, OnOk, OnErr};
 ghost use Rattle.std.specs.List.{flat_map, IsDistinct};
 ghost use Rattle.std.specs.Map.{keys_of};
 ghost use Rattle.flat_form.specs.Flat.{IsFront, key_items, number_items, pair_items, list_items};
 ghost use Rattle.metric_kinds.specs.Keys.{is_same_key};
-ghost use Rattle.duration_metric.specs.Tallies.{tally_at, Raises, Lowers, MakesTally};
+ghost use Rattle.duration_metric.specs.Tallies.{tally_at, is_counted, Raises, Lowers, CountsSame, MakesTally};
 
 use atom_record::MetricKey;
 use flat_form::{Flat, FlatError, Items};
@@ -12,7 +12,8 @@ use indexmap::IndexMap;
 use std::alloc::{AllocError, Global};
 use std::marker::Model;
 
-/// Counts by output key. A key for which none counts isn't there.
+/// Counts by output key. A key that has a row in the open part stays while none counts for it, so that it isn't copied
+/// where it begins again.
 #[derive(Drop)]
 pub struct Tally {
     counts: IndexMap<MetricKey, u64>,
@@ -61,33 +62,40 @@ impl Tally {
         }
     }
 
-    /// Counts one more for a key. A key that is there isn't copied.
-    pub(crate) fn raise(&mut self, key: &MetricKey, alloc: Global) -> Result<(), AllocError>
-        ensures { OnOk result (Raises self.old self.new key.now) }
+    /// Counts one more for a key, and says whether it is the first. A key that is there isn't copied.
+    pub(crate) fn raise(&mut self, key: &MetricKey, alloc: Global) -> Result<bool, AllocError>
+        ensures counts { OnOk result (Raises self.old self.new key.now) }
+        ensures first { IfOk result (λ is_first. is_first ≡ not (is_counted self.old key.now)) }
     {
         let Some((own, count)) = self.counts.swap_remove_entry(key) else {
             self.counts.insert(key.clone_key(alloc)?, 1)?;
-            return Ok(());
+            return Ok(true);
         };
         let Some(more) = count.checked_add(1) else {
             return Err(AllocError);
         };
         self.counts.insert(own, more)?;
-        Ok(())
+        Ok(count == 0)
     }
 
-    /// Counts one fewer for a key.
+    /// Counts one fewer for a key, which stays.
     pub(crate) fn lower(&mut self, key: &MetricKey) -> Result<(), AllocError>
         ensures { OnOk result (Lowers self.old self.new key.now) }
     {
         let Some((own, count)) = self.counts.swap_remove_entry(key) else {
             return Ok(());
         };
-        if count <= 1 {
-            return Ok(());
-        }
         self.counts.insert(own, count.saturating_sub(1))?;
         Ok(())
+    }
+
+    /// Takes a key out, unless some count for it.
+    pub(crate) fn forget(&mut self, key: &MetricKey)
+        ensures { CountsSame self.old self.new }
+    {
+        if self.count(key) == 0 {
+            let _count = self.counts.swap_remove(key);
+        }
     }
 
     /// No key is there twice.

@@ -18,7 +18,8 @@ use Rattle.hub_core.specs.declared.live_instance.LiveInstance.{LiveInstance}
 use Rattle.hub_core.specs.declared.lives.Lives.{Lives}
 use Rattle.hub_meaning.specs.Acceptance.{most_configs, linked_read}
 use Rattle.hub_core.specs.Slots.{same_id, slot_at, count_at}
-use Rattle.hub_core.specs.Commands.{change, held_at, others, StaysWith, PutsIn, InstallsLinked, Installs, TakesOut, Removes}
+use Rattle.client_engine.specs.Handed.{BookOfStates}
+use Rattle.hub_core.specs.Commands.{change, held_at, others, StaysWith, IsEnded, Replaces, PutsIn, InstallsLinked, Installs, TakesOut, Removes}
 
 -- it stands under its name, and its client's count is one more than that of the others
 pub puts_in : (clock : ℕ) (books : Books) (name : LiveId) (linked : Linked) (old new : Lives) (body : ReplyBody)
@@ -28,7 +29,7 @@ pub puts_in : (clock : ℕ) (books : Books) (name : LiveId) (linked : Linked) (o
     ≡ cond (same_id name other) (Some fresh) (slot_at other old.slots.entries))
     → ((client : ℤ) → count_at client new.counts.entries
     ≡ cond (int_eq name.uid client) (count + 1) (count_at client old.counts.entries))
-    → count ≡ others name old → body ≡ cond (is_some (held_at name old)) answers.Replaced answers.Installed
+    → count ≡ others name old → Replaces clock books.states name (held_at name old) body
     → PutsIn clock books name linked (change old new body)
 puts_in clock books name linked old new body fresh count is_fresh slots counts is answer = record {
   fresh = fresh;
@@ -53,22 +54,25 @@ installs clock books name config linked old (Ok r) room is puts =
     (subst (λ read. InstallsLinked clock books name read (change old r.0 r.1)) (sym is) puts)
 
 -- what stood under its name is taken out, and its client's count is that of the others
-pub takes_out : (name : LiveId) (old new : Lives) (count : ℕ) → is_some (held_at name old) ≡ true
+pub takes_out : (clock : ℕ) (book : BookOfStates) (name : LiveId) (old new : Lives) (body : ReplyBody) (count : ℕ)
+    → is_some (held_at name old) ≡ true
+    → ((live : LiveInstance) → held_at name old ≡ Some live → IsEnded clock book name live answers.Removed body)
     → ((other : LiveId) → slot_at other new.slots.entries
     ≡ cond (same_id name other) None (slot_at other old.slots.entries))
     → ((client : ℤ) → count_at client new.counts.entries
     ≡ cond (int_eq name.uid client) count (count_at client old.counts.entries))
-    → count ≡ others name old → Removes name (change old new answers.Removed)
-takes_out name old new count there slots counts is = by_slot (held_at name old) there where
-  by_slot : (slot : Option LiveInstance) → is_some slot ≡ true
-      → MatchOption slot (StaysWith answers.NoConfig (change old new answers.Removed))
-      (λ held. TakesOut name (change old new answers.Removed))
-  by_slot None absent = absurd (false≢true absent)
-  by_slot (Some slot) held = record {
-    changes = record {
-      slots = slots;
-      counts = λ client.
-          counts client ∙ ap (λ n. cond (int_eq name.uid client) n (count_at client old.counts.entries)) is;
-    };
-    answer = refl;
-  }
+    → count ≡ others name old → Removes clock book name (change old new body)
+takes_out clock book name old new body count there ends slots counts is =
+    by_slot (held_at name old) refl there where
+      by_slot : (slot : Option LiveInstance) → held_at name old ≡ slot → is_some slot ≡ true
+          → MatchOption slot (StaysWith answers.NoConfig (change old new body))
+          (λ live. TakesOut clock book name live (change old new body))
+      by_slot None e absent = absurd (false≢true absent)
+      by_slot (Some live) e held = record {
+        changes = record {
+          slots = slots;
+          counts = λ client.
+              counts client ∙ ap (λ n. cond (int_eq name.uid client) n (count_at client old.counts.entries)) is;
+        };
+        answer = ends live e;
+      }

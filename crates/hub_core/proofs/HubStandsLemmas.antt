@@ -30,7 +30,7 @@ use Rattle.state_slicer.specs.StateBooks.{StateBookStandsFor}
 use Rattle.hub_meaning.specs.SessionLog.{is_own, own, log_frame_in, log_frames, clock_of}
 use Rattle.hub_meaning.specs.Acceptance.{LiveConfig, most_configs, has_other_id, config_read, linked_read, accepted_as, accepted_read, acceptance}
 use Rattle.hub_meaning.specs.LiveConfigs.{with_config, without_id, config_at, live_with, live_after, live, truths_at, step_at, history_of}
-use Rattle.hub_meaning.specs.ClientAnswers.{install_answer, remove_answer, report_answer, reply_of, reply_to}
+use Rattle.hub_meaning.specs.ClientAnswers.{final_report, install_answer, remove_answer, report_answer, reply_of, reply_to}
 use Rattle.hub_meaning.proofs.SessionLogLaws.{own-push_own, own-push_other, log_frames-push, log_frames-own, clock_of-push, clock_of-own}
 use Rattle.hub_meaning.proofs.LiveConfigLaws.{live-push, live_placed, live_distinct, history_of-push, history_of-new, history_of-log, one_if, config_at-with_config, config_at-without_id, length-with_config, length-without_id, placed_at}
 use Rattle.metric_producer.specs.LaneCalls.{last_at}
@@ -48,8 +48,8 @@ use Rattle.hub_core.specs.declared.hub.Hub.{Hub}
 use Rattle.hub_core.specs.FrameTruths.{LogsBy}
 use Rattle.hub_core.specs.SlotLogs.{AllLog}
 use Rattle.hub_core.specs.Slots.{live_id, request_of, same_id, slot_at, count_at, ShowsAt}
-use Rattle.hub_core.specs.Commands.{change, held_at, others, Changes, Stays, StaysWith, PutsIn, InstallsLinked, Installs, TakesOut, Removes, ReportsLive}
-use Rattle.hub_core.specs.HubStands.{SlotStandsFor, LivesStandFor, HubStandsFor}
+use Rattle.hub_core.specs.Commands.{change, held_at, others, Changes, Stays, StaysWith, IsEnded, Replaces, body_of_report, PutsIn, InstallsLinked, Installs, TakesOut, Removes, ReportsLive}
+use Rattle.hub_core.specs.HubStands.{LiveStandsFor, SlotStandsFor, LivesStandFor, HubStandsFor}
 use Rattle.hub_core.proofs.InstallReadingLemmas.{linked_is}
 
 -- a number is itself
@@ -339,12 +339,30 @@ module _ (says : SimpleMatcher → Atom → Bool) where
           ∙ length-without_id id lives_before (live_distinct (own uid frames)) in
           omega (arith, found_none, none, h.counts uid)
 
-    remove_case : (slot : Option LiveInstance) (config : Option LiveConfig)
+    -- the last report of what is held is that of what is live, by the frames before the command
+    ended_is : (clock : ℕ) (book : BookOfStates) → clock ≡ clock_of frames → StateBookStandsFor book (log_frames frames)
+        → (it : LiveInstance) (config : LiveConfig) → LiveStandsFor says uid (own uid frames) it config
+        → (told : List ℕ → ReplyBody) → IsEnded clock book (live_id uid id) it told body
+        → body ≡ told (final_report says uid id (own uid frames) config)
+    ended_is clock book now book_is it config s told r =
+        let mine = own uid frames in
+        let time : clock ≡ clock_of mine = now ∙ sym (clock_of-own uid frames) in
+        let log : log_of_history (history_of says uid mine config) ≡ log_frames frames =
+        history_of-log says uid mine config ∙ log_frames-own uid frames in
+        r.answer ∙ ap (λ t. told (report_message t))
+        ((r.steps (history_of says uid mine config) s.instance (s.time ∙ sym time)).1
+        (subst (StateBookStandsFor book) (sym log) book_is))
+        ∙ ap (λ t. told (report_message (report_of (history_of says uid mine config) uid id true t))) time
+
+    remove_case : (clock : ℕ) (book : BookOfStates) → clock ≡ clock_of frames
+        → StateBookStandsFor book (log_frames frames)
+        → (slot : Option LiveInstance) (config : Option LiveConfig)
         → config_at id lives_before ≡ config → SlotStandsFor says uid (own uid frames) slot config
         → MatchOption slot (StaysWith answers.NoConfig (change old new body))
-        (λ slot. TakesOut (live_id uid id) (change old new body))
-        → LivesStandFor says new (frames ++ Remove uid id ∷ []) × (body ≡ remove_answer config)
-    remove_case None None none s r = (
+        (λ live. TakesOut clock book (live_id uid id) live (change old new body))
+        → LivesStandFor says new (frames ++ Remove uid id ∷ [])
+        × (body ≡ remove_answer says uid id (own uid frames) config)
+    remove_case clock book now book_is None None none s r = (
       stays frames (Remove uid id) uid id (λ n. refl) (λ clock. refl) old new h r.stays (λ other config is. refl)
           (λ other. config_at-without_id id other lives_before ∙ absent other (int_eq id other) refl)
           (let len : length (without_id id lives_before) + 0 ≡ length lives_before =
@@ -356,7 +374,7 @@ module _ (says : SimpleMatcher → Atom → Bool) where
           → cond same None (config_at other lives_before) ≡ config_at other lives_before
       absent other true e = sym (ap (λ n. config_at n lives_before) (sym ((signed_Decides id other).0 e)) ∙ none)
       absent other false e = refl
-    remove_case (Some it) (Some config) is s r = (
+    remove_case clock book now book_is (Some it) (Some config) is s r = (
       changed frames (Remove uid id) uid id (λ n. refl) (λ clock. refl) old new h None
           (others (live_id uid id) old) body r.changes
           (subst (SlotStandsFor says uid (own uid frames ++ Remove uid id ∷ []) None) (sym
@@ -366,15 +384,19 @@ module _ (says : SimpleMatcher → Atom → Bool) where
           (λ other e. config_at-without_id id other lives_before
           ∙ ap (λ b. cond b None (config_at other lives_before)) e)
           others_are,
-      r.answer,
+      ended_is clock book now book_is it config s answers.Removed r.answer,
     )
-    remove_case None (Some config) is s r = absurd s
-    remove_case (Some it) None is s r = absurd s
+    remove_case clock book now book_is None (Some config) is s r = absurd s
+    remove_case clock book now book_is (Some it) None is s r = absurd s
 
     -- what a remove makes of what is held, and its answer
-    pub serves_remove : Removes (live_id uid id) (change old new body)
-        → LivesStandFor says new (frames ++ Remove uid id ∷ []) × (body ≡ remove_answer (config_at id lives_before))
-    serves_remove r = remove_case (held_at (live_id uid id) old) (config_at id lives_before) refl (h.slots uid id) r
+    pub serves_remove : (clock : ℕ) (book : BookOfStates) → clock ≡ clock_of frames
+        → StateBookStandsFor book (log_frames frames) → Removes clock book (live_id uid id) (change old new body)
+        → LivesStandFor says new (frames ++ Remove uid id ∷ [])
+        × (body ≡ remove_answer says uid id (own uid frames) (config_at id lives_before))
+    serves_remove clock book now book_is r =
+        remove_case clock book now book_is (held_at (live_id uid id) old) (config_at id lives_before) refl
+        (h.slots uid id) r
 
     same_count : (n : ℤ) (same : Bool) → int_eq uid n ≡ same
         → count_at n old.counts.entries ≡ cond same (count_at uid old.counts.entries) (count_at n old.counts.entries)
@@ -387,16 +409,17 @@ module _ (says : SimpleMatcher → Atom → Bool) where
         → (slot : Option LiveInstance) (config : Option LiveConfig) → config_at id lives_before ≡ config
         → SlotStandsFor says uid (own uid frames) slot config
         → new.counts ≡ old.counts
-        → MatchOption slot ((new.slots.entries ≡ old.slots.entries) × (body
-        ≡ answers.NoConfig)) (λ it. ShowsAt (request_of uid id include_current clock) book it
-        old.slots.entries new.slots.entries body)
+        → (report : Option (List ℕ)) → body ≡ body_of_report report
+        → MatchOption slot ((new.slots.entries ≡ old.slots.entries) × (report
+        ≡ None)) (λ it. ShowsAt (request_of uid id include_current clock) book it
+        old.slots.entries new.slots.entries report)
         → LivesStandFor says new (frames ++ Report uid id include_current ∷ []) × (body
         ≡ report_answer says uid id (own uid frames) include_current config)
-    report_case clock book include_current now book_is None None none s counts r = (
+    report_case clock book include_current now book_is None None none s counts report told r = (
       stays frames (Report uid id include_current) uid id (λ n. refl) (λ clock. refl) old new h
           (record { slots = r.0; counts = counts }) (λ other config is. idle other config is
           (int_eq id config.id) refl) (λ other. refl) refl,
-      r.1,
+      told ∙ ap body_of_report r.1,
     ) where
       idle : (other : ℤ) (config : LiveConfig) → config_at other lives_before ≡ Some config → (same : Bool)
           → int_eq id config.id ≡ same → step_at says config.id (linked_form config.config uid) (own uid frames)
@@ -409,7 +432,7 @@ module _ (says : SimpleMatcher → Atom → Bool) where
           absurd (cc)
       idle other config is false e = ap (λ b. cond b (reported_step (request_of uid id include_current
           (clock_of (own uid frames))) ∷ []) []) e
-    report_case clock book include_current now book_is (Some it) (Some config) is s counts r =
+    report_case clock book include_current now book_is (Some it) (Some config) is s counts report told r =
         let mine = own uid frames in
         let at = placed_at (length mine) id lives_before (live_placed mine) config is in
         let time : clock ≡ clock_of mine = now ∙ sym (clock_of-own uid frames) in
@@ -445,13 +468,13 @@ module _ (says : SimpleMatcher → Atom → Bool) where
               (λ n. int_eq id n) other_id ∙ e))
               (λ other e. refl)
               (h.counts uid),
-          r.answer ∙ ap (λ t. answers.ReportBytes (report_message t))
+          told ∙ ap body_of_report r.told ∙ ap (λ t. answers.ReportBytes (report_message t))
               (done.1 (subst (StateBookStandsFor book) (sym log) book_is))
               ∙ ap (λ t. answers.ReportBytes (report_message (report_of
               (history_of says uid mine config) uid id include_current t))) time,
         )
-    report_case clock book include_current now book_is None (Some config) is s counts r = absurd s
-    report_case clock book include_current now book_is (Some it) None is s counts r = absurd s
+    report_case clock book include_current now book_is None (Some config) is s counts report told r = absurd s
+    report_case clock book include_current now book_is (Some it) None is s counts report told r = absurd s
 
     -- what a report makes of what is held, and its answer
     pub serves_report : (clock : ℕ) (book : BookOfStates) (include_current : Bool) → clock ≡ clock_of frames
@@ -461,7 +484,7 @@ module _ (says : SimpleMatcher → Atom → Bool) where
         ≡ report_answer says uid id (own uid frames) include_current (config_at id lives_before))
     serves_report clock book include_current now book_is r =
         report_case clock book include_current now book_is (held_at (live_id uid id) old)
-        (config_at id lives_before) refl (h.slots uid id) r.counts r.slots
+        (config_at id lives_before) refl (h.slots uid id) r.counts r.report r.answer r.slots
 
     module _ (config : List ℕ) (clock : ℕ) (now : clock ≡ clock_of frames) (books : Books)
         (books_are : BooksStandFor books (log_frames frames)) where
@@ -472,20 +495,20 @@ module _ (says : SimpleMatcher → Atom → Bool) where
       -- it is refused with this answer
       refused : (refusal : ReplyBody) → brought ≡ Err refusal → StaysWith refusal (change old new body)
           → LivesStandFor says new (frames ++ Install uid id config ∷ []) × (body
-          ≡ install_answer brought (config_at id lives_before))
+          ≡ install_answer says uid id (own uid frames) brought (config_at id lives_before))
       refused refusal is r = (
         stays frames (Install uid id config) uid id (λ n. refl) (λ clock. refl) old new h r.stays
             (λ other config is. refl)
             (λ other. ap (λ a. config_at other (live_with (length (own uid frames)) id a lives_before)) is)
             (ap (λ a. length (live_with (length (own uid frames)) id a lives_before)) is),
-        r.answer ∙ sym (ap (λ a. install_answer a (config_at id lives_before)) is),
+        r.answer ∙ sym (ap (λ a. install_answer says uid id (own uid frames) a (config_at id lives_before)) is),
       )
 
       -- it is accepted
       accepted_case : (decoded : Config) (linked : Linked) → linked ≡ linked_form decoded uid
           → brought ≡ Ok decoded → PutsIn clock books (live_id uid id) linked (change old new body)
           → LivesStandFor says new (frames ++ Install uid id config ∷ []) × (body
-          ≡ install_answer brought (config_at id lives_before))
+          ≡ install_answer says uid id (own uid frames) brought (config_at id lives_before))
       accepted_case decoded linked form is r =
           let mine = own uid frames in
           let put : LiveConfig = record { id = id; config = decoded; place = length mine } in
@@ -522,20 +545,24 @@ module _ (says : SimpleMatcher → Atom → Bool) where
                 (λ other e. ap (config_at other) after_is ∙ config_at-with_config put other lives_before
                 ∙ ap (λ b. cond b (Some put) (config_at other lives_before)) e)
                 (len ∙ ap length (sym after_is)),
-            r.answer ∙ ap (λ b. cond b answers.Replaced answers.Installed) there
-                ∙ given_answer (config_at id lives_before)
-                ∙ sym (ap (λ a. install_answer a (config_at id lives_before)) is),
+            replaced_is (held_at (live_id uid id) old) (config_at id lives_before) (h.slots uid id) r.answer
+                ∙ sym (ap (λ a. install_answer says uid id (own uid frames) a (config_at id lives_before)) is),
           ) where
-            given_answer : (found : Option LiveConfig)
-                → cond (is_some found) answers.Replaced answers.Installed ≡ install_answer (Ok decoded) found
-            given_answer None = refl
-            given_answer (Some found) = refl
+            replaced_is : (slot : Option LiveInstance) (found : Option LiveConfig)
+                → SlotStandsFor says uid (own uid frames) slot found
+                → Replaces clock books.states (live_id uid id) slot body
+                → body ≡ install_answer says uid id (own uid frames) (Ok decoded) found
+            replaced_is None None s answer = answer
+            replaced_is (Some it) (Some found) s answer =
+                ended_is clock books.states now books_are.states it found s answers.Replaced answer
+            replaced_is None (Some found) s answer = absurd s
+            replaced_is (Some it) None s answer = absurd s
 
       -- it was linked, or refused by a fault of its references or by its form
       linked_case : (decoded : Config) (read : Result Linked Refusal) → linked_read uid decoded ≡ read
           → brought ≡ accepted_as decoded read → InstallsLinked clock books (live_id uid id) read (change old new body)
           → LivesStandFor says new (frames ++ Install uid id config ∷ []) × (body
-          ≡ install_answer brought (config_at id lives_before))
+          ≡ install_answer says uid id (own uid frames) brought (config_at id lives_before))
       linked_case decoded (Err refusal) read is r = refused (answers.Refused refusal) is r
       linked_case decoded (Ok linked) read is r = accepted_case decoded linked (linked_is uid decoded linked read) is r
 
@@ -544,7 +571,7 @@ module _ (says : SimpleMatcher → Atom → Bool) where
           → MatchBool full (StaysWith (answers.ClientFull most_configs) (change old new body))
           (InstallsLinked clock books (live_id uid id) (linked_read uid decoded) (change old new body))
           → LivesStandFor says new (frames ++ Install uid id config ∷ []) × (body
-          ≡ install_answer brought (config_at id lives_before))
+          ≡ install_answer says uid id (own uid frames) brought (config_at id lives_before))
       full_case decoded true is r = refused (answers.ClientFull most_configs) is r
       full_case decoded false is r = linked_case decoded (linked_read uid decoded) refl is r
 
@@ -553,7 +580,7 @@ module _ (says : SimpleMatcher → Atom → Bool) where
           ≡ accepted_read uid (nat_le most_configs (others (live_id uid id) old)) read
           → Installs clock books (live_id uid id) read (change old new body)
           → LivesStandFor says new (frames ++ Install uid id config ∷ []) × (body
-          ≡ install_answer brought (config_at id lives_before))
+          ≡ install_answer says uid id (own uid frames) brought (config_at id lives_before))
       read_case (Err refusal) is r = refused (answers.Refused refusal) is r
       read_case (Ok decoded) is r = full_case decoded (nat_le most_configs (others (live_id uid id) old)) is r
 
@@ -569,7 +596,7 @@ module _ (says : SimpleMatcher → Atom → Bool) where
       pub serves_install : (read : Result Config Refusal) → read ≡ config_read (config_of config)
           → Installs clock books (live_id uid id) read (change old new body)
           → LivesStandFor says new (frames ++ Install uid id config ∷ []) × (body
-          ≡ install_answer brought (config_at id lives_before))
+          ≡ install_answer says uid id (own uid frames) brought (config_at id lives_before))
       serves_install read is r = read_case read (brought_is read is) r
 
   -- The hub stands for the frames with this one, and this is their answer.
@@ -616,11 +643,12 @@ module _ (says : SimpleMatcher → Atom → Bool) where
           (sym (log_frames-push frames frame ∙ ap (λ l. log_frames frames ++ l) none ∙ append-nil (log_frames frames)))
           (subst (λ books. BooksStandFor books (log_frames frames)) (sym same_books) h.books)
 
-      pub hub_remove : Removes (live_id uid id) (change hub.lives new.lives body)
+      pub hub_remove : Removes hub.clock.time hub.books.states (live_id uid id) (change hub.lives new.lives body)
           → Serves new frames (Remove uid id) (reply_of uid id body)
       unfolding reply_to
       hub_remove r =
-          let done = serves_remove frames uid id hub.lives new.lives body h.lives r in
+          let done = serves_remove frames uid id hub.lives new.lives body h.lives hub.clock.time hub.books.states
+          h.clock h.books.states r in
           record {
             stands = record {
               clock = same_clock ∙ h.clock

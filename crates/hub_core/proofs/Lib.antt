@@ -13,3 +13,4 @@ mod HubStandsLemmas
 mod OneSlotLemmas
 mod AloneLemmas
 mod LiveQuestionsLemmas
+mod LastReportLemmas

@@ -1,8 +1,6 @@
 -- A report of what stands under a name.
-use Rattle.std.proofs.Common.{◌≡◌, cond, List, Some, sym, subst}
+use Rattle.std.proofs.Common.{◌≡◌, ℕ, cond, List, Option, Some, None, sym, subst}
 use Rattle.std.specs.Option.{MatchOption}
-use Rattle.session_frames.specs.declared.reply.ReplyBody.{ReplyBody}
-use Rattle.session_frames.specs.declared.reply.ReplyBody.TheVariants as answers
 use Rattle.report_writer.specs.declared.tree.ReportTree.{ReportTree}
 use Rattle.report_writer.specs.ReportSpelling.{report_message}
 use Rattle.client_engine.specs.Handed.{BookOfStates}
@@ -13,15 +11,15 @@ use Rattle.hub_core.specs.declared.live_instance.LiveInstance.{LiveInstance}
 use Rattle.hub_core.specs.Slots.{same_id, slot_at, ShowsAt, ReportsAt}
 
 module _ (request : ReportRequest) (book : BookOfStates) (old new : List (LiveId × LiveInstance))
-    (body : ReplyBody) where
+    (report : Option (List ℕ)) where
   -- it was found, and its next stands there
   pub shows : (live next : LiveInstance) (tree : ReportTree) → slot_at request.name old ≡ Some live
       → Reports live.instance request book next.instance tree
       → ((other : LiveId) → slot_at other new
       ≡ cond (same_id request.name other) (Some next) (slot_at other old))
-      → body ≡ answers.ReportBytes (report_message tree)
-      → ReportsAt request book old new body
-  shows live next tree is steps slots answer =
-      subst (λ found. MatchOption found ((new ≡ old) × (body ≡ answers.NoConfig))
-      (λ it. ShowsAt request book it old new body)) (sym is)
-      (record { next = next; tree = tree; steps = steps; slots = slots; answer = answer })
+      → report ≡ Some (report_message tree)
+      → ReportsAt request book old new report
+  shows live next tree is steps slots told =
+      subst (λ found. MatchOption found ((new ≡ old) × (report ≡ None))
+      (λ it. ShowsAt request book it old new report)) (sym is)
+      (record { next = next; tree = tree; steps = steps; slots = slots; told = told })

@@ -11,14 +11,16 @@ use Rattle.config_links.specs.declared.linked.Linked.{Linked}
 use Rattle.hub_meaning.specs.Acceptance.{most_configs, linked_read}
 use Rattle.atom_record.specs.declared.log.LogFrame.{LogFrame}
 use Rattle.client_engine.specs.Handed.{BookOfStates}
-use Rattle.client_engine.specs.InstanceStands.{IsFresh}
+use Rattle.client_engine.specs.InstanceStands.{IsFresh, Reports}
 use Rattle.client_engine.specs.declared.request.ReportRequest.{ReportRequest}
 use Rattle.hub_core.specs.declared.books.Books.{Books}
 use Rattle.hub_core.specs.BookStands.{BooksStandFor}
 use Rattle.client_engine.specs.declared.live_id.LiveId.{LiveId}
 use Rattle.hub_core.specs.declared.live_instance.LiveInstance.{LiveInstance}
 use Rattle.hub_core.specs.declared.lives.Lives.{Lives}
-use Rattle.hub_core.specs.Slots.{same_id, slot_at, count_at, others_at, ReportsAt}
+use Rattle.report_writer.specs.declared.tree.ReportTree.{ReportTree}
+use Rattle.report_writer.specs.ReportSpelling.{report_message}
+use Rattle.hub_core.specs.Slots.{last_asked, same_id, slot_at, count_at, others_at, ReportsAt}
 
 -- What a command makes of the live configurations: what they were, what they are, and its answer.
 pub record Change : Type 0 where
@@ -55,12 +57,42 @@ pub record StaysWith (given : ReplyBody) (done : Change) : Type 0 where
   pub stays : Stays done.old done.new
   pub answer : done.body ≡ given
 
--- A configuration that wasn't refused goes where the one of its name stands, or it is new.
+-- A configuration is ended by a command, which is answered with its last report: the one that a report with a cut would
+-- give before the command, at the clock.
+pub record IsEnded (clock : ℕ) (book : BookOfStates) (name : LiveId) (live : LiveInstance)
+    (told : List ℕ → ReplyBody) (body : ReplyBody) : Type 0 where
+  pub next : LiveInstance
+  pub tree : ReportTree
+  pub steps : Reports live.instance (last_asked name clock) book next.instance tree
+  pub answer : body ≡ told (report_message tree)
+
+-- what stands under a name is replaced, or nothing stands there
+abbrev pub Replaces : ℕ → BookOfStates → LiveId → Option LiveInstance → ReplyBody → Type 0
+Replaces clock book name slot body =
+    MatchOption slot (body ≡ answers.Installed) (λ live. IsEnded clock book name live answers.Replaced body)
+
+-- the answer to an install that wasn't refused, by the last report of what stood under its name
+abbrev pub body_of_install : Option (List ℕ) → ReplyBody
+body_of_install None = answers.Installed
+body_of_install (Some last) = answers.Replaced last
+
+-- the answer to a remove, by the last report of what stood under its name
+abbrev pub body_of_remove : Option (List ℕ) → ReplyBody
+body_of_remove None = answers.NoConfig
+body_of_remove (Some last) = answers.Removed last
+
+-- the answer to a report, by what was reported
+abbrev pub body_of_report : Option (List ℕ) → ReplyBody
+body_of_report None = answers.NoConfig
+body_of_report (Some report) = answers.ReportBytes report
+
+-- A configuration that wasn't refused goes where the one of its name stands, whose last report is the answer, or it is
+-- new.
 pub record PutsIn (clock : ℕ) (books : Books) (name : LiveId) (linked : Linked) (done : Change) : Type 0 where
   pub fresh : LiveInstance
   pub is_fresh : (opening : List LogFrame) → BooksStandFor books opening → IsFresh linked clock opening fresh.instance
   pub changes : Changes name (Some fresh) (others name done.old + 1) done
-  pub answer : done.body ≡ (if is_some (held_at name done.old) then answers.Replaced else answers.Installed)
+  pub answer : Replaces clock books.states name (held_at name done.old) done.body
 
 -- an install with room for it, when the clock and the books stood so and this is the linked form
 abbrev pub InstallsLinked : ℕ → Books → LiveId → Result Linked Refusal → Change → Type 0
@@ -75,17 +107,20 @@ Installs clock books name (Ok config) done =
     MatchBool (nat_le most_configs (others name done.old)) (StaysWith (answers.ClientFull most_configs) done)
     (InstallsLinked clock books name (linked_read name.uid config) done)
 
--- one is taken out
-pub record TakesOut (name : LiveId) (done : Change) : Type 0 where
+-- One is taken out, and its last report is the answer.
+pub record TakesOut (clock : ℕ) (book : BookOfStates) (name : LiveId) (live : LiveInstance) (done : Change)
+    : Type 0 where
   pub changes : Changes name None (others name done.old) done
-  pub answer : done.body ≡ answers.Removed
+  pub answer : IsEnded clock book name live answers.Removed done.body
 
--- a remove
-abbrev pub Removes : LiveId → Change → Type 0
-Removes name done =
-    MatchOption (held_at name done.old) (StaysWith answers.NoConfig done) (λ slot. TakesOut name done)
+-- a remove, when the clock and the book of states stood so
+abbrev pub Removes : ℕ → BookOfStates → LiveId → Change → Type 0
+Removes clock book name done =
+    MatchOption (held_at name done.old) (StaysWith answers.NoConfig done) (λ live. TakesOut clock book name live done)
 
--- a report of what stands under a name; the counts stay
+-- A report of what stands under a name, which is the answer; the counts stay.
 pub record ReportsLive (request : ReportRequest) (book : BookOfStates) (done : Change) : Type 0 where
-  pub slots : ReportsAt request book done.old.slots.entries done.new.slots.entries done.body
+  pub report : Option (List ℕ)
+  pub slots : ReportsAt request book done.old.slots.entries done.new.slots.entries report
   pub counts : done.new.counts ≡ done.old.counts
+  pub answer : done.body ≡ body_of_report report

@@ -1,10 +1,8 @@
 -- Slots under names, and counts of them. Nothing here names what holds them.
-use Rattle.std.specs.Prelude.{◌≡◌, ℕ, ◌-◌, ◌==◌, ℤ, Bool, List, Option, Some, None, unwrap_or, count_by, if◌then◌else◌}
+use Rattle.std.specs.Prelude.{◌≡◌, ℕ, ◌-◌, ◌==◌, ℤ, Bool, true, List, Option, Some, None, unwrap_or, count_by, if◌then◌else◌}
 use Rattle.std.specs.Option.{MatchOption}
 use Rattle.std.specs.Map.{lookup}
 use Rattle.std.specs.Ordering.{int_eq}
-use Rattle.session_frames.specs.declared.reply.ReplyBody.{ReplyBody}
-use Rattle.session_frames.specs.declared.reply.ReplyBody.TheVariants as answers
 use Rattle.report_writer.specs.declared.tree.ReportTree.{ReportTree}
 use Rattle.report_writer.specs.ReportSpelling.{report_message}
 use Rattle.client_engine.specs.Handed.{BookOfStates}
@@ -25,6 +23,10 @@ request_of uid id include_current clock = record {
   include_current = include_current;
   at = clock;
 }
+
+-- the last report of it, which is asked for before a command ends it: with a cut
+abbrev pub last_asked : LiveId → ℕ → ReportRequest
+last_asked name clock = record { name = name; include_current = true; at = clock }
 
 -- two are of one client and one id
 abbrev pub same_id : LiveId → LiveId → Bool
@@ -54,19 +56,19 @@ others_at uid there counts = count_at uid counts - (if there then 1 else 0)
 abbrev pub held_by : ℤ → List (LiveId × LiveInstance) → ℕ
 held_by uid slots = count_by (λ (row : LiveId × LiveInstance). int_eq row.0.uid uid) slots
 
--- A report of what stands under a name.
+-- A report of what stands under a name, as the bytes of its message.
 pub record ShowsAt (request : ReportRequest) (book : BookOfStates) (live : LiveInstance)
-    (old new : List (LiveId × LiveInstance)) (body : ReplyBody) : Type 0 where
+    (old new : List (LiveId × LiveInstance)) (report : Option (List ℕ)) : Type 0 where
   pub next : LiveInstance
   pub tree : ReportTree
   pub steps : Reports live.instance request book next.instance tree
   pub slots : (other : LiveId) → slot_at other new
       ≡ (if same_id request.name other then Some next else slot_at other old)
-  pub answer : body ≡ answers.ReportBytes (report_message tree)
+  pub told : report ≡ Some (report_message tree)
 
--- a report of what stands under a name
+-- a report of what stands under a name, if something does
 abbrev pub ReportsAt : ReportRequest → BookOfStates → List (LiveId × LiveInstance) → List (LiveId × LiveInstance)
-    → ReplyBody → Type 0
-ReportsAt request book old new body =
-    MatchOption (slot_at request.name old) ((new ≡ old) × (body ≡ answers.NoConfig))
-    (λ live. ShowsAt request book live old new body)
+    → Option (List ℕ) → Type 0
+ReportsAt request book old new report =
+    MatchOption (slot_at request.name old) ((new ≡ old) × (report ≡ None))
+    (λ live. ShowsAt request book live old new report)

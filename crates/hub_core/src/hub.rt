@@ -152,7 +152,11 @@ impl<J: Judge> Hub<J> {
                 Ok((self, Some(Reply { uid, id, body })))
             }
             Frame::Remove { uid, id } => {
-                let (lives, body) = self.lives.remove(LiveId { uid, id })?;
+                let name = LiveId { uid, id };
+                let lives = self.lives;
+                let now = self.clock.time;
+                let states = &self.books.states;
+                let (lives, body) = lives.remove(self.alloc, now, states, name)?;
                 self.lives = lives;
                 Ok((self, Some(Reply { uid, id, body })))
             }

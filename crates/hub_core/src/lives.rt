@@ -8,7 +8,10 @@ use crate::books::Books;
 use crate::configs::link_config;
 use crate::live_instance::LiveInstance;
 use crate::logging::{evaluate, log_all};
-use crate::slots::{install_answer, others_of, put, release_old, report_at, set_count, take_out};
+use crate::slots::{
+    install_answer, last_request, others_of, put, release_old, remove_answer, report_answer,
+    report_at, set_count, take_out,
+};
 use atom_record::LogFrame;
 use client_engine::{LiveId, ReportRequest};
 use condition_links::Steps;
@@ -116,7 +119,8 @@ impl Lives {
         }
     }
 
-    /// A configuration without faults goes where the client's configuration of that id stands, or it is new.
+    /// A configuration without faults goes where the client's configuration of that id stands, whose last report is made
+    /// before, or it is new.
     fn put_in(
         self,
         alloc: Global,
@@ -138,6 +142,7 @@ impl Lives {
             mut counts,
             mut table,
         } = self;
+        let last = report_at(&mut slots, alloc, last_request(name, clock), &books.states)?;
         let live = LiveInstance::new(alloc, linked, clock, books, &mut table)?;
         let old = put(&mut slots, name, live)?;
         release_old(&mut table, old);
@@ -147,12 +152,18 @@ impl Lives {
             counts,
             table,
         };
-        Ok((lives, install_answer(there)))
+        Ok((lives, install_answer(last)))
     }
 
-    /// Takes a client's configuration out. The last slot of the table takes its place.
-    pub fn remove(self, name: LiveId) -> Result<(Lives, ReplyBody), AllocError>
-        ensures { IfOk result (λ r. Removes name (change self r.0 r.1)) }
+    /// Takes a client's configuration out, after its last report. The last slot of the table takes its place.
+    pub fn remove(
+        self,
+        alloc: Global,
+        clock: u64,
+        states: &StateBook,
+        name: LiveId,
+    ) -> Result<(Lives, ReplyBody), AllocError>
+        ensures { IfOk result (λ r. Removes clock states.now name (change self r.0 r.1)) }
     {
         if !self.slots.contains_key(&name) {
             return Ok((self, ReplyBody::NoConfig));
@@ -163,6 +174,7 @@ impl Lives {
             mut counts,
             mut table,
         } = self;
+        let last = report_at(&mut slots, alloc, last_request(name, clock), states)?;
         let old = take_out(&mut slots, name);
         release_old(&mut table, old);
         set_count(&mut counts, name.uid, others)?;
@@ -171,7 +183,7 @@ impl Lives {
             counts,
             table,
         };
-        Ok((lives, ReplyBody::Removed))
+        Ok((lives, remove_answer(last)))
     }
 
     /// Reports a client's configuration.
@@ -188,12 +200,12 @@ impl Lives {
             counts,
             table,
         } = self;
-        let body = report_at(&mut slots, alloc, request, states)?;
+        let report = report_at(&mut slots, alloc, request, states)?;
         let lives = Lives {
             slots,
             counts,
             table,
         };
-        Ok((lives, body))
+        Ok((lives, report_answer(report)))
     }
 }

@@ -8,9 +8,11 @@ ghost use Rattle.matcher_table.specs.Tables.{outside_uses};
 ghost use Rattle.matcher_table.specs.Contents.{contents_of};
 ghost use Rattle.held_slots.specs.HoldingSteps.{ReleasesAll};
 ghost use Rattle.hub_core.specs.SharedTable.{slots_of, KeepsSlots};
-ghost use Rattle.hub_core.specs.Slots.{same_id, slot_at, listed_at, listed, others_at, held_by, ReportsAt};
+ghost use Rattle.hub_core.specs.Slots.{last_asked, same_id, slot_at, listed_at, listed, others_at, held_by, ReportsAt};
+ghost use Rattle.hub_core.specs.Commands.{body_of_install, body_of_remove, body_of_report};
 
 use crate::live_instance::LiveInstance;
+use atom_record::Bytes;
 use client_engine::{LiveId, ReportRequest};
 use indexmap::IndexMap;
 use matcher_table::MatcherTable;
@@ -60,13 +62,13 @@ pub fn release_old(table: &mut MatcherTable, old: Option<LiveInstance>)
     }
 }
 
-/// Reports what is under the name that is asked for, as the bytes of its message.
+/// Reports what is under the name that is asked for, if something is, as the bytes of its message.
 pub fn report_at(
     slots: &mut IndexMap<LiveId, LiveInstance>,
     alloc: Global,
     request: ReportRequest,
     states: &StateBook,
-) -> Result<ReplyBody, AllocError>
+) -> Result<Option<Bytes>, AllocError>
     ensures reports { IfOk result
         (ReportsAt request states.now slots.old.entries slots.new.entries) }
     ensures held { OnOk result ((uid : ℤ) →
@@ -74,10 +76,21 @@ pub fn report_at(
     ensures same { OnOk result (KeepsSlots slots.old.entries slots.new.entries) }
 {
     let Some(live) = slots.get_mut(&request.name) else {
-        return Ok(ReplyBody::NoConfig);
+        return Ok(None);
     };
     let tree = live.show(request, states)?;
-    Ok(ReplyBody::ReportBytes(Seq::from_vec(write(alloc, &tree)?)))
+    Ok(Some(Seq::from_vec(write(alloc, &tree)?)))
+}
+
+/// What is asked of a configuration that a command ends, before it goes: a report with a cut, at the clock.
+pub fn last_request(name: LiveId, clock: u64) -> ReportRequest
+    ensures { result ≡ last_asked name clock }
+{
+    ReportRequest {
+        name,
+        include_current: true,
+        at: clock,
+    }
 }
 
 /// How many slots of other ids a client has, where one of this id is there or not.
@@ -108,13 +121,32 @@ pub fn set_count(
     Ok(())
 }
 
-/// The answer to an install that wasn't refused.
-pub fn install_answer(there: bool) -> ReplyBody
-    ensures { result ≡ (if there then ReplyBody.Replaced else ReplyBody.Installed) }
+/// The answer to an install that wasn't refused, by the last report of what stood under its name.
+pub fn install_answer(last: Option<Bytes>) -> ReplyBody
+    ensures { result ≡ body_of_install last }
 {
-    if there {
-        ReplyBody::Replaced
-    } else {
-        ReplyBody::Installed
+    match last {
+        Some(report) => ReplyBody::Replaced(report),
+        None => ReplyBody::Installed,
+    }
+}
+
+/// The answer to a remove, by the last report of what stood under its name.
+pub fn remove_answer(last: Option<Bytes>) -> ReplyBody
+    ensures { result ≡ body_of_remove last }
+{
+    match last {
+        Some(report) => ReplyBody::Removed(report),
+        None => ReplyBody::NoConfig,
+    }
+}
+
+/// The answer to a report, by what was reported.
+pub fn report_answer(report: Option<Bytes>) -> ReplyBody
+    ensures { result ≡ body_of_report report }
+{
+    match report {
+        Some(report) => ReplyBody::ReportBytes(report),
+        None => ReplyBody::NoConfig,
     }
 }

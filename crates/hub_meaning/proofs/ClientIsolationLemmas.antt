@@ -61,10 +61,10 @@ module _ (says : SimpleMatcher → Atom → Bool) where
   unfolding reply_to
   own_reply client before (Log frame) is = refl
   own_reply client before (Install uid id bytes) is =
-      own_made client uid id (λ frames. install_answer (acceptance uid id bytes (live frames))
+      own_made client uid id (λ frames. install_answer says uid id frames (acceptance uid id bytes (live frames))
       (config_at id (live frames))) before is
   own_reply client before (Remove uid id) is =
-      own_made client uid id (λ frames. remove_answer (config_at id (live frames))) before is
+      own_made client uid id (λ frames. remove_answer says uid id frames (config_at id (live frames))) before is
   own_reply client before (Report uid id include_current) is =
       own_made client uid id (λ frames. report_answer says uid id frames include_current (config_at id (live frames)))
       before is
@@ -75,10 +75,10 @@ module _ (says : SimpleMatcher → Atom → Bool) where
   unfolding reply_to
   other_reply client before (Log frame) is = refl
   other_reply client before (Install uid id bytes) is =
-      other_made client uid id (install_answer (acceptance uid id bytes (live (own uid before)))
-      (config_at id (live (own uid before)))) is
+      other_made client uid id (install_answer says uid id (own uid before)
+      (acceptance uid id bytes (live (own uid before))) (config_at id (live (own uid before)))) is
   other_reply client before (Remove uid id) is =
-      other_made client uid id (remove_answer (config_at id (live (own uid before)))) is
+      other_made client uid id (remove_answer says uid id (own uid before) (config_at id (live (own uid before)))) is
   other_reply client before (Report uid id include_current) is =
       other_made client uid id
       (report_answer says uid id (own uid before) include_current (config_at id (live (own uid before)))) is

@@ -3,3 +3,4 @@ pub mod Acceptance
 pub mod LiveConfigs
 pub mod ClientAnswers
 pub mod ClientIsolation
+pub mod EndedBooks

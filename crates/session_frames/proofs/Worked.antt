@@ -8,7 +8,7 @@ use Rattle.atom_record.specs.AtomReading.{atom_at, id_at, entries_in, entry_at, 
 use Rattle.session_frames.specs.declared.frame.Frame.{Frame}
 use Rattle.session_frames.specs.declared.frame.Frame.TheVariants.{Log, Install, Remove, Report}
 use Rattle.session_frames.specs.declared.frame.SessionFault.TheVariants.{Cut, TooLong, BadLength, UnknownKind, BadBody, BadAtom, TimeBackwards, TooManyFrames}
-use Rattle.session_frames.specs.declared.reply.ReplyBody.TheVariants.{Installed, NoConfig}
+use Rattle.session_frames.specs.declared.reply.ReplyBody.TheVariants.{Installed, Replaced, Removed, NoConfig}
 use Rattle.session_frames.specs.FrameReading.{time_at, tick_body, atom_body, pull_id_at, payload_at, pulled_at, snapshot_at, outcome_at, pull_body, install_body, remove_body, report_body}
 use Rattle.session_frames.specs.Frames.{next_frame, needed, Ended, Broken, Whole, Place, start, Reads, Clean}
 use Rattle.session_frames.specs.Replies.{reply_bytes}
@@ -312,3 +312,17 @@ installed = refl
 no_config : reply_bytes (record { uid = negsuc 0; id = negsuc 1; body = NoConfig }) ≡ 13 ∷ 0 ∷ 0 ∷ 0 ∷ 0 ∷ 0 ∷ 0 ∷ 0
     ∷ 5 ∷ 255 ∷ 255 ∷ 255 ∷ 255 ∷ 254 ∷ 255 ∷ 255 ∷ 255 ∷ 255 ∷ 255 ∷ 255 ∷ 255 ∷ []
 no_config = refl
+
+-- a last report, of a configuration that is replaced and of one that is removed: kinds of their own, and never 2 or 4
+replaced : reply_bytes (record {
+  uid = pos 10;
+  id = pos 3;
+  body = Replaced (10 ∷ 4 ∷ 8 ∷ 10 ∷ 16 ∷ 3 ∷ 18 ∷ 4 ∷ 24 ∷ 0 ∷ 32 ∷ 0
+      ∷ []);
+}) ≡ 25 ∷ 0 ∷ 0 ∷ 0 ∷ 0 ∷ 0 ∷ 0 ∷ 0 ∷ 8 ∷ 10 ∷ 0 ∷ 0 ∷ 0 ∷ 3 ∷ 0 ∷ 0 ∷ 0 ∷ 0 ∷ 0 ∷ 0 ∷ 0 ∷ 10 ∷ 4 ∷ 8 ∷ 10 ∷ 16 ∷ 3 ∷ 18
+    ∷ 4 ∷ 24 ∷ 0 ∷ 32 ∷ 0 ∷ []
+replaced = refl
+
+removed : reply_bytes (record { uid = pos 10; id = pos 7; body = Removed (7 ∷ []) }) ≡ 14 ∷ 0 ∷ 0 ∷ 0 ∷ 0 ∷ 0 ∷ 0 ∷ 0 ∷ 9
+    ∷ 10 ∷ 0 ∷ 0 ∷ 0 ∷ 7 ∷ 0 ∷ 0 ∷ 0 ∷ 0 ∷ 0 ∷ 0 ∷ 0 ∷ 7 ∷ []
+removed = refl

@@ -20,16 +20,19 @@ refusal_bytes (Link number reason value) =
 -- the kind byte of an answer
 abbrev pub kind_of : ReplyBody → ℕ
 kind_of Installed = reply_installed
-kind_of Replaced = reply_replaced
+kind_of (Replaced report) = reply_replaced
 kind_of (Refused refusal) = reply_refused
-kind_of Removed = reply_removed
+kind_of (Removed report) = reply_removed
 kind_of NoConfig = reply_no_config
 kind_of (ReportBytes report) = reply_report
 kind_of (ClientFull most) = reply_client_full
 
--- what comes after the kind, the uid and the configuration's id
+-- what comes after the kind, the uid and the configuration's id; the last report of a configuration that is replaced or
+-- removed stands as any report does
 abbrev pub answer_bytes : ReplyBody → List ℕ
+answer_bytes (Replaced report) = report
 answer_bytes (Refused refusal) = refusal_bytes refusal
+answer_bytes (Removed report) = report
 answer_bytes (ReportBytes report) = report
 answer_bytes (ClientFull most) = to_le_bytes w32 most
 answer_bytes _ = []

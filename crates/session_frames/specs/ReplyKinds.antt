@@ -1,21 +1,14 @@
--- The numbers of the kinds of replies, and of the classes of refusals.
+-- The numbers of the kinds of replies, and of the classes of refusals. No kind has the numbers 2 and 4, which were those
+-- of a replaced and of a removed configuration before their answers had a body.
 use Rattle.std.specs.Prelude.{ℕ}
 
 -- the configuration is live
 abbrev pub reply_installed : ℕ
 reply_installed = 1
 
--- the configuration is live in place of another
-abbrev pub reply_replaced : ℕ
-reply_replaced = 2
-
 -- the configuration was refused
 abbrev pub reply_refused : ℕ
 reply_refused = 3
-
--- the configuration was taken out
-abbrev pub reply_removed : ℕ
-reply_removed = 4
 
 -- the client has no such configuration
 abbrev pub reply_no_config : ℕ
@@ -28,6 +21,14 @@ reply_report = 6
 -- the client has as many configurations as it may have
 abbrev pub reply_client_full : ℕ
 reply_client_full = 7
+
+-- the configuration is live in place of another, whose last report this is
+abbrev pub reply_replaced : ℕ
+reply_replaced = 8
+
+-- the configuration was taken out, and this is its last report
+abbrev pub reply_removed : ℕ
+reply_removed = 9
 
 -- refused: too many bytes
 abbrev pub class_too_large : ℕ

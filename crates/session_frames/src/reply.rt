@@ -15,12 +15,12 @@ pub struct Reply {
 pub enum ReplyBody {
     /// The configuration is live.
     Installed,
-    /// The configuration is live in place of the one that had its id.
-    Replaced,
+    /// The configuration is live in place of the one that had its id: the last report of that one.
+    Replaced(Bytes),
     /// The configuration was refused, and nothing has changed.
     Refused(Refusal),
-    /// The configuration was taken out.
-    Removed,
+    /// The configuration was taken out: its last report.
+    Removed(Bytes),
     /// The client has no configuration of that id.
     NoConfig,
     /// A report, as the bytes of its message.
@@ -29,20 +29,21 @@ pub enum ReplyBody {
     ClientFull(u32),
 }
 
-// The kinds of answers, by their numbers.
+// The kinds of answers, by their numbers. None has the numbers 2 and 4: they were those of a replaced and of a removed
+// configuration whose answer had no body.
 pub(crate) const INSTALLED: u8 = 1;
 
-pub(crate) const REPLACED: u8 = 2;
-
 pub(crate) const REFUSED: u8 = 3;
-
-pub(crate) const REMOVED: u8 = 4;
 
 pub(crate) const NO_CONFIG: u8 = 5;
 
 pub(crate) const REPORT_BYTES: u8 = 6;
 
 pub(crate) const CLIENT_FULL: u8 = 7;
+
+pub(crate) const REPLACED: u8 = 8;
+
+pub(crate) const REMOVED: u8 = 9;
 
 /// Why a configuration was refused.
 #[derive(Drop)]

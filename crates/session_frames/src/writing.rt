@@ -39,9 +39,9 @@ fn kind(body: &ReplyBody) -> u8
 {
     match body {
         ReplyBody::Installed => INSTALLED,
-        ReplyBody::Replaced => REPLACED,
+        ReplyBody::Replaced(_) => REPLACED,
         ReplyBody::Refused(_) => REFUSED,
-        ReplyBody::Removed => REMOVED,
+        ReplyBody::Removed(_) => REMOVED,
         ReplyBody::NoConfig => NO_CONFIG,
         ReplyBody::ReportBytes(_) => REPORT_BYTES,
         ReplyBody::ClientFull(_) => CLIENT_FULL,
@@ -55,9 +55,10 @@ fn body_len(body: &ReplyBody) -> u64
 {
     match body {
         ReplyBody::Refused(refusal) => refusal_len(refusal),
-        ReplyBody::ReportBytes(report) => size(report.as_slice()),
+        ReplyBody::ReportBytes(report) | ReplyBody::Replaced(report) | ReplyBody::Removed(report) =>
+            size(report.as_slice()),
         ReplyBody::ClientFull(_) => 4,
-        ReplyBody::Installed | ReplyBody::Replaced | ReplyBody::Removed | ReplyBody::NoConfig => 0,
+        ReplyBody::Installed | ReplyBody::NoConfig => 0,
     }
 }
 
@@ -88,11 +89,10 @@ fn write_body<K: Sink>(body: &ReplyBody, out: &mut K) -> Result<(), WriteFailed>
 {
     match body {
         ReplyBody::Refused(refusal) => write_refusal(refusal, out),
-        ReplyBody::ReportBytes(report) => out.put(report.as_slice()),
+        ReplyBody::ReportBytes(report) | ReplyBody::Replaced(report) | ReplyBody::Removed(report) =>
+            out.put(report.as_slice()),
         ReplyBody::ClientFull(most) => out.put(&most.to_le_bytes()),
-        ReplyBody::Installed | ReplyBody::Replaced | ReplyBody::Removed | ReplyBody::NoConfig => Ok(
-            (),
-        ),
+        ReplyBody::Installed | ReplyBody::NoConfig => Ok(()),
     }
 }
 

@@ -18,9 +18,10 @@ fn body_len(body: &ReplyBody) -> u64
 {
     match body {
         ReplyBody::Refused(refusal) => refusal_len(refusal),
-        ReplyBody::ReportBytes(report) => size(report.as_slice()),
+        ReplyBody::ReportBytes(report) | ReplyBody::Replaced(report) | ReplyBody::Removed(report) =>
+            size(report.as_slice()),
         ReplyBody::ClientFull(_) => 4,
-        ReplyBody::Installed | ReplyBody::Replaced | ReplyBody::Removed | ReplyBody::NoConfig => 0,
+        ReplyBody::Installed | ReplyBody::NoConfig => 0,
     }
 }
 

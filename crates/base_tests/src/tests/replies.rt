@@ -24,6 +24,24 @@ fn writes_body(
     writes(alloc, &reply, bytes)
 }
 
+// Whether a configuration that is replaced is told with its last report, and none of the kind 2.
+fn writes_replaced(alloc: Global) -> Result<bool, AllocError> {
+    let bytes =
+        b"\x10\0\0\0\0\0\0\0\x08\xff\xff\xff\xff\xfe\xff\xff\xff\xff\xff\xff\xff\x09\x08\x07";
+    let last = Seq::from_slice(alloc, &[9, 8, 7])?;
+    writes_body(alloc, -1, -2, ReplyBody::Replaced(last), bytes)
+}
+
+// Whether one that is removed is told so, also with a last report of no bytes, and none of the kind 4.
+fn writes_removed(alloc: Global) -> Result<bool, AllocError> {
+    let bytes = b"\x0f\0\0\0\0\0\0\0\x09\0\0\0\x80\0\0\0\0\0\0\0\x80\x0a\x04";
+    let last = Seq::from_slice(alloc, &[10, 4])?;
+    let told = writes_body(alloc, i32::MIN, i64::MIN, ReplyBody::Removed(last), bytes)?;
+    let empty = b"\x0d\0\0\0\0\0\0\0\x09\x01\0\0\0\x02\0\0\0\0\0\0\0";
+    let empty_told = writes_body(alloc, 1, 2, ReplyBody::Removed(Seq::new(alloc)), empty)?;
+    Ok(told && empty_told)
+}
+
 #[test]
 fn writes_what_became_of_installs_and_removes(rt: HostRuntime) {
     let alloc = rt.alloc();
@@ -33,18 +51,8 @@ fn writes_what_became_of_installs_and_removes(rt: HostRuntime) {
         writes_body(alloc, 10, 7, ReplyBody::Installed, installed),
         &"installed",
     );
-    let replaced = b"\x0d\0\0\0\0\0\0\0\x02\xff\xff\xff\xff\xfe\xff\xff\xff\xff\xff\xff\xff";
-    assert_found(
-        &rt,
-        writes_body(alloc, -1, -2, ReplyBody::Replaced, replaced),
-        &"replaced",
-    );
-    let removed = b"\x0d\0\0\0\0\0\0\0\x04\0\0\0\x80\0\0\0\0\0\0\0\x80";
-    assert_found(
-        &rt,
-        writes_body(alloc, i32::MIN, i64::MIN, ReplyBody::Removed, removed),
-        &"removed",
-    );
+    assert_found(&rt, writes_replaced(alloc), &"replaced");
+    assert_found(&rt, writes_removed(alloc), &"removed");
     let no_config = b"\x0d\0\0\0\0\0\0\0\x05\x01\0\0\0\x02\x01\0\0\0\0\0\0";
     assert_found(
         &rt,

@@ -1,9 +1,11 @@
 -- A row that isn't in the tally is taken into it.
 use Rattle.std.proofs.Common.{inr, sym, ap, ◌∙◌, true}
 use Rattle.std.proofs.lemmas.Option.{same_Some}
+use Rattle.std.proofs.lemmas.Result.{on_ok_weaker}
 use Rattle.dim_table.specs.Table.{with_value_at}
 use Rattle.predicate_state.specs.PredicateTable.{LeafKey}
 use Rattle.duration_metric.specs.declared.inner.Inner.{Inner}
+use Rattle.duration_metric.specs.SumSteps.{with_begun}
 use Rattle.duration_metric.proofs.RecountLemmas.{value_there}
 use Rattle.duration_metric.proofs.counted.count_at.Goals as goal
 
@@ -13,14 +15,17 @@ returns c =
     let place = c.args.place in
     let row : LeafKey × Inner = (c.in-Some._key.now, c.in-Some.row.now) in
     let there = sym c.in-Some.ensures in
-    inr (
+    on_ok_weaker c.push_if.result
+    (λ is. inr (
       row,
       c.in-Some-counts_for.out.now,
       there,
       c.if-row.false,
       sym c.in-Some-counts_for.ensures,
-      c.in_ok-raise.ensures,
+      c.in_ok-is_first.ensures.counts,
+      is ∙ ap (λ b. with_begun c.args.began.now b place) c.in_ok-is_first.ensures.first,
       ap (λ (i : Inner). with_value_at keys place (record i { tallied = true }))
           (same_Some c.in-Some-value_at.inner.now c.in-Some.row.now
           (c.in-Some-value_at.ensures.value ∙ value_there keys.rows place row there)),
-    )
+    ))
+    c.push_if.ensures

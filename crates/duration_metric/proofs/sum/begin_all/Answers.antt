@@ -1,24 +1,25 @@
--- One key more has begun.
-use Rattle.std.proofs.Common.{take, [], arith, sym, subst}
+-- The key of one row more has begun.
+use Rattle.std.proofs.Common.{[], slice_get, take, arith, sym, subst}
+use Rattle.std.specs.List.{flat_map}
 use Rattle.std.proofs.lemmas.List.{take_all}
-use Rattle.duration_metric.specs.SumSteps.{BeginsAll}
-use Rattle.duration_metric.proofs.BeginLemmas.{begins_more}
-use Rattle.duration_metric.proofs.StepLemmas.{next_taken}
+use Rattle.duration_metric.specs.Tallies.{row_out}
+use Rattle.duration_metric.specs.SumSteps.{found_out, BeginsAll}
+use Rattle.duration_metric.proofs.BegunLemmas.{outs-next}
+use Rattle.duration_metric.proofs.BeginLemmas.{begins_out}
 use Rattle.duration_metric.proofs.sum.begin_all.Goals as goal
 
-pub loop-key-preserved : goal.loop-key-preserved
-loop-key-preserved c =
-    let keys = c.args.keys.now in
-    let i = c.loop-key.key-index in
-    subst (λ some. BeginsAll c.args.table.now c.begin.new.table [] some c.args.at)
-    (sym (next_taken keys i c.key-item.result c.loop-key-test.true c.key-item.is))
-    (begins_more c.args.table.now c.loop-key.table c.begin.new.table [] (take i keys) c.key-item.result
-    c.args.at c.loop-key.invariant c.in_ok-begin.ensures)
+pub loop-place-preserved : goal.loop-place-preserved
+loop-place-preserved c =
+    let rows = c.args.keys.now.rows in
+    let place = c.loop-place.place in
+    subst (λ some. BeginsAll c.args.table.now c.begin_out.new.table [] some c.args.at) (sym (outs-next rows place))
+    (begins_out c.args.table.now c.loop-place.table c.begin_out.new.table (flat_map row_out (take place rows))
+    (found_out (slice_get rows place)) c.args.at c.loop-place.invariant c.in_ok-begin_out.ensures)
 
 -- all have
 pub returns : goal.returns
 returns c =
-    let ends = c.loop-key-test.false in
-    let keys = c.args.keys.now in
-    subst (λ some. BeginsAll c.args.table.now c.loop-key.table [] some c.args.at)
-    (take_all c.loop-key.key-index keys (omega (arith, ends))) c.loop-key.invariant
+    let rows = c.args.keys.now.rows in
+    let ends = c.loop-place-test.false in
+    subst (λ some. BeginsAll c.args.table.now c.loop-place.table [] (flat_map row_out some) c.args.at)
+    (take_all c.loop-place.place rows (omega (arith, ends, c.len-place-end.ensures.value))) c.loop-place.invariant

@@ -1,7 +1,6 @@
 -- The write at the name leaves the numbers, and what was found was reported.
-use Rattle.std.proofs.Common.{refl, ap, ◌∙◌, sym, subst}
+use Rattle.std.proofs.Common.{Some, refl, ap, ◌∙◌, sym, subst}
 use Rattle.std.specs.Prelude.{IsSome}
-use Rattle.session_frames.specs.declared.reply.ReplyBody.TheVariants.{ReportBytes}
 use Rattle.hub_core.specs.SharedTable.{AllHeld, places_holding}
 use Rattle.hub_core.specs.Slots.{held_by}
 use Rattle.hub_core.proofs.HeldLemmas.{held-set_value}
@@ -15,7 +14,7 @@ returns-clause-reports c =
     c.in_ok-tree.tree (sym c.in-Some.ensures.value)
     c.in_ok-tree.ensures.reports
     ((c.get_mut.follows.holds c.show.new.self).3 (subst IsSome c.in-Some.ensures.value refl)).0
-    (ap ReportBytes (c.from_vec.ensures ∙ c.in_ok-write.ensures))
+    (ap Some (c.from_vec.ensures ∙ c.in_ok-write.ensures))
 
 pub returns-clause-held : goal.returns-clause-held
 returns-clause-held c = λ uid.

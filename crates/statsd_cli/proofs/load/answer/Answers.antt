@@ -35,6 +35,20 @@ frames-preserved-in_ok-served-4 g c =
     c.in_ok-served.reply c.with-totals.result (c.in_ok-served.ensures.serves way.answered way.stands)
     c.with-totals.ensures.with c.with-totals.ensures.bound
 
+pub frames-preserved-in_ok-served-5 : goal.frames-preserved-in_ok-served-5
+frames-preserved-in_ok-served-5 g c =
+    let way = c.frames.invariant in
+    served_under_way _ _ _ _ _ way c.in-Some.frame _ c.in-Some.ensures c.in_ok-frame.frame c.in_ok-frame.ensures _
+    c.in_ok-served.reply c.with-totals.result (c.in_ok-served.ensures.serves way.answered way.stands)
+    c.with-totals.ensures.with c.with-totals.ensures.bound
+
+pub frames-preserved-in_ok-served-6 : goal.frames-preserved-in_ok-served-6
+frames-preserved-in_ok-served-6 g c =
+    let way = c.frames.invariant in
+    served_under_way _ _ _ _ _ way c.in-Some.frame _ c.in-Some.ensures c.in_ok-frame.frame c.in_ok-frame.ensures _
+    c.in_ok-served.reply c.with-totals.result (c.in_ok-served.ensures.serves way.answered way.stands)
+    c.with-totals.ensures.with c.with-totals.ensures.bound
+
 pub frames-preserved : goal.frames-preserved
 frames-preserved g c =
     let way = c.frames.invariant in

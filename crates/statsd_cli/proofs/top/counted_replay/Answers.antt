@@ -27,7 +27,7 @@ frames-smaller g c =
     comes_nearer _ _ _ _ c.frames.reader c.frames.hub along _ c.in-Ok.given.0 c.in-Some.frame
     (rw c.in-Some.is at (c.in-Ok.ensures.gives along.unended)) (g.K.Sink.state c.put_reply.new.out)
 
--- the reply was put; what it is made of is let go in one of five ways, of which none changes the outcome
+-- the reply was put; what it is made of is let go in one of seven ways, of which none changes the outcome
 pub frames-preserved : goal.frames-preserved
 frames-preserved g c =
     let along = c.frames.invariant in
@@ -78,6 +78,30 @@ frames-preserved-in-Ok-put_reply-3 g c =
 
 pub frames-preserved-in-Ok-put_reply-4 : goal.frames-preserved-in-Ok-put_reply-4
 frames-preserved-in-Ok-put_reply-4 g c =
+    let along = c.frames.invariant in
+    let good = rw c.in-Some.is at c.in-Ok.ensures.faultless in
+    let in_time = subst (λ n. IsInTime n c.in-Some.frame) (clock_along _ _ _ _ c.frames.reader c.frames.hub along)
+    good.1 in
+    let served = c.in-Ok-step.ensures.serves along.frames along.stands in_time in
+    goes_on _ _ _ _ c.frames.reader c.frames.hub along _ c.in-Ok.given.0 c.in-Some.frame
+    (rw c.in-Some.is at (c.in-Ok.ensures.gives along.unended)) _ c.in-Ok-step.stepped.0 c.in-Ok-step.stepped.1
+    served.0 served.1 c.in-Ok-put_reply.ensures.bytes c.in-Ok.ensures.cause.later
+    c.in-Ok-put_reply.ensures.cause.later
+
+pub frames-preserved-in-Ok-put_reply-5 : goal.frames-preserved-in-Ok-put_reply-5
+frames-preserved-in-Ok-put_reply-5 g c =
+    let along = c.frames.invariant in
+    let good = rw c.in-Some.is at c.in-Ok.ensures.faultless in
+    let in_time = subst (λ n. IsInTime n c.in-Some.frame) (clock_along _ _ _ _ c.frames.reader c.frames.hub along)
+    good.1 in
+    let served = c.in-Ok-step.ensures.serves along.frames along.stands in_time in
+    goes_on _ _ _ _ c.frames.reader c.frames.hub along _ c.in-Ok.given.0 c.in-Some.frame
+    (rw c.in-Some.is at (c.in-Ok.ensures.gives along.unended)) _ c.in-Ok-step.stepped.0 c.in-Ok-step.stepped.1
+    served.0 served.1 c.in-Ok-put_reply.ensures.bytes c.in-Ok.ensures.cause.later
+    c.in-Ok-put_reply.ensures.cause.later
+
+pub frames-preserved-in-Ok-put_reply-6 : goal.frames-preserved-in-Ok-put_reply-6
+frames-preserved-in-Ok-put_reply-6 g c =
     let along = c.frames.invariant in
     let good = rw c.in-Some.is at c.in-Ok.ensures.faultless in
     let in_time = subst (λ n. IsInTime n c.in-Some.frame) (clock_along _ _ _ _ c.frames.reader c.frames.hub along)

@@ -9,3 +9,6 @@ returns-in-Lost c = rw c.in-Lost.is (loses c.args.self.now c.saturating_add-self
 pub returns-in-Off : goal.returns-in-Off
 returns-in-Off c = rw c.in-Off.is
     (on_ok_weaker c.admit.result (comes c.args.self.now c.admit.new.table c.in-Off.key c.in-Off.time) c.admit.ensures)
+
+pub returns-in-OffAt : goal.returns-in-OffAt
+returns-in-OffAt c = rw c.in-OffAt.is c.note_at.ensures

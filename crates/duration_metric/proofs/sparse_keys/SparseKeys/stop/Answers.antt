@@ -2,7 +2,7 @@
 use Rattle.std.proofs.Common.{sym, ap, ◌∙◌, arith}
 use Rattle.predicate_state.proofs.KeyCountLemmas.{no_key}
 use Rattle.duration_metric.specs.SparseEntries.{turn_marks, entry_marks}
-use Rattle.duration_metric.proofs.SparseTurnLemmas.{value_of_row, own_row, own_entry, found_entry, stays_started, stops_listed, stops_gone}
+use Rattle.duration_metric.proofs.SparseTurnLemmas.{value_of_row, own_row, own_entry, found_entry, told_after, stays_started, stops_listed, stops_gone}
 use Rattle.duration_metric.proofs.sparse_keys.SparseKeys.stop.Goals as goal
 
 pub returns-in_default : goal.returns-in_default
@@ -36,10 +36,12 @@ returns-then-self c =
     let entry = c.in-Some-pair.entry.now in
     let there = own_row rows place key (c.in-Some-pair._key.now, entry) c.in-Some-pair.ensures
     c.in-Some.ensures.there in
+    let is = c.set_count-then-self.ensures entry (value_of_row rows place (key, entry) there) in
     stops_listed c.args.self.now c.args.at key place entry (sym c.in-Some.ensures.value) there
-    c.set_count-then-self.new.table (turn_marks c.in_ok-turn.turn) (omega (arith, c.ranges.at))
-    (omega (arith, c.if-less-gt0.false, c.add_stop-less.ensures)) c.if-self.true
-    (c.set_count-then-self.ensures entry (value_of_row rows place (key, entry) there)) c.in_ok-turn.ensures
+    c.set_count-then-self.new.table (turn_marks c.set_count-then-self.new.table.rows c.turn_off-turn.result)
+    (omega (arith, c.ranges.at)) (omega (arith, c.if-less-gt0.false, c.add_stop-less.ensures)) c.if-self.true is
+    (c.turn_off-turn.ensures c.set_count-then-self.new.table.rows
+    (told_after c.args.self.now.table c.set_count-then-self.new.table place key entry 0 there is))
 
 -- the key is there
 pub returns-in_default-remove : goal.returns-in_default-remove
@@ -64,6 +66,6 @@ returns c =
     let gone = own_entry rows place key entry c.in-Some-remove.gone (sym c.in-Some.ensures.value) there
     c.in-Some-remove.ensures.value in
     stops_gone c.args.self.now c.args.at key place entry (sym c.in-Some.ensures.value) there c.remove.new.self
-    (turn_marks c.leave.result) (omega (arith, c.ranges.at))
+    (turn_marks c.remove.new.self.rows c.leave.result) (omega (arith, c.ranges.at))
     (omega (arith, c.if-less-gt0.false, c.add_stop-less.ensures)) c.if-self.false c.remove.ensures.rows
-    (c.leave.ensures ∙ ap (entry_marks c.args.at) gone)
+    (c.leave.ensures c.remove.new.self.rows ∙ ap (entry_marks c.args.at) gone)

@@ -5,6 +5,4 @@ use Rattle.duration_metric.proofs.sum.SumProducerProducer.cut.Goals as goal
 
 pub returns : goal.returns
 returns c = on_ok_weaker c.open.result
-    (cuts c.args.self.now c.close.new.self c.open.new.self c.in_ok-active.active c.args.at c.in_ok-active.ensures.keys
-    c.in_ok-close.ensures)
-    c.open.ensures
+    (cuts c.args.self.now c.close.new.self c.open.new.self c.args.at c.in_ok-close.ensures) c.open.ensures

@@ -1,20 +1,11 @@
--- A count that is taken out stays out, or is put back one lower.
-use Rattle.std.proofs.Common.{◌≡◌, Some, None, arith, sym, ap, subst}
+-- A count that is taken out is put back one lower.
+use Rattle.std.proofs.Common.{◌≡◌, Some, arith, sym, ap, subst}
 use Rattle.std.specs.Option.{unwrap_or}
 use Rattle.std.proofs.lemmas.Map.Made.{lookup_key_same}
 use Rattle.atom_record.specs.Equal.{metric_key_exact}
 use Rattle.duration_metric.specs.Tallies.{tally_at, Lowers}
 use Rattle.duration_metric.proofs.TallyStepLemmas.{lowers_by, writes_again}
 use Rattle.duration_metric.proofs.tally.Tally.lower.Goals as goal
-
-pub returns-then-count-le1 : goal.returns-then-count-le1
-returns-then-count-le1 c =
-    let old = c.self.inside.counts.entries in
-    let new = c.swap_remove_entry.new.self.entries in
-    let key = c.args.key.now in
-    let count : c.in-Some.count ≡ tally_at old key = ap (λ found. unwrap_or found 0) c.in-Some.ensures.value in
-    subst (λ l. Lowers l new key) c.self.view_is
-    (lowers_by old new key None c.in-Some.ensures.updates.0 (omega (arith, count, c.if-count-le1.true)))
 
 pub returns : goal.returns
 returns c =

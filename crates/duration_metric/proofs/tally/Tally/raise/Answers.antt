@@ -7,8 +7,8 @@ use Rattle.duration_metric.specs.Tallies.{tally_at, Raises}
 use Rattle.duration_metric.proofs.TallyStepLemmas.{raises_by, writes_again}
 use Rattle.duration_metric.proofs.tally.Tally.raise.Goals as goal
 
-pub returns : goal.returns
-returns c =
+pub returns-clause-counts : goal.returns-clause-counts
+returns-clause-counts c =
     let old = c.self.inside.counts.entries in
     let mid = c.swap_remove_entry.new.self.entries in
     let new = c.insert-2.new.self.entries in

@@ -2,19 +2,17 @@
 use Rattle.std.proofs.Common.{arith, ◌∙◌}
 use Rattle.std.proofs.lemmas.Grind.{merely}
 use Rattle.matcher_table.specs.Contents.{contents_of}
+use Rattle.hub_core.proofs.LastReportLemmas.{keeps_held}
 use Rattle.hub_core.proofs.TableLemmas.{table_held}
 use Rattle.hub_core.proofs.lives.Lives.report.Goals as goal
 
 pub invariant_of-lives : goal.invariant_of-lives
 invariant_of-lives c =
-    let held = c.in_ok-body.ensures.held in
-    let table = table_held c.args.self in
+    let held = c.in_ok-report.ensures.held in
     record {
       counted = λ uid. held uid ∙ c.args.self.counted uid;
       few = λ uid. omega (arith, held uid, c.args.self.few uid);
       above_zero = c.args.self.above_zero;
-      held = merely (record {
-        all = c.in_ok-body.ensures.same.all (contents_of c.args.self.table) table.all;
-        uses = λ s. omega (arith, table.uses s, c.in_ok-body.ensures.same.places s);
-      });
+      held = merely (keeps_held (contents_of c.args.self.table) c.args.self.slots.entries c.report_at.new.slots.entries
+          c.in_ok-report.ensures.same (table_held c.args.self));
     }

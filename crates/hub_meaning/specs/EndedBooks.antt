@@ -1,0 +1,34 @@
+-- The books of a configuration that a command ended: with its last report nothing of it waits any more.
+use Rattle.std.specs.Prelude.{◌≡◌, ℕ, ◌+◌, true, List, [], ◌∷◌, ◌++◌, length}
+use Rattle.std.specs.List.{sum}
+use Rattle.sd_base.specs.Outputs.{outputs}
+use Rattle.config_links.specs.declared.linked.LMetric.{LMetric}
+use Rattle.metric_meaning.specs.Histories.{Reported, Step, Installation}
+use Rattle.metric_meaning.specs.Ways.{Way}
+use Rattle.metric_meaning.specs.CountSteps.{count_way}
+use Rattle.metric_meaning.specs.EventSteps.{event_way}
+use Rattle.metric_meaning.specs.Balance.{told_drops, shown_by_reports, not_kept_by_reports, counted_keys, row_value, event_atoms, row_events}
+
+-- the steps of a configuration that a command ended after these: the last is the report with a cut that was its answer
+abbrev pub ended_after : List Step → ℕ → List Step
+ended_after steps clock = steps ++ record { at = clock; what = Reported true; truths = [] } ∷ []
+
+-- how many were told as dropped by the reports among these steps
+abbrev pub dropped_by_reports : {X K C R : Type 0} → Way X K C R → List Step → ℕ
+dropped_by_reports way steps = sum (outputs (told_drops way) steps)
+
+-- of counts: each key that arrived is in a count that was shown, or in one that wasn't kept, or was told as dropped
+abbrev pub EndedCountsBalance : Installation → LMetric → List Step → ℕ → Type 0
+EndedCountsBalance installed metric steps clock =
+    let way = count_way installed metric in
+    let ended = ended_after steps clock in
+    length (counted_keys installed metric steps)
+    ≡ shown_by_reports way row_value ended + not_kept_by_reports way row_value ended + dropped_by_reports way ended
+
+-- of events: each atom that arrived was shown, or not kept, or told as dropped
+abbrev pub EndedEventsBalance : Installation → LMetric → List Step → ℕ → Type 0
+EndedEventsBalance installed metric steps clock =
+    let way = event_way installed metric in
+    let ended = ended_after steps clock in
+    length (event_atoms installed metric steps)
+    ≡ shown_by_reports way row_events ended + not_kept_by_reports way row_events ended + dropped_by_reports way ended
