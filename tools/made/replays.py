@@ -1,5 +1,7 @@
 """What replays of long sessions cost."""
+import contextlib
 import os
+import re
 import subprocess
 import tempfile
 
@@ -21,12 +23,28 @@ def replayed(program, session, most):
     return Cost(used.ru_utime + used.ru_stime, used.ru_maxrss) if running.returncode == 0 else None
 
 
-def least_cost(program, runs, write, count, most=3600):
-    """The least cost of some replays of a session that is written with this count, or None where one didn't end well."""
+@contextlib.contextmanager
+def written(write, count):
+    """A file with a session that is written with this count."""
     with tempfile.TemporaryDirectory() as folder:
         session = os.path.join(folder, "session")
         with open(session, "wb", buffering=1 << 20) as out:
             write(out, count)
+        yield session
+
+
+def instructions(program, write, count):
+    """The instructions of a replay of such a session by callgrind, or None where it didn't end with the status 0."""
+    words = ["valgrind", "--tool=callgrind", "--callgrind-out-file=/dev/null", program, "replay"]
+    with written(write, count) as session, open(session, "rb") as given:
+        ran = subprocess.run(words, stdin=given, stdout=subprocess.DEVNULL, stderr=subprocess.PIPE, check=False)
+    collected = re.search(rb"Collected : ([0-9]+)", ran.stderr)
+    return int(collected[1]) if ran.returncode == 0 and collected else None
+
+
+def least_cost(program, runs, write, count, most=3600):
+    """The least cost of some replays of such a session, or None where one didn't end well."""
+    with written(write, count) as session:
         costs = [replayed(program, session, most) for _ in range(runs)]
     if None in costs:
         return None

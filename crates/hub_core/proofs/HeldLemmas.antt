@@ -12,12 +12,9 @@ use Rattle.std.proofs.lemmas.List.Quantifiers.{position-Some}
 use Rattle.std.proofs.lemmas.List.Sums.{sum_by-cons, sum_by-swap_remove}
 use Rattle.indexmap.specs.IndexMap.{insert_entry, swap_remove_entry}
 use Rattle.indexmap.proofs.MapLemmas.{some_index, swap_remove_entry-found, swap_remove_entry-missing}
-use Rattle.atom_record.specs.declared.log.LogFrame.{LogFrame}
-use Rattle.client_engine.specs.Handed.{BookOfStates}
 use Rattle.client_engine.specs.declared.live_id.LiveId.{LiveId}
 use Rattle.hub_core.specs.declared.live_instance.LiveInstance.{LiveInstance}
-use Rattle.hub_core.specs.SlotLogs.{AllShown}
-use Rattle.matcher_table.specs.Tables.{SlotTable}
+use Rattle.hub_core.specs.SharedTable.{AllKeepSlots}
 use Rattle.hub_core.specs.Slots.{live_id, same_id, slot_at, listed_at, listed, count_at, held_by}
 
 -- names that are the same are of one client
@@ -159,16 +156,15 @@ held-found name (row ∷ rows) there = by_case (same_id name row.0) refl there (
       omega (arith, held-cons name.uid row rows, one)
   by_case false e h rest = omega (arith, held-cons name.uid row rows, rest h)
 
--- a frame of the log leaves the number
-pub held-logged : (table : SlotTable) (frame : LogFrame) (book : BookOfStates) (uid : ℤ)
-    (olds news : List (LiveId × LiveInstance)) → AllShown table frame book olds news
+-- slots that are kept leave the number
+pub held-kept : (uid : ℤ) (olds news : List (LiveId × LiveInstance)) → AllKeepSlots olds news
     → held_by uid news ≡ held_by uid olds
-held-logged table frame book uid [] [] all = refl
-held-logged table frame book uid [] (new ∷ news) all = absurd all
-held-logged table frame book uid (old ∷ olds) [] all = absurd all
-held-logged table frame book uid (old ∷ olds) (new ∷ news) all =
-    let one : one_of uid new ≡ one_of uid old = ap (λ (n : LiveId). cond (int_eq n.uid uid) 1 0) all.0 in
-    omega (arith, held-cons uid old olds, held-cons uid new news, one, held-logged table frame book uid olds news all.2)
+held-kept uid [] [] kept = refl
+held-kept uid [] (new ∷ news) kept = absurd kept
+held-kept uid (old ∷ olds) [] kept = absurd kept
+held-kept uid (old ∷ olds) (new ∷ news) kept =
+    let one : one_of uid new ≡ one_of uid old = ap (λ (n : LiveId). cond (int_eq n.uid uid) 1 0) kept.0 in
+    omega (arith, held-cons uid old olds, held-cons uid new news, one, held-kept uid olds news kept.2)
 
 -- both facts of one client
 abbrev IsCounted : ℤ → List (LiveId × LiveInstance) → List (ℤ × ℕ) → Type 0

@@ -1,15 +1,40 @@
 -- The loop over the slots.
-use Rattle.std.proofs.Common.{◌≡◌, ℕ, zero, suc, ◌+◌, List, [], ◌∷◌, length, slice_get, Some, None, refl, sym, subst, arith}
+use Rattle.std.proofs.Common.{◌≡◌, ℕ, zero, suc, ◌+◌, List, [], ◌∷◌, length, slice_get, Some, None, refl, sym, ap, subst, ◌∙◌, arith}
 use Rattle.std.specs.Map.{values_of}
 use Rattle.std.proofs.lemmas.List.Elements.{All-head, All-tail}
+use Rattle.std.proofs.lemmas.Option.{none-some, same_Some}
 use Rattle.atom_record.specs.declared.log.LogFrame.{LogFrame}
 use Rattle.indexmap.specs.IndexMap.{set_value_at}
 use Rattle.matcher_table.specs.Tables.{SlotTable}
 use Rattle.client_engine.specs.Handed.{BookOfStates}
 use Rattle.client_engine.specs.declared.live_id.LiveId.{LiveId}
 use Rattle.hub_core.specs.declared.live_instance.LiveInstance.{LiveInstance}
-use Rattle.hub_core.specs.SharedTable.{IsHeldIn, AllHeld}
+use Rattle.hub_core.specs.SharedTable.{IsHeldIn, AllHeld, HasSameSlots, AllKeepSlots}
 use Rattle.hub_core.specs.SlotLogs.{IsShown, AllShown}
+
+-- what hasn't changed keeps its slots
+pub kept-refl : (rows : List (LiveId × LiveInstance)) → AllKeepSlots rows rows
+kept-refl [] = tt
+kept-refl (row ∷ rows) = (refl, record { slots = refl; matchers = refl }, kept-refl rows)
+
+-- and so do all where one of them changed that keeps its own
+pub kept-next : (n : ℕ) (olds news : List (LiveId × LiveInstance)) (now new : LiveInstance) → AllKeepSlots olds news
+    → slice_get (values_of news) n ≡ Some now → HasSameSlots now new → AllKeepSlots olds (set_value_at news n new)
+kept-next zero [] [] now new kept at same = absurd (none-some now at)
+kept-next (suc n) [] [] now new kept at same = absurd (none-some now at)
+kept-next n [] (it ∷ news) now new kept at same = absurd kept
+kept-next n (old ∷ olds) [] now new kept at same = absurd kept
+kept-next zero (old ∷ olds) (it ∷ news) now new kept at same =
+    let is : it.1 ≡ now = same_Some it.1 now at in (
+      kept.0,
+      record {
+        slots = same.slots ∙ ap (λ (live : LiveInstance). live.slots) (sym is) ∙ kept.1.slots;
+        matchers = same.matchers ∙ ap (λ (live : LiveInstance). live.instance.matchers) (sym is) ∙ kept.1.matchers;
+      },
+      kept.2,
+    )
+kept-next (suc n) (old ∷ olds) (it ∷ news) now new kept at same =
+    (kept.0, kept.1, kept-next n olds news now new kept.2 at same)
 
 module _ (table : SlotTable) (frame : LogFrame) (book : BookOfStates) where
   -- the first so many slots took the frame, and the others stay

@@ -10,7 +10,6 @@ use Rattle.std.proofs.lemmas.List.Sums.{sum_by-cons, sum_by-swap_remove}
 use Rattle.std.proofs.lemmas.Option.{get_or_from_slice_get, slice_get-get_or, same_Some}
 use Rattle.indexmap.specs.IndexMap.{insert_entry, swap_remove_entry}
 use Rattle.indexmap.proofs.MapLemmas.{Found-position, Missing-position, swap_remove_entry-found, swap_remove_entry-missing}
-use Rattle.atom_record.specs.declared.log.LogFrame.{LogFrame}
 use Rattle.config_links.specs.declared.linked.LMatcher.{LMatcher}
 use Rattle.link_graph.specs.Links.{AreInRange, HasNoCycle}
 use Rattle.matcher_truths.specs.MatcherTruths.{named_places}
@@ -21,12 +20,10 @@ use Rattle.matcher_table.proofs.IndexLaws.{matchers_set}
 use Rattle.held_slots.specs.Holdings.{Holds}
 use Rattle.held_slots.specs.HoldingSteps.{KeepsLive, AddsUses, ReleasesAll}
 use Rattle.held_slots.proofs.HoldingLaws.{hold_keeps, release_keeps}
-use Rattle.client_engine.specs.Handed.{BookOfStates}
 use Rattle.client_engine.specs.declared.live_id.LiveId.{LiveId}
 use Rattle.hub_core.specs.declared.live_instance.LiveInstance.{LiveInstance}
 use Rattle.hub_core.specs.declared.lives.Lives.{Lives}
-use Rattle.hub_core.specs.SharedTable.{IsHeldIn, AllHeld, places_holding, IsHeldTable, slots_of, HasSameSlots}
-use Rattle.hub_core.specs.SlotLogs.{AllShown}
+use Rattle.hub_core.specs.SharedTable.{IsHeldIn, AllHeld, places_holding, IsHeldTable, slots_of, HasSameSlots, AllKeepSlots}
 use Rattle.hub_core.specs.Slots.{same_id, slot_at}
 use Rattle.hub_core.proofs.HeldLemmas.{nothing}
 
@@ -209,31 +206,29 @@ all-release old new released releases (row ∷ rows) enough all =
     (all-release old new released releases rows (λ s. omega (arith, places-cons s row rows, enough s))
     (All-tail (RowHeld old) row rows all))
 
--- all took a frame: they hold what they held
-pub all-shown : (table shown_by : SlotTable) (frame : LogFrame) (book : BookOfStates)
-    (olds news : List (LiveId × LiveInstance)) → AllShown shown_by frame book olds news → AllHeld table olds
-    → AllHeld table news
-all-shown table shown_by frame book [] [] shown all = all
-all-shown table shown_by frame book [] (new ∷ news) shown all = absurd shown
-all-shown table shown_by frame book (old ∷ olds) [] shown all = absurd shown
-all-shown table shown_by frame book (old ∷ olds) (new ∷ news) shown all =
+-- all keep their slots: they hold what they held
+pub all-kept : (table : SlotTable) (olds news : List (LiveId × LiveInstance)) → AllKeepSlots olds news
+    → AllHeld table olds → AllHeld table news
+all-kept table [] [] kept all = all
+all-kept table [] (new ∷ news) kept all = absurd kept
+all-kept table (old ∷ olds) [] kept all = absurd kept
+all-kept table (old ∷ olds) (new ∷ news) kept all =
     All-cons (RowHeld table) new news
-    (same_held table old.1 new.1 shown.1.same (All-head (RowHeld table) old olds all))
-    (all-shown table shown_by frame book olds news shown.2 (All-tail (RowHeld table) old olds all))
+    (same_held table old.1 new.1 kept.1 (All-head (RowHeld table) old olds all))
+    (all-kept table olds news kept.2 (All-tail (RowHeld table) old olds all))
 
-pub places-shown : (s : ℕ) (table : SlotTable) (frame : LogFrame) (book : BookOfStates)
-    (olds news : List (LiveId × LiveInstance)) → AllShown table frame book olds news
+pub places-kept : (s : ℕ) (olds news : List (LiveId × LiveInstance)) → AllKeepSlots olds news
     → places_holding s news ≡ places_holding s olds
-places-shown s table frame book [] [] shown = refl
-places-shown s table frame book [] (new ∷ news) shown = absurd shown
-places-shown s table frame book (old ∷ olds) [] shown = absurd shown
-places-shown s table frame book (old ∷ olds) (new ∷ news) shown =
+places-kept s [] [] kept = refl
+places-kept s [] (new ∷ news) kept = absurd kept
+places-kept s (old ∷ olds) [] kept = absurd kept
+places-kept s (old ∷ olds) (new ∷ news) kept =
     omega (
       arith,
       places-cons s old olds,
       places-cons s new news,
-      ap (times_among s) shown.1.same.slots,
-      places-shown s table frame book olds news shown.2,
+      ap (times_among s) kept.1.slots,
+      places-kept s olds news kept.2,
     )
 
 -- A configuration goes in: it is held first, and then what stood there is released.

@@ -1,5 +1,5 @@
 -- The table of matchers that all live configurations share, and what each of them holds of it.
-use Rattle.std.specs.Prelude.{◌≡◌, ℕ, List, [], Option, Some, None, sum_by}
+use Rattle.std.specs.Prelude.{◌≡◌, ℕ, List, [], ◌∷◌, Option, Some, None, sum_by}
 use Rattle.std.specs.List.{All}
 use Rattle.link_graph.specs.Links.{AreInRange, HasNoCycle}
 use Rattle.matcher_truths.specs.MatcherTruths.{named_places}
@@ -38,6 +38,13 @@ slots_of (Some live) = live.slots
 pub record HasSameSlots (old new : LiveInstance) : Type 0 where
   pub slots : new.slots ≡ old.slots
   pub matchers : new.instance.matchers ≡ old.instance.matchers
+
+-- each of these keeps its name, its slots and its matchers
+abbrev pub AllKeepSlots : List (LiveId × LiveInstance) → List (LiveId × LiveInstance) → Type 0
+AllKeepSlots [] [] = Unit {0}
+AllKeepSlots (old ∷ olds) (new ∷ news) = (new.0 ≡ old.0) × HasSameSlots old.1 new.1 × AllKeepSlots olds news
+AllKeepSlots [] (new ∷ news) = ⊥
+AllKeepSlots (old ∷ olds) [] = ⊥
 
 -- what is held of a table by these is held by those
 pub record KeepsSlots (olds news : List (LiveId × LiveInstance)) : Type 0 where

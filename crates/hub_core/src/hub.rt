@@ -1,5 +1,5 @@
 //! The hub of all clients, one frame at a time.
-ghost use Rattle.std.specs.Prelude.{◌≡◌, ◌≤◌, ◌+◌, ℤ, List, [], ◌++◌, ◌∷◌, IfOk};
+ghost use Rattle.std.specs.Prelude.{◌≡◌, ◌≤◌, ◌+◌, ℤ, List, [], ◌++◌, ◌∷◌, IfOk, OnOk};
 ghost use Rattle.session_frames.specs.declared.frame.Frame.TheVariants.{Log};
 ghost use Rattle.session_frames.specs.Faultless.{IsFaultlessLog};
 ghost use Rattle.session_frames.specs.declared.frame.Frame.{Frame};
@@ -19,6 +19,7 @@ use condition_links::Steps;
 use matcher_eval::Judge;
 use session_frames::{Frame, Reply, time_of};
 use std::alloc::{AllocError, Global};
+use std::mem;
 use std::sync::ledger::Ledger;
 
 /// All clients with their live configurations, the clock, the books of the log, and the judge. It keeps no frame.
@@ -63,7 +64,7 @@ impl<J: Judge> Hub<J> {
     /// Takes in a frame; a command is answered. After want of memory the hub is gone.
     #[tactic(auto, using(hub_meaning::proofs::ClientIsolationLemmas::equal_own_frames))]
     pub fn step<L: Ledger>(
-        self,
+        mut self,
         frame: Frame,
         asks: &mut Steps<L>,
     ) -> Result<(Hub<J>, Option<Reply>), AllocError>
@@ -87,7 +88,8 @@ impl<J: Judge> Hub<J> {
         // What other clients do is no matter: equal own frames of a client have equal replies.
         ensures isolated { EqualOwnFramesEqualReplies J.says }
     {
-        self.serve(frame, asks)
+        let reply = self.serve(frame, asks)?;
+        Ok((self, reply))
     }
 
     /// The law between this hub and a client's private run, which is a hub of the log and that client's commands alone:
@@ -99,16 +101,16 @@ impl<J: Judge> Hub<J> {
 
     // Takes in a frame of the log: the book of states takes it, then it comes to every configuration as it is shown,
     // and what it pulled is recorded last.
-    fn log<L: Ledger>(mut self, frame: LogFrame, asks: &mut Steps<L>) -> Result<Hub<J>, AllocError>
+    fn log<L: Ledger>(&mut self, frame: LogFrame, asks: &mut Steps<L>) -> Result<(), AllocError>
         requires faultless { IsFaultlessLog frame }
-        ensures stands { (frames : List Frame) → HubStandsFor J.says self frames
+        ensures stands { (frames : List Frame) → HubStandsFor J.says self.old frames
             → clock_of frames ≤ log_time frame
-            → IfOk result (λ new. HubStandsFor J.says new (frames ++ Log frame ∷ [])) }
-        ensures asked { IfOk result (λ new. HaveRisen (asked_in (Log frame) self)
-            (J.ticks (judge_of self)) (J.ticks (judge_of new))) }
-        ensures questions { (frames : List Frame) → HubStandsFor J.says self frames
+            → OnOk result (HubStandsFor J.says self.new (frames ++ Log frame ∷ [])) }
+        ensures asked { OnOk result (HaveRisen (asked_in (Log frame) self.old)
+            (J.ticks (judge_of self.old)) (J.ticks (judge_of self.new))) }
+        ensures questions { (frames : List Frame) → HubStandsFor J.says self.old frames
             → clock_of frames ≤ log_time frame
-            → asks.new ≤ asks.old + questions_in J.says self frames (Log frame) }
+            → asks.new ≤ asks.old + questions_in J.says self.old frames (Log frame) }
     {
         self.clock = LogClock {
             time: time_of(&frame),
@@ -116,49 +118,51 @@ impl<J: Judge> Hub<J> {
         let instead = self.books.shown_instead(&frame);
         self.books.tell(&frame)?;
         let shown = shown_of(&instead, &frame);
-        let lives = self.lives;
         let states = &self.books.states;
-        self.lives = lives.log(&mut self.judge, shown, states, &mut self.truths, asks)?;
-        self.books.record(frame)?;
-        Ok(self)
+        self.lives
+            .log(&mut self.judge, shown, states, &mut self.truths, asks)?;
+        self.books.record(frame)
     }
 
-    // Takes in a frame of its kind.
+    /// The same as a step, where the hub stands: nothing of it is moved. After want of memory it is of no use.
     #[tactic(auto, using(matcher_table::proofs::EvaluationLaws::rises_by_none))]
-    fn serve<L: Ledger>(
-        mut self,
+    pub fn serve<L: Ledger>(
+        &mut self,
         frame: Frame,
         asks: &mut Steps<L>,
-    ) -> Result<(Hub<J>, Option<Reply>), AllocError>
+    ) -> Result<Option<Reply>, AllocError>
         requires faultless { IsFaultless frame }
-        ensures serves { (frames : List Frame) → HubStandsFor J.says self frames
-            → IsInTime (clock_of frames) frame → IfOk result (λ r. HubStandsFor J.says r.0 (frames ++ frame ∷ [])
-            × (r.1 ≡ reply_to J.says frames frame)) }
-        ensures asked { IfOk result (λ r. HaveRisen (asked_in frame self)
-            (J.ticks (judge_of self)) (J.ticks (judge_of r.0))) }
-        ensures questions { (frames : List Frame) → HubStandsFor J.says self frames
+        ensures serves { (frames : List Frame) → HubStandsFor J.says self.old frames
             → IsInTime (clock_of frames) frame
-            → asks.new ≤ asks.old + questions_in J.says self frames frame }
+            → IfOk result (λ reply. HubStandsFor J.says self.new (frames ++ frame ∷ [])
+            × (reply ≡ reply_to J.says frames frame)) }
+        ensures asked { OnOk result (HaveRisen (asked_in frame self.old)
+            (J.ticks (judge_of self.old)) (J.ticks (judge_of self.new))) }
+        ensures questions { (frames : List Frame) → HubStandsFor J.says self.old frames
+            → IsInTime (clock_of frames) frame
+            → asks.new ≤ asks.old + questions_in J.says self.old frames frame }
     {
         match frame {
-            Frame::Log(frame) => Ok((self.log(frame, asks)?, None)),
+            Frame::Log(frame) => {
+                self.log(frame, asks)?;
+                Ok(None)
+            }
             Frame::Install { uid, id, config } => {
                 let read = read_config(self.alloc, config.as_slice())?;
                 let name = LiveId { uid, id };
-                let lives = self.lives;
                 let now = self.clock.time;
+                let lives = mem::replace(&mut self.lives, Lives::new(self.alloc));
                 let (lives, body) = lives.install(self.alloc, now, &self.books, name, read)?;
                 self.lives = lives;
-                Ok((self, Some(Reply { uid, id, body })))
+                Ok(Some(Reply { uid, id, body }))
             }
             Frame::Remove { uid, id } => {
                 let name = LiveId { uid, id };
-                let lives = self.lives;
                 let now = self.clock.time;
-                let states = &self.books.states;
-                let (lives, body) = lives.remove(self.alloc, now, states, name)?;
+                let lives = mem::replace(&mut self.lives, Lives::new(self.alloc));
+                let (lives, body) = lives.remove(self.alloc, now, &self.books.states, name)?;
                 self.lives = lives;
-                Ok((self, Some(Reply { uid, id, body })))
+                Ok(Some(Reply { uid, id, body }))
             }
             Frame::Report {
                 uid,
@@ -170,11 +174,10 @@ impl<J: Judge> Hub<J> {
                     include_current,
                     at: self.clock.time,
                 };
-                let lives = self.lives;
-                let states = &self.books.states;
-                let (lives, body) = lives.report(self.alloc, request, states)?;
+                let lives = mem::replace(&mut self.lives, Lives::new(self.alloc));
+                let (lives, body) = lives.report(self.alloc, request, &self.books.states)?;
                 self.lives = lives;
-                Ok((self, Some(Reply { uid, id, body })))
+                Ok(Some(Reply { uid, id, body }))
             }
         }
     }

@@ -69,6 +69,7 @@ impl LiveInstance {
         requires sound { IsFaultlessLog frame.now }
         requires live { AreLive (contents_of table.now) self.old.slots }
         ensures shown { OnOk result (IsShown (contents_of table.now) frame.now states.now self.old self.new) }
+        ensures same { HasSameSlots self.old self.new }
         ensures asks { LiveAsks (contents_of table.now) frame.now states.now self.old asks.old asks.new }
     {
         self.results(table, frame, truths)?;

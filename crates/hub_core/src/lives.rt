@@ -62,35 +62,25 @@ impl Lives {
         }
     }
 
-    /// A frame of the log comes to the table, and then to every configuration.
+    /// A frame of the log comes to the table, and then to every configuration. After want of memory they are of no use.
     pub fn log<J: Judge, L: Ledger>(
-        self,
+        &mut self,
         judge: &mut J,
         frame: &LogFrame,
         states: &StateBook,
         truths: &mut Vec<bool>,
         asks: &mut Steps<L>,
-    ) -> Result<Lives, AllocError>
+    ) -> Result<(), AllocError>
         requires sound { IsFaultlessLog frame.now }
-        ensures slots { IfOk result (λ new.
-            AllLog J.says frame.now states.now self.slots.entries new.slots.entries) }
-        ensures counts { IfOk result (λ new. new.counts ≡ self.counts) }
-        ensures ticks { OnOk result (HaveRisen (asked_by_all frame.now self.slots.entries)
+        ensures slots { OnOk result
+            (AllLog J.says frame.now states.now self.old.slots.entries self.new.slots.entries) }
+        ensures counts { self.new.counts ≡ self.old.counts }
+        ensures ticks { OnOk result (HaveRisen (asked_by_all frame.now self.old.slots.entries)
             (J.ticks judge.old) (J.ticks judge.new)) }
-        ensures asks { AllAskBy J.says frame.now states.now self.slots.entries asks.old asks.new }
+        ensures asks { AllAskBy J.says frame.now states.now self.old.slots.entries asks.old asks.new }
     {
-        let Lives {
-            mut slots,
-            counts,
-            mut table,
-        } = self;
-        evaluate(&mut table, judge, frame);
-        log_all(&mut slots, &table, frame, states, truths, asks)?;
-        Ok(Lives {
-            slots,
-            counts,
-            table,
-        })
+        evaluate(&mut self.table, judge, frame);
+        log_all(&mut self.slots, &self.table, frame, states, truths, asks)
     }
 
     /// What was read of a configuration goes where the client's configuration of that id stands, or it is new.

@@ -3,7 +3,7 @@ ghost use Rattle.std.specs.Prelude.{OnOk};
 ghost use Rattle.session_frames.specs.Faultless.{IsFaultlessLog};
 ghost use Rattle.matcher_table.specs.Truths.{HaveRisen};
 ghost use Rattle.matcher_table.specs.Contents.{contents_of};
-ghost use Rattle.hub_core.specs.SharedTable.{AllHeld};
+ghost use Rattle.hub_core.specs.SharedTable.{AllHeld, AllKeepSlots};
 ghost use Rattle.hub_core.specs.SlotLogs.{EvaluatesFor, questions_for, AllShown};
 ghost use Rattle.hub_core.specs.LiveQuestions.{AllAsk};
 
@@ -30,7 +30,8 @@ pub fn evaluate<J: Judge>(table: &mut MatcherTable, judge: &mut J, frame: &LogFr
     }
 }
 
-/// A frame of the log comes to each configuration, with the results of its slots.
+/// A frame of the log comes to each configuration, with the results of its slots. Each keeps these, also where memory is
+/// wanting.
 pub fn log_all<L: Ledger>(
     slots: &mut IndexMap<LiveId, LiveInstance>,
     table: &MatcherTable,
@@ -43,6 +44,7 @@ pub fn log_all<L: Ledger>(
     requires held { AllHeld (contents_of table.now) slots.old.entries }
     ensures shown { OnOk result
         (AllShown (contents_of table.now) frame.now states.now slots.old.entries slots.new.entries) }
+    ensures same { AllKeepSlots slots.old.entries slots.new.entries }
     ensures asks { AllAsk (contents_of table.now) frame.now states.now slots.old.entries asks.old asks.new }
 {
     for place in 0..slots.len() {

@@ -66,8 +66,7 @@ fn answer<L: Ledger>(
             return Ok(totals);
         };
         let frame = frame.frame(alloc)?;
-        let (served, reply) = hub.step(frame, &mut asks)?;
-        hub = served;
+        let reply = hub.serve(frame, &mut asks)?;
         totals = totals.with(&reply);
     }
 }

@@ -154,15 +154,12 @@ fn counted_replay<S: Source, K: Sink, L: Ledger>(
         let Some(frame) = frame else {
             return Ending::Done;
         };
-        let (stepped, reply) = match hub.step(frame, &mut asks) {
-            Ok(stepped) => stepped,
+        let reply = match hub.serve(frame, &mut asks) {
+            Ok(reply) => reply,
             Err(_) => return Ending::NoMemory,
         };
         match put_reply(&reply, out) {
-            Ok(()) => {
-                reader = next;
-                hub = stepped;
-            }
+            Ok(()) => reader = next,
             Err(_) => return Ending::WriteFault,
         }
     }

@@ -34,9 +34,9 @@ frames-preserved g c =
     let good = rw c.in-Some.is at c.in-Ok.ensures.faultless in
     let in_time = subst (λ n. IsInTime n c.in-Some.frame) (clock_along _ _ _ _ c.frames.reader c.frames.hub along)
     good.1 in
-    let served = c.in-Ok-step.ensures.serves along.frames along.stands in_time in
+    let served = c.in-Ok-serve.ensures.serves along.frames along.stands in_time in
     goes_on _ _ _ _ c.frames.reader c.frames.hub along _ c.in-Ok.given.0 c.in-Some.frame
-    (rw c.in-Some.is at (c.in-Ok.ensures.gives along.unended)) _ c.in-Ok-step.stepped.0 c.in-Ok-step.stepped.1
+    (rw c.in-Some.is at (c.in-Ok.ensures.gives along.unended)) _ c.serve.new.self c.in-Ok-serve.reply
     served.0 served.1 c.in-Ok-put_reply.ensures.bytes c.in-Ok.ensures.cause.later
     c.in-Ok-put_reply.ensures.cause.later
 
@@ -46,9 +46,9 @@ frames-preserved-in-Ok-put_reply g c =
     let good = rw c.in-Some.is at c.in-Ok.ensures.faultless in
     let in_time = subst (λ n. IsInTime n c.in-Some.frame) (clock_along _ _ _ _ c.frames.reader c.frames.hub along)
     good.1 in
-    let served = c.in-Ok-step.ensures.serves along.frames along.stands in_time in
+    let served = c.in-Ok-serve.ensures.serves along.frames along.stands in_time in
     goes_on _ _ _ _ c.frames.reader c.frames.hub along _ c.in-Ok.given.0 c.in-Some.frame
-    (rw c.in-Some.is at (c.in-Ok.ensures.gives along.unended)) _ c.in-Ok-step.stepped.0 c.in-Ok-step.stepped.1
+    (rw c.in-Some.is at (c.in-Ok.ensures.gives along.unended)) _ c.serve.new.self c.in-Ok-serve.reply
     served.0 served.1 c.in-Ok-put_reply.ensures.bytes c.in-Ok.ensures.cause.later
     c.in-Ok-put_reply.ensures.cause.later
 
@@ -58,9 +58,9 @@ frames-preserved-in-Ok-put_reply-2 g c =
     let good = rw c.in-Some.is at c.in-Ok.ensures.faultless in
     let in_time = subst (λ n. IsInTime n c.in-Some.frame) (clock_along _ _ _ _ c.frames.reader c.frames.hub along)
     good.1 in
-    let served = c.in-Ok-step.ensures.serves along.frames along.stands in_time in
+    let served = c.in-Ok-serve.ensures.serves along.frames along.stands in_time in
     goes_on _ _ _ _ c.frames.reader c.frames.hub along _ c.in-Ok.given.0 c.in-Some.frame
-    (rw c.in-Some.is at (c.in-Ok.ensures.gives along.unended)) _ c.in-Ok-step.stepped.0 c.in-Ok-step.stepped.1
+    (rw c.in-Some.is at (c.in-Ok.ensures.gives along.unended)) _ c.serve.new.self c.in-Ok-serve.reply
     served.0 served.1 c.in-Ok-put_reply.ensures.bytes c.in-Ok.ensures.cause.later
     c.in-Ok-put_reply.ensures.cause.later
 
@@ -70,9 +70,9 @@ frames-preserved-in-Ok-put_reply-3 g c =
     let good = rw c.in-Some.is at c.in-Ok.ensures.faultless in
     let in_time = subst (λ n. IsInTime n c.in-Some.frame) (clock_along _ _ _ _ c.frames.reader c.frames.hub along)
     good.1 in
-    let served = c.in-Ok-step.ensures.serves along.frames along.stands in_time in
+    let served = c.in-Ok-serve.ensures.serves along.frames along.stands in_time in
     goes_on _ _ _ _ c.frames.reader c.frames.hub along _ c.in-Ok.given.0 c.in-Some.frame
-    (rw c.in-Some.is at (c.in-Ok.ensures.gives along.unended)) _ c.in-Ok-step.stepped.0 c.in-Ok-step.stepped.1
+    (rw c.in-Some.is at (c.in-Ok.ensures.gives along.unended)) _ c.serve.new.self c.in-Ok-serve.reply
     served.0 served.1 c.in-Ok-put_reply.ensures.bytes c.in-Ok.ensures.cause.later
     c.in-Ok-put_reply.ensures.cause.later
 
@@ -82,9 +82,9 @@ frames-preserved-in-Ok-put_reply-4 g c =
     let good = rw c.in-Some.is at c.in-Ok.ensures.faultless in
     let in_time = subst (λ n. IsInTime n c.in-Some.frame) (clock_along _ _ _ _ c.frames.reader c.frames.hub along)
     good.1 in
-    let served = c.in-Ok-step.ensures.serves along.frames along.stands in_time in
+    let served = c.in-Ok-serve.ensures.serves along.frames along.stands in_time in
     goes_on _ _ _ _ c.frames.reader c.frames.hub along _ c.in-Ok.given.0 c.in-Some.frame
-    (rw c.in-Some.is at (c.in-Ok.ensures.gives along.unended)) _ c.in-Ok-step.stepped.0 c.in-Ok-step.stepped.1
+    (rw c.in-Some.is at (c.in-Ok.ensures.gives along.unended)) _ c.serve.new.self c.in-Ok-serve.reply
     served.0 served.1 c.in-Ok-put_reply.ensures.bytes c.in-Ok.ensures.cause.later
     c.in-Ok-put_reply.ensures.cause.later
 
@@ -94,9 +94,9 @@ frames-preserved-in-Ok-put_reply-5 g c =
     let good = rw c.in-Some.is at c.in-Ok.ensures.faultless in
     let in_time = subst (λ n. IsInTime n c.in-Some.frame) (clock_along _ _ _ _ c.frames.reader c.frames.hub along)
     good.1 in
-    let served = c.in-Ok-step.ensures.serves along.frames along.stands in_time in
+    let served = c.in-Ok-serve.ensures.serves along.frames along.stands in_time in
     goes_on _ _ _ _ c.frames.reader c.frames.hub along _ c.in-Ok.given.0 c.in-Some.frame
-    (rw c.in-Some.is at (c.in-Ok.ensures.gives along.unended)) _ c.in-Ok-step.stepped.0 c.in-Ok-step.stepped.1
+    (rw c.in-Some.is at (c.in-Ok.ensures.gives along.unended)) _ c.serve.new.self c.in-Ok-serve.reply
     served.0 served.1 c.in-Ok-put_reply.ensures.bytes c.in-Ok.ensures.cause.later
     c.in-Ok-put_reply.ensures.cause.later
 
@@ -106,9 +106,9 @@ frames-preserved-in-Ok-put_reply-6 g c =
     let good = rw c.in-Some.is at c.in-Ok.ensures.faultless in
     let in_time = subst (λ n. IsInTime n c.in-Some.frame) (clock_along _ _ _ _ c.frames.reader c.frames.hub along)
     good.1 in
-    let served = c.in-Ok-step.ensures.serves along.frames along.stands in_time in
+    let served = c.in-Ok-serve.ensures.serves along.frames along.stands in_time in
     goes_on _ _ _ _ c.frames.reader c.frames.hub along _ c.in-Ok.given.0 c.in-Some.frame
-    (rw c.in-Some.is at (c.in-Ok.ensures.gives along.unended)) _ c.in-Ok-step.stepped.0 c.in-Ok-step.stepped.1
+    (rw c.in-Some.is at (c.in-Ok.ensures.gives along.unended)) _ c.serve.new.self c.in-Ok-serve.reply
     served.0 served.1 c.in-Ok-put_reply.ensures.bytes c.in-Ok.ensures.cause.later
     c.in-Ok-put_reply.ensures.cause.later
 
@@ -118,14 +118,14 @@ returns-in-Err-put_reply g c =
     let good = rw c.in-Some.is at c.in-Ok.ensures.faultless in
     let in_time = subst (λ n. IsInTime n c.in-Some.frame) (clock_along _ _ _ _ c.frames.reader c.frames.hub along)
     good.1 in
-    let served = c.in-Ok-step.ensures.serves along.frames along.stands in_time in
+    let served = c.in-Ok-serve.ensures.serves along.frames along.stands in_time in
     let failed = c.in-Err-put_reply.ensures in
     ends_in_reply _ _ _ _ c.frames.reader c.frames.hub along _ c.in-Ok.given.0 c.in-Some.frame
-    (rw c.in-Some.is at (c.in-Ok.ensures.gives along.unended)) _ c.in-Ok-step.stepped.1 served.1 failed.bytes
+    (rw c.in-Some.is at (c.in-Ok.ensures.gives along.unended)) _ c.in-Ok-serve.reply served.1 failed.bytes
     failed.cause.failed
 
-pub returns-in-Err-step : goal.returns-in-Err-step
-returns-in-Err-step g c =
+pub returns-in-Err-serve : goal.returns-in-Err-serve
+returns-in-Err-serve g c =
     let along = c.frames.invariant in
     ends_in_step _ _ _ _ c.frames.reader c.frames.hub along _ c.in-Ok.given.0 c.in-Some.frame
     (rw c.in-Some.is at (c.in-Ok.ensures.gives along.unended)) _ along.written

@@ -1,5 +1,6 @@
 -- The frame is told, shown and recorded, and the hub stands for the log with it.
 use Rattle.std.proofs.Common.{◌≡◌, ◌∙◌, ◌++◌, ◌∷◌, [], sym, ap, subst}
+use Rattle.std.proofs.lemmas.Result.{on_ok_weaker}
 use Rattle.state_slicer.specs.StateBooks.{StateBookStandsFor}
 use Rattle.pull_book.specs.PullBooks.{PullBookStandsFor}
 use Rattle.matcher_table.specs.Truths.{HaveRisen}
@@ -20,48 +21,42 @@ returns-clause-stands g c = λ frames h in_time.
     let shown_is : shown ≡ shown_as log frame =
     c.shown_of-shown.ensures ∙ c.shown_instead-instead.ensures.shown log h.books.pulls in
     let told = c.in_ok-tell.ensures.states log h.books.states in
-    let pulls = c.in_ok-record.ensures.pulls log
-    (subst (λ book. PullBookStandsFor book log) (sym c.in_ok-tell.ensures.pulls) h.books.pulls) in
-    hub_log g.J.Judge.says c.args.self _ frames h frame shown in_time c.time_of.ensures shown_is
+    let pulls = subst (λ book. PullBookStandsFor book log) (sym c.in_ok-tell.ensures.pulls) h.books.pulls in
+    on_ok_weaker c.record.result
+    (λ records. hub_log g.J.Judge.says c.args.self.now _ frames h frame shown in_time c.time_of.ensures shown_is
     (record {
-      states = subst (λ book. StateBookStandsFor book (log ++ frame ∷ [])) (sym c.in_ok-record.ensures.states) told;
-      pulls = pulls;
+      states = subst (λ book. StateBookStandsFor book (log ++ frame ∷ [])) (sym c.record.ensures.states) told;
+      pulls = records log pulls;
     })
-    (subst (λ book. AllLog g.J.Judge.says shown book c.args.self.lives.slots.entries c.in_ok-self.field-0.slots.entries)
-    (sym c.in_ok-record.ensures.states) c.in_ok-self.ensures.slots)
-    c.in_ok-self.ensures.counts
+    (subst (λ book. AllLog g.J.Judge.says shown book c.args.self.now.lives.slots.entries c.log.new.self.slots.entries)
+    (sym c.record.ensures.states) c.in_ok-log.ensures.slots)
+    c.log.ensures.counts)
+    c.record.ensures.pulls
 
 -- what is shown is worth as many questions as the frame
 pub returns-clause-asked : goal.returns-clause-asked
 returns-clause-asked g c =
-    let rows = c.args.self.lives.slots.entries in
-    subst (λ n. HaveRisen n (g.J.Judge.ticks (judge_of c.args.self)) (g.J.Judge.ticks c.log.new.judge))
+    let rows = c.args.self.now.lives.slots.entries in
+    on_ok_weaker c.record.result
+    (λ records. subst (λ n. HaveRisen n (g.J.Judge.ticks (judge_of c.args.self.now)) (g.J.Judge.ticks c.log.new.judge))
     (ap (λ f. asked_by_all f rows) c.shown_of-shown.ensures ∙ c.shown_instead-instead.ensures.asked rows)
-    c.in_ok-self.ensures.ticks
+    c.in_ok-log.ensures.ticks)
+    c.record.ensures.pulls
 
 -- all that is live asks no more than its questions
 pub returns-clause-questions : goal.returns-clause-questions
 returns-clause-questions g c = λ frames h in_time.
     let log = log_frames frames in
-    hub_asks g.J.Judge.says c.args.self frames c.shown_of-shown.result.now c.tell.new.self.states c.args.frame
+    hub_asks g.J.Judge.says c.args.self.now frames c.shown_of-shown.result.now c.tell.new.self.states c.args.frame
     c.args.asks.now c.log.new.asks in_time
     (c.shown_of-shown.ensures ∙ c.shown_instead-instead.ensures.shown log h.books.pulls)
     (c.in_ok-tell.ensures.states log h.books.states) h c.log.ensures.asks
 
 -- also where memory is wanting
-pub returns-in_err-self-clause-questions : goal.returns-in_err-self-clause-questions
-returns-in_err-self-clause-questions g c = λ frames h in_time.
+pub returns-in_err-log-clause-questions : goal.returns-in_err-log-clause-questions
+returns-in_err-log-clause-questions g c = λ frames h in_time.
     let log = log_frames frames in
-    hub_asks g.J.Judge.says c.args.self frames c.shown_of-shown.result.now c.tell.new.self.states c.args.frame
-    c.args.asks.now c.log.new.asks in_time
-    (c.shown_of-shown.ensures ∙ c.shown_instead-instead.ensures.shown log h.books.pulls)
-    (c.in_ok-tell.ensures.states log h.books.states) h c.log.ensures.asks
-
--- and where it is wanting afterwards
-pub returns-in_err-record-clause-questions : goal.returns-in_err-record-clause-questions
-returns-in_err-record-clause-questions g c = λ frames h in_time.
-    let log = log_frames frames in
-    hub_asks g.J.Judge.says c.args.self frames c.shown_of-shown.result.now c.tell.new.self.states c.args.frame
+    hub_asks g.J.Judge.says c.args.self.now frames c.shown_of-shown.result.now c.tell.new.self.states c.args.frame
     c.args.asks.now c.log.new.asks in_time
     (c.shown_of-shown.ensures ∙ c.shown_instead-instead.ensures.shown log h.books.pulls)
     (c.in_ok-tell.ensures.states log h.books.states) h c.log.ensures.asks

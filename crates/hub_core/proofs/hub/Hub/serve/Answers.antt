@@ -13,17 +13,17 @@ use Rattle.hub_core.proofs.hub.Hub.serve.Goals as goal
 pub returns-in_ok-log-in-Log-clause-serves : goal.returns-in_ok-log-in-Log-clause-serves
 returns-in_ok-log-in-Log-clause-serves g c = λ frames h in_time.
     serves_as g.J.Judge.says _ frames c.args.frame (Log c.in-Log.frame) None c.in-Log.is
-    (served_log g.J.Judge.says c.args.self _ frames h c.in-Log.frame
+    (served_log g.J.Judge.says c.args.self.now _ frames h c.in-Log.frame
     (c.in_ok-log-in-Log.ensures.stands frames h (subst (IsInTime (clock_of frames)) c.in-Log.is in_time)))
 
 pub returns-in_ok-lives-in-Install-clause-serves : goal.returns-in_ok-lives-in-Install-clause-serves
 returns-in_ok-lives-in-Install-clause-serves g c =
     let uid_fits : SFits w32 c.in-Install.uid = search rules in
     let id_fits : SFits w64 c.in-Install.id = search rules in
-    let installs = simp to_z-of_z at c.in_ok-lives-in-Install.ensures in
+    let installs = simp to_z-of_z at (rw c.replace-lives.ensures.value at c.in_ok-lives-in-Install.ensures) in
     simp to_z-of_z (λ frames h in_time.
     serves_as g.J.Judge.says _ frames c.args.frame _ _ c.in-Install.is
-    (hub_install g.J.Judge.says c.args.self _ frames h c.in-Install.uid c.in-Install.id c.in_ok-lives-in-Install.body
+    (hub_install g.J.Judge.says c.args.self.now _ frames h c.in-Install.uid c.in-Install.id c.in_ok-lives-in-Install.body
     refl refl
     c.in-Install.config c.in_ok-read-in-Install.read
     (c.in_ok-read-in-Install.ensures ∙ ap (λ bytes. config_read (config_of bytes)) c.as_slice.ensures) installs))
@@ -32,10 +32,10 @@ pub returns-in_ok-lives-in-Remove-clause-serves : goal.returns-in_ok-lives-in-Re
 returns-in_ok-lives-in-Remove-clause-serves g c =
     let uid_fits : SFits w32 c.in-Remove.uid = search rules in
     let id_fits : SFits w64 c.in-Remove.id = search rules in
-    let removes = simp to_z-of_z at c.in_ok-lives-in-Remove.ensures in
+    let removes = simp to_z-of_z at (rw c.replace-lives-in-Remove.ensures.value at c.in_ok-lives-in-Remove.ensures) in
     simp to_z-of_z (λ frames h in_time.
     serves_as g.J.Judge.says _ frames c.args.frame _ _ c.in-Remove.is
-    (hub_remove g.J.Judge.says c.args.self _ frames h c.in-Remove.uid c.in-Remove.id c.in_ok-lives-in-Remove.body
+    (hub_remove g.J.Judge.says c.args.self.now _ frames h c.in-Remove.uid c.in-Remove.id c.in_ok-lives-in-Remove.body
     refl refl
     removes))
 
@@ -43,21 +43,21 @@ pub returns-in_ok-lives-in-Report-clause-serves : goal.returns-in_ok-lives-in-Re
 returns-in_ok-lives-in-Report-clause-serves g c =
     let uid_fits : SFits w32 c.in-Report.uid = search rules in
     let id_fits : SFits w64 c.in-Report.id = search rules in
-    let reports = simp to_z-of_z at c.in_ok-lives-in-Report.ensures in
+    let reports = simp to_z-of_z at (rw c.replace-lives-in-Report.ensures.value at c.in_ok-lives-in-Report.ensures) in
     simp to_z-of_z (λ frames h in_time.
     serves_as g.J.Judge.says _ frames c.args.frame _ _ c.in-Report.is
-    (hub_report g.J.Judge.says c.args.self _ frames h c.in-Report.uid c.in-Report.id c.in_ok-lives-in-Report.body
+    (hub_report g.J.Judge.says c.args.self.now _ frames h c.in-Report.uid c.in-Report.id c.in_ok-lives-in-Report.body
     refl refl
     c.in-Report.include_current reports))
 
 -- a frame of the log asks no more than its questions
 pub returns-in_ok-log-in-Log-clause-questions : goal.returns-in_ok-log-in-Log-clause-questions
 returns-in_ok-log-in-Log-clause-questions g c = λ frames h in_time.
-    subst (λ f. c.log.new.asks ≤ c.args.asks.now + questions_in g.J.Judge.says c.args.self frames f) (sym c.in-Log.is)
+    subst (λ f. c.log.new.asks ≤ c.args.asks.now + questions_in g.J.Judge.says c.args.self.now frames f) (sym c.in-Log.is)
     (c.log.ensures.questions frames h (subst (IsInTime (clock_of frames)) c.in-Log.is in_time))
 
 -- also where memory is wanting
 pub returns-in_err-log-in-Log-clause-questions : goal.returns-in_err-log-in-Log-clause-questions
 returns-in_err-log-in-Log-clause-questions g c = λ frames h in_time.
-    subst (λ f. c.log.new.asks ≤ c.args.asks.now + questions_in g.J.Judge.says c.args.self frames f) (sym c.in-Log.is)
+    subst (λ f. c.log.new.asks ≤ c.args.asks.now + questions_in g.J.Judge.says c.args.self.now frames f) (sym c.in-Log.is)
     (c.log.ensures.questions frames h (subst (IsInTime (clock_of frames)) c.in-Log.is in_time))

@@ -5,6 +5,9 @@ use Rattle.client_engine.specs.InstanceStands.{Logs, AsksAtMost}
 use Rattle.hub_core.proofs.EvaluationLemmas.{same_slots}
 use Rattle.hub_core.proofs.live_instance.LiveInstance.log.Goals as goal
 
+pub returns-clause-same : goal.returns-clause-same
+returns-clause-same g c = same_slots c.args.self.now _ refl c.apply.ensures.linked
+
 pub returns-clause-shown : goal.returns-clause-shown
 returns-clause-shown g c =
     on_ok_weaker c.apply.result
