@@ -11,8 +11,8 @@ use Rattle.metric_producer.specs.Rules.{AreAdmitted}
 use Rattle.metric_producer.specs.LaneCalls.{LaneStep, told_by, IsTimelyStep, AreTimely, last_at}
 use Rattle.metric_producer.specs.OpeningCalls.{AskWell}
 use Rattle.metric_producer.specs.declared.row.Row.{Row}
-use Rattle.metric_producer.specs.declared.row.Closed.{Closed}
-use Rattle.metric_producer.specs.Collecting.{Law, closed_of}
+use Rattle.bucket_meaning.specs.Kept.{Taken}
+use Rattle.metric_producer.specs.Collecting.{Law}
 use Rattle.session_frames.specs.FrameReading.{log_time}
 use Rattle.metric_lane.specs.LaneStands.{LaneHas, OpenedStandsFor, GetsFrame, LogsNews, GetsReport}
 use Rattle.metric_lane.specs.declared.lane.Lane.{Lane}
@@ -115,13 +115,13 @@ module _ {P Params News Event After X K C V : Type 0} (asking : Asking Params Ne
 
     -- one more report: what the lane hands out is what is shown of the metric by its steps, where that is what its
     -- calls mean
-    pub along_reports_by : (request : ReportRequest) (old new : Lane P Event After V) (closed : Closed V)
+    pub along_reports_by : (request : ReportRequest) (old new : Lane P Event After V) (closed : Taken (Row V))
         → shown_by_calls asking law.collecting steps request.include_current request.at
         ≡ shown_by_steps asking.way steps request.include_current request.at
         → GetsReport law old new request.at request.include_current closed → Along asking law steps old
         → ComeInTime (own_demands asking law.collecting).base (with_reported steps request)
         → Along asking law (with_reported steps request) new
-        × (closed ≡ closed_of (shown_by_steps asking.way steps request.include_current request.at))
+        × (closed ≡ shown_by_steps asking.way steps request.include_current request.at)
     along_reports_by request old new closed means reports along in_time =
         let step = reported_step request in
         let base = (own_demands asking law.collecting).base in
@@ -137,16 +137,16 @@ module _ {P Params News Event After X K C V : Type 0} (asking : Asking Params Ne
             fits = along.fits;
             collects = subst (OpenedStandsFor law asking.asks asking.opens new asking.params) (sym pushed) both.0;
           },
-          both.1 ∙ ap closed_of means,
+          both.1 ∙ means,
         )
 
     -- so it is where calls and steps agree
     pub along_reports : Agrees asking law.collecting → (request : ReportRequest) (old new : Lane P Event After V)
-        (closed : Closed V)
+        (closed : Taken (Row V))
         → GetsReport law old new request.at request.include_current closed → Along asking law steps old
         → ComeInTime (own_demands asking law.collecting).base (with_reported steps request)
         → Along asking law (with_reported steps request) new
-        × (closed ≡ closed_of (shown_by_steps asking.way steps request.include_current request.at))
+        × (closed ≡ shown_by_steps asking.way steps request.include_current request.at)
     along_reports agrees request old new closed =
         along_reports_by request old new closed
         (calls_mean_steps asking law.collecting agrees steps request.include_current request.at)

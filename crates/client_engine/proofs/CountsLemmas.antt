@@ -8,7 +8,8 @@ use Rattle.config_links.specs.declared.linked.Linked.{Linked}
 use Rattle.config_links.specs.declared.linked.LMetric.{LMetric}
 use Rattle.config_links.specs.declared.linked.LKind.TheVariants as kinds
 use Rattle.config_links.specs.SoundConfig.{IsSize, IsSoundKind, IsSoundMetric}
-use Rattle.metric_producer.specs.declared.row.Closed.{Closed}
+use Rattle.metric_producer.specs.declared.row.Row.{Row}
+use Rattle.bucket_meaning.specs.Kept.{Taken}
 use Rattle.count_metric.specs.CountStands.{count_law}
 use Rattle.report_writer.specs.declared.tree.MetricTree.{MetricTree}
 use Rattle.session_frames.specs.FrameReading.{log_time}
@@ -69,7 +70,7 @@ counts_log given metric shown truths old new key is logs installed steps frame h
 
 -- what a lane of counts hands out is what a report shows of the metric
 pub counts_report : (metric : LMetric) (base : ℕ) (request : ReportRequest) (old new : CountLane)
-    (closed : Closed ℕ)
+    (closed : Taken (Row ℕ))
     → GetsReport count_law old new request.at request.include_current closed
     → (tree : MetricTree) → tree ≡ counts_shown_by base metric closed
     → TakesReport (CountsAlong metric) metric base request old new tree

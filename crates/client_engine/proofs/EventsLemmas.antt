@@ -5,7 +5,8 @@ use Rattle.atom_record.specs.declared.log.LogFrame.{LogFrame}
 use Rattle.bucket_meaning.specs.Limits.{time_limit}
 use Rattle.config_links.specs.declared.linked.LMetric.{LMetric}
 use Rattle.config_links.specs.declared.linked.LKind.TheVariants as kinds
-use Rattle.metric_producer.specs.declared.row.Closed.{Closed}
+use Rattle.metric_producer.specs.declared.row.Row.{Row}
+use Rattle.bucket_meaning.specs.Kept.{Taken}
 use Rattle.gauge_metric.specs.EventStands.{event_law}
 use Rattle.report_writer.specs.declared.tree.MetricTree.{MetricTree}
 use Rattle.session_frames.specs.FrameReading.{log_time}
@@ -57,7 +58,7 @@ events_log given metric shown truths old new atom is logs installed steps frame 
 
 -- what a lane of events hands out is what a report shows of the metric
 pub events_report : (metric : LMetric) (base : ℕ) (request : ReportRequest) (old new : EventLane)
-    (closed : Closed (List Atom))
+    (closed : Taken (Row (List Atom)))
     → GetsReport event_law old new request.at request.include_current closed
     → (tree : MetricTree) → tree ≡ events_shown_by base metric closed
     → TakesReport (EventsAlong metric) metric base request old new tree

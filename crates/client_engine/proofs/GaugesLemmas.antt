@@ -10,7 +10,8 @@ use Rattle.field_select.specs.declared.leaf.FieldSet.{FieldSet}
 use Rattle.config_links.specs.declared.linked.LMetric.{LMetric}
 use Rattle.config_links.specs.declared.linked.LKind.{LKind}
 use Rattle.config_links.specs.declared.linked.LKind.TheVariants as kinds
-use Rattle.metric_producer.specs.declared.row.Closed.{Closed}
+use Rattle.metric_producer.specs.declared.row.Row.{Row}
+use Rattle.bucket_meaning.specs.Kept.{Taken}
 use Rattle.gauge_metric.specs.declared.gauge.KeyedAtom.{KeyedAtom}
 use Rattle.gauge_metric.specs.GaugeStands.{gauge_law}
 use Rattle.report_writer.specs.declared.tree.MetricTree.{MetricTree}
@@ -88,7 +89,7 @@ gauges_log given metric shown truths old middle new crosses gets installed steps
 
 -- what a lane of a gauge hands out is what a report shows of the metric
 pub gauges_report : (metric : LMetric) (base : ℕ) (request : ReportRequest) (old new : GaugeLane)
-    (closed : Closed (List Atom))
+    (closed : Taken (Row (List Atom)))
     → GetsReport gauge_law old new request.at request.include_current closed
     → (tree : MetricTree) → tree ≡ gauges_shown_by base metric closed
     → TakesReport (GaugesAlong metric) metric base request old new tree

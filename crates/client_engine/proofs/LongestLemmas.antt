@@ -9,7 +9,8 @@ use Rattle.config_types.specs.declared.parameters.PredSpec.{PredSpec}
 use Rattle.config_links.specs.declared.linked.LMetric.{LMetric}
 use Rattle.config_links.specs.declared.linked.LKind.TheVariants as kinds
 use Rattle.config_links.specs.SoundConfig.{IsSoundKind}
-use Rattle.metric_producer.specs.declared.row.Closed.{Closed}
+use Rattle.metric_producer.specs.declared.row.Row.{Row}
+use Rattle.bucket_meaning.specs.Kept.{Taken}
 use Rattle.metric_producer.specs.LaneCalls.{coming}
 use Rattle.duration_metric.specs.declared.change.InnerEvent.{InnerEvent}
 use Rattle.duration_metric.specs.declared.change.InnerChange.{InnerChange}
@@ -148,7 +149,7 @@ longest_few metric conditions brought old crossed middle event listed stays befo
     + (if is_touched installed.linked.predicates metric truths then n else 0)) (sym many) few))
 
 -- what a lane hands out is what a report shows of the metric
-pub longest_report : (metric : LMetric) (base : ℕ) (request : ReportRequest) (old new : LongestLane) (closed : Closed ℕ)
+pub longest_report : (metric : LMetric) (base : ℕ) (request : ReportRequest) (old new : LongestLane) (closed : Taken (Row ℕ))
     → GetsReport sparse_law old new request.at request.include_current closed
     → (tree : MetricTree) → tree ≡ durations_shown_by base metric closed
     → TakesReport (LongestAlong metric) metric base request old new tree

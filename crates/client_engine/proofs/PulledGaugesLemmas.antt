@@ -17,7 +17,8 @@ use Rattle.report_writer.specs.declared.tree.MetricTree.{MetricTree}
 use Rattle.metric_producer.specs.Calls.{Got, Learned}
 use Rattle.metric_producer.specs.Collecting.{demands_of}
 use Rattle.metric_producer.specs.Moves.{Moves}
-use Rattle.metric_producer.specs.declared.row.Closed.{Closed}
+use Rattle.metric_producer.specs.declared.row.Row.{Row}
+use Rattle.bucket_meaning.specs.Kept.{Taken}
 use Rattle.metric_lane.specs.LaneStands.{LaneHas, GetsFrame, GetsCalls, GetsReport}
 use Rattle.gauge_metric.specs.declared.gauge.KeyedAtom.{KeyedAtom}
 use Rattle.gauge_metric.specs.declared.snapshot.SnapAtoms.{SnapAtoms}
@@ -101,7 +102,7 @@ pulled_gauges_log given metric shown truths old middle new crosses gets installe
 
 -- what a lane of a pulled gauge hands out is what a report shows of the metric
 pub pulled_gauges_report : (metric : LMetric) (base : ℕ) (request : ReportRequest) (old new : PulledGaugeLane)
-    (closed : Closed (List Atom))
+    (closed : Taken (Row (List Atom)))
     → GetsReport pulled_law old new request.at request.include_current closed
     → (tree : MetricTree) → tree ≡ gauges_shown_by base metric closed
     → TakesReport (PulledGaugesAlong metric) metric base request old new tree

@@ -14,7 +14,8 @@ use Rattle.report_writer.specs.declared.tree.MetricTree.{MetricTree}
 use Rattle.metric_producer.specs.Calls.{Got, Learned}
 use Rattle.metric_producer.specs.Collecting.{demands_of}
 use Rattle.metric_producer.specs.Moves.{Moves}
-use Rattle.metric_producer.specs.declared.row.Closed.{Closed}
+use Rattle.metric_producer.specs.declared.row.Row.{Row}
+use Rattle.bucket_meaning.specs.Kept.{Taken}
 use Rattle.metric_lane.specs.LaneStands.{LaneHas, GetsFrame, GetsCalls, GetsReport}
 use Rattle.value_metric.specs.declared.keyed_int.KeyedInt.{KeyedInt}
 use Rattle.value_metric.specs.declared.keyed_int.SnapInts.{SnapInts}
@@ -86,7 +87,7 @@ pulled_values_log given metric shown truths old middle new crosses gets installe
 
 -- what a lane of pulled values hands out is what a report shows of the metric
 pub pulled_values_report : (metric : LMetric) (base : ℕ) (request : ReportRequest) (old new : PulledValueLane)
-    (closed : Closed ℤ)
+    (closed : Taken (Row ℤ))
     → GetsReport pulled_law old new request.at request.include_current closed
     → (tree : MetricTree) → tree ≡ values_shown_by base metric closed
     → TakesReport (PulledValuesAlong metric) metric base request old new tree

@@ -9,7 +9,8 @@ use Rattle.config_types.specs.declared.metric.Aggregation.{Aggregation}
 use Rattle.config_links.specs.declared.linked.LMetric.{LMetric}
 use Rattle.config_links.specs.declared.linked.LKind.{LKind}
 use Rattle.config_links.specs.declared.linked.LKind.TheVariants as kinds
-use Rattle.metric_producer.specs.declared.row.Closed.{Closed}
+use Rattle.metric_producer.specs.declared.row.Row.{Row}
+use Rattle.bucket_meaning.specs.Kept.{Taken}
 use Rattle.value_metric.specs.PushedStands.{pushed_law}
 use Rattle.value_metric.specs.declared.keyed_int.KeyedInt.{KeyedInt}
 use Rattle.report_writer.specs.declared.tree.MetricTree.{MetricTree}
@@ -76,7 +77,7 @@ values_log given metric shown truths old new keyed is logs installed steps frame
 
 -- what a lane of values hands out is what a report shows of the metric
 pub values_report : (metric : LMetric) (base : ℕ) (request : ReportRequest) (old new : ValueLane)
-    (closed : Closed ℤ)
+    (closed : Taken (Row ℤ))
     → GetsReport pushed_law old new request.at request.include_current closed
     → (tree : MetricTree) → tree ≡ values_shown_by base metric closed
     → TakesReport (ValuesAlong metric) metric base request old new tree

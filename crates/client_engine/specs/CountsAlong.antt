@@ -6,7 +6,8 @@ use Rattle.config_links.specs.declared.linked.LMetric.{LMetric}
 use Rattle.config_links.specs.declared.linked.LKind.TheVariants as kinds
 use Rattle.count_metric.specs.declared.count.CountProducer.{CountProducer}
 use Rattle.count_metric.specs.CountStands.{count_law}
-use Rattle.metric_producer.specs.declared.row.Closed.{Closed}
+use Rattle.metric_producer.specs.declared.row.Row.{Row}
+use Rattle.bucket_meaning.specs.Kept.{Taken}
 use Rattle.metric_lane.specs.declared.lane.Lane.{Lane}
 use Rattle.metric_meaning.specs.Histories.{Step, Installation}
 use Rattle.metric_calls.specs.CountCalls.{count_asking}
@@ -37,7 +38,7 @@ abbrev pub count_entry : List LeafTree → List Slice → List NumBucket → Num
 count_entry leaves slices buckets = record { leaves = leaves; slices = slices; buckets = buckets }
 
 -- a metric of counts as a report shows it, of what its producer handed out
-abbrev pub counts_shown_by : ℕ → LMetric → Closed ℕ → MetricTree
+abbrev pub counts_shown_by : ℕ → LMetric → Taken (Row ℕ) → MetricTree
 counts_shown_by base metric closed = record {
   id = metric.id;
   base = base;

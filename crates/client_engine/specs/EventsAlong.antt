@@ -6,7 +6,7 @@ use Rattle.config_links.specs.declared.linked.LKind.TheVariants as kinds
 use Rattle.gauge_metric.specs.declared.events.EventProducer.{EventProducer}
 use Rattle.gauge_metric.specs.EventStands.{event_law}
 use Rattle.metric_producer.specs.declared.row.Row.{Row}
-use Rattle.metric_producer.specs.declared.row.Closed.{Closed}
+use Rattle.bucket_meaning.specs.Kept.{Taken}
 use Rattle.metric_lane.specs.declared.lane.Lane.{Lane}
 use Rattle.metric_meaning.specs.Histories.{Step, Installation}
 use Rattle.metric_meaning.specs.EventTrees.{events_body}
@@ -35,7 +35,7 @@ abbrev pub events_in : Row (List AtomMsg) → List EventTree
 events_in row = map (event_at row.start) row.value
 
 -- a metric of events as a report shows it, of what its producer handed out
-abbrev pub events_shown_by : ℕ → LMetric → Closed (List Atom) → MetricTree
+abbrev pub events_shown_by : ℕ → LMetric → Taken (Row (List Atom)) → MetricTree
 events_shown_by base metric closed = record {
   id = metric.id;
   base = base;

@@ -10,7 +10,8 @@ use Rattle.gauge_metric.specs.declared.gauge.KeyedAtom.{KeyedAtom}
 use Rattle.gauge_metric.specs.declared.gauge.PushedGauge.{PushedGauge}
 use Rattle.gauge_metric.specs.GaugeStands.{gauge_law}
 use Rattle.metric_producer.specs.Calls.{Got}
-use Rattle.metric_producer.specs.declared.row.Closed.{Closed}
+use Rattle.metric_producer.specs.declared.row.Row.{Row}
+use Rattle.bucket_meaning.specs.Kept.{Taken}
 use Rattle.session_frames.specs.FrameReading.{log_time}
 use Rattle.metric_lane.specs.LaneStands.{GetsCall}
 use Rattle.metric_lane.specs.declared.lane.Lane.{Lane}
@@ -62,7 +63,7 @@ abbrev pub gauge_entry : List LeafTree → List Slice → List AtomBucket → Ga
 gauge_entry leaves slices buckets = record { leaves = leaves; slices = slices; buckets = buckets }
 
 -- a pushed gauge as a report shows it, of what its producer handed out
-abbrev pub gauges_shown_by : ℕ → LMetric → Closed (List Atom) → MetricTree
+abbrev pub gauges_shown_by : ℕ → LMetric → Taken (Row (List Atom)) → MetricTree
 gauges_shown_by base metric closed = record {
   id = metric.id;
   base = base;

@@ -8,7 +8,8 @@ use Rattle.config_links.specs.declared.linked.LKind.TheVariants as kinds
 use Rattle.value_metric.specs.declared.keyed_int.KeyedInt.{KeyedInt}
 use Rattle.value_metric.specs.declared.pushed_value.PushedValue.{PushedValue}
 use Rattle.value_metric.specs.PushedStands.{pushed_law}
-use Rattle.metric_producer.specs.declared.row.Closed.{Closed}
+use Rattle.metric_producer.specs.declared.row.Row.{Row}
+use Rattle.bucket_meaning.specs.Kept.{Taken}
 use Rattle.metric_lane.specs.declared.lane.Lane.{Lane}
 use Rattle.metric_meaning.specs.Histories.{Step, Installation}
 use Rattle.metric_meaning.specs.ValueLeaves.{ValueLeaf}
@@ -45,7 +46,7 @@ abbrev pub value_entry : List LeafTree → List Slice → List NumBucket → Num
 value_entry leaves slices buckets = record { leaves = leaves; slices = slices; buckets = buckets }
 
 -- a metric of values as a report shows it, of what its producer handed out
-abbrev pub values_shown_by : ℕ → LMetric → Closed ℤ → MetricTree
+abbrev pub values_shown_by : ℕ → LMetric → Taken (Row ℤ) → MetricTree
 values_shown_by base metric closed = record {
   id = metric.id;
   base = base;

@@ -18,13 +18,24 @@ impl Table for Engines {
             return Ok(());
         };
         let mut fed = Fed::new(alloc);
-        tell_before(alloc, tester, &mut fed, row.word("before"))?;
-        let base = unsigned(row.line("base").unwrap_or("0"));
-        if !fed.install(bytes.as_slice(), base)? {
-            return tester.differs("not installed", row.word("base"));
-        }
-        run_row(alloc, tester, &mut fed, row)
+        feed(alloc, tester, &mut fed, row, bytes.as_slice())
     }
+}
+
+/// Tells what came before, installs the configuration, and runs the steps.
+fn feed(
+    alloc: Global,
+    tester: &mut Tester,
+    fed: &mut Fed,
+    row: &Row<'_>,
+    config: &[u8],
+) -> Result<(), AllocError> {
+    tell_before(alloc, tester, fed, row.word("before"))?;
+    let base = unsigned(row.line("base").unwrap_or("0"));
+    if !fed.install(config, base)? {
+        return tester.differs("not installed", row.word("base"));
+    }
+    run_row(alloc, tester, fed, row)
 }
 
 /// Tells the book of states an atom, if there is one.

@@ -23,7 +23,7 @@ const MOST_BASE: u64 = 1_000;
 /// The most bytes of a row's configuration.
 const MOST_BYTES: usize = 1_000;
 
-/// An instance and the states that the log gave. There is none before its install and after want of memory.
+/// An instance and the states that the log gave. There is none before its install, and after want of memory it is of no use.
 #[derive(Drop)]
 pub struct Fed {
     alloc: Global,
@@ -100,7 +100,7 @@ impl Fed {
         if at >= LATE {
             return Ok(None);
         }
-        let Some(instance) = self.instance.take() else {
+        let Some(instance) = &mut self.instance else {
             return Ok(None);
         };
         let request = ReportRequest {
@@ -108,9 +108,7 @@ impl Fed {
             include_current: is_cut,
             at,
         };
-        let (instance, tree) = instance.report(request, &self.states)?;
-        self.instance = Some(instance);
-        Ok(Some(tree))
+        Ok(Some(instance.show(request, &self.states)?))
     }
 }
 
@@ -143,26 +141,26 @@ fn log(
 ) -> Result<bool, AllocError>
     requires { IsFaultlessLog frame.now }
 {
-    let Some(old) = instance.take() else {
+    let Some(instance) = instance else {
         return Ok(false);
     };
     let view = LogView { matched, states };
-    *instance = Some(logged::<Brand>(Blank::new(1), old, frame, &view)?);
+    feed::<Brand>(Blank::new(1), instance, frame, &view)?;
     Ok(true)
 }
 
-/// An instance with one more frame, whose questions are on a counter of their own.
-fn logged<L: Ledger>(
+/// Gives an instance a frame, whose questions are on a counter of their own.
+fn feed<L: Ledger>(
     blank: Blank,
-    instance: Instance,
+    instance: &mut Instance,
     frame: &LogFrame,
     view: &LogView<'_>,
-) -> Result<Instance, AllocError>
+) -> Result<(), AllocError>
     requires name { blank.name ≡ L.name }
     requires parts { blank.parts ≡ L.parts }
     requires some { 0 < blank.parts }
     requires faultless { IsFaultlessLog frame.now }
 {
     let mut asks: Steps<L> = Steps::new(blank);
-    instance.log(frame, view, &mut asks)
+    instance.apply(frame, view, &mut asks)
 }

@@ -7,7 +7,7 @@ use Rattle.atom_record.specs.declared.value.MetricKey.{MetricKey}
 use Rattle.bucket_meaning.specs.Ends.{ends_from}
 use Rattle.bucket_meaning.specs.Marks.{Mark, Ends, Came, Lost, Asked, Part, Books, no_edges, boundary_marks}
 use Rattle.bucket_meaning.specs.Guard.{admitted, arrival_key}
-use Rattle.bucket_meaning.specs.Kept.{count_in_u64, taken_of}
+use Rattle.bucket_meaning.specs.Kept.{Taken, count_in_u64, taken_of}
 use Rattle.bucket_meaning.specs.Rows.{drops, row_of, rows_of, closed_rows}
 use Rattle.bucket_meaning.proofs.MarksLemmas.{books-append}
 use Rattle.dim_table.specs.Table.{Table}
@@ -15,9 +15,7 @@ use Rattle.kept_rows.specs.KeptRows.{Keeping, IsKept, AddsRows}
 use Rattle.metric_kinds.specs.Keys.{is_same_key}
 use Rattle.metric_kinds.specs.Counts.{row_weight}
 use Rattle.metric_kinds.specs.Durations.{longest_kind}
-use Rattle.metric_producer.specs.Collecting.{closed_of}
 use Rattle.metric_producer.specs.declared.row.Row.{Row}
-use Rattle.metric_producer.specs.declared.row.Closed.{Closed}
 use Rattle.duration_metric.specs.declared.sparse_books.SparseBooks.{SparseBooks}
 use Rattle.duration_metric.specs.SparseTimes.{longest_of, longest_times, HasTimes, TakesTime, time_rows}
 use Rattle.duration_metric.specs.SparseBooksStand.{HoldsTimes, with_longest, TakesLongestMarks, ShowsLongest}
@@ -164,17 +162,17 @@ hands_out old new start lost table kept bound books has = record {
 }
 
 -- what is handed out, by its parts
-closed_same : (one other : Closed ℕ) → one.rows ≡ other.rows → one.not_kept ≡ other.not_kept
+closed_same : (one other : Taken (Row ℕ)) → one.rows ≡ other.rows → one.not_kept ≡ other.not_kept
     → one.dropped ≡ other.dropped → one.missing ≡ other.missing → one ≡ other
 closed_same one other rows not_kept dropped missing =
-    ap (λ (l : List (Row ℕ)). let c : Closed ℕ = record one { rows = l } in c) rows
-    ∙ ap (λ n. let c : Closed ℕ = record other { not_kept = n; dropped = one.dropped; missing = one.missing } in c)
+    ap (λ (l : List (Row ℕ)). let c : Taken (Row ℕ) = record one { rows = l } in c) rows
+    ∙ ap (λ n. let c : Taken (Row ℕ) = record other { not_kept = n; dropped = one.dropped; missing = one.missing } in c)
     not_kept
-    ∙ ap (λ n. let c : Closed ℕ = record other { dropped = n; missing = one.missing } in c) dropped
-    ∙ ap (λ n. let c : Closed ℕ = record other { missing = n } in c) missing
+    ∙ ap (λ n. let c : Taken (Row ℕ) = record other { dropped = n; missing = one.missing } in c) dropped
+    ∙ ap (λ n. let c : Taken (Row ℕ) = record other { missing = n } in c) missing
 
 -- what is handed out is what a report shows
-pub shows : (it : SparseBooks) (closed : Closed ℕ) → closed.rows ≡ it.kept.rows → closed.not_kept ≡ it.kept.others
+pub shows : (it : SparseBooks) (closed : Taken (Row ℕ)) → closed.rows ≡ it.kept.rows → closed.not_kept ≡ it.kept.others
     → closed.dropped ≡ count_in_u64 (it.table.dropped + it.lost) → closed.missing ≡ 0 → ShowsLongest it closed
 shows it closed rows not_kept dropped missing bound books has =
     let drop : closed.dropped ≡ count_in_u64 books.dropped =
@@ -184,7 +182,7 @@ shows it closed rows not_kept dropped missing bound books has =
     let others : closed.not_kept ≡ (taken_of row_weight all books.dropped books.missing).not_kept =
     not_kept ∙ has.kept.others
     ∙ ap (λ (l : List (Row ℕ)). count_in_u64 (length all - length l)) has.kept.rows in
-    closed_same closed (closed_of (taken_of row_weight all books.dropped books.missing)) (rows ∙ has.kept.rows) others
+    closed_same closed (taken_of row_weight all books.dropped books.missing) (rows ∙ has.kept.rows) others
     drop miss
 
 -- an empty part is closed

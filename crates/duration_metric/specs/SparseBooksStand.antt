@@ -2,13 +2,12 @@
 use Rattle.std.specs.Prelude.{◌≡◌, ℕ, ◌+◌, [], List}
 use Rattle.atom_record.specs.declared.value.MetricKey.{MetricKey}
 use Rattle.bucket_meaning.specs.Marks.{Mark, Books, books_from}
-use Rattle.bucket_meaning.specs.Kept.{count_in_u64, taken_of}
+use Rattle.bucket_meaning.specs.Kept.{Taken, count_in_u64, taken_of}
 use Rattle.bucket_meaning.specs.Rows.{drops, closed_rows}
 use Rattle.kept_rows.specs.KeptRows.{IsKept}
 use Rattle.metric_kinds.specs.Counts.{row_weight}
 use Rattle.metric_kinds.specs.Durations.{longest_kind}
-use Rattle.metric_producer.specs.Collecting.{closed_of}
-use Rattle.metric_producer.specs.declared.row.Closed.{Closed}
+use Rattle.metric_producer.specs.declared.row.Row.{Row}
 use Rattle.duration_metric.specs.SparseTimes.{HasTimes}
 use Rattle.duration_metric.specs.declared.sparse_books.SparseBooks.{SparseBooks}
 
@@ -41,7 +40,7 @@ TakesLongestMarks old new marks =
     → HoldsTimes new bound (with_longest bound books marks)
 
 -- whatever books the object holds, what is handed out is what a report shows of them
-abbrev pub ShowsLongest : SparseBooks → Closed ℕ → Type 0
+abbrev pub ShowsLongest : SparseBooks → Taken (Row ℕ) → Type 0
 ShowsLongest it closed =
     (bound : ℕ) (books : Books (MetricKey × ℕ)) → HoldsTimes it bound books
-    → closed ≡ closed_of (taken_of row_weight (closed_rows longest_kind bound books) books.dropped books.missing)
+    → closed ≡ taken_of row_weight (closed_rows longest_kind bound books) books.dropped books.missing

@@ -49,7 +49,7 @@ use Rattle.hub_core.specs.FrameTruths.{LogsBy}
 use Rattle.hub_core.specs.SlotLogs.{AllLog}
 use Rattle.hub_core.specs.Slots.{live_id, request_of, same_id, slot_at, count_at, ShowsAt}
 use Rattle.hub_core.specs.Commands.{change, held_at, others, Changes, Stays, StaysWith, IsEnded, Replaces, body_of_report, PutsIn, InstallsLinked, Installs, TakesOut, Removes, ReportsLive}
-use Rattle.hub_core.specs.HubStands.{LiveStandsFor, SlotStandsFor, LivesStandFor, HubStandsFor}
+use Rattle.hub_core.specs.HubStands.{LiveStandsFor, SlotStandsFor, LivesStandFor, HubStandsFor, Serves}
 use Rattle.hub_core.proofs.InstallReadingLemmas.{linked_is}
 
 -- a number is itself
@@ -599,15 +599,9 @@ module _ (says : SimpleMatcher → Atom → Bool) where
           ≡ install_answer says uid id (own uid frames) brought (config_at id lives_before))
       serves_install read is r = read_case read (brought_is read is) r
 
-  -- The hub stands for the frames with this one, and this is their answer.
-  pub record Serves {J : Type 0} (new : Hub J) (frames : List Frame) (frame : Frame)
-      (reply : Option Reply) : Type 0 where
-    pub stands : HubStandsFor says new (frames ++ frame ∷ [])
-    pub answer : reply ≡ reply_to says frames frame
-
   -- the hub serves a frame that is this one
   pub serves_as : {J : Type 0} (new : Hub J) (frames : List Frame) (given frame : Frame) (reply : Option Reply)
-      → given ≡ frame → Serves new frames frame reply → HubStandsFor says new (frames ++ given ∷ []) × (reply
+      → given ≡ frame → Serves says new frames frame reply → HubStandsFor says new (frames ++ given ∷ []) × (reply
       ≡ reply_to says frames given)
   serves_as new frames given frame reply is s = subst (λ f. HubStandsFor says new (frames ++ f ∷ []) × (reply
       ≡ reply_to says frames f)) (sym is) (s.stands, s.answer)
@@ -629,7 +623,7 @@ module _ (says : SimpleMatcher → Atom → Bool) where
 
     -- a frame of the log has no answer
     pub served_log : (frame : LogFrame) → HubStandsFor says new (frames ++ Log frame ∷ [])
-        → Serves new frames (Log frame) None
+        → Serves says new frames (Log frame) None
     unfolding reply_to
     served_log frame stands = record { stands = stands; answer = refl }
 
@@ -644,7 +638,7 @@ module _ (says : SimpleMatcher → Atom → Bool) where
           (subst (λ books. BooksStandFor books (log_frames frames)) (sym same_books) h.books)
 
       pub hub_remove : Removes hub.clock.time hub.books.states (live_id uid id) (change hub.lives new.lives body)
-          → Serves new frames (Remove uid id) (reply_of uid id body)
+          → Serves says new frames (Remove uid id) (reply_of uid id body)
       unfolding reply_to
       hub_remove r =
           let done = serves_remove frames uid id hub.lives new.lives body h.lives hub.clock.time hub.books.states
@@ -663,7 +657,7 @@ module _ (says : SimpleMatcher → Atom → Bool) where
       pub hub_report : (include_current : Bool)
           → ReportsLive (request_of uid id include_current hub.clock.time) hub.books.states
           (change hub.lives new.lives body)
-          → Serves new frames (Report uid id include_current) (reply_of uid id body)
+          → Serves says new frames (Report uid id include_current) (reply_of uid id body)
       unfolding reply_to
       hub_report include_current r =
           let done = serves_report frames uid id hub.lives new.lives body h.lives hub.clock.time hub.books.states
@@ -682,7 +676,7 @@ module _ (says : SimpleMatcher → Atom → Bool) where
 
       pub hub_install : (config : List ℕ) (read : Result Config Refusal) → read ≡ config_read (config_of config)
           → Installs hub.clock.time hub.books (live_id uid id) read (change hub.lives new.lives body)
-          → Serves new frames (Install uid id config) (reply_of uid id body)
+          → Serves says new frames (Install uid id config) (reply_of uid id body)
       unfolding reply_to
       hub_install config read is r =
           let done = serves_install frames uid id hub.lives new.lives body h.lives config hub.clock.time h.clock

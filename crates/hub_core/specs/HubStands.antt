@@ -1,12 +1,14 @@
 -- What the hub of all clients stands for.
-use Rattle.std.specs.Prelude.{◌≡◌, ℕ, ℤ, Bool, List, length, Option, Some, None}
+use Rattle.std.specs.Prelude.{◌≡◌, ℕ, ℤ, Bool, List, [], ◌∷◌, ◌++◌, length, Option, Some, None}
 use Rattle.atom_record.specs.declared.atom.Atom.{Atom}
 use Rattle.config_types.specs.declared.matcher.SimpleMatcher.{SimpleMatcher}
 use Rattle.session_frames.specs.declared.frame.Frame.{Frame}
 use Rattle.session_frames.specs.declared.frame.Frame.TheVariants.{Log}
+use Rattle.session_frames.specs.declared.reply.Reply.{Reply}
 use Rattle.hub_meaning.specs.SessionLog.{own, log_frames, clock_of}
 use Rattle.hub_meaning.specs.Acceptance.{LiveConfig}
 use Rattle.hub_meaning.specs.LiveConfigs.{config_at, live, history_of}
+use Rattle.hub_meaning.specs.ClientAnswers.{reply_to}
 use Rattle.client_engine.specs.InstanceStands.{InstanceStandsFor, last_step_time}
 use Rattle.matcher_table.specs.Contents.{contents_of}
 use Rattle.hub_core.specs.declared.live_instance.LiveInstance.{LiveInstance}
@@ -52,3 +54,8 @@ module _ (says : SimpleMatcher → Atom → Bool) where
     pub books : BooksStandFor hub.books (log_frames frames)
     pub table : IsHeldTable (contents_of hub.lives.table) hub.lives.slots.entries
     pub lives : LivesStandFor hub.lives frames
+
+  -- The hub stands for these frames with one more, and this is the answer to it.
+  pub record Serves {J : Type 0} (hub : Hub J) (frames : List Frame) (frame : Frame) (reply : Option Reply) : Type 0 where
+    pub stands : HubStandsFor hub (frames ++ frame ∷ [])
+    pub answer : reply ≡ reply_to says frames frame

@@ -1,12 +1,12 @@
 //! The hub of all clients, one frame at a time.
 ghost use Rattle.std.specs.Prelude.{◌≡◌, ◌≤◌, ◌+◌, ℤ, List, [], ◌++◌, ◌∷◌, IfOk, OnOk};
-ghost use Rattle.session_frames.specs.declared.frame.Frame.TheVariants.{Log};
+ghost use Rattle.session_frames.specs.declared.frame.Frame.TheVariants.{Log, Install, Remove, Report};
 ghost use Rattle.session_frames.specs.Faultless.{IsFaultlessLog};
 ghost use Rattle.session_frames.specs.declared.frame.Frame.{Frame};
 ghost use Rattle.session_frames.specs.Frames.{log_time, IsFaultless, IsInTime};
 ghost use Rattle.matcher_table.specs.Truths.{HaveRisen};
 ghost use Rattle.hub_meaning.specs.SessionLog.{own, clock_of};
-ghost use Rattle.hub_meaning.specs.ClientAnswers.{reply_to};
+ghost use Rattle.hub_meaning.specs.ClientAnswers.{reply_of, reply_to};
 ghost use Rattle.hub_meaning.specs.ClientIsolation.{EqualOwnFramesEqualReplies};
 
 use crate::books::{Books, shown_of};
@@ -17,7 +17,7 @@ use atom_record::LogFrame;
 use client_engine::{LiveId, ReportRequest};
 use condition_links::Steps;
 use matcher_eval::Judge;
-use session_frames::{Frame, Reply, time_of};
+use session_frames::{Frame, Reply, ReplyBody, time_of};
 use std::alloc::{AllocError, Global};
 use std::mem;
 use std::sync::ledger::Ledger;
@@ -35,7 +35,7 @@ pub struct Hub<J: Judge> {
 }
 
 impl<J: Judge> Hub<J> {
-    ghost use Rattle.hub_core.specs.HubStands.{judge_of, asked_in, HubStandsFor};
+    ghost use Rattle.hub_core.specs.HubStands.{judge_of, asked_in, HubStandsFor, Serves};
     ghost use Rattle.hub_core.specs.Alone.{RunsAsAlone};
     ghost use Rattle.hub_core.specs.LiveQuestions.{questions_in};
 
@@ -148,20 +148,11 @@ impl<J: Judge> Hub<J> {
                 Ok(None)
             }
             Frame::Install { uid, id, config } => {
-                let read = read_config(self.alloc, config.as_slice())?;
-                let name = LiveId { uid, id };
-                let now = self.clock.time;
-                let lives = mem::replace(&mut self.lives, Lives::new(self.alloc));
-                let (lives, body) = lives.install(self.alloc, now, &self.books, name, read)?;
-                self.lives = lives;
+                let body = self.install(LiveId { uid, id }, config.as_slice())?;
                 Ok(Some(Reply { uid, id, body }))
             }
             Frame::Remove { uid, id } => {
-                let name = LiveId { uid, id };
-                let now = self.clock.time;
-                let lives = mem::replace(&mut self.lives, Lives::new(self.alloc));
-                let (lives, body) = lives.remove(self.alloc, now, &self.books.states, name)?;
-                self.lives = lives;
+                let body = self.remove(LiveId { uid, id })?;
                 Ok(Some(Reply { uid, id, body }))
             }
             Frame::Report {
@@ -169,16 +160,56 @@ impl<J: Judge> Hub<J> {
                 id,
                 include_current,
             } => {
-                let request = ReportRequest {
-                    name: LiveId { uid, id },
-                    include_current,
-                    at: self.clock.time,
-                };
-                let lives = mem::replace(&mut self.lives, Lives::new(self.alloc));
-                let (lives, body) = lives.report(self.alloc, request, &self.books.states)?;
-                self.lives = lives;
+                let body = self.report(LiveId { uid, id }, include_current)?;
                 Ok(Some(Reply { uid, id, body }))
             }
         }
+    }
+
+    // Installs what the bytes of a configuration say.
+    fn install(&mut self, name: LiveId, config: &[u8]) -> Result<ReplyBody, AllocError>
+        ensures serves { (frames : List Frame) → HubStandsFor J.says self.old frames
+            → IfOk result (λ body. Serves J.says self.new frames
+            (Install name.uid name.id config.now) (reply_of name.uid name.id body)) }
+        ensures judge { OnOk result (judge_of self.new ≡ judge_of self.old) }
+    {
+        let read = read_config(self.alloc, config)?;
+        let now = self.clock.time;
+        let lives = mem::replace(&mut self.lives, Lives::new(self.alloc));
+        let (lives, body) = lives.install(self.alloc, now, &self.books, name, read)?;
+        self.lives = lives;
+        Ok(body)
+    }
+
+    // Removes a configuration.
+    fn remove(&mut self, name: LiveId) -> Result<ReplyBody, AllocError>
+        ensures serves { (frames : List Frame) → HubStandsFor J.says self.old frames
+            → IfOk result (λ body. Serves J.says self.new frames
+            (Remove name.uid name.id) (reply_of name.uid name.id body)) }
+        ensures judge { OnOk result (judge_of self.new ≡ judge_of self.old) }
+    {
+        let now = self.clock.time;
+        let lives = mem::replace(&mut self.lives, Lives::new(self.alloc));
+        let (lives, body) = lives.remove(self.alloc, now, &self.books.states, name)?;
+        self.lives = lives;
+        Ok(body)
+    }
+
+    // Reports a configuration.
+    fn report(&mut self, name: LiveId, include_current: bool) -> Result<ReplyBody, AllocError>
+        ensures serves { (frames : List Frame) → HubStandsFor J.says self.old frames
+            → IfOk result (λ body. Serves J.says self.new frames
+            (Report name.uid name.id include_current) (reply_of name.uid name.id body)) }
+        ensures judge { OnOk result (judge_of self.new ≡ judge_of self.old) }
+    {
+        let request = ReportRequest {
+            name,
+            include_current,
+            at: self.clock.time,
+        };
+        let lives = mem::replace(&mut self.lives, Lives::new(self.alloc));
+        let (lives, body) = lives.report(self.alloc, request, &self.books.states)?;
+        self.lives = lives;
+        Ok(body)
     }
 }

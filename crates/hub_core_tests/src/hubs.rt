@@ -32,9 +32,18 @@ fn run_lines<J: Counting>(
     judge: J,
 ) -> Result<(), AllocError> {
     let mut tried = Tried::new(alloc, judge)?;
+    run_block(alloc, tester, &mut tried, row)
+}
+
+fn run_block<J: Counting>(
+    alloc: Global,
+    tester: &mut Tester,
+    tried: &mut Tried<J>,
+    row: &Row<'_>,
+) -> Result<(), AllocError> {
     for line in row.block().lines() {
         if line != row.name && !line.starts_with('#') {
-            run_line(alloc, tester, &mut tried, row, line)?;
+            run_line(alloc, tester, tried, row, line)?;
         }
     }
     Ok(())
@@ -131,8 +140,8 @@ fn compare_asked<J: Counting>(
     text: &str,
 ) -> Result<(), AllocError> {
     tester.case();
-    match (unsigned(text), tried.asked()) {
-        (Some(wanted), Some(found)) => tester.same_number("questions", wanted, found),
-        _ => tester.differs("no number", text),
+    match unsigned(text) {
+        Some(wanted) => tester.same_number("questions", wanted, tried.asked()),
+        None => tester.differs("no number", text),
     }
 }

@@ -140,6 +140,17 @@ fn replies_to(
     is_alone: bool,
 ) -> Result<Vec<u8>, AllocError> {
     let mut tried = Tried::new(alloc, FieldJudge::new())?;
+    take_steps(alloc, &mut tried, steps, client, is_alone)
+}
+
+/// Gives a hub these frames. Answers the replies to a client.
+fn take_steps(
+    alloc: Global,
+    tried: &mut Tried<FieldJudge>,
+    steps: &[Step],
+    client: u64,
+    is_alone: bool,
+) -> Result<Vec<u8>, AllocError> {
     let mut replies = Vec::new(alloc);
     for step in steps {
         let is_own = is_of(step, client);

@@ -7,7 +7,7 @@ use condition_links::Steps;
 use hub_core::Hub;
 use matcher_eval::Judge;
 use sd_io::{MemSink, MemSource};
-use session_frames::{Frame, FrameError, FrameReader, Reply, write_reply};
+use session_frames::{Frame, FrameError, FrameReader, write_reply};
 use std::alloc::{AllocError, Global};
 use std::marker::Brand;
 use std::sync::ledger::{Blank, Ledger};
@@ -15,10 +15,10 @@ use std::sync::ledger::{Blank, Ledger};
 /// More bytes than a row has, and than the replies that it compares at once.
 const AMPLE: usize = 65536;
 
-/// A hub, and its replies. There is none after want of memory.
+/// A hub, and its replies. After want of memory it is of no use.
 #[derive(Drop)]
 pub struct Tried<J: Judge> {
-    hub: Option<Hub<J>>,
+    hub: Hub<J>,
     replies: MemSink,
     /// How many bytes of the replies were compared.
     compared: usize,
@@ -29,7 +29,7 @@ impl<J: Judge> Tried<J> {
     pub fn new(alloc: Global, judge: J) -> Result<Tried<J>, AllocError> {
         Ok(Tried {
             replies: MemSink::new(alloc, AMPLE, Vec::new(alloc))?,
-            hub: Some(Hub::new(alloc, judge)),
+            hub: Hub::new(alloc, judge),
             compared: 0,
         })
     }
@@ -40,8 +40,8 @@ impl<J: Judge> Tried<J> {
         let mut source = MemSource::new(bytes, AMPLE, Vec::new(alloc));
         let mut reader = FrameReader::new(alloc);
         for _ in 0..=most {
-            match self.step(reader, &mut source) {
-                Ok(Some(next)) => reader = next,
+            match reader.read(&mut source) {
+                Ok(Some(frame)) => self.give::<Brand>(Blank::new(1), frame)?,
                 Ok(None) => return Ok(true),
                 Err(FrameError::Memory) => return Err(AllocError),
                 Err(_) => return Ok(false),
@@ -50,25 +50,18 @@ impl<J: Judge> Tried<J> {
         Ok(false)
     }
 
-    /// Gives the hub the next frame. Answers the reader that goes on from there, or none at the end.
-    fn step(
-        &mut self,
-        reader: FrameReader,
-        source: &mut MemSource,
-    ) -> Result<Option<FrameReader>, FrameError> {
-        let (next, frame) = reader.next(source)?;
-        let Some(frame) = frame else {
-            return Ok(None);
-        };
-        let Some(hub) = self.hub.take() else {
-            return Ok(None);
-        };
-        let (hub, reply) = stepped::<J, Brand>(Blank::new(1), hub, frame)?;
-        self.hub = Some(hub);
-        if let Some(reply) = reply {
+    /// Gives the hub a frame, whose questions are on a counter of their own.
+    fn give<L: Ledger>(&mut self, blank: Blank, frame: Frame) -> Result<(), AllocError>
+        requires name { blank.name ≡ L.name }
+        requires parts { blank.parts ≡ L.parts }
+        requires some { 0 < blank.parts }
+        requires faultless { IsFaultless frame }
+    {
+        let mut asks: Steps<L> = Steps::new(blank);
+        if let Some(reply) = self.hub.serve(frame, &mut asks)? {
             let _ = write_reply(&reply, &mut self.replies);
         }
-        Ok(Some(next))
+        Ok(())
     }
 
     /// Forgets the replies so far, so that there is room for more.
@@ -87,25 +80,9 @@ impl<J: Judge> Tried<J> {
     }
 }
 
-/// A hub with one more frame, whose questions are on a counter of their own.
-fn stepped<J: Judge, L: Ledger>(
-    blank: Blank,
-    hub: Hub<J>,
-    frame: Frame,
-) -> Result<(Hub<J>, Option<Reply>), AllocError>
-    requires name { blank.name ≡ L.name }
-    requires parts { blank.parts ≡ L.parts }
-    requires some { 0 < blank.parts }
-    requires faultless { IsFaultless frame }
-{
-    let mut asks: Steps<L> = Steps::new(blank);
-    hub.step(frame, &mut asks)
-}
-
 impl<J: Counting> Tried<J> {
     /// How often the judge was asked.
-    pub fn asked(&self) -> Option<u64> {
-        let hub = self.hub.as_ref()?;
-        Some(hub.judge().asked())
+    pub fn asked(&self) -> u64 {
+        self.hub.judge().asked()
     }
 }

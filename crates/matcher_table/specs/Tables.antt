@@ -9,7 +9,7 @@ pub record SlotTable : Type 0 where
   pub outside : List ℕ
   pub results : List Bool
 
--- the interns of a slot that are not yet released
+-- the interns of a slot less its releases
 abbrev pub outside_uses : SlotTable → ℕ → ℕ
 outside_uses table s = slice_index_or table.outside s 0
 

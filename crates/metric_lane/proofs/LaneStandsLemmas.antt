@@ -12,7 +12,7 @@ use Rattle.metric_producer.proofs.RuleLemmas.{admits-front, admits-back}
 use Rattle.metric_producer.proofs.LaneReach.{no_ends}
 use Rattle.metric_producer.proofs.ClockOfCalls.{handed_on_is}
 use Rattle.metric_producer.specs.declared.row.Row.{Row}
-use Rattle.metric_producer.specs.declared.row.Closed.{Closed}
+use Rattle.bucket_meaning.specs.Kept.{Taken}
 use Rattle.metric_producer.specs.Collecting.{Law, demands_of, Gives}
 use Rattle.metric_lane.specs.LaneClock.{HasClock, MayCross, ClockCrosses, NoEndBefore}
 use Rattle.metric_lane.specs.LaneStands.{GetsFrame, GetsCut, GetsReport, told_at}
@@ -123,7 +123,7 @@ module _ {P Params Event After X K C Value : Type 0} (law : Law P Params Event A
       (λ params calls stands admitted. subst (law.stands lane.producer params) (sym (append-nil calls)) stands)
 
   -- a report: the cut first, and then what is kept
-  pub report_on : (old middle new : Lane P Event After Value) (at : ℕ) (include_current : Bool) (closed : Closed Value)
+  pub report_on : (old middle new : Lane P Event After Value) (at : ℕ) (include_current : Bool) (closed : Taken (Row Value))
       → GetsCut law old middle at include_current → new.clock ≡ middle.clock
       → Gives law middle.producer closed
       → Moves law middle.producer new.producer Took

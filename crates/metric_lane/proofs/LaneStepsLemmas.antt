@@ -17,8 +17,8 @@ use Rattle.metric_producer.specs.OpeningCalls.{AreOpening, calls_with, AskWell}
 use Rattle.metric_producer.proofs.LaneCallsLemmas.{calls_with-push}
 use Rattle.metric_producer.proofs.OpeningLemmas.{all_along_opened, opened_step_admits}
 use Rattle.metric_producer.specs.declared.row.Row.{Row}
-use Rattle.metric_producer.specs.declared.row.Closed.{Closed}
-use Rattle.metric_producer.specs.Collecting.{Law, demands_of, calls_mean, closed_of}
+use Rattle.bucket_meaning.specs.Kept.{Taken}
+use Rattle.metric_producer.specs.Collecting.{Law, demands_of, calls_mean}
 use Rattle.metric_lane.specs.LaneClock.{IsClockFor, HasClock, MayCross, MayCut}
 use Rattle.metric_lane.specs.LaneStands.{LaneHas, LaneStandsFor, OpenedStandsFor, GetsFrame, GetsCalls, GetsReport, LogsNews, LogsEvent, told_at}
 use Rattle.metric_lane.specs.declared.lane.Lane.{Lane}
@@ -162,15 +162,15 @@ module _ {P Params Event After X K C Value : Type 0} (law : Law P Params Event A
 
       -- one more report of a lane that was opened: the cut, and then what is kept
       pub opened_reports : (old new : Lane P Event After Value) (at : ℕ) (include_current : Bool)
-          (closed : Closed Value)
+          (closed : Taken (Row Value))
           → GetsReport law old new at include_current closed
           → OpenedStandsFor law asks opening old params steps
           → AreTimely (demands_of law params).base (steps ++ Reported at include_current ∷ [])
           → AskWell (demands_of law params) asks opening [] (steps ++ Reported at include_current ∷ [])
           → OpenedStandsFor law asks opening new params (steps ++ Reported at include_current ∷ [])
-          × (closed ≡ closed_of (report_by (calls_mean law.collecting) params
+          × (closed ≡ report_by (calls_mean law.collecting) params
           (calls_with (demands_of law params) asks opening steps
-          ++ cutting (demands_of law params).size include_current at)))
+          ++ cutting (demands_of law params).size include_current at))
       opened_reports old new at include_current closed reports has timely well =
           let step : LaneStep News = Reported at include_current in
           let base = (demands_of law params).base in
@@ -201,14 +201,14 @@ module _ {P Params Event After X K C Value : Type 0} (law : Law P Params Event A
     lane_logs = opened_logs [] (tt, tt)
 
     -- one more report of such a lane
-    pub lane_reports : (old new : Lane P Event After Value) (at : ℕ) (include_current : Bool) (closed : Closed Value)
+    pub lane_reports : (old new : Lane P Event After Value) (at : ℕ) (include_current : Bool) (closed : Taken (Row Value))
         → GetsReport law old new at include_current closed
         → LaneStandsFor law asks old params steps
         → AreTimely (demands_of law params).base (steps ++ Reported at include_current ∷ [])
         → AskWell (demands_of law params) asks [] [] (steps ++ Reported at include_current ∷ [])
         → LaneStandsFor law asks new params (steps ++ Reported at include_current ∷ [])
-        × (closed ≡ closed_of (report_by (calls_mean law.collecting) params
-        (calls_of (demands_of law params) asks steps ++ cutting (demands_of law params).size include_current at)))
+        × (closed ≡ report_by (calls_mean law.collecting) params
+        (calls_of (demands_of law params) asks steps ++ cutting (demands_of law params).size include_current at))
     lane_reports = opened_reports [] (tt, tt)
 
   -- one more frame of a lane, for a kind that asks the same whatever the steps before

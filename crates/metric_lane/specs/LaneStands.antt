@@ -9,8 +9,8 @@ use Rattle.metric_producer.specs.Rules.{AreAdmitted}
 use Rattle.metric_producer.specs.LaneCalls.{LaneStep, Logged, told_by, crossing, cutting, calls_of, event_asks, AreTimely}
 use Rattle.metric_producer.specs.OpeningCalls.{AreOpening, calls_with, AskWell}
 use Rattle.metric_producer.specs.declared.row.Row.{Row}
-use Rattle.metric_producer.specs.declared.row.Closed.{Closed}
-use Rattle.metric_producer.specs.Collecting.{Law, demands_of, calls_mean, closed_of}
+use Rattle.bucket_meaning.specs.Kept.{Taken}
+use Rattle.metric_producer.specs.Collecting.{Law, demands_of, calls_mean}
 use Rattle.metric_lane.specs.LaneClock.{HasClock, MayCross, MayCut}
 use Rattle.metric_lane.specs.declared.lane.Lane.{Lane}
 
@@ -87,11 +87,11 @@ module _ {P Params Event After X K C Value : Type 0} (law : Law P Params Event A
 
   -- whatever a lane had, a report that may come adds its cut and the taking, and hands out what the calls up to the
   -- cut mean
-  abbrev pub GetsReport : Lane P Event After Value → Lane P Event After Value → ℕ → Bool → Closed Value → Type 0
+  abbrev pub GetsReport : Lane P Event After Value → Lane P Event After Value → ℕ → Bool → Taken (Row Value) → Type 0
   GetsReport old new at include_current closed =
       (params : Params) (told : List Told) (calls : List (Call Event After)) → LaneHas old params told calls
       → MayCut old.clock at
       → let cut : List (Call Event After) = cutting (demands_of law params).size include_current at in
       AreAdmitted (demands_of law params) calls (cut ++ (Took ∷ []))
       → LaneHas new params (told ++ told_at include_current at) (calls ++ (cut ++ (Took ∷ [])))
-      × (closed ≡ closed_of (report_by (calls_mean law.collecting) params (calls ++ cut)))
+      × (closed ≡ report_by (calls_mean law.collecting) params (calls ++ cut))

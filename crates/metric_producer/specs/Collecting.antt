@@ -7,7 +7,6 @@ use Rattle.bucket_meaning.specs.Rows.{Kind}
 use Rattle.bucket_meaning.specs.Meaning.{Meaning, report_by}
 use Rattle.metric_producer.specs.Calls.{Call, Got, Learned, Crossed, CutAt, Took, Demands}
 use Rattle.metric_producer.specs.declared.row.Row.{Row}
-use Rattle.metric_producer.specs.declared.row.Closed.{Closed}
 
 -- What a kind of producer says of itself, by what it was made with: what it demands of its calls, how many keys a part
 -- admits, its kind of metric, the marks of an event and of a condition, and what stands at a boundary, each knowing the
@@ -50,18 +49,9 @@ abbrev pub demands_of : {P Params Event After X K C R : Type 0} → Law P Params
     → Demands Event After
 demands_of law params = law.collecting.demands params
 
--- what is handed out of what a report shows
-abbrev pub closed_of : {V : Type 0} → Taken (Row V) → Closed V
-closed_of shown = record {
-  rows = shown.rows;
-  not_kept = shown.not_kept;
-  dropped = shown.dropped;
-  missing = shown.missing;
-}
-
 -- whatever calls the object has got, what is handed out is what a report shows after them
-abbrev pub Gives : {P Params Event After X K C V : Type 0} → Law P Params Event After X K C (Row V) → P → Closed V
+abbrev pub Gives : {P Params Event After X K C V : Type 0} → Law P Params Event After X K C (Row V) → P → Taken (Row V)
     → Type 0
 Gives {P} {Params} {Event} {After} law object closed =
     (params : Params) (calls : List (Call Event After)) → law.stands object params calls
-    → closed ≡ closed_of (report_by (calls_mean law.collecting) params calls)
+    → closed ≡ report_by (calls_mean law.collecting) params calls

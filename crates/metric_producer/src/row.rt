@@ -2,6 +2,7 @@
 
 use atom_record::MetricKey;
 use sd_base::Seq;
+use std::marker::Model;
 
 /// What one key of a metric has in a part of its time.
 #[derive(Drop, PartialEq)]
@@ -16,8 +17,8 @@ pub struct Row<V> {
     pub value: V,
 }
 
-/// What a metric closed, dropped and missed since its last report.
-#[derive(Drop, PartialEq)]
+/// What a metric closed, dropped and missed since its last report. A contract sees what the report shows.
+#[derive(Drop)]
 pub struct Closed<V> {
     /// The kept rows, in the order in which they were closed.
     pub rows: Seq<Row<V>>,
@@ -27,4 +28,18 @@ pub struct Closed<V> {
     pub dropped: u64,
     /// How often a snapshot was wanted and there was none.
     pub missing: u64,
+}
+
+impl<V> Model for Closed<V> {
+    ghost use Rattle.bucket_meaning.specs.Kept.{Taken};
+    ghost use Rattle.metric_producer.specs.declared.row.Row.{Row};
+
+    ghost Value = { Taken (Row V) };
+
+    ghost view = { λ c. record {
+      rows = c.rows;
+      not_kept = c.not_kept;
+      dropped = c.dropped;
+      missing = c.missing;
+    } };
 }

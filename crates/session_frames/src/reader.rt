@@ -90,20 +90,36 @@ impl FrameReader {
         // The end stays the end, whatever source comes.
         ensures again { IsTrue self.ended → (result ≡ Ok (self, None)) × (src.new ≡ src.old) }
     {
+        let frame = self.read(src)?;
+        Ok((self, frame))
+    }
+
+    /// The same, where the reader stands: nothing of it is moved. After an error it is of no use.
+    pub fn read<S: Source>(&mut self, src: &mut S) -> Result<Option<Frame>, FrameError>
+        ensures gives { self.old.ended ≡ false
+            → IfOk result (λ found. GivesFrame (S.state src.old) (S.state src.new) self.old self.new found) }
+        ensures faultless { IfOk result (λ found.
+            IfSome found (λ f. IsFaultless f × IsInTime self.old.place.clock f)) }
+        ensures refuses { self.old.ended ≡ false
+            → IfErr result (λ e. Refuses (S.state src.old) (S.state src.new) self.old e) }
+        ensures cause { HasReadCause (S.state src.old) (S.state src.new) result }
+        ensures again { IsTrue self.old.ended
+            → (result ≡ Ok None) × (self.new ≡ self.old) × (src.new ≡ src.old) }
+    {
         if self.ended {
-            return Ok((self, None));
+            return Ok(None);
         }
         let count = take_next(&mut self.room, &self.place, src)?;
         let Some(frame) = next_in(self.alloc, &self.place, &self.room[..count])? else {
             self.ended = true;
-            return Ok((self, None));
+            return Ok(None);
         };
         self.place = Place {
             bytes: self.place.bytes + count as u64,
             clock: next_clock(self.place.clock, &frame),
             frames: self.place.frames + 1,
         };
-        Ok((self, Some(frame)))
+        Ok(Some(frame))
     }
 }
 

@@ -67,15 +67,15 @@ fn answer<L: Ledger>(
         };
         let frame = frame.frame(alloc)?;
         let reply = hub.serve(frame, &mut asks)?;
-        totals = totals.with(&reply);
+        totals = totals.with(reply);
     }
 }
 
 impl Totals {
     /// With one more frame, and its reply where it has one.
-    fn with(self, reply: &Option<Reply>) -> Totals
+    fn with(self, reply: Option<Reply>) -> Totals
         requires { MayCountOne self }
-        ensures with { result ≡ totals_with self reply.now }
+        ensures with { result ≡ totals_with self reply }
         ensures bound { AreInBounds result }
     {
         match reply {
@@ -86,7 +86,7 @@ impl Totals {
             Some(reply) => Totals {
                 frames: self.frames + 1,
                 replies: self.replies + 1,
-                bytes: self.bytes + u128::from(reply_len(reply)),
+                bytes: self.bytes + u128::from(reply_len(&reply)),
             },
         }
     }

@@ -147,20 +147,16 @@ fn counted_replay<S: Source, K: Sink, L: Ledger>(
     let mut hub = Hub::new(alloc, FieldJudge::new());
     let mut asks: Steps<L> = Steps::new(blank);
     'frames: loop {
-        let (next, frame) = match reader.next(input) {
-            Ok(given) => given,
+        let frame = match reader.read(input) {
+            Ok(Some(frame)) => frame,
+            Ok(None) => return Ending::Done,
             Err(e) => return ending_of(e),
         };
-        let Some(frame) = frame else {
-            return Ending::Done;
+        let Ok(reply) = hub.serve(frame, &mut asks) else {
+            return Ending::NoMemory;
         };
-        let reply = match hub.serve(frame, &mut asks) {
-            Ok(reply) => reply,
-            Err(_) => return Ending::NoMemory,
-        };
-        match put_reply(&reply, out) {
-            Ok(()) => reader = next,
-            Err(_) => return Ending::WriteFault,
+        if put_reply(reply, out).is_err() {
+            return Ending::WriteFault;
         }
     }
 }
@@ -176,12 +172,12 @@ fn ending_of(e: FrameError) -> Ending
     }
 }
 
-/// Writes the reply to a frame, if it has one.
-fn put_reply<K: Sink>(reply: &Option<Reply>, out: &mut K) -> Result<(), WriteFailed>
-    ensures { IsPut (K.state out.old) (K.state out.new) result (bytes_if_any reply.now) }
+/// Writes the reply to a frame, if it has one, and lets it go.
+fn put_reply<K: Sink>(reply: Option<Reply>, out: &mut K) -> Result<(), WriteFailed>
+    ensures { IsPut (K.state out.old) (K.state out.new) result (bytes_if_any reply) }
 {
     match reply {
-        Some(reply) => write_reply(reply, out),
+        Some(reply) => write_reply(&reply, out),
         None => Ok(()),
     }
 }

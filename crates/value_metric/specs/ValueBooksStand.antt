@@ -3,14 +3,12 @@ use Rattle.std.specs.Prelude.{◌≡◌, ℕ, ℤ, zero, suc, ◌+◌, ◌*◌, 
 use Rattle.atom_record.specs.declared.value.MetricKey.{MetricKey}
 use Rattle.bucket_meaning.specs.Limits.{time_limit}
 use Rattle.bucket_meaning.specs.Marks.{Mark, Part, Books, after, books_from}
-use Rattle.bucket_meaning.specs.Kept.{count_in_u64, taken_of}
+use Rattle.bucket_meaning.specs.Kept.{Taken, count_in_u64, taken_of}
 use Rattle.bucket_meaning.specs.Rows.{Kind, drops, closed_rows}
 use Rattle.config_types.specs.declared.metric.Aggregation.{Aggregation}
 use Rattle.kept_rows.specs.KeptRows.{IsKept}
 use Rattle.metric_kinds.specs.Values.{value_kind}
-use Rattle.metric_producer.specs.Collecting.{closed_of}
 use Rattle.metric_producer.specs.declared.row.Row.{Row}
-use Rattle.metric_producer.specs.declared.row.Closed.{Closed}
 use Rattle.value_metric.specs.Totals.{HasTotals, row_weighs}
 use Rattle.value_metric.specs.declared.value_books.Counts.{Counts}
 use Rattle.value_metric.specs.declared.value_books.ValueBooks.{ValueBooks}
@@ -58,11 +56,10 @@ TakesValueMarks old new marks =
     → HoldsBooks new form (books_from (drops (form_kind form) form.bound) books marks)
 
 -- whatever books the object holds, what is handed out is what a report shows of them
-abbrev pub ShowsTotals : ValueBooks → Closed ℤ → Type 0
+abbrev pub ShowsTotals : ValueBooks → Taken (Row ℤ) → Type 0
 ShowsTotals it closed =
     (form : ValueForm) (books : Books (MetricKey × ℤ)) → HoldsBooks it form books
-    → closed
-    ≡ closed_of (taken_of row_weighs (closed_rows (form_kind form) form.bound books) books.dropped books.missing)
+    → closed ≡ taken_of row_weighs (closed_rows (form_kind form) form.bound books) books.dropped books.missing
 
 -- so many parts of one length, one after the other, in each of which the same came
 abbrev pub same_parts : ℕ → List (MetricKey × ℤ) → ℕ → ℕ → List (Part (MetricKey × ℤ))

@@ -6,7 +6,7 @@ use Rattle.session_frames.specs.Bodies.{FindsNext}
 use Rattle.session_frames.specs.Frames.{next_frame}
 use Rattle.session_frames.specs.Reader.{Reading, GivesFrame, Refuses}
 use Rattle.session_frames.proofs.ReaderLemmas.{gives_end, gives_frame, refuses, refuses_before, found_whole, reading_after, rest_after}
-use Rattle.session_frames.proofs.reader.FrameReader.next.Goals as goal
+use Rattle.session_frames.proofs.reader.FrameReader.read.Goals as goal
 
 pub returns-in_err-count-clause-refuses : goal.returns-in_err-count-clause-refuses
 returns-in_err-count-clause-refuses g c =

@@ -1,0 +1,13 @@
+-- What was read goes to the live ones, and the hub serves the frame.
+use Rattle.std.proofs.Common.{refl, SFits, w32, w64, rules, ◌∙◌, ap}
+use Rattle.std.proofs.lemmas.Int.{to_z-of_z}
+use Rattle.config_decode.specs.Config.{config_of}
+use Rattle.hub_meaning.specs.Acceptance.{config_read}
+use Rattle.hub_core.proofs.HubStandsLemmas.{hub_install}
+use Rattle.hub_core.proofs.hub.Hub.install.Goals as goal
+
+pub returns-clause-serves : goal.returns-clause-serves
+returns-clause-serves g c = λ frames h.
+    hub_install g.J.Judge.says c.args.self.now _ frames h c.args.name.uid c.args.name.id c.in_ok-lives.body refl refl
+    c.args.config.now c.in_ok-read.read c.in_ok-read.ensures
+    (rw c.replace-lives.ensures.value at c.in_ok-lives.ensures)
