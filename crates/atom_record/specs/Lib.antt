@@ -4,6 +4,7 @@ pub mod AtomSound
 pub mod AtomSpelling
 pub mod Equal
 pub mod Flags
+pub mod Hashing
 pub mod Id
 pub mod Pulled
 pub mod TypedValue

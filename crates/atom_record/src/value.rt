@@ -4,12 +4,16 @@ ghost use Rattle.std.proofs.Common.{rules};
 
 use sd_base::{Duplicate, Exact, Seq};
 use std::alloc::{AllocError, Global};
+use std::hash::{Hash, Hasher};
+
+/// What a missing leaf feeds a hasher, which no truth does.
+const MISSING: u8 = 2;
 
 /// A string of bytes.
 pub type Bytes = Seq<u8>;
 
 /// What an entry of an atom holds.
-#[derive(Debug, Drop, PartialEq, Eq, Hash)]
+#[derive(Debug, Drop, PartialEq, Eq)]
 pub enum Value {
     /// A signed number of four bytes. Only such a value may be a state.
     Int(i32),
@@ -26,7 +30,7 @@ pub enum Value {
 }
 
 /// What an atom has at one leaf of a set of fields.
-#[derive(Drop, PartialEq, Eq, Hash)]
+#[derive(Drop, PartialEq, Eq)]
 pub enum Leaf {
     /// The atom has no such entry.
     Missing,
@@ -40,7 +44,7 @@ pub enum Leaf {
 pub type DimKey = Seq<Leaf>;
 
 /// The part of a key that comes from a state.
-#[derive(Clone, Copy, PartialEq, Eq, Hash)]
+#[derive(Clone, Copy, PartialEq, Eq)]
 pub enum Slice {
     /// The state's value.
     Plain { atom_id: u32, value: i32 },
@@ -49,7 +53,7 @@ pub enum Slice {
 }
 
 /// What a metric groups its rows by.
-#[derive(Drop, PartialEq, Eq, Hash)]
+#[derive(Drop, PartialEq, Eq)]
 pub struct MetricKey {
     /// The dimensions in what is counted.
     pub dims: DimKey,
@@ -107,6 +111,75 @@ impl Exact for MetricKey {
     ghost use Rattle.atom_record.specs.Equal.{metric_key_exact};
 
     ghost exact = { metric_key_exact };
+}
+
+impl Hash for Value {
+    ghost use Rattle.atom_record.specs.Hashing.{value_fed, value_alike};
+
+    ghost hash_input = { value_fed };
+
+    ghost respects_eq = { value_alike.fed };
+
+    fn hash<H: Hasher>(&self, state: &mut H) {
+        match self {
+            Value::Int(n) => state.write_i32(*n),
+            Value::Long(n) => state.write_i64(*n),
+            Value::Bool(b) => b.hash(state),
+            Value::Str(text) => state.write(text.as_slice()),
+            Value::Raw(bytes) => state.write(bytes.as_slice()),
+            Value::Bits32(bits) => state.write_u32(*bits),
+        }
+    }
+}
+
+impl Hash for Leaf {
+    ghost use Rattle.atom_record.specs.Hashing.{leaf_fed, leaf_alike};
+
+    ghost hash_input = { leaf_fed };
+
+    ghost respects_eq = { leaf_alike.fed };
+
+    fn hash<H: Hasher>(&self, state: &mut H) {
+        match self {
+            Leaf::Missing => state.write_u8(MISSING),
+            Leaf::One(value) => value.hash(state),
+            Leaf::Many(values) => values.hash(state),
+        }
+    }
+}
+
+impl Hash for Slice {
+    ghost use Rattle.atom_record.specs.Hashing.{slice_fed, slice_alike};
+
+    ghost hash_input = { slice_fed };
+
+    ghost respects_eq = { slice_alike.fed };
+
+    fn hash<H: Hasher>(&self, state: &mut H) {
+        match self {
+            Slice::Plain { atom_id, value } => {
+                state.write_u32(*atom_id);
+                state.write_i32(*value);
+            }
+            Slice::Group { atom_id, group } => {
+                state.write_u32(*atom_id);
+                state.write_i64(*group);
+            }
+        }
+    }
+}
+
+impl Hash for MetricKey {
+    ghost use Rattle.atom_record.specs.Hashing.{metric_key_fed, metric_key_alike};
+
+    ghost hash_input = { metric_key_fed };
+
+    ghost respects_eq = { metric_key_alike.fed };
+
+    fn hash<H: Hasher>(&self, state: &mut H) {
+        self.dims.hash(state);
+        Slice::hash_slice(self.slices.as_slice(), state);
+    }
 }
 
 impl Duplicate for Value {

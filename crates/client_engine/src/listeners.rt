@@ -102,8 +102,10 @@ fn wakers_of(
             list.extend_from_slice(conditions.touchers_of(metric.condition))?;
             list.extend_from_slice(conditions.touchers_of(Some(metric.what)))?;
         }
-        LKind::Count | LKind::PushedValue { .. } | LKind::PushedGauge { .. } | LKind::Event =>
-            list.push(metric.what)?,
+        LKind::Count { .. }
+        | LKind::PushedValue { .. }
+        | LKind::PushedGauge { .. }
+        | LKind::Event => list.push(metric.what)?,
     }
     Ok(list)
 }
@@ -126,7 +128,7 @@ fn told_states_of(alloc: Global, metric: &LMetric) -> Result<Vec<u32>, AllocErro
         LKind::SumDuration { .. } | LKind::MaxSparse { .. } => {
             states_of(alloc, metric.slices.as_slice())
         }
-        LKind::Count
+        LKind::Count { .. }
         | LKind::PushedValue { .. }
         | LKind::PulledValue { .. }
         | LKind::PushedGauge { .. }

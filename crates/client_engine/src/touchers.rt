@@ -123,7 +123,7 @@ pub fn names_atom_itself(metric: &LMetric, matched: &[bool]) -> bool
             is_true_at(matched, metric.what) || is_true_if_named(matched, *trigger)
         }
         LKind::SumDuration { .. } | LKind::MaxSparse { .. } => false,
-        LKind::Count
+        LKind::Count { .. }
         | LKind::PushedValue { .. }
         | LKind::PulledValue { .. }
         | LKind::PushedGauge { .. }
@@ -137,7 +137,7 @@ pub fn timed_predicate(metric: &LMetric) -> Option<u32>
 {
     match &metric.kind {
         LKind::SumDuration { .. } | LKind::MaxSparse { .. } => Some(metric.what),
-        LKind::Count
+        LKind::Count { .. }
         | LKind::PushedValue { .. }
         | LKind::PulledValue { .. }
         | LKind::PushedGauge { .. }

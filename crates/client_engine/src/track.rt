@@ -180,7 +180,7 @@ fn lane_of(
 {
     let base = opening.base;
     match &metric.kind {
-        LKind::Count => Ok(MetricLane::Counts(counts::begin(alloc, base, metric))),
+        LKind::Count { .. } => Ok(MetricLane::Counts(counts::begin(alloc, base, metric))),
         LKind::PushedValue { agg, .. } => {
             Ok(MetricLane::Values(values::begin(alloc, base, metric, *agg)))
         }

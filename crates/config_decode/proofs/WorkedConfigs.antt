@@ -1,8 +1,11 @@
 -- Worked configurations, by computing: what their bytes say, or why they are refused. The crates above take their rows
 -- from these. In a comment, {7: {1: 1}} is a message whose field 7 holds a message whose field 1 is 1.
-use Rattle.std.proofs.Common.{◌≡◌, ℕ, ℤ, pos, negsuc, List, [], ◌∷◌, ◌++◌, Some, None, Ok, Err, refl}
+use Rattle.std.proofs.Common.{◌≡◌, ℕ, ℤ, pos, negsuc, Bool, true, false, List, [], ◌∷◌, ◌++◌, Some, None, Ok, Err, refl}
 use Rattle.proto_wire.specs.WireReading.{inside_at, walk_from, walk_turns, field_at, field_with, tag_at, tag_of, varint_at, taken_at}
+use Rattle.config_types.specs.declared.bucket.TimeUnit.TheVariants.{Cts}
 use Rattle.config_types.specs.declared.config.Config.{Config}
+use Rattle.config_types.specs.declared.fields.FieldMatcher.{FieldMatcher}
+use Rattle.config_types.specs.declared.fields.FieldMatcher.TheViews.{roll-FieldMatcher}
 use Rattle.config_types.specs.declared.matcher.MatcherBody.TheVariants as matcher
 use Rattle.config_types.specs.declared.matcher.MatcherDef.{MatcherDef}
 use Rattle.config_types.specs.declared.metric.CountDef.{CountDef}
@@ -10,6 +13,7 @@ use Rattle.config_decode.specs.ConfigFault.{Wire, Unsupported}
 use Rattle.config_decode.specs.Walk as whole
 use Rattle.config_decode.specs.Walk.{walk_of}
 use Rattle.config_decode.specs.Config.{config_of}
+use Rattle.config_decode.specs.Tree.{field_matcher_in}
 
 -- a configuration with nothing but matchers and metrics that count
 abbrev pub tree_with : List MatcherDef → List CountDef → Config
@@ -37,6 +41,15 @@ abbrev pub plain_count : ℤ → ℤ → CountDef
 plain_count id what = record {
   common = record { id = Some id; what = Some what; condition = None; links = [] };
   sliced = record { dims = None; bucket = None; bound = None; slices = []; state_links = [] };
+  overflow = false;
+}
+
+-- a metric that counts, of which nothing else is said than whether it has an overflow
+abbrev unnamed_count : Bool → CountDef
+unnamed_count overflow = record {
+  common = record { id = None; what = None; condition = None; links = [] };
+  sliced = record { dims = None; bucket = None; bound = None; slices = []; state_links = [] };
+  overflow = overflow;
 }
 
 -- the matcher 1, of the atoms of id 5: {7: {1: 1, 2: {1: 5}}}
@@ -204,10 +217,53 @@ overflow_of_count_bytes =
     ∷ 200 ∷ 62 ∷ 2
     ∷ 208 ∷ 62 ∷ 1 ∷ []
 
-pub overflow_of_count_config : config_of overflow_of_count_bytes ≡ Err (Unsupported (3 ∷ 1002 ∷ []))
+-- the field 1 of atom 5
+abbrev field_1_of_5 : FieldMatcher
+field_1_of_5 = roll-FieldMatcher (record {
+  field = Some (pos 5);
+  position = None;
+  children = roll-FieldMatcher (record { field = Some (pos 1); position = None; children = [] }) ∷ [];
+})
+
+-- this metric, with or without an overflow
+abbrev pub count_by_field_1 : Bool → CountDef
+count_by_field_1 overflow = record {
+  common = record { id = Some (pos 100); what = Some (pos 1); condition = None; links = [] };
+  sliced = record {
+    dims = Some field_1_of_5;
+    bucket = Some Cts;
+    bound = Some (pos 2);
+    slices = [];
+    state_links = [];
+  };
+  overflow = overflow;
+}
+
+pub overflow_of_count_config : config_of overflow_of_count_bytes
+    ≡ Ok (tree_with (atom_matcher (pos 1) (pos 5) ∷ []) (count_by_field_1 true ∷ []))
+unfolding config_of walk_of whole.walk_in inside_at
+    walk_from walk_turns field_at field_with tag_at tag_of varint_at taken_at field_matcher_in
+overflow_of_count_config = refl
+
+-- two metrics that say whether they have an overflow, the second twice: {3: {1002: 0}, 3: {1002: 1, 1002: 0}}
+last_overflow_counts : config_of (26 ∷ 3 ∷ 208 ∷ 62 ∷ 0 ∷ 26 ∷ 6 ∷ 208 ∷ 62 ∷ 1 ∷ 208 ∷ 62 ∷ 0 ∷ [])
+    ≡ Ok (tree_with [] (unnamed_count false ∷ unnamed_count false ∷ []))
 unfolding config_of walk_of whole.walk_in inside_at
     walk_from walk_turns field_at field_with tag_at tag_of varint_at taken_at
-overflow_of_count_config = refl
+last_overflow_counts = refl
+
+-- of three metrics the second alone has an overflow, which is any number but 0: {3: {}, 3: {1002: 2}, 3: {}}
+one_overflow : config_of (26 ∷ 0 ∷ 26 ∷ 3 ∷ 208 ∷ 62 ∷ 2 ∷ 26 ∷ 0 ∷ [])
+    ≡ Ok (tree_with [] (unnamed_count false ∷ unnamed_count true ∷ unnamed_count false ∷ []))
+unfolding config_of walk_of whole.walk_in inside_at
+    walk_from walk_turns field_at field_with tag_at tag_of varint_at taken_at
+one_overflow = refl
+
+-- an overflow of a count as bytes: {3: {1002: ""}}
+overflow_as_bytes : config_of (26 ∷ 3 ∷ 210 ∷ 62 ∷ 0 ∷ []) ≡ Err (Unsupported (3 ∷ 1002 ∷ []))
+unfolding config_of walk_of whole.walk_in inside_at
+    walk_from walk_turns field_at field_with tag_at tag_of varint_at taken_at
+overflow_as_bytes = refl
 
 -- A second matcher, and a metric with an activation by it:
 -- {7: {1: 1, 2: {1: 5}}, 7: {1: 2, 2: {1: 6}}, 3: {1: 100, 2: 1, 1010: {1: 2, 2: 1}}}
@@ -231,3 +287,19 @@ pub overflow_of_value_config : config_of overflow_of_value_bytes ≡ Err (Unsupp
 unfolding config_of walk_of whole.walk_in inside_at
     walk_from walk_turns field_at field_with tag_at tag_of varint_at taken_at
 overflow_of_value_config = refl
+
+-- the other kinds of metrics: {2: {1002: 1}}, {5: {1002: 1}} and {6: {1002: 1}}
+overflow_of_event : config_of (18 ∷ 3 ∷ 208 ∷ 62 ∷ 1 ∷ []) ≡ Err (Unsupported (2 ∷ 1002 ∷ []))
+unfolding config_of walk_of whole.walk_in inside_at
+    walk_from walk_turns field_at field_with tag_at tag_of varint_at taken_at
+overflow_of_event = refl
+
+overflow_of_gauge : config_of (42 ∷ 3 ∷ 208 ∷ 62 ∷ 1 ∷ []) ≡ Err (Unsupported (5 ∷ 1002 ∷ []))
+unfolding config_of walk_of whole.walk_in inside_at
+    walk_from walk_turns field_at field_with tag_at tag_of varint_at taken_at
+overflow_of_gauge = refl
+
+overflow_of_duration : config_of (50 ∷ 3 ∷ 208 ∷ 62 ∷ 1 ∷ []) ≡ Err (Unsupported (6 ∷ 1002 ∷ []))
+unfolding config_of walk_of whole.walk_in inside_at
+    walk_from walk_turns field_at field_with tag_at tag_of varint_at taken_at
+overflow_of_duration = refl

@@ -273,6 +273,10 @@ count_slice_by_state = 8
 abbrev pub count_state_link : ℕ
 count_state_link = 9
 
+-- whether a count metric gathers what finds no room
+abbrev pub count_overflow : ℕ
+count_overflow = 1002
+
 -- a value metric: `ValueMetric.value_field`
 abbrev pub value_field : ℕ
 value_field = 3

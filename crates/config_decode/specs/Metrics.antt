@@ -17,7 +17,7 @@ use Rattle.config_types.specs.declared.metric.Direction.TheVariants as direction
 use Rattle.config_types.specs.declared.metric.SamplingType.TheVariants as sampling
 use Rattle.config_decode.specs.declared.scalar.Runs.{Runs}
 use Rattle.config_decode.specs.declared.scalar.Runs.TheVariants as runs
-use Rattle.config_decode.specs.FieldNumbers.{condition_link_condition, condition_link_fields_in_what, condition_link_fields_in_condition, state_link_atom_id, state_link_fields_in_what, state_link_fields_in_state, filter_include_all, filter_fields, metric_id, metric_what, key_bound, event_condition, event_links, count_condition, count_dimensions, count_bucket, count_links, count_slice_by_state, count_state_link, value_field, value_condition, value_dimensions, value_bucket, value_links, value_aggregation_type, value_use_absolute_value_on_reset, value_use_diff, value_direction, value_skip_zero_diff_output, value_use_zero_default_base, value_slice_by_state, value_state_link, gauge_fields_filter, gauge_condition, gauge_dimensions, gauge_bucket, gauge_links, gauge_sampling_type, gauge_max_num_atoms, gauge_trigger_event, duration_condition, duration_links, duration_aggregation_type, duration_dimensions, duration_bucket, duration_slice_by_state, duration_state_link}
+use Rattle.config_decode.specs.FieldNumbers.{condition_link_condition, condition_link_fields_in_what, condition_link_fields_in_condition, state_link_atom_id, state_link_fields_in_what, state_link_fields_in_state, filter_include_all, filter_fields, metric_id, metric_what, key_bound, event_condition, event_links, count_condition, count_dimensions, count_bucket, count_links, count_slice_by_state, count_state_link, count_overflow, value_field, value_condition, value_dimensions, value_bucket, value_links, value_aggregation_type, value_use_absolute_value_on_reset, value_use_diff, value_direction, value_skip_zero_diff_output, value_use_zero_default_base, value_slice_by_state, value_state_link, gauge_fields_filter, gauge_condition, gauge_dimensions, gauge_bucket, gauge_links, gauge_sampling_type, gauge_max_num_atoms, gauge_trigger_event, duration_condition, duration_links, duration_aggregation_type, duration_dimensions, duration_bucket, duration_slice_by_state, duration_state_link}
 use Rattle.config_decode.specs.Profile.{unit_of, aggregation_of, direction_of, sampling_of, runs_of}
 use Rattle.config_decode.specs.Values.{int64_field, int32_field, bool_field, enum_field, int64_fields, messages, message}
 use Rattle.config_decode.specs.Tree.{field_matcher_of}
@@ -75,11 +75,12 @@ sliced_of dims bucket slices links fields = record {
 abbrev pub event_of : List FieldOf → EventDef
 event_of fields = record { common = common_of event_condition event_links fields }
 
--- a metric that counts
+-- a metric that counts: without an overflow row by default
 abbrev pub count_of : List FieldOf → CountDef
 count_of fields = record {
   common = common_of count_condition count_links fields;
   sliced = sliced_of count_dimensions count_bucket count_slice_by_state count_state_link fields;
+  overflow = unwrap_or (bool_field count_overflow fields) false;
 }
 
 -- a metric of values: sums by default, of values that go up, where a difference of zero is left out

@@ -120,21 +120,25 @@ impl FromMessage for CountDef {
     ghost tree = { count_of };
 
     fn from_message(alloc: Global, message: &Message<'_>) -> Result<CountDef, AllocError> {
-        let common = common(
-            alloc,
-            message,
-            numbers::COUNT_CONDITION,
-            numbers::COUNT_LINKS,
-        )?;
-        let sliced = sliced(
-            alloc,
-            message,
-            numbers::COUNT_DIMENSIONS,
-            numbers::COUNT_BUCKET,
-            numbers::COUNT_SLICE_BY_STATE,
-            numbers::COUNT_STATE_LINK,
-        )?;
-        Ok(CountDef { common, sliced })
+        Ok(CountDef {
+            overflow: message
+                .read_scalar(numbers::COUNT_OVERFLOW)
+                .unwrap_or(false),
+            common: common(
+                alloc,
+                message,
+                numbers::COUNT_CONDITION,
+                numbers::COUNT_LINKS,
+            )?,
+            sliced: sliced(
+                alloc,
+                message,
+                numbers::COUNT_DIMENSIONS,
+                numbers::COUNT_BUCKET,
+                numbers::COUNT_SLICE_BY_STATE,
+                numbers::COUNT_STATE_LINK,
+            )?,
+        })
     }
 }
 

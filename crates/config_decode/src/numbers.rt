@@ -156,6 +156,8 @@ pub const COUNT_SLICE_BY_STATE: u32 = 8;
 
 pub const COUNT_STATE_LINK: u32 = 9;
 
+pub const COUNT_OVERFLOW: u32 = 1002;
+
 // A value metric, `ValueMetric`.
 pub const VALUE_FIELD: u32 = 3;
 

@@ -207,7 +207,7 @@ const EVENT: [Row; 4] = [
     (numbers::EVENT_LINKS, Shape::Message(Kind::Link)),
 ];
 
-const COUNT: [Row; 9] = [
+const COUNT: [Row; 10] = [
     (numbers::METRIC_ID, Shape::Number),
     (numbers::METRIC_WHAT, Shape::Number),
     (numbers::COUNT_CONDITION, Shape::Number),
@@ -220,6 +220,7 @@ const COUNT: [Row; 9] = [
     (numbers::COUNT_SLICE_BY_STATE, Shape::Numbers),
     (numbers::COUNT_STATE_LINK, Shape::Message(Kind::StateLink)),
     (numbers::KEY_BOUND, Shape::Number),
+    (numbers::COUNT_OVERFLOW, Shape::Number),
 ];
 
 const VALUE: [Row; 19] = [

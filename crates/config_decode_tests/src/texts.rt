@@ -17,6 +17,7 @@ const SHORT: &[(&str, &str)] = &[
     ),
     (", condition: None, links: [] }", " }"),
     (", bound: None, slices: [], state_links: [] }", " }"),
+    (", overflow: false }", " }"),
     ("position: None, ", ""),
     (", children: [] }", " }"),
     ("FieldMatcher {", "{"),

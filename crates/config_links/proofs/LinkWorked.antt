@@ -67,6 +67,7 @@ abbrev count : ℕ → ℕ → Sliced → CountDef
 count id what sliced = record {
   common = record { id = Some (pos id); what = Some (pos what); condition = None; links = [] };
   sliced = sliced;
+  overflow = false;
 }
 
 -- the time of a predicate

@@ -152,7 +152,7 @@ module _ (scope : Scope) (metrics : List LMetric)
   unfolding linked_kind what_place bucket_size bucket_bound
   kind_sound def Event starts names has limit own tests times fit =
       (place_here (what_id def) (what_of_atoms def starts has), refl, refl, refl)
-  kind_sound def Count starts names has limit own tests times fit =
+  kind_sound def (Count overflow) starts names has limit own tests times fit =
       (place_here (what_id def) (what_of_atoms def starts has), size_fits def.sliced.bucket uid)
   kind_sound def (Value value) starts names has limit own tests times fit =
       let known = what_of_atoms def starts has in
@@ -195,7 +195,7 @@ module _ (scope : Scope) (metrics : List LMetric)
       → AllByRecursion (MayBeKnown scope.ids.predicates) (def.common.condition ∷ map link_condition def.common.links)
   conditions_known def Event names = names_known scope.ids.predicates
       (def.common.condition ∷ map link_condition def.common.links) names
-  conditions_known def Count names = names_known scope.ids.predicates
+  conditions_known def (Count overflow) names = names_known scope.ids.predicates
       (def.common.condition ∷ map link_condition def.common.links) names
   conditions_known def (Value value) names = names_known scope.ids.predicates
       (def.common.condition ∷ map link_condition def.common.links) names
@@ -209,7 +209,7 @@ module _ (scope : Scope) (metrics : List LMetric)
       → IsBound (bucket_bound kind def.sliced.bound)
   unfolding bucket_bound
   bound_by def Event within = (omega arith, omega arith)
-  bound_by def Count within = bound_fits MetricBound refl def.sliced.bound within
+  bound_by def (Count overflow) within = bound_fits MetricBound refl def.sliced.bound within
   bound_by def (Value value) within = bound_fits MetricBound refl def.sliced.bound within
   bound_by def (Gauge gauge) within = bound_fits MetricBound refl def.sliced.bound within
   bound_by def (Duration max_sparse) within = bound_fits MetricBound refl def.sliced.bound within

@@ -69,7 +69,7 @@ pub of_each_kind : (P : List LSlice → Type 0) (scope : Scope) (links : List St
     → P (map (linked_slice scope links) ids)
     → (kind : Kind) → P (linked_slices scope kind links ids)
 of_each_kind P scope links ids none all Event = none
-of_each_kind P scope links ids none all Count = all
+of_each_kind P scope links ids none all (Count overflow) = all
 of_each_kind P scope links ids none all (Value value) = all
 of_each_kind P scope links ids none all (Gauge gauge) = none
 of_each_kind P scope links ids none all (Duration max_sparse) = all

@@ -137,7 +137,7 @@ duration_form false spec = kinds.SumDuration spec
 -- a kind of metric
 unfoldable pub linked_kind : Scope → ℤ → ℕ → Kind → LKind
 linked_kind scope what bound Event = kinds.Event
-linked_kind scope what bound Count = kinds.Count
+linked_kind scope what bound (Count overflow) = kinds.Count overflow
 linked_kind scope what bound (Value value) = value_form (names_pulled scope what) value (set_or_none value.field)
 linked_kind scope what bound (Gauge gauge) = gauge_form scope (names_pulled scope what) gauge (set_or_none gauge.fields)
 linked_kind scope what bound (Duration max_sparse) = duration_form max_sparse (timed_spec scope what bound)

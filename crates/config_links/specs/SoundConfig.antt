@@ -162,7 +162,7 @@ IsValueField atom_id leaf = IsFromOne greatest_atom_id atom_id × IsLeaf leaf ×
 abbrev pub IsSoundKind : Linked → LMetric → LKind → Type 0
 IsSoundKind linked metric kinds.Event =
     (metric.what < length linked.matchers) × (metric.size ≡ 0) × (metric.bound ≡ 1) × (metric.slices ≡ [])
-IsSoundKind linked metric kinds.Count = (metric.what < length linked.matchers) × IsSize metric.size
+IsSoundKind linked metric (kinds.Count overflow) = (metric.what < length linked.matchers) × IsSize metric.size
 IsSoundKind linked metric (kinds.PushedValue atom_id leaf agg) =
     (metric.what < length linked.matchers) × IsSize metric.size × IsPulledAt linked.matchers metric.what false
     × IsValueField atom_id leaf

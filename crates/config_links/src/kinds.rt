@@ -173,7 +173,9 @@ pub fn kind_in(scope: &Scope, metric: &Metric, what: i64, own: FieldSet) -> Resu
     let common = &metric.common;
     match &metric.kind {
         Kind::Event => Ok(LKind::Event),
-        Kind::Count => Ok(LKind::Count),
+        Kind::Count { overflow } => Ok(LKind::Count {
+            overflow: *overflow,
+        }),
         Kind::Value(value) => value_in(common, scope.is_of_pulled_atom(what), own, value),
         Kind::Gauge(gauge) => gauge_in(scope, common, scope.is_of_pulled_atom(what), own, gauge),
         Kind::Duration { max_sparse } => {

@@ -125,7 +125,10 @@ pub enum LKind {
     /// The atoms themselves.
     Event,
     /// How many there were.
-    Count,
+    Count {
+        /// Whether arrivals of keys that find no room are gathered in one row of each bucket.
+        overflow: bool,
+    },
     /// The values of a field, as they are.
     PushedValue {
         atom_id: u32,

@@ -8,7 +8,7 @@ ghost use Rattle.kept_rows.specs.KeptRows.{AddsRows};
 ghost use Rattle.metric_kinds.specs.Counts.{row_weight};
 ghost use Rattle.count_metric.specs.CountStands.{TakesKey, tally_row, CountStandsFor, ClosesPart};
 
-use crate::{Closed, Producer, Row};
+use crate::{Closed, Producer, ReadsEvents, Row};
 use atom_record::MetricKey;
 use bucket_clock::Crossings;
 use dim_table::{Admit, Guarded};
@@ -75,11 +75,11 @@ fn keep_all(
 }
 
 // One more arrival of a key.
-fn arrive(table: &mut Guarded<MetricKey, u64>, key: MetricKey) -> Result<(), AllocError>
-    ensures taken { OnOk result (TakesKey table.old table.new key) }
+fn arrive(table: &mut Guarded<MetricKey, u64>, key: &MetricKey) -> Result<(), AllocError>
+    ensures taken { OnOk result (TakesKey table.old table.new key.now) }
     ensures err { OnErr result (table.new ≡ table.old) }
 {
-    match table.admit(key, 0)? {
+    match table.admit_copy(key, 0)? {
         Admit::At(place) => raise(table, place),
         Admit::Full => (),
     }
@@ -120,8 +120,7 @@ impl Producer for CountProducer {
     ghost law = { count_law };
 
     fn event(&mut self, at: u64, ev: MetricKey) -> Result<(), AllocError> {
-        let _at = at;
-        arrive(&mut self.table, ev)
+        self.event_of(at, &ev)
     }
 
     fn condition(&mut self, at: u64, now: ()) -> Result<(), AllocError> {
@@ -150,5 +149,12 @@ impl Producer for CountProducer {
             dropped: self.table.take_dropped(),
             missing: 0,
         }
+    }
+}
+
+impl ReadsEvents for CountProducer {
+    fn event_of(&mut self, at: u64, ev: &MetricKey) -> Result<(), AllocError> {
+        let _at = at;
+        arrive(&mut self.table, ev)
     }
 }

@@ -5,4 +5,4 @@ mod count;
 mod flat;
 
 pub use count::CountProducer;
-pub use metric_producer::{Closed, Producer, Row};
+pub use metric_producer::{Closed, Producer, ReadsEvents, Row};

@@ -3,16 +3,16 @@ ghost use Rattle.std.specs.Prelude.{◌≡◌, ◌≢◌, ◌≤◌, ◌+◌, []
 ghost use Rattle.std.specs.Borrow.{sem};
 ghost use Rattle.std.specs.Map.{lookup, values_of};
 ghost use Rattle.std.specs.Map.Iter.{deref_pair};
-ghost use Rattle.std.specs.Option.{option_map, option_copied_mut};
+ghost use Rattle.std.specs.Option.{option_map, option_copied, option_copied_mut};
 ghost use Rattle.bucket_meaning.specs.Limits.{most_keys};
 ghost use Rattle.bucket_meaning.specs.Kept.{count_in_u64};
 ghost use Rattle.dim_table.specs.Table.{keys, without, Admits, IsBounded, TableStandsFor, TakesArrival};
 ghost use Rattle.dim_table.specs.Lent.{lends_value};
 
 use crate::Admit;
-use indexmap::IndexMap;
 use indexmap::map::IntoIter;
-use sd_base::Exact;
+use indexmap::{Equivalent, IndexMap};
+use sd_base::{Duplicate, Exact};
 use std::alloc::{AllocError, Global};
 use std::hash::Hash;
 use std::marker::Model;
@@ -121,6 +121,13 @@ impl<K: Exact + Hash + Drop, V: Drop> Guarded<K, V> {
         self.rows.get_index_of(key)
     }
 
+    /// The value in the row whose key a query stands for, or none where no key is the one.
+    pub fn find<Q: Equivalent<K>>(&self, query: Q) -> Option<&V>
+        ensures { option_copied result ≡ lookup (Q.equivalent query) self.now.rows }
+    {
+        self.rows.get(query)
+    }
+
     /// The row at a place, or none past the end.
     pub fn pair(&self, place: usize) -> Option<(&K, &V)>
         ensures { option_map deref_pair result ≡ slice_get self.now.rows place }
@@ -210,5 +217,38 @@ impl<K: Exact + Hash + Drop, V: Drop> Guarded<K, V> {
     {
         let fresh = Guarded::new(self.alloc, self.bound);
         mem::replace(self, fresh)
+    }
+}
+
+impl<K: Exact + Hash + Duplicate + Drop, V: Drop> Guarded<K, V> {
+    /// The same as `admit`, of a key that stays with its owner. It is looked up first, and copied only for a new row.
+    pub fn admit_copy(&mut self, key: &K, fresh: V) -> Result<Admit, AllocError>
+        ensures answer { IfOk result (Admits self.old self.new key.now fresh) }
+        ensures stands { OnOk result (TakesArrival K.eq self.old self.new key.now) }
+
+        // Only a new key that finds room asks for memory.
+        ensures present { Contains (keys self.old) key.now → IsOk result }
+        ensures full { length self.old.rows ≡ self.old.bound → IsOk result }
+        ensures err { OnErr result (self.new ≡ self.old) }
+    {
+        match self.rows.get_index_of(key) {
+            Some(there) => Ok(Admit::At(there)),
+            None => self.append_copy(key, fresh),
+        }
+    }
+
+    // Gives a copy of a new key a row, or counts the arrival.
+    fn append_copy(&mut self, key: &K, fresh: V) -> Result<Admit, AllocError>
+        requires { position (K.eq key.now) (keys self.old) ≡ None }
+        ensures answer { IfOk result (Admits self.old self.new key.now fresh) }
+        ensures full { length self.old.rows ≡ self.old.bound → IsOk result }
+        ensures err { OnErr result (self.new ≡ self.old) }
+    {
+        if self.is_full() {
+            self.turn_away();
+            return Ok(Admit::Full);
+        }
+        let copy = key.duplicate(self.alloc)?;
+        self.append(copy, fresh)
     }
 }

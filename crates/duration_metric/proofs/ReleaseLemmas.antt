@@ -13,7 +13,7 @@ use Rattle.metric_kinds.specs.Keys.{is_same_key}
 use Rattle.predicate_state.specs.PredicateTable.{LeafKey}
 use Rattle.duration_metric.specs.declared.inner.Inner.{Inner}
 use Rattle.duration_metric.specs.Tallies.{out_for, row_out, row_tallied, tallied_key, freed_key, known_key, how_often, was_touched, Lowers, CountsSame, IsOff}
-use Rattle.duration_metric.specs.SumSteps.{outs_at, found_told, tolds_at, ReleasesAt, Releases}
+use Rattle.duration_metric.specs.SumSteps.{outs_at, found_told, tolds_at, ReleasesAt, ReleasesPlaces}
 use Rattle.duration_metric.proofs.BegunLemmas.{outs_still}
 use Rattle.duration_metric.proofs.InnerLemmas.{counts-same, known-set}
 use Rattle.duration_metric.proofs.RecountLemmas.{value_there, outs-set, looked_past}
@@ -41,7 +41,7 @@ tolds_still (row ∷ rows) (suc place) was flag (suc at) there = tolds_still row
 
 -- before any place
 pub releases_none : (it : Table LeafKey Inner) (tally : List (MetricKey × ℕ)) (places : List ℕ)
-    → Releases it it tally tally places places []
+    → ReleasesPlaces it it tally tally places places []
 releases_none it tally places = record {
   bound_is = refl;
   dropped_is = refl;
@@ -56,7 +56,7 @@ releases_none it tally places = record {
 }
 
 module _ (first mid last : Table LeafKey Inner) (before some now : List (MetricKey × ℕ)) (places rest : List ℕ)
-    (tolds : List MetricKey) (place : ℕ) (so_far : Releases first mid before some places (place ∷ rest) tolds) where
+    (tolds : List MetricKey) (place : ℕ) (so_far : ReleasesPlaces first mid before some places (place ∷ rest) tolds) where
   abbrev here : List MetricKey
   here = found_told (slice_get first.rows place)
 
@@ -72,7 +72,7 @@ module _ (first mid last : Table LeafKey Inner) (before some now : List (MetricK
 
   -- nothing is to be taken out
   stays : ((row : LeafKey × Inner) → slice_get mid.rows place ≡ Some row → IsOff row → row_tallied row ≡ [])
-      → Releases first mid before some places rest (tolds ++ here)
+      → ReleasesPlaces first mid before some places rest (tolds ++ here)
   stays sure = record {
     bound_is = so_far.bound_is;
     dropped_is = so_far.dropped_is;
@@ -104,13 +104,13 @@ module _ (first mid last : Table LeafKey Inner) (before some now : List (MetricK
   released : (row : LeafKey × Inner) (key : MetricKey) → slice_get mid.rows place ≡ Some row → IsOff row
       → known_key row.1.known ≡ key ∷ [] → Lowers some now key
       → last ≡ record mid { rows = set_value_at mid.rows place (record row.1 { tallied = false }) }
-      → Releases first last before now places rest (tolds ++ here)
+      → ReleasesPlaces first last before now places rest (tolds ++ here)
   released row key there off told lowers is =
       let fresh : Inner = record row.1 { tallied = false } in
       let at = value_there mid.rows place row there in
       let own : (that : LeafKey × Inner) → that.1 ≡ fresh → row_tallied that ≡ row_out that =
       λ that same. ap tallied_key same ∙ sym off.1 ∙ sym (ap (λ (i : Inner). out_for i.count i.known) same) in
-      subst (λ (t : Table LeafKey Inner). Releases first t before now places rest (tolds ++ here)) (sym is) (record {
+      subst (λ (t : Table LeafKey Inner). ReleasesPlaces first t before now places rest (tolds ++ here)) (sym is) (record {
         bound_is = so_far.bound_is;
         dropped_is = so_far.dropped_is;
         counts_are = counts-same mid.rows place row.1 fresh at refl ∙ so_far.counts_are;
@@ -150,12 +150,12 @@ module _ (first mid last : Table LeafKey Inner) (before some now : List (MetricK
 
   -- one place more was looked at
   pub releases_more : ReleasesAt mid last some now place
-      → Releases first last before now places rest (tolds ++ here)
+      → ReleasesPlaces first last before now places rest (tolds ++ here)
   releases_more step = ⊎_elim
       (λ (same : (last ≡ mid) × (now ≡ some) × ((row : LeafKey × Inner) → slice_get mid.rows place ≡ Some row
       → IsOff row → row_tallied row ≡ [])).
-      subst (λ (t : Table LeafKey Inner). Releases first t before now places rest (tolds ++ here)) (sym same.0)
-      (subst (λ t. Releases first mid before t places rest (tolds ++ here)) (sym same.1) (stays same.2)))
+      subst (λ (t : Table LeafKey Inner). ReleasesPlaces first t before now places rest (tolds ++ here)) (sym same.0)
+      (subst (λ t. ReleasesPlaces first mid before t places rest (tolds ++ here)) (sym same.1) (stays same.2)))
       (λ (more : (row : LeafKey × Inner) × (key : MetricKey) × (slice_get mid.rows place ≡ Some row) × IsOff row
       × (known_key row.1.known ≡ key ∷ []) × Lowers some now key
       × (last ≡ record mid { rows = set_value_at mid.rows place (record row.1 { tallied = false }) })).
@@ -164,8 +164,8 @@ module _ (first mid last : Table LeafKey Inner) (before some now : List (MetricK
 
 -- a tally that counts the same
 pub releases_same : (first last : Table LeafKey Inner) (before now left : List (MetricKey × ℕ)) (places : List ℕ)
-    (tolds : List MetricKey) → Releases first last before now places [] tolds → CountsSame now left
-    → Releases first last before left places [] tolds
+    (tolds : List MetricKey) → ReleasesPlaces first last before now places [] tolds → CountsSame now left
+    → ReleasesPlaces first last before left places [] tolds
 releases_same first last before now left places tolds releases same = record {
   bound_is = releases.bound_is;
   dropped_is = releases.dropped_is;
@@ -181,13 +181,13 @@ releases_same first last before now left places tolds releases same = record {
 
 -- what was told of the rows at some places, and for which keys they count, stays
 pub tolds_after : (first last : Table LeafKey Inner) (before now : List (MetricKey × ℕ)) (places left : List ℕ)
-    (tolds : List MetricKey) → Releases first last before now places left tolds
+    (tolds : List MetricKey) → ReleasesPlaces first last before now places left tolds
     → (some : List ℕ) → tolds_at last.rows some ≡ tolds_at first.rows some
 tolds_after first last before now places left tolds releases some =
     λ i. flat_map (λ place. releases.tolds_stay place i) some
 
 pub outs_after : (first last : Table LeafKey Inner) (before now : List (MetricKey × ℕ)) (places left : List ℕ)
-    (tolds : List MetricKey) → Releases first last before now places left tolds
+    (tolds : List MetricKey) → ReleasesPlaces first last before now places left tolds
     → (some : List ℕ) → outs_at last.rows some ≡ outs_at first.rows some
 outs_after first last before now places left tolds releases some =
     λ i. flat_map (λ place. releases.outs_stay place i) some

@@ -29,7 +29,7 @@ use Rattle.duration_metric.specs.InnerStands.{InnersStandFor, TakesDelta}
 use Rattle.duration_metric.specs.SumCalls.{active_after, active_since}
 use Rattle.duration_metric.specs.Tallies.{row_out, how_often, tally_at, is_counted, row_tallied, CountsSame, AreSteady, IsTallied}
 use Rattle.duration_metric.specs.SumStands.{HoldsSums, HasSums, sum_law}
-use Rattle.duration_metric.specs.SumSteps.{active_in, outs_at, fresh_at, CountsRight, StepsSome, BeginsAll, fresh_in, Recounts, Releases, LowersAll}
+use Rattle.duration_metric.specs.SumSteps.{active_in, outs_at, fresh_at, CountsRight, StepsSome, BeginsAll, fresh_in, Recounts, ReleasesPlaces, LowersAll}
 use Rattle.duration_metric.proofs.KnownLemmas.{inner_state-other}
 use Rattle.duration_metric.proofs.ActiveLemmas.{active_is, few_active, active_once, since-learned}
 use Rattle.duration_metric.proofs.BeginLemmas.{begins_newly}
@@ -79,7 +79,7 @@ module _ (it : SumProducer) (inner : InnerTable) (rows last : Table LeafKey Inne
     (order : IsPermutation inner.touched places)
     (recounts : Recounts inner.keys rows it.tally raised places [])
     (lowers : LowersAll raised lowered inner.gone)
-    (releases : Releases rows last lowered left places [] tolds)
+    (releases : ReleasesPlaces rows last lowered left places [] tolds)
     (stood : InnersStandFor it.inner params.spec calls) (right : IsTallied it.inner (tally_at it.tally)) where
   abbrev spec : PredSpec
   spec = params.spec
@@ -226,7 +226,7 @@ pub learned : (it : SumProducer) (inner : InnerTable) (rows last : Table LeafKey
     → ((tally : MetricKey → ℕ) → IsTallied it.inner tally → IsTallied inner tally)
     → (IsTallied inner (tally_at it.tally) → fresh ≡ fresh_in (tally_at it.tally) (active_in inner.keys.rows))
     → IsPermutation inner.touched places → Recounts inner.keys rows it.tally raised places []
-    → LowersAll raised lowered inner.gone → Releases rows last lowered left places [] tolds
+    → LowersAll raised lowered inner.gone → ReleasesPlaces rows last lowered left places [] tolds
     → StepsSome it.table part (inner.gone ++ tolds) (is_counted left) at
     → StepsSome part mid fresh (is_counted left) at → BeginsAll mid new [] fresh at
     → Moves sum_law it

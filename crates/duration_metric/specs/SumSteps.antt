@@ -166,7 +166,7 @@ ReleasesAt old new before now place =
 
 -- The rows at some places that count no more are out of the tally, but for those that are left. It has the same of other
 -- keys than those that were told of them.
-pub record Releases (first last : Table LeafKey Inner) (before now : List (MetricKey × ℕ)) (places left : List ℕ)
+pub record ReleasesPlaces (first last : Table LeafKey Inner) (before now : List (MetricKey × ℕ)) (places left : List ℕ)
     (tolds : List MetricKey) : Type 0 where
   pub bound_is : last.bound ≡ first.bound
   pub dropped_is : last.dropped ≡ first.dropped

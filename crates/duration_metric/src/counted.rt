@@ -6,7 +6,7 @@ ghost use Rattle.std.specs.Ordering.{nat_cmp};
 ghost use Rattle.bucket_meaning.specs.Guard.{firsts};
 ghost use Rattle.metric_kinds.specs.Keys.{is_same_key};
 ghost use Rattle.duration_metric.specs.Tallies.{out_for, known_key, tally_at, CountsSame};
-ghost use Rattle.duration_metric.specs.SumSteps.{found_out, outs_at, found_told, tolds_at, fresh_at, with_begun, CountsRight, CountsAt, Recounts, ReleasesAt, Releases, LowersAll};
+ghost use Rattle.duration_metric.specs.SumSteps.{found_out, outs_at, found_told, tolds_at, fresh_at, with_begun, CountsRight, CountsAt, Recounts, ReleasesAt, ReleasesPlaces, LowersAll};
 
 use crate::inner::Inner;
 use crate::sum::Span;
@@ -132,7 +132,7 @@ pub(crate) fn release_all(
     tally: &mut Tally,
     places: &[u64],
 ) -> Result<(), AllocError>
-    ensures { OnOk result (Releases keys.old keys.new tally.old tally.new places.now []
+    ensures { OnOk result (ReleasesPlaces keys.old keys.new tally.old tally.new places.now []
         (tolds_at keys.old.rows places.now)) }
 {
     for place in places {

@@ -1,5 +1,5 @@
 //! The key of an atom: what it has at each leaf of a set.
-ghost use Rattle.std.specs.Prelude.{◌≡◌, length, IfOk, Some};
+ghost use Rattle.std.specs.Prelude.{◌≡◌, length, take, IfOk, OnOk, OnErr, Some};
 ghost use Rattle.config_types.specs.declared.fields.Position.TheVariants.{All};
 ghost use Rattle.field_select.specs.LeafValues.{key_of, leaf_value, leaf_in, picked_values};
 
@@ -14,12 +14,29 @@ pub fn key_of(alloc: Global, set: &FieldSet, atom: &Atom) -> Result<DimKey, Allo
     ensures key { IfOk result (λ key. key ≡ key_of set.now atom.now) }
     ensures leaves { IfOk result (λ key. length key ≡ length set.now.leaves) }
 {
-    let mut key = Seq::new(alloc);
+    let mut key = Seq::with_capacity(alloc, set.leaves.len())?;
+    key_into(alloc, set, atom, &mut key)?;
+    Ok(key)
+}
+
+/// The same, in the room of another key, of which nothing is left.
+pub fn key_into(
+    alloc: Global,
+    set: &FieldSet,
+    atom: &Atom,
+    key: &mut DimKey,
+) -> Result<(), AllocError>
+    ensures key { OnOk result (key.new ≡ key_of set.now atom.now) }
+
+    // After want of memory it holds as many leaves as there was room for.
+    ensures err { OnErr result (key.new ≡ take (length key.new) (key_of set.now atom.now)) }
+{
+    key.clear();
     for leaf in set.leaves.as_slice() {
         let value = value_of(alloc, set.atom_id, leaf, atom)?;
         key.push(value)?;
     }
-    Ok(key)
+    Ok(())
 }
 
 // What an atom has at a leaf of this kind of atom.

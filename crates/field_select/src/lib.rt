@@ -11,7 +11,7 @@ mod value;
 
 pub use error::SelectError;
 pub use form::field_set;
-pub use key::key_of;
+pub use key::{key_into, key_of};
 pub use leaf::{FieldSet, LeafPath};
 pub use picked::filter;
 pub use value::leaf_value;

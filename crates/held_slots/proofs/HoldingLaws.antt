@@ -26,7 +26,7 @@ use Rattle.matcher_table.specs.Truths.{Evaluates}
 use Rattle.matcher_table.specs.TableFacts.{IsSoundTable}
 use Rattle.matcher_table.proofs.Counting.{counted_at}
 use Rattle.matcher_table.proofs.HeldLaws.{some_live}
-use Rattle.held_slots.specs.Holdings.{in_slots, Holds, own_tree_from, own_tree_step, own_tree}
+use Rattle.held_slots.specs.Holdings.{in_slots, HoldMatchers, matcher_tree_from, matcher_tree_step, matcher_tree}
 use Rattle.held_slots.specs.HoldingSteps.{KeepsLive, ReleasesAll}
 
 -- at each place of a list something stands
@@ -36,7 +36,7 @@ there (m ∷ matchers) zero h = (m, refl)
 there (m ∷ matchers) (suc p) h = there matchers p (omega arith)
 
 -- a held slot is live
-pub held_live : (table : SlotTable) (slots : List ℕ) (matchers : List LMatcher) → Holds table slots matchers
+pub held_live : (table : SlotTable) (slots : List ℕ) (matchers : List LMatcher) → HoldMatchers table slots matchers
     → (place : ℕ) → place < length matchers → matcher_at table.slots (get_or slots place 0) ≢ None
 held_live table slots matchers holds place h =
     let m = there matchers place h in
@@ -46,7 +46,7 @@ held_live table slots matchers holds place h =
 stays_held : (old new : SlotTable) (slots : List ℕ) (matchers : List LMatcher)
     → ((place : ℕ) → place < length matchers
     → matcher_at new.slots (get_or slots place 0) ≡ matcher_at old.slots (get_or slots place 0))
-    → Holds old slots matchers → Holds new slots matchers
+    → HoldMatchers old slots matchers → HoldMatchers new slots matchers
 stays_held old new slots matchers same holds = record {
   each = holds.each;
   same = λ place matcher is. same place (slice_get_within matchers place matcher is)
@@ -68,7 +68,7 @@ intern_keeps_live old new shared slot interns s live =
 
 -- an install of another configuration keeps what is held
 pub hold_keeps : (old new : SlotTable) (slots : List ℕ) (matchers : List LMatcher) → KeepsLive old new
-    → Holds old slots matchers → Holds new slots matchers
+    → HoldMatchers old slots matchers → HoldMatchers new slots matchers
 hold_keeps old new slots matchers keeps holds =
     stays_held old new slots matchers
     (λ place h. keeps (get_or slots place 0) (held_live old slots matchers holds place h)) holds
@@ -76,21 +76,21 @@ hold_keeps old new slots matchers keeps holds =
 -- a release of another configuration does where each slot that is held has an outside use
 pub release_keeps : (old new : SlotTable) (released slots : List ℕ) (matchers : List LMatcher)
     → ((s : ℕ) → 0 < times_among s slots → 0 < outside_uses new s) → ReleasesAll old released new
-    → Holds old slots matchers → Holds new slots matchers
+    → HoldMatchers old slots matchers → HoldMatchers new slots matchers
 release_keeps old new released slots matchers used releases holds =
     stays_held old new slots matchers (λ place h. releases.stays (get_or slots place 0)
     (used (get_or slots place 0) (counted_at slots place (omega (arith, holds.each))))) holds
 
 -- an evaluation does
 pub evaluation_keeps : (says : SimpleMatcher → Atom → Bool) (atom : Atom) (old new : SlotTable) (slots : List ℕ)
-    (matchers : List LMatcher) → Evaluates says atom old new → Holds old slots matchers → Holds new slots matchers
+    (matchers : List LMatcher) → Evaluates says atom old new → HoldMatchers old slots matchers → HoldMatchers new slots matchers
 evaluation_keeps says atom old new slots matchers evaluates holds =
     stays_held old new slots matchers
     (λ place h. ap (λ (xs : List (Option SharedMatcher)). matcher_at xs (get_or slots place 0)) evaluates.slots) holds
 
 module _ (matchers : List LMatcher) where
   same_tree : (f g : ℕ → Tree) (m : LMatcher) → ((y : ℕ) → Contains (named_matchers m) y → f y ≡ g y)
-      → own_tree_from f (Some m) ≡ own_tree_from g (Some m)
+      → matcher_tree_from f (Some m) ≡ matcher_tree_from g (Some m)
   same_tree f g (Simple simple) same = refl
   same_tree f g (Combo op children) same = ap (λ (ts : List Tree). Branch op (trees_of ts)) (map_same f g children same)
 
@@ -100,12 +100,12 @@ module _ (matchers : List LMatcher) where
       subst (λ (xs : List ℕ). Contains xs y) (sym (children_of named_matchers matchers x m is)) named
 
   same_found : (f g : ℕ → Tree) (x : ℕ) (found : Option LMatcher) → slice_get matchers x ≡ found
-      → ((y : ℕ) → Refers (named_places matchers) x y → f y ≡ g y) → own_tree_from f found ≡ own_tree_from g found
+      → ((y : ℕ) → Refers (named_places matchers) x y → f y ≡ g y) → matcher_tree_from f found ≡ matcher_tree_from g found
   same_found f g x None is same = refl
   same_found f g x (Some m) is same = same_tree f g m (λ y named. same y (refers x y m is named))
 
   -- a tree comes from the trees of what is named, and from no others
-  down : LooksDown (named_places matchers) (own_tree_step matchers)
+  down : LooksDown (named_places matchers) (matcher_tree_step matchers)
   down f g x same = same_found f g x (slice_get matchers x) refl same
 
   many : length (named_places matchers) ≡ length matchers
@@ -116,36 +116,36 @@ module _ (matchers : List LMatcher) where
   map_twice f g (x ∷ xs) = ap (λ (ts : List Tree). f (g x) ∷ ts) (map_twice f g xs)
 
   module _ (in_range : AreInRange (named_places matchers)) (no_cycle : HasNoCycle (named_places matchers))
-      (table : SlotTable) (slots : List ℕ) (sound : IsSoundTable table) (holds : Holds table slots matchers) where
+      (table : SlotTable) (slots : List ℕ) (sound : IsSoundTable table) (holds : HoldMatchers table slots matchers) where
     own_equation : (x : ℕ) → x < length matchers
-        → own_tree matchers x ≡ own_tree_from (own_tree matchers) (slice_get matchers x)
+        → matcher_tree matchers x ≡ matcher_tree_from (matcher_tree matchers) (slice_get matchers x)
     own_equation x h =
-        equation (named_places matchers) (own_tree_step matchers) NoMatcher down (length (named_places matchers)) x
+        equation (named_places matchers) (matcher_tree_step matchers) NoMatcher down (length (named_places matchers)) x
         (length matchers) (ends_from_no_cycle (named_places matchers) no_cycle in_range x (omega (arith, many)))
         (omega (arith, many))
 
     by_matcher : (m : LMatcher)
-        → ((c : ℕ) → Contains (named_matchers m) c → slot_tree table.slots (get_or slots c 0) ≡ own_tree matchers c)
-        → tree_from (slot_tree table.slots) (Some (in_slots slots m)) ≡ own_tree_from (own_tree matchers) (Some m)
+        → ((c : ℕ) → Contains (named_matchers m) c → slot_tree table.slots (get_or slots c 0) ≡ matcher_tree matchers c)
+        → tree_from (slot_tree table.slots) (Some (in_slots slots m)) ≡ matcher_tree_from (matcher_tree matchers) (Some m)
     by_matcher (Simple simple) below = refl
     by_matcher (Combo op children) below =
         ap (λ (ts : List Tree). Branch op (trees_of ts))
         (map_twice (slot_tree table.slots) (λ c. get_or slots c 0) children
-        ∙ map_same (λ c. slot_tree table.slots (get_or slots c 0)) (own_tree matchers) children below)
+        ∙ map_same (λ c. slot_tree table.slots (get_or slots c 0)) (matcher_tree matchers) children below)
 
-    own_tree_within : (n p : ℕ) → EndsWithin (named_places matchers) n p → p < length matchers
-        → slot_tree table.slots (get_or slots p 0) ≡ own_tree matchers p
-    own_tree_within zero p ends h = absurd ends
-    own_tree_within (suc n) p ends h =
+    matcher_tree_within : (n p : ℕ) → EndsWithin (named_places matchers) n p → p < length matchers
+        → slot_tree table.slots (get_or slots p 0) ≡ matcher_tree matchers p
+    matcher_tree_within zero p ends h = absurd ends
+    matcher_tree_within (suc n) p ends h =
         let m = there matchers p h in
         sound.trees (get_or slots p 0) (held_live table slots matchers holds p h)
         ∙ ap (tree_from (slot_tree table.slots)) (holds.same p m.0 m.1)
-        ∙ by_matcher m.0 (λ c named. own_tree_within n c (ends c (refers p c m.0 m.1 named))
+        ∙ by_matcher m.0 (λ c named. matcher_tree_within n c (ends c (refers p c m.0 m.1 named))
         (omega (arith, in_range p c (refers p c m.0 m.1 named), many)))
-        ∙ sym (own_equation p h ∙ ap (own_tree_from (own_tree matchers)) m.1)
+        ∙ sym (own_equation p h ∙ ap (matcher_tree_from (matcher_tree matchers)) m.1)
 
     -- a held slot has the tree of the configuration's own matcher
-    pub held_tree : (p : ℕ) → p < length matchers → slot_tree table.slots (get_or slots p 0) ≡ own_tree matchers p
+    pub held_tree : (p : ℕ) → p < length matchers → slot_tree table.slots (get_or slots p 0) ≡ matcher_tree matchers p
     held_tree p h =
-        own_tree_within (length (named_places matchers)) p
+        matcher_tree_within (length (named_places matchers)) p
         (ends_from_no_cycle (named_places matchers) no_cycle in_range p (omega (arith, many))) h

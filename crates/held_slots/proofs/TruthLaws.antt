@@ -19,7 +19,7 @@ use Rattle.matcher_table.specs.TableFacts.{IsSoundTable}
 use Rattle.matcher_table.specs.Contents.{contents_of}
 use Rattle.matcher_table.specs.declared.table.MatcherTable.{MatcherTable}
 use Rattle.matcher_table.proofs.TableLaws.{sound_table, is_sound, had_held, had_indexed, had_used}
-use Rattle.held_slots.specs.Holdings.{Holds, own_tree_from, own_tree_step}
+use Rattle.held_slots.specs.Holdings.{HoldMatchers, matcher_tree_from, matcher_tree_step}
 use Rattle.held_slots.proofs.HoldingLaws.{held_live, held_tree}
 
 module _ (says : SimpleMatcher → Atom → Bool) (atom : Atom) where
@@ -31,7 +31,7 @@ module _ (says : SimpleMatcher → Atom → Bool) (atom : Atom) where
 
   -- the truth of a matcher's tree comes from the truths of its children's trees
   truth-own : (trees : ℕ → Tree) (truth : ℕ → Bool) → ((y : ℕ) → tree_truth says atom (trees y) ≡ truth y)
-      → (o : Option LMatcher) → tree_truth says atom (own_tree_from trees o) ≡ truth_from says atom truth o
+      → (o : Option LMatcher) → tree_truth says atom (matcher_tree_from trees o) ≡ truth_from says atom truth o
   truth-own trees truth same None = refl
   truth-own trees truth same (Some (Simple simple)) = refl
   truth-own trees truth same (Some (Combo op children)) =
@@ -40,16 +40,16 @@ module _ (says : SimpleMatcher → Atom → Bool) (atom : Atom) where
 
   -- the truth of a tree is the truth, followed as deep
   truth_unrolled : (matchers : List LMatcher) (depth x : ℕ)
-      → tree_truth says atom (unroll (own_tree_step matchers) NoMatcher depth x)
+      → tree_truth says atom (unroll (matcher_tree_step matchers) NoMatcher depth x)
       ≡ unroll (truth_step says atom matchers) false depth x
   truth_unrolled matchers zero x = refl
   truth_unrolled matchers (suc depth) x =
-      truth-own (unroll (own_tree_step matchers) NoMatcher depth) (unroll (truth_step says atom matchers) false depth)
+      truth-own (unroll (matcher_tree_step matchers) NoMatcher depth) (unroll (truth_step says atom matchers) false depth)
       (truth_unrolled matchers depth) (slice_get matchers x)
 
   module _ (old new : SlotTable) (slots : List ℕ) (matchers : List LMatcher)
       (in_range : AreInRange (named_places matchers)) (no_cycle : HasNoCycle (named_places matchers))
-      (sound : IsSoundTable new) (evaluates : Evaluates says atom old new) (holds : Holds new slots matchers) where
+      (sound : IsSoundTable new) (evaluates : Evaluates says atom old new) (holds : HoldMatchers new slots matchers) where
     held_truth : (place : ℕ) → place < length matchers
         → result_at new (get_or slots place 0) ≡ matches says atom matchers place
     held_truth place h =

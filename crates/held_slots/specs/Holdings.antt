@@ -18,7 +18,7 @@ in_slots slots (linked.Combo op children) = shared.Combination op (map (λ place
 
 -- Each slot of the list stands for the matcher at its place: the same simple matcher, or the same operation on the
 -- slots that the list has for the places that it names.
-pub record Holds (table : SlotTable) (slots : List ℕ) (matchers : List LMatcher) : Type 0 where
+pub record HoldMatchers (table : SlotTable) (slots : List ℕ) (matchers : List LMatcher) : Type 0 where
   pub each : length slots ≡ length matchers
   pub same : (place : ℕ) (matcher : LMatcher) → slice_get matchers place ≡ Some matcher
       → HasSlot table (in_slots slots matcher) (slice_index slots place)
@@ -32,15 +32,15 @@ abbrev pub AreLive : SlotTable → List ℕ → Type 0
 AreLive table slots = All (λ s. matcher_at table.slots s ≢ None) slots
 
 -- the tree of a matcher, where the tree at each place is given
-abbrev pub own_tree_from : (ℕ → Tree) → Option LMatcher → Tree
-own_tree_from trees None = NoMatcher
-own_tree_from trees (Some (linked.Simple simple)) = Leaf simple
-own_tree_from trees (Some (linked.Combo op children)) = Branch op (trees_of (map trees children))
+abbrev pub matcher_tree_from : (ℕ → Tree) → Option LMatcher → Tree
+matcher_tree_from trees None = NoMatcher
+matcher_tree_from trees (Some (linked.Simple simple)) = Leaf simple
+matcher_tree_from trees (Some (linked.Combo op children)) = Branch op (trees_of (map trees children))
 
 -- one level of a matcher's tree, where the tree at each place is given
-abbrev pub own_tree_step : List LMatcher → (ℕ → Tree) → ℕ → Tree
-own_tree_step matchers trees place = own_tree_from trees (slice_get matchers place)
+abbrev pub matcher_tree_step : List LMatcher → (ℕ → Tree) → ℕ → Tree
+matcher_tree_step matchers trees place = matcher_tree_from trees (slice_get matchers place)
 
 -- the tree of a configuration's own matcher: references are followed as deep as there are matchers
-abbrev pub own_tree : List LMatcher → ℕ → Tree
-own_tree matchers = unroll (own_tree_step matchers) NoMatcher (length matchers)
+abbrev pub matcher_tree : List LMatcher → ℕ → Tree
+matcher_tree matchers = unroll (matcher_tree_step matchers) NoMatcher (length matchers)

@@ -8,7 +8,7 @@ ghost use Rattle.matcher_table.specs.Slots.{times_among};
 ghost use Rattle.matcher_table.specs.Tables.{outside_uses, result_at};
 ghost use Rattle.matcher_table.specs.Steps.{Interns};
 ghost use Rattle.matcher_table.specs.Contents.{contents_of};
-ghost use Rattle.held_slots.specs.Holdings.{in_slots, Holds, IsHeldAt, AreLive};
+ghost use Rattle.held_slots.specs.Holdings.{in_slots, HoldMatchers, IsHeldAt, AreLive};
 ghost use Rattle.held_slots.specs.HoldingSteps.{KeepsLive, AddsUses, ReleasesAll};
 
 use crate::order::interning_order;
@@ -44,7 +44,7 @@ impl HeldSlots {
         linked: &Linked,
     ) -> Result<HeldSlots, AllocError>
         requires sound { IsSoundConfig linked.now }
-        ensures holds { IfOk result (λ slots. Holds (contents_of table.new) slots linked.now.matchers) }
+        ensures holds { IfOk result (λ slots. HoldMatchers (contents_of table.new) slots linked.now.matchers) }
         ensures uses { IfOk result (λ slots. AddsUses (contents_of table.old) slots (contents_of table.new)) }
         ensures others { OnOk result (KeepsLive (contents_of table.old) (contents_of table.new)) }
     {
@@ -88,7 +88,7 @@ fn numbers_along(
 ) -> Result<Vec<usize>, AllocError>
     requires askable { All MayBeAsked matchers.now }
     requires in_order { IsOrder (named_places matchers.now) order.now }
-    ensures holds { IfOk result (λ slots. Holds (contents_of table.new) slots.items matchers.now) }
+    ensures holds { IfOk result (λ slots. HoldMatchers (contents_of table.new) slots.items matchers.now) }
     ensures uses { IfOk result (λ slots. AddsUses (contents_of table.old) slots.items (contents_of table.new)) }
     ensures others { OnOk result (KeepsLive (contents_of table.old) (contents_of table.new)) }
 {

@@ -20,7 +20,7 @@ use Rattle.matcher_table.specs.Trees.{slot_tree}
 use Rattle.matcher_table.specs.Truths.{Evaluates, tree_truth}
 use Rattle.matcher_table.specs.declared.shared.SharedMatcher.{SharedMatcher}
 use Rattle.matcher_table.proofs.Counting.{place_of, counted_at}
-use Rattle.held_slots.specs.Holdings.{own_tree}
+use Rattle.held_slots.specs.Holdings.{matcher_tree}
 use Rattle.held_slots.proofs.HoldingLaws.{held_live, held_tree}
 use Rattle.held_slots.proofs.TruthLaws.{table_sound}
 use Rattle.client_engine.specs.InstanceStands.{InstanceStandsFor}
@@ -93,7 +93,7 @@ module _ {J : Type 0} (client : ℤ) (frames : List Frame) (shared alone : Hub J
   one_tree i h =
       held_tree both.b.instance.matchers both.held_alone.in_range both.held_alone.no_cycle (hub_table alone) both.b.slots
       (table_sound alone.lives.table) both.held_alone.slots i (omega (arith, h, as_long, both.held_alone.slots.each))
-      ∙ ap (λ (ms : List LMatcher). own_tree ms i) both.same
+      ∙ ap (λ (ms : List LMatcher). matcher_tree ms i) both.same
       ∙ sym (held_tree both.a.instance.matchers both.held.in_range both.held.no_cycle (hub_table shared) both.a.slots
       (table_sound shared.lives.table) both.held.slots i (omega (arith, h, both.held.slots.each)))
 

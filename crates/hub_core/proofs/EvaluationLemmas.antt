@@ -23,7 +23,7 @@ use Rattle.hub_core.specs.FrameTruths.{truths_by, LogsBy}
 use Rattle.matcher_table.specs.Slots.{matcher_at}
 use Rattle.matcher_table.specs.Tables.{SlotTable}
 use Rattle.matcher_table.specs.TableFacts.{IsSoundTable}
-use Rattle.held_slots.specs.Holdings.{Holds, AreLive}
+use Rattle.held_slots.specs.Holdings.{HoldMatchers, AreLive}
 use Rattle.held_slots.proofs.HoldingLaws.{held_live, evaluation_keeps}
 use Rattle.held_slots.proofs.TruthLaws.{held_truths}
 use Rattle.client_engine.specs.declared.live_id.LiveId.{LiveId}
@@ -34,11 +34,11 @@ use Rattle.hub_core.proofs.QuestionLemmas.{questions_are}
 
 -- what was installed holds its matchers
 pub new_held : (table : SlotTable) (linked : Linked) (live : LiveInstance) → IsSoundConfig linked
-    → linked_of live.instance ≡ linked → Holds table live.slots linked.matchers → IsHeldIn table live
+    → linked_of live.instance ≡ linked → HoldMatchers table live.slots linked.matchers → IsHeldIn table live
 new_held table linked live sound is holds =
     let same : live.instance.matchers ≡ linked.matchers = ap (λ (l : Linked). l.matchers) is in
     record {
-      slots = subst (Holds table live.slots) (sym same) holds;
+      slots = subst (HoldMatchers table live.slots) (sym same) holds;
       in_range = subst (λ (ms : List LMatcher). AreInRange (named_places ms)) (sym same)
           (references_end linked sound).matchers_there;
       no_cycle = subst (λ (ms : List LMatcher). HasNoCycle (named_places ms)) (sym same) sound.matchers_end;

@@ -17,7 +17,7 @@ use Rattle.matcher_table.specs.Slots.{times_among}
 use Rattle.matcher_table.specs.Tables.{SlotTable, outside_uses}
 use Rattle.matcher_table.specs.Contents.{contents_of}
 use Rattle.matcher_table.proofs.IndexLaws.{matchers_set}
-use Rattle.held_slots.specs.Holdings.{Holds}
+use Rattle.held_slots.specs.Holdings.{HoldMatchers}
 use Rattle.held_slots.specs.HoldingSteps.{KeepsLive, AddsUses, ReleasesAll}
 use Rattle.held_slots.proofs.HoldingLaws.{hold_keeps, release_keeps}
 use Rattle.client_engine.specs.declared.live_id.LiveId.{LiveId}
@@ -53,8 +53,8 @@ RowHeld table row = IsHeldIn table row.1
 -- what has the same slots is held as before
 same_held : (table : SlotTable) (old new : LiveInstance) → HasSameSlots old new → IsHeldIn table old → IsHeldIn table new
 same_held table old new same held = record {
-  slots = subst (λ (slots : List ℕ). Holds table slots new.instance.matchers) (sym same.slots)
-      (subst (Holds table old.slots) (sym same.matchers) held.slots);
+  slots = subst (λ (slots : List ℕ). HoldMatchers table slots new.instance.matchers) (sym same.slots)
+      (subst (HoldMatchers table old.slots) (sym same.matchers) held.slots);
   in_range = subst (λ (ms : List LMatcher). AreInRange (named_places ms)) (sym same.matchers) held.in_range;
   no_cycle = subst (λ (ms : List LMatcher). HasNoCycle (named_places ms)) (sym same.matchers) held.no_cycle;
 }

@@ -5,13 +5,13 @@ use Rattle.link_graph.specs.Links.{AreInRange, HasNoCycle}
 use Rattle.matcher_truths.specs.MatcherTruths.{named_places}
 use Rattle.matcher_table.specs.Slots.{times_among}
 use Rattle.matcher_table.specs.Tables.{SlotTable, outside_uses}
-use Rattle.held_slots.specs.Holdings.{Holds}
+use Rattle.held_slots.specs.Holdings.{HoldMatchers}
 use Rattle.client_engine.specs.declared.live_id.LiveId.{LiveId}
 use Rattle.hub_core.specs.declared.live_instance.LiveInstance.{LiveInstance}
 
 -- Each slot of a live configuration stands for its own matcher, and no matcher is below itself.
 pub record IsHeldIn (table : SlotTable) (live : LiveInstance) : Type 0 where
-  pub slots : Holds table live.slots live.instance.matchers
+  pub slots : HoldMatchers table live.slots live.instance.matchers
   pub in_range : AreInRange (named_places live.instance.matchers)
   pub no_cycle : HasNoCycle (named_places live.instance.matchers)
 

@@ -21,7 +21,7 @@ metric_of_event def = record { common = def.common; sliced = no_slicing; kind = 
 
 -- a metric that counts atoms
 abbrev pub metric_of_count : CountDef → Metric
-metric_of_count def = record { common = def.common; sliced = def.sliced; kind = Count }
+metric_of_count def = record { common = def.common; sliced = def.sliced; kind = Count def.overflow }
 
 -- a metric of a field's values
 abbrev pub metric_of_value : ValueDef → Metric

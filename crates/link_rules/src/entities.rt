@@ -21,7 +21,7 @@ pub struct Metric {
 #[derive(Debug, Drop)]
 pub enum Kind {
     Event,
-    Count,
+    Count { overflow: bool },
     Value(ValueParts),
     Gauge(GaugeParts),
     Duration { max_sparse: bool },
@@ -94,7 +94,9 @@ impl MetricDef for CountDef {
         Metric {
             common: self.common,
             sliced: self.sliced,
-            kind: Kind::Count,
+            kind: Kind::Count {
+                overflow: self.overflow,
+            },
         }
     }
 }

@@ -1,5 +1,6 @@
 //! A producer with its clock.
 ghost use Rattle.std.specs.Prelude.{◌≡◌, ◌<◌, ◌≤◌, [], List, OnOk, IfOk};
+ghost use Rattle.std.specs.Option.{option_copied};
 ghost use Rattle.bucket_meaning.specs.Limits.{time_limit, longest_bucket};
 ghost use Rattle.bucket_clock.specs.Clock.{frame_at};
 ghost use Rattle.metric_producer.specs.Calls.{Call, Got, Learned};
@@ -17,7 +18,7 @@ ghost use Rattle.metric_lane.specs.LaneStands.{
 };
 
 use bucket_clock::{Clock, Crossings};
-use metric_producer::{Closed, Producer};
+use metric_producer::{Closed, Producer, ReadsEvents};
 use std::alloc::AllocError;
 
 /// All times are below this, in nanoseconds.
@@ -130,6 +131,40 @@ impl<P: Producer> Lane<P> {
             self.producer.cut(at)
         } else {
             Ok(())
+        }
+    }
+}
+
+impl<P: ReadsEvents> Lane<P> {
+    /// The same as `event`, of an event that stays with its owner.
+    pub fn event_of(&mut self, at: u64, what: &P::Event) -> Result<(), AllocError>
+        ensures { OnOk result (GetsCall P.law self.old self.new (Got at what.now)) }
+    {
+        self.producer.event_of(at, what)
+    }
+
+    /// The same as `log`, of an event that stays with its owner.
+    pub fn log_of(
+        &mut self,
+        at: u64,
+        is_pull: bool,
+        event: Option<&P::Event>,
+    ) -> Result<(), AllocError>
+        ensures { OnOk result (LogsEvent P.law self.old self.new
+            (frame_at at is_pull) (option_copied event.entry)) }
+    {
+        self.cross(at, is_pull)?;
+        self.tell_of(at, event)
+    }
+
+    // Shows the event, if there is one.
+    fn tell_of(&mut self, at: u64, event: Option<&P::Event>) -> Result<(), AllocError>
+        ensures { OnOk result (GetsCalls P.law self.old self.new
+            (coming at (option_copied event.entry))) }
+    {
+        match event {
+            None => Ok(()),
+            Some(event) => self.event_of(at, event),
         }
     }
 }

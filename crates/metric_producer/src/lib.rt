@@ -5,5 +5,5 @@ mod flat;
 mod producer;
 mod row;
 
-pub use producer::Producer;
+pub use producer::{Producer, ReadsEvents};
 pub use row::{Closed, Row};

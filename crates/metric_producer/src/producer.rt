@@ -58,3 +58,10 @@ pub trait Producer: Sized {
         ensures gives { Gives law self.old result }
         ensures moves { Moves law self.old self.new Took };
 }
+
+/// A producer that reads an event and keeps of it what it has to: most events are of a key that it has already.
+pub trait ReadsEvents: Producer {
+    /// An event comes, as by `event`. It stays with its owner.
+    fn event_of(&mut self, at: u64, ev: &Self::Event) -> Result<(), AllocError>
+        ensures { OnOk result (Moves Self.law self.old self.new (Got at ev.now)) };
+}

@@ -4,3 +4,4 @@ pub mod BindLemmas
 pub mod FormLemmas
 mod Worked
 pub mod OneKeyLemmas
+pub mod BoundKeyLemmas

@@ -63,7 +63,7 @@ same_lists_of (x ∷ xs) (y ∷ ys) e h =
     ap (λ l. x ∷ l) rest ∙ ap (λ v. v ∷ ys) first
 
 -- a test that can't pass fails
-not_same : (b : Bool) → (b ≡ true → ⊥) → b ≡ false
+pub not_same : (b : Bool) → (b ≡ true → ⊥) → b ≡ false
 not_same true never = absurd (never refl)
 not_same false never = refl
 

@@ -3,3 +3,4 @@ pub mod PredicateTruths
 pub mod PredicateTable
 pub mod PredicateItems
 pub mod PredicateForm
+pub mod BoundKeys

@@ -2,6 +2,7 @@
 #![tactic(auto)]
 
 mod bind;
+mod bound;
 mod event;
 mod flat;
 mod table;

@@ -6,13 +6,15 @@ ghost use Rattle.bucket_meaning.specs.Limits.{most_keys};
 ghost use Rattle.dim_table.specs.Table.{set_value_at};
 ghost use Rattle.predicate_state.specs.declared.event.PredEvent.TheVariants.{Start, Stop};
 ghost use Rattle.predicate_state.specs.PredicateStates.{initial_state, with_new_key, without_key, state_after, count_after_start, count_after_stop};
-ghost use Rattle.predicate_state.specs.PredicateTruths.{default_truth, count_truth, key_truth, binds_truth, NamesKey, agrees, is_leaf, are_leaves_bound, is_place_bound};
+ghost use Rattle.predicate_state.specs.PredicateTruths.{default_truth, count_truth, truth_of_count, key_truth, binds_truth, NamesKey, agrees, is_leaf, are_leaves_bound, is_place_bound};
 ghost use Rattle.predicate_state.specs.PredicateTable.{LeafKey, same_leaves, with_state, PredTableStandsFor, AppliesEvent};
 
+use crate::bound::{BoundKey, are_in_order};
 use crate::{Bind, PredEvent, Truth};
 use atom_record::{DimKey, Leaf};
 use config_types::PredSpec;
 use dim_table::Guarded;
+use indexmap::Equivalent;
 use std::alloc::{AllocError, Global};
 use std::marker::Model;
 
@@ -165,8 +167,16 @@ impl PredTable {
     pub fn truth(&self, key: &DimKey) -> Truth
         ensures { result ≡ key_truth same_leaves self.now.state key.now }
     {
-        match self.row_of(key) {
-            Some((_place, count)) => truth_of(count),
+        self.look_up(key)
+    }
+
+    // The truth of the key that a query stands for, which is found by its hash.
+    fn look_up<Q: Equivalent<DimKey>>(&self, query: Q) -> Truth
+        ensures { result ≡ truth_of_count self.now.state.unknown
+            (lookup (Q.equivalent query) self.now.state.counts) }
+    {
+        match self.counts.find(query) {
+            Some(count) => truth_of(*count),
             None => self.judge_absent(),
         }
     }
@@ -178,7 +188,9 @@ impl PredTable {
             → result ≡ key_truth same_leaves self.now.state key }
     {
         // That each key has as many leaves as the spec is what makes it the one.
-        let _leaves = self.spec.leaves;
+        if are_in_order(binds, self.spec.leaves) {
+            return self.look_up(BoundKey { binds });
+        }
         self.first_that_decides(binds)
     }
 

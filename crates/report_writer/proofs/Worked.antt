@@ -62,11 +62,34 @@ gauges_tree =
 
 abbrev counts_tree : ReportTree
 counts_tree =
-    let row : NumTree = record { leaves = []; slices = []; buckets = bucket 0 5 (pos 1) ∷ [] } in
+    let row : NumTree = record { leaves = []; slices = []; overflow = false; buckets = bucket 0 5 (pos 1) ∷ [] } in
     report 0 5 (metric 0 3600000000000 (Counts (row ∷ []))) (record { id = pos 11; number = 1 } ∷ [])
 
+-- a text by which a second's atoms are counted, or what found no room in it
+abbrev of_text : ℕ → ℕ → NumTree
+of_text byte count = record {
+  leaves = leaf 0 (Some (held.Str (byte ∷ []))) ∷ [];
+  slices = [];
+  overflow = false;
+  buckets = bucket 0 1000000000 (pos count) ∷ [];
+}
+
+abbrev without_room : ℕ → NumTree
+without_room count =
+    record { leaves = []; slices = []; overflow = true; buckets = bucket 0 1000000000 (pos count) ∷ [] }
+
+abbrev overflow_tree : ReportTree
+overflow_tree =
+    let rows = of_text 65 2 ∷ of_text 66 1 ∷ without_room 2 ∷ [] in
+    report 0 1000000000 (record (metric 0 1000000000 (Counts rows)) { dropped = 2 }) []
+
 abbrev sliced : Slice → ℤ → NumTree
-sliced slice nanos = record { leaves = []; slices = slice ∷ []; buckets = bucket 100000000 900000000 nanos ∷ [] }
+sliced slice nanos = record {
+  leaves = [];
+  slices = slice ∷ [];
+  overflow = false;
+  buckets = bucket 100000000 900000000 nanos ∷ [];
+}
 
 abbrev durations_tree : ReportTree
 durations_tree =
@@ -176,6 +199,29 @@ below_0 : bucket_message (bucket 0 5 (negsuc 0)) ≡
 unfolding bucket_message varint
 below_0 = refl
 
+-- a row of what found no room says so last
+overflow : row_message (record { leaves = []; slices = []; overflow = true; buckets = bucket 0 5 (pos 2) ∷ [] }) ≡
+    26 ∷ 6 ∷ 8 ∷ 0 ∷ 16 ∷ 5 ∷ 24 ∷ 2 ∷ 200 ∷ 62 ∷ 1 ∷ []
+unfolding row_message bucket_message varint
+overflow = refl
+
+-- a row of the empty key has the same buckets, and doesn't say it
+no_overflow : row_message (record { leaves = []; slices = []; overflow = false; buckets = bucket 0 5 (pos 2) ∷ [] }) ≡
+    26 ∷ 6 ∷ 8 ∷ 0 ∷ 16 ∷ 5 ∷ 24 ∷ 2 ∷ []
+unfolding row_message bucket_message varint
+no_overflow = refl
+
+-- leaves and slices, if there were some, would stand between
+overflow_after_a_key : row_message (record {
+  leaves = leaf 0 (Some (held.Int (pos 5))) ∷ [];
+  slices = Plain 27 (pos 2) ∷ [];
+  overflow = true;
+  buckets = bucket 0 5 (pos 2) ∷ [];
+})
+    ≡ 26 ∷ 6 ∷ 8 ∷ 0 ∷ 16 ∷ 5 ∷ 24 ∷ 2 ∷ 34 ∷ 2 ∷ 24 ∷ 5 ∷ 50 ∷ 4 ∷ 8 ∷ 27 ∷ 24 ∷ 2 ∷ 200 ∷ 62 ∷ 1 ∷ []
+unfolding row_message bucket_message leaf_message slice_message varint
+overflow_after_a_key = refl
+
 -- what a full table dropped
 drop : drop_message (record { id = negsuc 0; number = 3 }) ≡
     8 ∷ 255 ∷ 255 ∷ 255 ∷ 255 ∷ 255 ∷ 255 ∷ 255 ∷ 255 ∷ 255 ∷ 1 ∷ 16 ∷ 3 ∷ []
@@ -210,6 +256,15 @@ counts_report : report_message counts_tree ≡
     72 ∷ 0 ∷ 80 ∷ 128 ∷ 192 ∷ 226 ∷ 133 ∷ 227 ∷ 104 ∷ 24 ∷ 0 ∷ 32 ∷ 5 ∷ 202 ∷ 62 ∷ 4 ∷ 8 ∷ 11 ∷ 16 ∷ 1 ∷ []
 unfolding report_message key_message config_message metric_message varint drop_message row_message bucket_message
 counts_report = refl
+
+-- two keys, and what found no room beside them
+overflow_report : report_message overflow_tree ≡
+    10 ∷ 4 ∷ 8 ∷ 10 ∷ 16 ∷ 7 ∷ 18 ∷ 80 ∷ 10 ∷ 70 ∷ 8 ∷ 100 ∷ 42 ∷ 55 ∷ 10 ∷ 17 ∷ 26 ∷ 10 ∷ 8 ∷ 0 ∷ 16 ∷ 128 ∷ 148 ∷
+    235 ∷ 220 ∷ 3 ∷ 24 ∷ 2 ∷ 34 ∷ 3 ∷ 18 ∷ 1 ∷ 65 ∷ 10 ∷ 17 ∷ 26 ∷ 10 ∷ 8 ∷ 0 ∷ 16 ∷ 128 ∷ 148 ∷ 235 ∷ 220 ∷ 3 ∷ 24 ∷
+    1 ∷ 34 ∷ 3 ∷ 18 ∷ 1 ∷ 66 ∷ 10 ∷ 15 ∷ 26 ∷ 10 ∷ 8 ∷ 0 ∷ 16 ∷ 128 ∷ 148 ∷ 235 ∷ 220 ∷ 3 ∷ 24 ∷ 2 ∷ 200 ∷ 62 ∷ 1 ∷
+    72 ∷ 0 ∷ 80 ∷ 128 ∷ 148 ∷ 235 ∷ 220 ∷ 3 ∷ 200 ∷ 62 ∷ 2 ∷ 24 ∷ 0 ∷ 32 ∷ 128 ∷ 148 ∷ 235 ∷ 220 ∷ 3 ∷ []
+unfolding report_message key_message config_message metric_message varint row_message leaf_message bucket_message
+overflow_report = refl
 
 -- two rows by their slices
 durations_report : report_message durations_tree ≡

@@ -117,6 +117,10 @@ data_leaf = 4
 abbrev pub data_slice : ℕ
 data_slice = 6
 
+-- data of the kinds with numbers: 1 where the row gathers what found no room
+abbrev pub data_overflow : ℕ
+data_overflow = 1001
+
 -- their bucket_info: where it begins
 abbrev pub bucket_start : ℕ
 bucket_start = 1

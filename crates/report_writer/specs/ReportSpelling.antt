@@ -84,9 +84,11 @@ abbrev pub key_fields : List LeafTree → List Slice → List ℕ
 key_fields leaves slices =
     repeated_field field.data_leaf leaf_message leaves ++ repeated_field field.data_slice slice_message slices
 
--- the buckets of one key
+-- the buckets of one key, or of an overflow row, which says so last
 unfoldable pub row_message : NumTree → List ℕ
-row_message row = repeated_field field.data_bucket bucket_message row.buckets ++ key_fields row.leaves row.slices
+row_message row =
+    repeated_field field.data_bucket bucket_message row.buckets
+    ++ (key_fields row.leaves row.slices ++ field_if_above field.data_overflow (truth_number row.overflow))
 
 -- a field of an atom, by what it holds
 abbrev pub part_with : ℕ → PartBody → List ℕ

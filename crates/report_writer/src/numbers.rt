@@ -66,6 +66,8 @@ pub const DATA_LEAF: u32 = 4;
 
 pub const DATA_SLICE: u32 = 6;
 
+pub const DATA_OVERFLOW: u32 = 1001;
+
 /// A bucket.
 pub const BUCKET_START: u32 = 1;
 

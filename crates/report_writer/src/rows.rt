@@ -5,7 +5,7 @@ ghost use Rattle.report_writer.specs.ReportSpelling.{part_with, part_field};
 ghost use Rattle.report_writer.specs.Writable.{AreNumbered};
 
 use crate::key::put_key;
-use crate::message::{Message, put_message, put_messages, put_signed};
+use crate::message::{Message, put_if_above, put_message, put_messages, put_signed};
 use crate::numbers;
 use crate::tree::{AtomBucket, AtomMsg, EventTree, GaugeTree, NumBucket, NumTree, Part, PartBody};
 use proto_wire::Writer;
@@ -72,7 +72,8 @@ impl Message for NumTree {
     #[tactic(auto, unfolding(crate::specs::ReportSpelling::row_message))]
     fn put_fields(&self, alloc: Global, out: &mut Writer) -> Result<(), AllocError> {
         put_messages(alloc, out, numbers::DATA_BUCKET, self.buckets.as_slice())?;
-        put_key(alloc, out, self.leaves.as_slice(), self.slices.as_slice())
+        put_key(alloc, out, self.leaves.as_slice(), self.slices.as_slice())?;
+        put_if_above(out, numbers::DATA_OVERFLOW, u64::from(self.overflow))
     }
 }
 

@@ -20,11 +20,13 @@ pub struct NumBucket {
     pub value: i64,
 }
 
-/// The buckets of one key of a metric with numbers.
+/// The buckets of one key of a metric with numbers, or those of its overflow row.
 #[derive(Drop)]
 pub struct NumTree {
     pub leaves: Seq<LeafTree>,
     pub slices: Seq<Slice>,
+    /// Whether it gathers what found no room. It has neither leaves nor slices then.
+    pub overflow: bool,
     pub buckets: Seq<NumBucket>,
 }
 

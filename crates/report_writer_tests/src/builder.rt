@@ -71,11 +71,12 @@ impl Rows {
     }
 }
 
-/// A row: its key, and its buckets, those with a number or those with samples.
+/// A row: its key, or whether it gathers what found no room, and its buckets, those with a number or those with samples.
 #[derive(Drop)]
 struct Line {
     leaves: Seq<LeafTree>,
     slices: Seq<Slice>,
+    overflow: bool,
     buckets: Seq<NumBucket>,
     samples: Seq<AtomBucket>,
 }
@@ -85,6 +86,7 @@ impl Line {
         Line {
             leaves: Seq::new(alloc),
             slices: Seq::new(alloc),
+            overflow: false,
             buckets: Seq::new(alloc),
             samples: Seq::new(alloc),
         }
@@ -94,6 +96,7 @@ impl Line {
         NumTree {
             leaves: self.leaves,
             slices: self.slices,
+            overflow: self.overflow,
             buckets: self.buckets,
         }
     }
@@ -159,6 +162,10 @@ impl Builder {
         if word == "row" {
             self.end_row()?;
             self.is_row = true;
+            return Ok(());
+        }
+        if word == "overflow" {
+            self.line.overflow = true;
             return Ok(());
         }
         if word.starts_with('{') {

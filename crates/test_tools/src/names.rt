@@ -25,7 +25,7 @@ const MESSAGES: &str = "\
     filter include_all=1 fields=2:fields\n\
     event id=1 what=2 condition=3 link=4:link\n\
     count id=1 what=2 condition=3 dims=4:fields bucket=5 link=6:link slice_by_state=8 \
-        state_link=9:state_link bound=1001\n\
+        state_link=9:state_link bound=1001 overflow=1002\n\
     value id=1 what=2 value_field=3:fields condition=4 dims=5:fields bucket=6 link=7:link \
         aggregation_type=8 absolute_on_reset=11 use_diff=12 value_direction=13 skip_zero_diff=14 \
         zero_default_base=15 slice_by_state=18 state_link=19:state_link bound=1001\n\
@@ -47,7 +47,7 @@ const MESSAGES: &str = "\
     durations data=1:slice\n\
     values data=1:slice\n\
     gauges data=1:sampled\n\
-    slice bucket=3:bucket leaf=4:leaf in_state=6:in_state\n\
+    slice bucket=3:bucket leaf=4:leaf in_state=6:in_state overflow=1001\n\
     sampled bucket=3:samples leaf=4:leaf in_state=6:in_state\n\
     bucket from=1 to=2 is=3\n\
     samples from=1 to=2 atom=3:atom\n\

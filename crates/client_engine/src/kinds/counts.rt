@@ -62,6 +62,7 @@ impl RowShape for CountRows {
         NumTree {
             leaves,
             slices,
+            overflow: false,
             buckets,
         }
     }

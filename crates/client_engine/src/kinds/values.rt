@@ -59,6 +59,7 @@ impl RowShape for ValueRows {
         NumTree {
             leaves,
             slices,
+            overflow: false,
             buckets,
         }
     }

@@ -1,7 +1,7 @@
 -- The row at one place more was looked at.
 use Rattle.std.proofs.Common.{◌+◌, [], take, drop, slice_index, arith, sym, ap, subst, ◌∙◌}
 use Rattle.std.proofs.lemmas.List.{drop_more, drop_all, take_all, take_more}
-use Rattle.duration_metric.specs.SumSteps.{tolds_at, Releases}
+use Rattle.duration_metric.specs.SumSteps.{tolds_at, ReleasesPlaces}
 use Rattle.duration_metric.proofs.ReleaseLemmas.{tolds-push, releases_none, releases_more}
 use Rattle.duration_metric.proofs.counted.release_all.Goals as goal
 
@@ -20,11 +20,11 @@ loop-place-preserved c =
     let some = c.loop-place.tally in
     let now = c.release_at.new.tally in
     let done = tolds_at first.rows (take i places) in
-    subst (Releases first last before now places (drop (i + 1) places))
+    subst (ReleasesPlaces first last before now places (drop (i + 1) places))
     (sym (ap (tolds_at first.rows) (take_more places i 0 c.loop-place-test.true)
     ∙ tolds-push first.rows (take i places) place))
     (releases_more first mid last before some now places (drop (i + 1) places) done place
-    (subst (λ left. Releases first mid before some places left done) (drop_more places i 0 c.loop-place-test.true)
+    (subst (λ left. ReleasesPlaces first mid before some places left done) (drop_more places i 0 c.loop-place-test.true)
     c.loop-place.invariant)
     c.in_ok-release_at.ensures)
 
@@ -34,8 +34,8 @@ returns c =
     let ends = c.loop-place-test.false in
     let places = c.args.places.now in
     let first = c.args.keys.now in
-    subst (λ done. Releases first c.loop-place.keys c.args.tally.now c.loop-place.tally places [] (tolds_at first.rows done))
+    subst (λ done. ReleasesPlaces first c.loop-place.keys c.args.tally.now c.loop-place.tally places [] (tolds_at first.rows done))
     (take_all c.loop-place.place-index places (omega (arith, ends)))
-    (subst (λ left. Releases first c.loop-place.keys c.args.tally.now c.loop-place.tally places left
+    (subst (λ left. ReleasesPlaces first c.loop-place.keys c.args.tally.now c.loop-place.tally places left
     (tolds_at first.rows (take c.loop-place.place-index places)))
     (drop_all c.loop-place.place-index places (omega (arith, ends))) c.loop-place.invariant)

@@ -5,7 +5,7 @@ use Rattle.metric_producer.specs.Calls.{Learned}
 use Rattle.metric_producer.specs.Moves.{Moves}
 use Rattle.duration_metric.specs.Tallies.{CountsSame, is_counted}
 use Rattle.duration_metric.specs.SumStands.{sum_law}
-use Rattle.duration_metric.specs.SumSteps.{outs_at, tolds_at, StepsSome, BeginsAll, Recounts, Releases, LowersAll}
+use Rattle.duration_metric.specs.SumSteps.{outs_at, tolds_at, StepsSome, BeginsAll, Recounts, ReleasesPlaces, LowersAll}
 use Rattle.duration_metric.proofs.ChangedLemmas.{steps_more}
 use Rattle.duration_metric.proofs.ReleaseLemmas.{releases_same, tolds_after, outs_after}
 use Rattle.duration_metric.proofs.SumToldLemmas.{learned, emptied, finds_begun, steps_same}
@@ -36,7 +36,7 @@ returns c =
     c.in_ok-began.ensures.counts in
     let lowers = subst (LowersAll raised lowered) (c.as_slice-3.ensures ∙ c.replace-gone.ensures.value)
     c.in_ok-lower_all.ensures in
-    let releases = subst (λ l. Releases keys last lowered released l [] (tolds_at keys.rows l))
+    let releases = subst (λ l. ReleasesPlaces keys last lowered released l [] (tolds_at keys.rows l))
     c.as_slice-4.ensures.value c.in_ok-release_all.ensures in
     let same : CountsSame released left = λ key. c.forget_tolds.ensures key ∙ c.forget_all.ensures key in
     let stepped = subst (λ l. StepsSome old.table part l (is_counted released) at)

@@ -1,8 +1,0 @@
--- A key came.
-use Rattle.std.proofs.Common.{refl}
-use Rattle.std.proofs.lemmas.Result.{on_ok_weaker}
-use Rattle.count_metric.proofs.CountLemmas.{came}
-use Rattle.count_metric.proofs.count.CountProducerProducer.event.Goals as goal
-
-pub returns : goal.returns
-returns c = on_ok_weaker c.arrive.result (came c.args.self.now _ c.args.at c.args.ev refl refl) c.arrive.ensures.taken
