@@ -1,8 +1,9 @@
 """The books of counts and events balance: each atom that arrived was shown, or stood in a row that wasn't kept, or was
-dropped, once the last report told all there was."""
+dropped, once the last report told all there was. What overflow rows gather is what was dropped."""
 from session_text.layout import REPORT
 
 from compared.counted import Count, Event
+from compared.history import OVERFLOW
 
 
 def worth(metric, row):
@@ -10,13 +11,25 @@ def worth(metric, row):
     return row.value if isinstance(metric, Count) else 1
 
 
+def rows_told(metric):
+    """All rows of a metric, kept or not, each with how often it came."""
+    for shown in metric.reported:
+        yield from ((row, 1) for row in shown.kept.rows)
+        yield from shown.kept.unkept
+
+
 def is_balanced(metric):
     """All that arrived at a metric is in what its reports had."""
-    told = 0
-    for shown in metric.reported:
-        told += sum(worth(metric, row) for row in shown.kept.rows) + shown.dropped
-        told += sum(times * worth(metric, row) for row, times in shown.kept.unkept)
-    return told == sum(arrived is not None for arrived in metric.told)
+    keyed = gathered = 0
+    for row, times in rows_told(metric):
+        if row.key == OVERFLOW:
+            gathered += times * worth(metric, row)
+        else:
+            keyed += times * worth(metric, row)
+    dropped = sum(shown.dropped for shown in metric.reported)
+    if isinstance(metric, Count) and gathered != (dropped if metric.has_overflow else 0):
+        return False
+    return keyed + dropped == sum(arrived is not None for arrived in metric.told)
 
 
 def unbalanced(instance):

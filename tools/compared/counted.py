@@ -2,7 +2,7 @@
 from session_text.layout import INT, LONG, REPORT
 
 from compared.atoms import fields_of
-from compared.history import Arrival, Row, places_in
+from compared.history import OVERFLOW, Arrival, Row, places_in
 from compared.metrics import Metric, Shown, number_row
 
 SUM, LEAST, GREATEST = 1, 2, 3
@@ -34,15 +34,22 @@ class Counted(Metric):
 
 
 class Count(Counted):
-    """A count of atoms."""
+    """A count of atoms. It may ask that those of keys that find no room are counted together, too."""
 
     field_number = 5
+
+    def __init__(self, tree, config):
+        super().__init__(tree, config)
+        self.has_overflow = tree.get("overflow", False)
 
     def contribution(self, atom):
         return 1
 
     def row(self, part, key, contributions):
         return number_row(part, key, min(len(contributions), GREATEST_NUMBER))
+
+    def overflow_row(self, part, spilled):
+        return self.row(part, OVERFLOW, spilled) if self.has_overflow and spilled else None
 
 
 def aggregated(aggregation, contributions):

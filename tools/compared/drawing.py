@@ -19,12 +19,12 @@ from compared.drawn_config import (
 )
 from compared.faulty import draw_tree
 from compared.history import MOST_WEIGHT
-from compared.kinds import KINDS
+from compared.kinds import KINDS, LISTED
 from compared.pulls import MOST_IDS as MOST_PULLED
 from compared.sessions import CLEAN, Session, checked_line, next_frame, replies
 from compared.states import MOST_IDS, MOST_KEYS
-from compared.trees import encoded
-from compared.wire import framed
+from compared.trees import MESSAGES, encoded
+from compared.wire import framed, message, number
 
 SECOND, MILLISECOND = 10**9, 10**6
 
@@ -242,11 +242,21 @@ def draw_mangled(random):
     return content, answered, status
 
 
+def with_overflow(random, content):
+    """The bytes of a configuration with one more metric, which asks for an overflow row, whatever its kind."""
+    field = MESSAGES["config"][random.choice(LISTED)].number
+    overflow = MESSAGES["count"]["overflow"].number
+    return content + message(field, number(1, 2**40) + number(overflow, random.choice([0, 1, 2])))
+
+
 def draw_check(random):
     """The bytes of a configuration, some of which are mangled, the line that `check` writes of it, and the status."""
     content = encoded("config", draw_tree(random))
-    if random.random() < 0.2:
+    drawn = random.random()
+    if drawn < 0.2:
         content = mangled(random, content)
+    elif drawn < 0.25:
+        content = with_overflow(random, content)
     line = checked_line(content)
     return content, line.encode(), 0 if line.startswith("ok ") else 1
 

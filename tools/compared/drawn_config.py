@@ -246,9 +246,10 @@ class DrawnConfig:
         return {"what": what, **self.common(atom_id)}
 
     def count(self):
-        """A count."""
+        """A count, which may ask for an overflow row."""
         what, atom_id = self.counted(self.matchers)
-        return {"what": what, **self.common(atom_id), **self.keyed(atom_id), **self.sliced(atom_id)}
+        own = without_none(overflow=self.some(0.6, lambda: self.random.random() < 0.85))
+        return {"what": what, **self.common(atom_id), **self.keyed(atom_id), **self.sliced(atom_id), **own}
 
     def value(self, pulled=False):
         """A metric of values, pushed or pulled."""

@@ -28,6 +28,7 @@ DOMAINS = {
     "eq_bool": (False, True),
     "include_all": (False, True),
     "diff": (False, True),
+    "overflow": (False, True),
 }
 SMALL = (-1, 0, 1, 2, 3, 4, 5, 6, 20, 21, 100, 101, 127, 128, 800, 3_000, 3_001)
 NUMBERS = SMALL + (9_999, 10_000, 99_999, 100_000, 149_999, 150_000, 199_999, 200_000, 2**31 - 1)
@@ -65,7 +66,7 @@ class Drawn:
         self.metrics = 0
         for name, draw in (
             ("events", self.common),
-            ("counts", self.sliced),
+            ("counts", self.count),
             ("values", self.value),
             ("gauges", self.gauge),
             ("durations", self.duration),
@@ -182,6 +183,10 @@ class Drawn:
                 in_what = self.fields(len(leaves(in_state)))
                 state_links.append({"atom_id": state["atom_id"], "in_what": in_what, "in_state": in_state})
         return {**self.common(what, among), **self.keyed(among), "slices": slices, "state_links": state_links}
+
+    def count(self):
+        """A count, which may ask for an overflow row."""
+        return {**self.sliced(), **without_none(overflow=some(self.random, 0.4, self.random.random() < 0.8))}
 
     def is_pulled(self, metric):
         """A metric of a simple matcher of pulled atoms."""

@@ -15,8 +15,10 @@ Part = namedtuple("Part", "start end opened closed times")
 # What comes to a metric: at the place of a step, of a key, with what it contributes.
 Arrival = namedtuple("Arrival", "place key contribution")
 
-# A row of a part: its weight is how much of the room of kept rows it takes.
+# A row of a part: its weight is how much of the room of kept rows it takes. An overflow row has no key, and this in the
+# place of one.
 Row = namedtuple("Row", "key start end value weight")
+OVERFLOW = "overflow"
 
 MOST_WEIGHT = 16_384
 

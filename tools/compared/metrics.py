@@ -75,6 +75,10 @@ class Metric:
         """The row of a key in a part, or None where it is left out."""
         raise NotImplementedError
 
+    def overflow_row(self, _part, _spilled):
+        """The row of what found no room in a part, or None where there is none."""
+        return None
+
     def shown(self):
         """What the report at the last step has: what came since the report before, and what was closed since then."""
         steps, shown = self.config.steps, Shown()
@@ -83,11 +87,12 @@ class Metric:
         for part in parts_of(steps, self.base, self.size):
             if part.closed is not None and part.closed <= since:
                 continue
-            admitted, dropped = guarded(self.arrivals(part), self.bound)
-            shown.dropped += part.times * sum(arrival.place > since for arrival in dropped)
+            admitted, spilled = guarded(self.arrivals(part), self.bound)
+            shown.dropped += part.times * sum(arrival.place > since for arrival in spilled)
             shown.missing += part.times * sum(place > since for place in self.missed(part))
             if part.closed is not None:
                 rows = [self.row(part, key, [one.contribution for one in came]) for key, came in admitted.items()]
+                rows.append(self.overflow_row(part, spilled))
                 shown.kept.close(part, [row for row in rows if row is not None])
         shown.dropped += self.lost(since)
         return shown

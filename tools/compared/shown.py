@@ -2,6 +2,7 @@
 from session_text.layout import BITS, BOOL, INT, LONG, RAW, STR
 
 from compared.atoms import Value
+from compared.history import OVERFLOW
 from compared.wire import fixed, message, number
 
 EVENTS, GAUGES = 4, 8
@@ -38,7 +39,9 @@ def shown_slice(shown):
 
 
 def shown_key(key):
-    """A key: its leaves, and then its slices."""
+    """A key: its leaves, and then its slices. An overflow row has none, and says that it is one."""
+    if key == OVERFLOW:
+        return number(1001, 1)
     leaves, slices = key
     values = [shown_leaf(place, leaf) for place, leaf in enumerate(leaves)]
     return b"".join(values + [shown_slice(shown) for shown in slices])

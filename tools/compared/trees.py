@@ -84,6 +84,7 @@ MESSAGES = {
         "slices": Field(8, INT64, True),
         "state_links": Field(9, "state_link", True),
         "bound": Field(1001, INT32),
+        "overflow": Field(1002, BOOL),
     },
     "value": {
         **COMMON,

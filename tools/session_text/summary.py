@@ -4,6 +4,7 @@ from .words import quoted
 
 SECOND = 10**9
 EVENTS, COUNTS, DURATIONS, VALUES, GAUGES = range(4, 9)
+OVERFLOW = 1001
 TURNED_AWAY = ((1001, "dropped"), (1002, "not kept"), (1003, "missing"))
 
 
@@ -80,8 +81,10 @@ def row_words(kind, data, has_times):
         yield f"{atom_word(parts(data, 2)[0])} at {time_word(number_at(data, 1))}"
         return
     key, slices = key_word(data), ", ".join(map(slice_word, parts(data, 6)))
+    whose = (f" of {key}" if key else "") + (f" with {slices}" if slices else "")
+    whose += " overflow" if parts(data, OVERFLOW) else ""
     for bucket in parts(data, 3):
-        word = bucket_word(kind, bucket) + (f" of {key}" if key else "") + (f" with {slices}" if slices else "")
+        word = bucket_word(kind, bucket) + whose
         begin, end = time_word(number_at(bucket, 1)), time_word(number_at(bucket, 2))
         yield word + (f" in [{begin}, {end})" if has_times else "")
 

@@ -9,6 +9,7 @@ use Rattle.config_links.specs.declared.linked.LMetric.{LMetric}
 use Rattle.config_links.specs.declared.linked.LKind.TheVariants as kinds
 use Rattle.config_links.specs.SoundConfig.{IsSize, IsSoundKind, IsSoundMetric}
 use Rattle.metric_producer.specs.declared.row.Row.{Row}
+use Rattle.metric_producer.specs.declared.row.CountCell.{CountCell}
 use Rattle.bucket_meaning.specs.Kept.{Taken}
 use Rattle.count_metric.specs.CountStands.{count_law}
 use Rattle.report_writer.specs.declared.tree.MetricTree.{MetricTree}
@@ -29,28 +30,29 @@ use Rattle.client_engine.proofs.ArrivingLemmas.{IsOfArrivals, arrivals_log}
 use Rattle.client_engine.specs.declared.request.ReportRequest.{ReportRequest}
 
 -- a sound metric that counts has buckets
-pub counts_sized : (linked : Linked) (metric : LMetric) → IsSoundMetric linked metric → metric.kind ≡ kinds.Count
-    → IsSize metric.size
-counts_sized linked metric sound counts = (subst (IsSoundKind linked metric) counts sound.kind).1
+pub counts_sized : (linked : Linked) (metric : LMetric) (overflow : Bool) → IsSoundMetric linked metric
+    → metric.kind ≡ kinds.Count overflow → IsSize metric.size
+counts_sized linked metric overflow sound counts = (subst (IsSoundKind linked metric) counts sound.kind).1
 
 -- a new lane of counts has seen no step of what was installed at this clock
-pub counts_begin : (installed : Installation) (base : ℕ) (metric : LMetric) (lane : CountLane) → installed.base ≡ base
-    → base < time_limit → metric.kind ≡ kinds.Count
-    → LaneHas count_law lane (count_params base metric) [] []
+pub counts_begin : (installed : Installation) (base : ℕ) (metric : LMetric) (overflow : Bool) (lane : CountLane)
+    → installed.base ≡ base → base < time_limit → metric.kind ≡ kinds.Count overflow
+    → LaneHas count_law lane (count_params base metric overflow) [] []
     → CountsAlong metric installed [] lane
-counts_begin installed base metric lane base_is fits counts has = record {
+counts_begin installed base metric overflow lane base_is fits counts has = record {
+  overflow = overflow;
   counts = counts;
-  along = along_begins (count_asking installed metric) count_law lane
+  along = along_begins (count_asking installed metric overflow) count_law lane
       (subst (λ b. b < time_limit) (sym base_is) fits)
-      (subst (λ b. LaneHas count_law lane (count_params b metric) [] []) (sym base_is) has);
+      (subst (λ b. LaneHas count_law lane (count_params b metric overflow) [] []) (sym base_is) has);
 }
 
 -- what a metric of counts asks hangs on the atom that arrives: its key
-pub counts_arrive : (installed : Installation) (metric : LMetric)
-    → IsOfArrivals (count_asking installed metric) count_law installed metric
+pub counts_arrive : (installed : Installation) (metric : LMetric) (overflow : Bool)
+    → IsOfArrivals (count_asking installed metric overflow) count_law installed metric
     (λ scene. option_map (atom_key scene metric))
-counts_arrive installed metric = record {
-  well = counts_ask_well installed metric;
+counts_arrive installed metric overflow = record {
+  well = counts_ask_well installed metric overflow;
   base = refl;
   news = λ before step. refl;
 }
@@ -62,23 +64,25 @@ pub counts_log : (given : Handed) (metric : LMetric) (shown : LogFrame) (truths 
     → LogsEvent count_law old new (moment_of shown (log_time shown)) key
     → TakesFrame (CountsAlong metric) given shown truths old new
 counts_log given metric shown truths old new key is logs installed steps frame has may = record {
+  overflow = has.overflow;
   counts = has.counts;
-  along = arrivals_log (count_asking installed metric) count_law installed metric
-      (λ scene. option_map (atom_key scene metric)) (counts_arrive installed metric)
+  along = arrivals_log (count_asking installed metric has.overflow) count_law installed metric
+      (λ scene. option_map (atom_key scene metric)) (counts_arrive installed metric has.overflow)
       given shown frame truths old new key steps is logs has.along may;
 }
 
 -- what a lane of counts hands out is what a report shows of the metric
 pub counts_report : (metric : LMetric) (base : ℕ) (request : ReportRequest) (old new : CountLane)
-    (closed : Taken (Row ℕ))
+    (closed : Taken (Row CountCell))
     → GetsReport count_law old new request.at request.include_current closed
     → (tree : MetricTree) → tree ≡ counts_shown_by base metric closed
     → TakesReport (CountsAlong metric) metric base request old new tree
 counts_report metric base request old new closed reports tree is installed steps has may =
-    let both = along_reports (count_asking installed metric) count_law (counts_ask_well installed metric)
-    steps (counts_agree installed metric) request old new closed reports has.along
+    let both = along_reports (count_asking installed metric has.overflow) count_law
+    (counts_ask_well installed metric has.overflow)
+    steps (counts_agree installed metric has.overflow) request old new closed reports has.along
     may.in_time in (
-      record { counts = has.counts; along = both.0 },
+      record { overflow = has.overflow; counts = has.counts; along = both.0 },
       is ∙ ap (λ b. counts_shown_by b metric closed) (sym may.base_is)
           ∙ ap (counts_shown_by installed.base metric) both.1
           ∙ ap (λ kind. metric_tree installed steps request.include_current request.at (record metric { kind = kind }))

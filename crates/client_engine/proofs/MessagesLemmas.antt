@@ -12,10 +12,10 @@ use Rattle.report_writer.specs.Writable.{IsWritableBucket, IsWritableRow, IsWrit
 use Rattle.report_writer.specs.declared.tree.AtomMsg.{AtomMsg}
 use Rattle.metric_producer.specs.declared.row.Row.{Row}
 use Rattle.metric_kinds.specs.Keys.{is_same_key}
-use Rattle.metric_meaning.specs.KeyTrees.{key_trees, group_of, groups_of}
+use Rattle.metric_meaning.specs.KeyTrees.{key_trees, group_by, row_key, key_tree, groups_of}
 use Rattle.metric_meaning.specs.EventTrees.{event_trees}
 use Rattle.metric_meaning.specs.GaugeTrees.{sampled_bucket}
-use Rattle.client_engine.specs.Groups.{row_shown, key_in}
+use Rattle.client_engine.specs.Groups.{row_shown}
 use Rattle.client_engine.specs.Messages.{message_row, HasWritableAtoms}
 use Rattle.client_engine.specs.EventsAlong.{event_at, events_in}
 use Rattle.client_engine.specs.GaugesAlong.{sample_bucket, gauge_entry}
@@ -62,8 +62,8 @@ events-writable (row ∷ rows) all =
 
 -- the samples of a key by their messages
 gauge-key : (rows : List (Row (List Atom))) (key : MetricKey)
-    → group_of gauge_entry (row_shown sample_bucket) (map message_row rows) key
-    ≡ group_of gauge_entry sampled_bucket rows key
+    → group_by is_same_key row_key (key_tree gauge_entry) (row_shown sample_bucket) (map message_row rows) key
+    ≡ group_by is_same_key row_key (key_tree gauge_entry) sampled_bucket rows key
 gauge-key rows key =
     let own : Row (List AtomMsg) → Bool = λ row. is_same_key row.key key in
     let entry = gauge_entry (key_trees 0 key.dims) key.slices in
@@ -75,18 +75,18 @@ pub gauges-shown : (rows : List (Row (List Atom)))
     → groups_of gauge_entry (row_shown sample_bucket) (map message_row rows)
     ≡ groups_of gauge_entry sampled_bucket rows
 gauges-shown rows =
-    let shown = group_of gauge_entry (row_shown sample_bucket) (map message_row rows) in
-    ap (λ keys. map shown (firsts is_same_key [] keys)) (map-twice key_in message_row rows)
-    ∙ map-agree shown (group_of gauge_entry sampled_bucket rows) (gauge-key rows)
-    (firsts is_same_key [] (map key_in rows))
+    let shown = group_by is_same_key row_key (key_tree gauge_entry) (row_shown sample_bucket) (map message_row rows) in
+    ap (λ keys. map shown (firsts is_same_key [] keys)) (map-twice row_key message_row rows)
+    ∙ map-agree shown (group_by is_same_key row_key (key_tree gauge_entry) sampled_bucket rows) (gauge-key rows)
+    (firsts is_same_key [] (map row_key rows))
 
 -- the samples of all keys, of messages that can be written
 pub gauges-writable : (rows : List (Row (List AtomMsg))) → All HasWritableAtoms rows
     → All IsWritableRow (groups_of gauge_entry (row_shown sample_bucket) rows)
 gauges-writable rows all =
-    All-map IsWritableRow (group_of gauge_entry (row_shown sample_bucket) rows)
-    (firsts is_same_key [] (map key_in rows))
+    All-map IsWritableRow (group_by is_same_key row_key (key_tree gauge_entry) (row_shown sample_bucket) rows)
+    (firsts is_same_key [] (map row_key rows))
     (λ k d below.
-    let key = get_or (firsts is_same_key [] (map key_in rows)) k d in
+    let key = get_or (firsts is_same_key [] (map row_key rows)) k d in
     let own : Row (List AtomMsg) → Bool = λ row. is_same_key row.key key in
     All-map IsWritableBucket (row_shown sample_bucket) (filter own rows) (All-filter own HasWritableAtoms rows all))

@@ -13,6 +13,7 @@ pub mod Opens
 pub mod Finding
 pub mod Along
 pub mod CountsAlong
+pub mod CountGroups
 pub mod ValuesAlong
 pub mod PulledValuesAlong
 pub mod Messages

@@ -1,5 +1,5 @@
 -- The lane of a metric of pushed values: what it stands for, and how a report shows what it hands out.
-use Rattle.std.specs.Prelude.{◌≡◌, ℕ, ℤ, List}
+use Rattle.std.specs.Prelude.{◌≡◌, ℕ, ℤ, false, List}
 use Rattle.atom_record.specs.declared.value.Slice.{Slice}
 use Rattle.config_types.specs.declared.metric.Aggregation.{Aggregation}
 use Rattle.config_links.specs.declared.linked.LMetric.{LMetric}
@@ -43,7 +43,7 @@ shown_value start end value = record { start = start; end = end; value = value }
 
 -- a key with its values, as a report shows it
 abbrev pub value_entry : List LeafTree → List Slice → List NumBucket → NumTree
-value_entry leaves slices buckets = record { leaves = leaves; slices = slices; buckets = buckets }
+value_entry leaves slices buckets = record { leaves = leaves; slices = slices; overflow = false; buckets = buckets }
 
 -- a metric of values as a report shows it, of what its producer handed out
 abbrev pub values_shown_by : ℕ → LMetric → Taken (Row ℤ) → MetricTree

@@ -3,6 +3,7 @@ ghost use Rattle.std.specs.Prelude.{◌≡◌, ◌≤◌, ◌+◌, length, OnOk,
 ghost use Rattle.std.specs.Option.{option_copied};
 ghost use Rattle.config_links.specs.SoundConfig.{MayBeWithin};
 ghost use Rattle.metric_meaning.specs.Arrivals.{arriving_by, metric_key};
+ghost use Rattle.metric_meaning.specs.Readings.{atom_reading};
 ghost use Rattle.metric_meaning.specs.Scenes.{Scene};
 ghost use Rattle.client_engine.specs.Handed.{IsOfScene};
 ghost use Rattle.client_engine.specs.AskedFew.{arrival_questions};
@@ -13,10 +14,11 @@ use crate::asked::Asked;
 use crate::brought::Brought;
 use crate::conditions::Conditions;
 use crate::matched::is_true_at;
-use crate::slices::slices_of;
+use crate::slices::{slices_into, slices_of};
 use atom_record::{Atom, LogFrame, MetricKey};
 use condition_links::Steps;
 use config_links::LMetric;
+use field_select::key_into;
 use std::alloc::{AllocError, Global};
 use std::sync::ledger::Ledger;
 
@@ -62,4 +64,27 @@ pub fn key_in<A: Asked>(
     let by = metric.slices.as_slice();
     let slices = slices_of(alloc, brought.states, by, asked, brought.book)?;
     Ok(MetricKey { dims, slices })
+}
+
+/// The same of an atom, in the room of another key, of which nothing is left.
+pub fn metric_key_into(
+    alloc: Global,
+    metric: &LMetric,
+    brought: &Brought<'_>,
+    atom: &Atom,
+    key: &mut MetricKey,
+) -> Result<(), AllocError>
+    ensures { (known : Known) (scene : Scene) → IsOfScene (handed_with known brought.now) scene
+        → OnOk result (key.new ≡ metric_key scene metric.now (atom_reading atom.now)) }
+{
+    key_into(alloc, &metric.dims, atom, &mut key.dims)?;
+    let by = metric.slices.as_slice();
+    slices_into(
+        alloc,
+        brought.states,
+        by,
+        atom,
+        brought.book,
+        &mut key.slices,
+    )
 }

@@ -1,36 +1,45 @@
-//! Rows, grouped by their keys.
+//! Rows in groups, most of them by their keys.
 ghost use Rattle.std.specs.Prelude.{◌≡◌, ◌∷◌, ◌++◌, [], ℕ, List, Some, slice_get, OnOk, IfOk};
+ghost use Rattle.std.specs.Bool.{Decides};
 ghost use Rattle.std.specs.Map.{values_of};
 ghost use Rattle.indexmap.specs.Layout.{set_value_at};
-ghost use Rattle.atom_record.specs.declared.value.Slice.{Slice};
-ghost use Rattle.report_writer.specs.declared.tree.LeafTree.{LeafTree};
-ghost use Rattle.metric_meaning.specs.KeyTrees.{groups_of};
-ghost use Rattle.client_engine.specs.Groups.{row_shown, AddsRow, grouped, group_tree};
+ghost use Rattle.atom_record.specs.declared.value.MetricKey.{MetricKey};
+ghost use Rattle.metric_meaning.specs.KeyTrees.{groups_by};
+ghost use Rattle.client_engine.specs.Groups.{row_shown, row_group, AddsRow, grouped};
 
-use crate::leaves::leaves_of;
-use atom_record::{MetricKey, Slice};
+use atom_record::MetricKey;
 use indexmap::IndexMap;
 use metric_producer::Row;
-use report_writer::LeafTree;
 use sd_base::Seq;
 use std::alloc::{AllocError, Global};
+use std::hash::Hash;
 
 /// How a report shows the rows of a kind of metric.
 pub trait RowShape {
     /// What a row holds.
     type Value: Drop;
 
+    /// What rows are grouped by.
+    type Group: Eq + Hash + Drop;
+
     /// What is shown of a row.
     type Bucket: Drop;
 
-    /// What is shown of a key with its buckets.
+    /// What is shown of a group with its buckets.
     type Tree: Drop;
+
+    /// The group of a row, by its key and its value.
+    ghost group_of: { MetricKey → Self.Value → Self.Group };
 
     /// What is shown of a row, by where its part of time began and ended, and its value.
     ghost bucket: { ℕ → ℕ → Self.Value → Self.Bucket };
 
-    /// What is shown of a key, by its values, its slices and its buckets.
-    ghost tree: { List LeafTree → List Slice → List Self.Bucket → Self.Tree };
+    /// What is shown of a group, by its buckets.
+    ghost tree: { Self.Group → List Self.Bucket → Self.Tree };
+
+    /// The group of a row with a key and a value.
+    fn group_of(key: MetricKey, value: &Self::Value) -> Self::Group
+        ensures { result ≡ group_of key value.now };
 
     /// A row's value as it is shown, with its part of time.
     fn bucket(
@@ -41,32 +50,41 @@ pub trait RowShape {
     ) -> Result<Self::Bucket, AllocError>
         ensures { IfOk result (λ shown. shown ≡ bucket start end value) };
 
-    /// A key as it is shown.
-    fn tree(leaves: Seq<LeafTree>, slices: Seq<Slice>, buckets: Seq<Self::Bucket>) -> Self::Tree
-        ensures { result ≡ tree leaves slices buckets };
+    /// A group as it is shown.
+    fn tree(
+        alloc: Global,
+        group: Self::Group,
+        buckets: Seq<Self::Bucket>,
+    ) -> Result<Self::Tree, AllocError>
+        ensures { IfOk result (λ shown. shown ≡ tree group buckets) };
+
+    /// `==` of groups holds exactly where contracts see the same group.
+    ghost exact: { (x y : Self.Group) → Decides (Self.Group.eq x y) (x ≡ y) };
 }
 
-/// The rows by their keys, in the order in which the keys first come.
+/// The rows in groups, in the order in which the groups first come.
 pub fn groups_of<S: RowShape>(
     alloc: Global,
     rows: Seq<Row<S::Value>>,
 ) -> Result<Seq<S::Tree>, AllocError>
-    ensures { IfOk result (λ groups. groups ≡ groups_of S.tree (row_shown S.bucket) rows) }
+    ensures { IfOk result (λ groups. groups
+        ≡ groups_by S.Group.eq (row_group S.group_of) S.tree (row_shown S.bucket) rows) }
 {
     let groups = collected::<S>(alloc, rows)?;
     let mut trees = Seq::new(alloc);
-    for (key, buckets) in groups {
-        trees.push(tree_of::<S>(alloc, key, buckets)?)?;
+    for (group, buckets) in groups {
+        trees.push(S::tree(alloc, group, buckets)?)?;
     }
     Ok(trees)
 }
 
-// The buckets of each key.
+// The buckets of each group.
 fn collected<S: RowShape>(
     alloc: Global,
     rows: Seq<Row<S::Value>>,
-) -> Result<IndexMap<MetricKey, Seq<S::Bucket>>, AllocError>
-    ensures { IfOk result (λ groups. groups.entries ≡ grouped (row_shown S.bucket) rows) }
+) -> Result<IndexMap<S::Group, Seq<S::Bucket>>, AllocError>
+    ensures { IfOk result (λ groups. groups.entries
+        ≡ grouped S.Group.eq (row_group S.group_of) (row_shown S.bucket) rows) }
 {
     let mut groups = IndexMap::new(alloc);
     for row in rows.into_vec() {
@@ -75,14 +93,15 @@ fn collected<S: RowShape>(
     Ok(groups)
 }
 
-// One more row: a bucket more for a key that is there, or a new key.
+// One more row: a bucket more for a group that is there, or a new group.
 fn add_row<S: RowShape>(
     alloc: Global,
-    groups: &mut IndexMap<MetricKey, Seq<S::Bucket>>,
+    groups: &mut IndexMap<S::Group, Seq<S::Bucket>>,
     row: Row<S::Value>,
 ) -> Result<(), AllocError>
     ensures { OnOk result
-        (AddsRow (row_shown S.bucket) groups.old.entries groups.new.entries row) }
+        (AddsRow S.Group.eq (row_group S.group_of) (row_shown S.bucket) groups.old.entries
+        groups.new.entries row) }
 {
     let Row {
         key,
@@ -90,21 +109,22 @@ fn add_row<S: RowShape>(
         end,
         value,
     } = row;
+    let group = S::group_of(key, &value);
     let bucket = S::bucket(alloc, start, end, value)?;
-    match groups.get_index_of(&key) {
+    match groups.get_index_of(&group) {
         Some(place) => add_bucket(groups, place, bucket),
         None => {
             let mut first = Seq::new(alloc);
             first.push(bucket)?;
-            groups.insert(key, first)?;
+            groups.insert(group, first)?;
             Ok(())
         }
     }
 }
 
-// One more bucket of the key at a place.
-fn add_bucket<B: Drop>(
-    groups: &mut IndexMap<MetricKey, Seq<B>>,
+// One more bucket of the group at a place.
+fn add_bucket<G: Eq + Hash + Drop, B: Drop>(
+    groups: &mut IndexMap<G, Seq<B>>,
     place: usize,
     bucket: B,
 ) -> Result<(), AllocError>
@@ -116,17 +136,4 @@ fn add_bucket<B: Drop>(
         Some(buckets) => buckets.push(bucket),
         None => Ok(()),
     }
-}
-
-// A key with its buckets.
-fn tree_of<S: RowShape>(
-    alloc: Global,
-    key: MetricKey,
-    buckets: Seq<S::Bucket>,
-) -> Result<S::Tree, AllocError>
-    ensures { IfOk result (λ tree. tree ≡ group_tree S.tree (key, buckets)) }
-{
-    let MetricKey { dims, slices } = key;
-    let leaves = leaves_of(alloc, dims)?;
-    Ok(S::tree(leaves, slices, buckets))
 }

@@ -24,11 +24,28 @@ pub fn slices_of<A: Asked>(
     ensures { (log : List LogFrame) → StateBookStandsFor book.now log
         → IfOk result (λ shown. shown ≡ named_slices states.now log (A.reading asked.now) slices.now) }
 {
-    let mut shown = Seq::new(alloc);
-    for by in slices {
-        add_slice(alloc, &mut shown, states, by, asked, book)?;
-    }
+    let mut shown = Seq::with_capacity(alloc, slices.len())?;
+    slices_into(alloc, states, slices, asked, book, &mut shown)?;
     Ok(shown)
+}
+
+/// The same, in the room of other slices, of which nothing is left.
+pub fn slices_into<A: Asked>(
+    alloc: Global,
+    states: &[LState],
+    slices: &[LSlice],
+    asked: &A,
+    book: &StateBook,
+    shown: &mut Seq<Slice>,
+) -> Result<(), AllocError>
+    ensures { (log : List LogFrame) → StateBookStandsFor book.now log
+        → OnOk result (shown.new ≡ named_slices states.now log (A.reading asked.now) slices.now) }
+{
+    shown.clear();
+    for by in slices {
+        add_slice(alloc, shown, states, by, asked, book)?;
+    }
+    Ok(())
 }
 
 // Adds the slice by one of the states.

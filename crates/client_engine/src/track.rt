@@ -16,12 +16,12 @@ ghost use Rattle.client_engine.specs.Woken.{IsDue};
 
 use crate::brought::Brought;
 use crate::conditions::Conditions;
+use crate::kinds::counts::CountLane;
 use crate::kinds::{counts, events, gauges, longest, pulled_gauges, pulled_values, sums, values};
 use crate::opening::Opening;
 use crate::request::ReportRequest;
 use condition_links::Steps;
 use config_links::{LKind, LMetric};
-use count_metric::CountProducer;
 use duration_metric::{MaxProducer, SumProducer};
 use gauge_metric::{EventProducer, PulledGauge, PushedGauge};
 use metric_lane::Lane;
@@ -34,7 +34,7 @@ use value_metric::{PulledValue, PushedValue};
 #[derive(Drop)]
 pub enum MetricLane {
     /// Of a metric that counts.
-    Counts(Lane<CountProducer>),
+    Counts(CountLane),
     /// Of a metric of pushed values.
     Values(Lane<PushedValue>),
     /// Of a metric of pulled values.
@@ -180,7 +180,9 @@ fn lane_of(
 {
     let base = opening.base;
     match &metric.kind {
-        LKind::Count { .. } => Ok(MetricLane::Counts(counts::begin(alloc, base, metric))),
+        LKind::Count { overflow } => {
+            Ok(MetricLane::Counts(counts::begin(alloc, base, metric, *overflow)))
+        }
         LKind::PushedValue { agg, .. } => {
             Ok(MetricLane::Values(values::begin(alloc, base, metric, *agg)))
         }

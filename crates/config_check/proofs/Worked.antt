@@ -19,7 +19,7 @@ use Rattle.config_links.specs.Verdict.{verdict, linked_form, bad_type_fault, bad
 use Rattle.config_decode.specs.Walk as whole
 use Rattle.config_decode.specs.Walk.{walk_of}
 use Rattle.config_decode.specs.Config.{config_of}
-use Rattle.config_decode.proofs.WorkedConfigs.{matcher_bytes, least_bytes, least_config}
+use Rattle.config_decode.proofs.WorkedConfigs.{matcher_bytes, least_bytes, least_config, overflow_of_value_bytes, overflow_of_value_config}
 use Rattle.config_check.specs.declared.finding.Finding.TheVariants.{Sound, TooLarge, Malformed, Unsupported, Unlinked}
 use Rattle.config_check.specs.Findings.{finding_on, finding_of}
 use Rattle.config_check.specs.FindingLines.{finding_line}
@@ -37,6 +37,29 @@ a_count_line : finding_line (Sound (record { matchers = 1; predicates = 0; state
     ≡ codes "ok 1 0 0 1\n"
 unfolding digits
 a_count_line = refl
+
+-- a count that asks for an overflow row: {7: {1: 1, 2: {1: 5}}, 3: {1: 100, 2: 1, 1002: 1}}
+abbrev overflow_bytes : List ℕ
+overflow_bytes = matcher_bytes ++ 26 ∷ 7 ∷ 8 ∷ 100 ∷ 16 ∷ 1 ∷ 208 ∷ 62 ∷ 1 ∷ []
+
+an_overflow : finding_of overflow_bytes ≡ Sound (record { matchers = 1; predicates = 0; states = 0; metrics = 1 })
+unfolding finding_of config_of walk_of whole.walk_in inside_at walk_from walk_turns field_at field_with tag_at tag_of
+    varint_at taken_at
+    verdict rule_fault id_fault reference_fault name_fault cycle_fault bad_type_fault bad_part_fault
+    bad_metric_fault bad_links bad_rest bad_times bad_slices bad_kind matchers_linked predicates_linked states_linked
+    metrics_linked linked_form limit_fault
+    no_id_fault duplicate_id_fault matcher_ids predicate_ids state_ids metric_ids unknown_matcher_fault
+    unknown_predicate_fault unknown_state_fault reaches_by_id first_place
+an_overflow = refl
+
+-- a metric of another kind has none
+overflow_of_value : finding_of overflow_of_value_bytes ≡ Unsupported (4 ∷ 1002 ∷ [])
+unfolding finding_of
+overflow_of_value = ap finding_on overflow_of_value_config
+
+overflow_of_value_line : finding_line (Unsupported (4 ∷ 1002 ∷ [])) ≡ codes "refused unsupported 4.1002\n"
+unfolding digits
+overflow_of_value_line = refl
 
 -- matchers of 2, of 3, and of 2: {7: {1: 1, 3: {1: 1, 2: 2}}, 7: {1: 2, 3: {1: 1, 2: 3}}, 7: {1: 3, 3: {1: 1, 2: 2}}}
 abbrev cycle_bytes : List ℕ

@@ -9,3 +9,4 @@ pub mod SoundLemmas
 pub mod SoundUses
 mod ReadyLemmas
 mod LinkWorked
+pub mod LinkOrderLemmas

@@ -1,5 +1,5 @@
 -- Worked configurations and their first faults, by computing.
-use Rattle.std.proofs.Common.{◌≡◌, ℕ, ℤ, pos, List, [], ◌∷◌, Option, Some, None, false, refl}
+use Rattle.std.proofs.Common.{◌≡◌, ℕ, ℤ, pos, Bool, true, false, List, [], ◌∷◌, map, Option, Some, None, refl}
 use Rattle.config_types.specs.declared.config.Config.{Config}
 use Rattle.config_types.specs.declared.matcher.MatcherDef.{MatcherDef}
 use Rattle.config_types.specs.declared.matcher.MatcherBody.{MatcherBody}
@@ -20,11 +20,13 @@ use Rattle.link_rules.specs.EntityLimits.{limit_fault}
 use Rattle.link_rules.specs.EntityNames.{unknown_matcher_fault, unknown_predicate_fault, unknown_state_fault}
 use Rattle.link_rules.specs.LinkFaults.{fault}
 use Rattle.link_rules.specs.LinkRules.{rule_fault, id_fault, reference_fault, name_fault}
+use Rattle.config_links.specs.declared.linked.LMetric.{LMetric}
+use Rattle.config_links.specs.declared.linked.LKind.TheVariants as kinds
 use Rattle.config_links.specs.LinkMetrics.{bad_rest}
-use Rattle.config_links.specs.MetricKinds.{bad_kind}
+use Rattle.config_links.specs.MetricKinds.{bad_kind, linked_kind}
 use Rattle.config_links.specs.MetricLinks.{bad_links}
 use Rattle.config_links.specs.MetricSlices.{bad_times, bad_slices}
-use Rattle.config_links.specs.Verdict.{verdict, bad_type_fault, bad_part_fault, bad_metric_fault, matchers_linked, predicates_linked, states_linked}
+use Rattle.config_links.specs.Verdict.{verdict, bad_type_fault, bad_part_fault, bad_metric_fault, matchers_linked, predicates_linked, states_linked, metrics_linked, linked_form}
 
 -- a configuration of nothing
 abbrev nothing : Config
@@ -70,6 +72,10 @@ count id what sliced = record {
   overflow = false;
 }
 
+-- a count of this id, with or without an overflow row
+abbrev count_with : ℕ → Bool → CountDef
+count_with id overflow = record (count id 1 no_slicing) { overflow = overflow }
+
 -- the time of a predicate
 abbrev duration : ℕ → ℕ → DurationDef
 duration id what = record {
@@ -87,6 +93,15 @@ unfolding verdict rule_fault id_fault reference_fault name_fault cycle_fault bad
     no_id_fault duplicate_id_fault matcher_ids predicate_ids state_ids metric_ids unknown_matcher_fault
     unknown_predicate_fault unknown_state_fault reaches_by_id first_place
 fine = refl
+
+-- of three counts the one that asks has an overflow row
+one_overflow : map (λ (metric : LMetric). metric.kind) (linked_form (record nothing {
+  matchers = atom 1 5 ∷ [];
+  counts = count_with 100 false ∷ count_with 101 true ∷ count_with 102 false ∷ [];
+}) (pos 10)).metrics
+    ≡ kinds.Count false ∷ kinds.Count true ∷ kinds.Count false ∷ []
+unfolding linked_form metrics_linked linked_kind
+one_overflow = refl
 
 -- a bound of 0
 bound_of_0 : verdict (record nothing {

@@ -11,7 +11,7 @@ use Rattle.config_types.specs.declared.metric.LinkDef.{LinkDef}
 use Rattle.distinct.specs.Repeats.{repeat_in, AreApart}
 use Rattle.distinct.proofs.ApartLemmas.{apart_without_repeat}
 use Rattle.field_select.specs.declared.leaf.LeafPath.{LeafPath}
-use Rattle.field_select.specs.FieldSets.{same_leaf}
+use Rattle.field_select.specs.FieldSets.{IsLeaf, same_leaf}
 use Rattle.field_select.specs.contracts.leaf.LeafPathExact.TheImpl.Laws.{exact-law as leaf_exact}
 use Rattle.link_rules.specs.EntityIds.{place_in, set_ids}
 use Rattle.link_rules.specs.EntityNames.{link_condition}
@@ -22,27 +22,11 @@ use Rattle.config_links.specs.declared.sets.LinkSets.{LinkSets}
 use Rattle.config_links.specs.LinkReasons.{may_stand, set_or_none}
 use Rattle.config_links.specs.LinkScopes.{predicate_named, spec_in, dims_in}
 use Rattle.config_links.specs.MetricTrees.{link_stands, sets_of_link}
-use Rattle.config_links.specs.MetricLinks.{is_even, is_reached, condition_place, is_asked, named_condition, is_one_of, is_bound, leaf_place, linked_link}
+use Rattle.config_links.specs.MetricLinks.{rising_places, leaf_bound, is_even, is_reached, condition_place, is_asked, named_condition, is_one_of, is_bound, leaf_place, linked_link}
 use Rattle.config_links.specs.SoundConfig.{AreWithin, IsSoundLink}
+use Rattle.config_links.proofs.LinkOrderLemmas.{places_within, places_rise, some_place, leaves_kept, leaves_once}
 use Rattle.config_links.proofs.SoundParts.{left_holds, right_holds, set_is_sound, apart_mapped}
 use Rattle.config_links.proofs.SoundNames.{Known, MayBeKnown, led_to, same_place, pairs_mapped, place_below, not_zero, something_found, passes_first}
-
-some_same : (one other : LeafPath) → Some one ≡ Some other → one ≡ other
-some_same one other h = cc
-
--- a leaf that is one of these is the one at its place
-at_its_place : (leaves : List LeafPath) (leaf : LeafPath) → list_any (same_leaf leaf) leaves ≡ true
-    → slice_get leaves (leaf_place leaves leaf) ≡ Some leaf
-at_its_place leaves leaf is =
-    let first = passes_first (same_leaf leaf) leaves is in
-    first.1 ∙ ap Some (sym ((leaf_exact leaf first.0).0 first.2))
-
--- leaves that have the same place among these are one
-same_leaves : (leaves : List LeafPath) (one other : LeafPath) → list_any (same_leaf one) leaves ≡ true
-    → list_any (same_leaf other) leaves ≡ true → leaf_place leaves one ≡ leaf_place leaves other → one ≡ other
-same_leaves leaves one other is is_too same =
-    some_same one other
-    (sym (at_its_place leaves one is) ∙ ap (slice_get leaves) same ∙ at_its_place leaves other is_too)
 
 module _ (scope : Scope) (many : length scope.ids.predicates ≤ length scope.predicates) (condition : Option ℤ) where
   abbrev links_sound_here : List LLink → Type 0
@@ -60,30 +44,6 @@ module _ (scope : Scope) (many : length scope.ids.predicates ≤ length scope.pr
         places_below atom leaves own found
             (right_holds (is_one_of atom leaves own leaf) (list_all (is_one_of atom leaves own) found) all),
       )
-
-  leaves_among : (atom : ℕ) (leaves : List LeafPath) (own : ℕ) (found : List LeafPath)
-      → list_all (is_one_of atom leaves own) found ≡ true
-      → AllByRecursion (λ leaf. list_any (same_leaf leaf) leaves ≡ true) found
-  leaves_among atom leaves own [] all = tt
-  leaves_among atom leaves own (leaf ∷ found) all =
-      let here = left_holds (is_one_of atom leaves own leaf) (list_all (is_one_of atom leaves own) found) all in (
-        right_holds (own == atom) (list_any (same_leaf leaf) leaves) here,
-        leaves_among atom leaves own found
-            (right_holds (is_one_of atom leaves own leaf) (list_all (is_one_of atom leaves own) found) all),
-      )
-
-  -- the places of leaves that are each one of these differ as the leaves do
-  places_apart : (atom : ℕ) (leaves : List LeafPath) (own : ℕ) (found : List LeafPath)
-      → list_all (is_one_of atom leaves own) found ≡ true → AllPairs (λ leaf later. leaf ≢ later) found
-      → AllPairs (λ (place later : ℕ). place ≢ later) (map (leaf_place leaves) found)
-  places_apart atom leaves own found all once =
-      let each = All-from_recursion (λ leaf. list_any (same_leaf leaf) leaves ≡ true) found
-      (leaves_among atom leaves own found all) in
-      pairs_mapped (leaf_place leaves) (λ (place later : ℕ). place ≢ later) found
-      (λ i j d before within e.
-      once i j d before within
-      (same_leaves leaves (get_or found i d) (get_or found j d) (each i d (omega (arith, before, within)))
-      (each j d within) e))
 
   -- a link whose condition is known, and of which each test holds
   link_sound : (def : LinkDef) (id : Option ℤ) → def.condition ≡ id → MayBeKnown scope.ids.predicates id
@@ -109,8 +69,15 @@ module _ (scope : Scope) (many : length scope.ids.predicates ≤ length scope.pr
       let places : AreWithin (length dims.leaves) (map (leaf_place dims.leaves) in_condition.leaves) =
       All-from_recursion (λ p. p < length dims.leaves) (map (leaf_place dims.leaves) in_condition.leaves)
       (places_below dims.atom_id dims.leaves in_condition.atom_id in_condition.leaves bound) in
-      let sound = set_is_sound def.in_condition (right_holds (may_stand def.in_what) (may_stand def.in_condition)
-      stands) in
+      let named = map (leaf_place dims.leaves) in_condition.leaves in
+      let as_many : length named ≡ length in_what.leaves =
+      length-map in_condition.leaves (leaf_place dims.leaves) ∙ sym same in
+      let some_leaf : 1 ≤ length in_what.leaves = not_zero (length in_what.leaves) some in
+      let sound = set_is_sound def.in_what (left_holds (may_stand def.in_what) (may_stand def.in_condition) stands) in
+      let count = length dims.leaves in
+      let many_places = length-map (rising_places count named) (leaf_bound named in_what.leaves) in
+      let one_place : 1 ≤ length (rising_places count named) =
+      some_place count named (omega (arith, as_many, some_leaf)) places in
       record {
         within = omega (arith, below, many);
         simple = subst (λ (found : Option LPredicate). spec_in found ≢ None) at
@@ -119,12 +86,18 @@ module _ (scope : Scope) (many : length scope.ids.predicates ≤ length scope.pr
             (is_reached scope.predicates (condition_place scope condition) place) asked));
         asked = right_holds (is_some (spec_in (predicate_named scope id)))
             (is_reached scope.predicates (condition_place scope condition) place) asked;
-        fields = set_is_sound def.in_what (left_holds (may_stand def.in_what) (may_stand def.in_condition) stands);
-        some = not_zero (length in_what.leaves) some;
-        even = length-map in_condition.leaves (leaf_place dims.leaves) ∙ sym same;
+        fields = record {
+          fields = record {
+            each = leaves_kept count named in_what.leaves as_many IsLeaf sound.fields.each;
+            once = leaves_once count named in_what.leaves as_many sound.fields.once;
+          };
+          atom = λ any. sound.atom some_leaf;
+        };
+        some = omega (arith, one_place, many_places);
+        even = sym many_places;
         bound = subst (λ (found : Option LPredicate). AreWithin (length (dims_in found).leaves)
-            (map (leaf_place dims.leaves) in_condition.leaves)) at places;
-        apart = places_apart dims.atom_id dims.leaves in_condition.atom_id in_condition.leaves bound sound.fields.once;
+            (rising_places count named)) at (places_within count named);
+        rise = places_rise count named;
       }
 
   -- links whose conditions are known, and of which each test holds

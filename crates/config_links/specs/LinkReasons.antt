@@ -14,6 +14,7 @@ use Rattle.config_types.specs.declared.predicate.PredicateBody.TheVariants as pr
 use Rattle.config_types.specs.declared.state.StateDef.{StateDef}
 use Rattle.config_types.specs.Askable.{greatest_atom_id, is_set_up_to, is_askable_test}
 use Rattle.field_select.specs.declared.leaf.FieldSet.{FieldSet}
+use Rattle.field_select.specs.declared.leaf.LeafPath.{LeafPath}
 use Rattle.field_select.specs.WellFormed.{is_well_formed, set_of}
 use Rattle.link_rules.specs.declared.fault.LinkFault.{LinkFault}
 use Rattle.link_rules.specs.LinkFaults.{fault, first_reason}
@@ -72,6 +73,10 @@ names_atom id = is_set_up_to greatest_atom_id id
 abbrev pub set_or_none : Option FieldMatcher → FieldSet
 set_or_none (Some tree) = set_of tree
 set_or_none None = record { atom_id = 0; leaves = [] }
+
+-- what stands for a leaf where there is none
+abbrev pub no_leaf : LeafPath
+no_leaf = record { field = 0; position = None; sub = 0 }
 
 -- a tree that is absent isn't ill-formed
 abbrev pub may_stand : Option FieldMatcher → Bool

@@ -22,7 +22,7 @@ use Rattle.config_links.specs.declared.linked.LKind.TheVariants as kinds
 use Rattle.config_links.specs.declared.scope.Scope.{Scope}
 use Rattle.config_links.specs.declared.reasons.Reason.{Reason}
 use Rattle.config_links.specs.declared.reasons.Reason.TheVariants.{NoValue, BadDiff, PulledLinks, NoFilter, BadSampling}
-use Rattle.config_links.specs.LinkReasons.{least_reason, set_or_none}
+use Rattle.config_links.specs.LinkReasons.{least_reason, set_or_none, no_leaf}
 use Rattle.config_links.specs.LinkScopes.{predicate_named, spec_in, names_pulled}
 
 -- one leaf, which picks one entry
@@ -76,10 +76,6 @@ kind_reasons pulled links kind =
 -- the fault of a kind of metric, which acts on what was pulled or not
 unfoldable pub bad_kind : Common → Bool → Kind → Option LinkFault
 bad_kind common pulled kind = least_reason common.id (kind_reasons pulled (length common.links) kind)
-
--- no leaf
-abbrev pub no_leaf : LeafPath
-no_leaf = record { field = 0; position = None; sub = 0 }
 
 -- the leaf of a value
 abbrev pub first_leaf : List LeafPath → LeafPath

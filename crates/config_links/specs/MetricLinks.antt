@@ -1,8 +1,8 @@
 -- The links of a metric to predicates: what they can't be, and their linked form.
-use Rattle.std.specs.Prelude.{◌≡◌, ℕ, ◌<◌, ℤ, pos, ◌==◌, slice_index_or, Bool, false, not, ◌&&◌, ◌||◌, List, [], ◌∷◌, length, map, Option, Some, None, is_none, is_some}
+use Rattle.std.specs.Prelude.{◌≡◌, ℕ, ◌<◌, ℤ, pos, ◌==◌, slice_index_or, Bool, false, not, ◌&&◌, ◌||◌, List, [], ◌∷◌, length, map, filter, nat_eq, Option, Some, None, is_none, is_some}
 use Rattle.std.specs.Option.{option_map, unwrap_or}
 use Rattle.std.specs.Ordering.{int_eq}
-use Rattle.std.specs.List.{list_all, list_any}
+use Rattle.std.specs.List.{list_all, list_any, range_with_len}
 use Rattle.distinct.specs.Places.{first_place}
 use Rattle.distinct.specs.Repeats.{repeat_in}
 use Rattle.field_select.specs.declared.leaf.FieldSet.{FieldSet}
@@ -19,7 +19,7 @@ use Rattle.config_links.specs.declared.table.DimsTable.{DimsTable}
 use Rattle.config_links.specs.declared.sets.LinkSets.{LinkSets}
 use Rattle.config_links.specs.declared.reasons.Reason.{Reason}
 use Rattle.config_links.specs.declared.reasons.Reason.TheVariants.{BadFields, UnevenLink, LinkNotAsked, LinkOutside, NoWhat}
-use Rattle.config_links.specs.LinkReasons.{least_reason}
+use Rattle.config_links.specs.LinkReasons.{least_reason, no_leaf}
 use Rattle.config_links.specs.LinkScopes.{predicate_named, spec_in, dims_in, named_predicates}
 use Rattle.config_links.specs.MetricTrees.{metric_stands, metric_sets}
 
@@ -99,12 +99,29 @@ leaf_place leaves leaf = unwrap_or (first_place (same_leaf leaf) leaves) 0
 abbrev pub link_places : Scope → LinkSets → List ℕ
 link_places scope sets = map (leaf_place (link_dims scope sets).leaves) sets.in_condition.leaves
 
--- a link, with the places of its predicate and of its leaves among the predicate's dimensions
+-- the places that are named, of so many, in rising order
+abbrev pub rising_places : ℕ → List ℕ → List ℕ
+rising_places count named = filter (λ place. list_any (nat_eq place) named) (range_with_len 0 count)
+
+-- the leaf that has its turn where a place is named
+abbrev pub leaf_bound : List ℕ → List LeafPath → ℕ → LeafPath
+leaf_bound named leaves place = slice_index_or leaves (unwrap_or (first_place (nat_eq place) named) 0) no_leaf
+
+-- the places that a link's leaves are bound to, in rising order
+abbrev pub bound_places : Scope → LinkSets → List ℕ
+bound_places scope sets = rising_places (length (link_dims scope sets).leaves) (link_places scope sets)
+
+-- the leaves of what is counted, in the order of their places
+abbrev pub bound_leaves : Scope → LinkSets → List LeafPath
+bound_leaves scope sets = map (leaf_bound (link_places scope sets) sets.in_what.leaves) (bound_places scope sets)
+
+-- a link, with the place of its predicate; its leaves stand in the order of the predicate's dimensions that they are
+-- bound to
 abbrev pub linked_link : Scope → LinkSets → LLink
 linked_link scope sets = record {
   predicate = place_in scope.ids.predicates (unwrap_or sets.condition (pos 0));
-  in_what = sets.in_what;
-  places = link_places scope sets;
+  in_what = record { atom_id = sets.in_what.atom_id; leaves = bound_leaves scope sets };
+  places = bound_places scope sets;
 }
 
 -- the links of a metric

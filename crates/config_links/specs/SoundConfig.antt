@@ -84,7 +84,7 @@ abbrev pub IsSoundState : LState → Type 0
 IsSoundState state = IsFromOne greatest_atom_id state.atom_id
 
 -- a link of a metric with this condition: to a simple predicate that the condition is or reaches, with as many leaves
--- on both sides, which are among that predicate's dimensions, each once
+-- on both sides, which are among that predicate's dimensions, each once and in their order
 pub record IsSoundLink (predicates : List LPredicate) (condition : Option ℕ) (link : LLink) : Type 0 where
   pub within : link.predicate < length predicates
   pub simple : spec_in (slice_get predicates link.predicate) ≢ None
@@ -93,7 +93,7 @@ pub record IsSoundLink (predicates : List LPredicate) (condition : Option ℕ) (
   pub some : 1 ≤ length link.in_what.leaves
   pub even : length link.places ≡ length link.in_what.leaves
   pub bound : AreWithin (length (dims_in (slice_get predicates link.predicate)).leaves) link.places
-  pub apart : AllPairs (λ (place later : ℕ). place ≢ later) link.places
+  pub rise : AllPairs (λ (place later : ℕ). place < later) link.places
 
 -- the fields of a slice, where it has some
 abbrev pub HasFields : Option FieldSet → Type 0

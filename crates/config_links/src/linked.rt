@@ -65,9 +65,9 @@ pub struct CondTree {
 pub struct LLink {
     /// The place of the predicate.
     pub predicate: u32,
-    /// Fields of the atom that is counted.
+    /// Fields of the atom that is counted, in the order of the predicate's leaves.
     pub in_what: FieldSet,
-    /// For each of these fields, which leaf of the predicate's key it is, from 0.
+    /// For each of these fields, which leaf of the predicate's key it is, from 0. The places rise.
     pub places: Seq<u32>,
 }
 

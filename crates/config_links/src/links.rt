@@ -1,18 +1,26 @@
 //! Links of a metric to predicates.
-ghost use Rattle.std.specs.Prelude.{◌≡◌, map};
+ghost use Rattle.std.specs.Prelude.{◌≡◌, map, slice_index_or, None};
 ghost use Rattle.std.specs.List.{list_all};
-ghost use Rattle.link_rules.specs.LinkFaults.{PassesTest};
+ghost use Rattle.link_rules.specs.LinkFaults.{Links, PassesTest};
 ghost use Rattle.config_links.specs.declared.reasons.Reason.TheVariants.{LinkOutside};
-ghost use Rattle.config_links.specs.LinkReasons.{type_fault};
-ghost use Rattle.config_links.specs.MetricLinks.{is_even, is_bound, link_places, linked_link};
+ghost use Rattle.config_links.specs.LinkReasons.{type_fault, no_leaf};
+ghost use Rattle.config_links.specs.MetricLinks.{is_even, is_bound, leaf_bound, rising_places, bound_leaves, bound_places, linked_link};
 
 use crate::LLink;
-use crate::reasons::make_fault;
 use crate::scope::Scope;
 use crate::sets::LinkSets;
+use crate::table::table_of;
+use field_select::{FieldSet, LeafPath};
 use link_rules::LinkError;
 use sd_base::Seq;
 use std::alloc::Global;
+
+// What stands for a leaf where none does.
+const NO_LEAF: LeafPath = LeafPath {
+    field: 0,
+    position: None,
+    sub: 0,
+};
 
 /// Whether each link has as many leaves on both sides, and not none.
 pub fn are_even(links: &[LinkSets]) -> bool
@@ -27,18 +35,60 @@ pub fn are_even(links: &[LinkSets]) -> bool
     true
 }
 
-// The places of a link's leaves among the dimensions of its predicate, in a metric of this id.
-fn bound_places(
+// The places that are named, of so many, in rising order, each with the leaf that has its turn there.
+fn put_in_order(
+    alloc: Global,
+    count: u32,
+    named: &[u32],
+    leaves: &[LeafPath],
+) -> Result<(Seq<LeafPath>, Seq<u32>), LinkError>
+    ensures { Links result None (
+      map (leaf_bound named.now leaves.now) (rising_places count named.now),
+      rising_places count named.now,
+    ) }
+{
+    let turns = table_of(alloc, named)?;
+    let mut ordered = Seq::new(alloc);
+    let mut places = Seq::new(alloc);
+    for place in 0..count {
+        if turns.contains(&place) {
+            let turn = turns.place(&place).unwrap_or(0);
+            ordered.push(leaf_at(leaves, turn))?;
+            places.push(place)?;
+        }
+    }
+    Ok((ordered, places))
+}
+
+// The leaf at a place.
+fn leaf_at(leaves: &[LeafPath], at: usize) -> LeafPath
+    ensures { result ≡ slice_index_or leaves.now at no_leaf }
+{
+    match leaves.get(at) {
+        Some(leaf) => *leaf,
+        None => NO_LEAF,
+    }
+}
+
+// The leaves of a link and their places among the dimensions of its predicate, in a metric of this id.
+fn bind_leaves(
     alloc: Global,
     scope: &Scope,
     id: Option<i64>,
     sets: &LinkSets,
-) -> Result<Seq<u32>, LinkError>
+) -> Result<(Seq<LeafPath>, Seq<u32>), LinkError>
     ensures { PassesTest result (is_bound scope.now sets.now) (type_fault id LinkOutside)
-        (link_places scope.now sets.now) }
+        (bound_leaves scope.now sets.now, bound_places scope.now sets.now) }
 {
     let table = scope.dims_of(alloc, sets.condition.unwrap_or(0))?;
-    table.places_in(alloc, id, &sets.in_condition)
+    let named = table.places_in(alloc, id, &sets.in_condition)?;
+    let count = table.len()?;
+    put_in_order(
+        alloc,
+        count,
+        named.as_slice(),
+        sets.in_what.leaves.as_slice(),
+    )
 }
 
 // A link, in a metric of this id.
@@ -51,10 +101,13 @@ fn link_in(
     ensures { PassesTest result (is_bound scope.now sets) (type_fault id LinkOutside)
         (linked_link scope.now sets) }
 {
-    let places = bound_places(alloc, scope, id, &sets)?;
+    let (leaves, places) = bind_leaves(alloc, scope, id, &sets)?;
     Ok(LLink {
         predicate: scope.ids.predicates.locate(sets.condition.unwrap_or(0)),
-        in_what: sets.in_what,
+        in_what: FieldSet {
+            atom_id: sets.in_what.atom_id,
+            leaves,
+        },
         places,
     })
 }

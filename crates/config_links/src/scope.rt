@@ -2,7 +2,7 @@
 ghost use Rattle.std.specs.Prelude.{◌≡◌};
 ghost use Rattle.field_select.specs.WellFormed.{number_or_zero};
 
-use crate::table::{DimsTable, leaf_table};
+use crate::table::{DimsTable, table_of};
 use crate::{LMatcher, LPredBody, LPredicate, LState};
 use atom_record::is_pulled;
 use config_types::PredSpec;
@@ -68,12 +68,12 @@ impl Scope {
         {
             return Ok(DimsTable {
                 atom_id: dims.atom_id,
-                leaves: leaf_table(alloc, dims.leaves.as_slice())?,
+                leaves: table_of(alloc, dims.leaves.as_slice())?,
             });
         }
         Ok(DimsTable {
             atom_id: 0,
-            leaves: leaf_table(alloc, &[])?,
+            leaves: table_of(alloc, &[])?,
         })
     }
 

@@ -1,5 +1,5 @@
 //! The leaves of a set in a hash table, so that each is found in one step.
-ghost use Rattle.std.specs.Prelude.{◌≡◌, map, None};
+ghost use Rattle.std.specs.Prelude.{◌≡◌, length, map, None};
 ghost use Rattle.link_rules.specs.LinkFaults.{Links, PassesTest};
 ghost use Rattle.config_links.specs.declared.reasons.Reason.TheVariants.{LinkOutside};
 ghost use Rattle.config_links.specs.LinkReasons.{type_fault};
@@ -9,8 +9,9 @@ use crate::reasons::{Reason, make_fault};
 use distinct::Distinct;
 use field_select::{FieldSet, LeafPath};
 use link_rules::LinkError;
-use sd_base::Seq;
+use sd_base::{Exact, Seq};
 use std::alloc::Global;
+use std::hash::Hash;
 
 /// The dimensions of a predicate: the atom that they are of, and its leaves.
 #[derive(Drop)]
@@ -19,17 +20,30 @@ pub struct DimsTable {
     pub leaves: Distinct<LeafPath>,
 }
 
-/// The leaves of a set, none of which comes twice, as a table.
-pub fn leaf_table(alloc: Global, leaves: &[LeafPath]) -> Result<Distinct<LeafPath>, LinkError>
-    ensures { Links result None leaves.now }
+/// Items, none of which comes twice, as a table.
+pub fn table_of<T: Exact + Hash + Copy + Drop>(
+    alloc: Global,
+    items: &[T],
+) -> Result<Distinct<T>, LinkError>
+    ensures { Links result None items.now }
 {
     let mut table = Distinct::new(alloc);
-    for leaf in leaves {
-        if !table.add(*leaf)? {
+    for item in items {
+        if !table.add(*item)? {
             return Err(LinkError::Memory);
         }
     }
     Ok(table)
+}
+
+// A count of leaves as a number. There are fewer leaves than fit.
+fn number_of(count: usize) -> Result<u32, LinkError>
+    ensures { Links result None count }
+{
+    match u32::try_from(count) {
+        Ok(number) => Ok(number),
+        Err(_) => Err(LinkError::Memory),
+    }
 }
 
 impl DimsTable {
@@ -52,16 +66,18 @@ impl DimsTable {
         true
     }
 
+    /// How many leaves there are.
+    pub fn len(&self) -> Result<u32, LinkError>
+        ensures { Links result None (length self.now.leaves) }
+    {
+        number_of(self.leaves.as_slice().len())
+    }
+
     // The place of a leaf.
     fn place(&self, leaf: &LeafPath) -> Result<u32, LinkError>
         ensures { Links result None (leaf_place self.now.leaves leaf.now) }
     {
-        let place = self.leaves.place(leaf).unwrap_or(0);
-        // There are fewer leaves than fit.
-        match u32::try_from(place) {
-            Ok(place) => Ok(place),
-            Err(_) => Err(LinkError::Memory),
-        }
+        number_of(self.leaves.place(leaf).unwrap_or(0))
     }
 
     // The places of these leaves.

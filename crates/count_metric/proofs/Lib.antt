@@ -2,3 +2,4 @@ mod CountWorked
 pub mod TallyLemmas
 pub mod CountLemmas
 pub mod CountItemsLemmas
+pub mod JoiningLemmas

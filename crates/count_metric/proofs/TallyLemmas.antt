@@ -9,9 +9,10 @@ use Rattle.bucket_meaning.specs.Kept.{count_in_u64}
 use Rattle.dim_table.specs.declared.answer.Admit.TheVariants.{At}
 use Rattle.dim_table.specs.Table.{Table, Admits, IsTurnedAway, with_value_at}
 use Rattle.metric_producer.proofs.KeysLemmas.{of_other, of_own}
-use Rattle.metric_producer.proofs.TableLemmas.{IsTabled, admits_bound, tabled_at, tabled_away}
+use Rattle.metric_producer.proofs.SpilledLemmas.{turned_away-push}
+use Rattle.metric_producer.proofs.TableLemmas.{IsTabled, admits_bound, none_lost, one_lost, tabled_at, tabled_away}
 use Rattle.metric_kinds.specs.Keys.{is_same_key}
-use Rattle.count_metric.specs.CountStands.{IsTally, TakesKey}
+use Rattle.count_metric.specs.CountStands.{spilled_of, IsTally, TakesKey}
 
 -- with one more arrival of a key
 abbrev with_key_in : List (MetricKey × ℕ) → MetricKey → List (MetricKey × ℕ)
@@ -58,22 +59,32 @@ pub takes_at : (old mid : Table MetricKey ℕ) (key : MetricKey) (place : ℕ) (
     → Admits old mid key 0 (At place) → new.bound ≡ mid.bound
     → ((count : ℕ) → slice_get (values_of mid.rows) place ≡ Some count
     → new ≡ with_value_at mid place (raised_from count))
-    → TakesKey old new key
+    → TakesKey old new key 0
 takes_at old mid key place new admits bound raised = record {
   bound = bound ∙ admits_bound old mid key 0 place admits;
-  tally_is = λ came lost is.
+  tally_is = λ gathers came lost is.
       let it = tabled_at is_same_key metric_key_exact count_at old came lost (tabled old came lost is) key 1
       (count_other came key) mid new 0 place raised_from admits bound raised (count_own came key)
       (count_none came key) in
       record { rows = it.rows; dropped_are = it.dropped_are };
+  spilled_are = λ came lost is.
+      turned_away-push is_same_key metric_key_exact old.bound came key 1
+      ∙ ap (λ n. spilled_of old.bound came + n)
+      (none_lost is_same_key metric_key_exact count_at old came lost (tabled old came lost is) key 1
+      (count_other came key) mid 0 place admits);
 }
 
 -- a new key for which there is no room
-pub takes_none : (old new : Table MetricKey ℕ) (key : MetricKey) → IsTurnedAway old new key → TakesKey old new key
+pub takes_none : (old new : Table MetricKey ℕ) (key : MetricKey) → IsTurnedAway old new key → TakesKey old new key 1
 takes_none old new key away = record {
   bound = ap (λ (table : Table MetricKey ℕ). table.bound) away.added;
-  tally_is = λ came lost is.
+  tally_is = λ gathers came lost is.
       let it = tabled_away is_same_key metric_key_exact count_at old came lost (tabled old came lost is) key 1
       (count_other came key) new away in
       record { rows = it.rows; dropped_are = it.dropped_are };
+  spilled_are = λ came lost is.
+      turned_away-push is_same_key metric_key_exact old.bound came key 1
+      ∙ ap (λ n. spilled_of old.bound came + n)
+      (one_lost is_same_key metric_key_exact count_at old came lost (tabled old came lost is) key 1
+      (count_other came key) new away);
 }

@@ -11,17 +11,27 @@ use Rattle.flat_form.specs.SavableLaws.{items_savable, number_savable, key_savab
 use Rattle.flat_form.specs.Weight.{most_items}
 use Rattle.dim_table.specs.TableItems.{table_items, IsTable, table_entries, table_bounded, table_few, table_savable}
 use Rattle.kept_rows.specs.KeptItems.{kept_items, kept_entries, IsKeeping, AreSavableRows, kept_bounded, kept_few, kept_savable}
+use Rattle.metric_producer.specs.declared.row.CountCell.{CountCell}
 use Rattle.metric_producer.specs.declared.row.Row.{Row}
+use Rattle.metric_producer.specs.CellItems.{cell_items, cell_savable}
 use Rattle.metric_producer.specs.RowItems.{row_items, IsRow, IsSavableRow, row_savable}
 use Rattle.count_metric.specs.declared.count.CountProducer.{CountProducer}
 
 -- the items of the rows that a producer of counts keeps
-abbrev pub count_row_items : Row ℕ → List Item
-count_row_items = row_items number_items
+abbrev pub count_row_items : Row CountCell → List Item
+count_row_items = row_items cell_items
 
--- a producer of counts is where its open part began, its table, and its kept rows
+-- how many arrivals of the open part were spilled, and whether they are gathered
+abbrev pub spilled_cell : CountProducer → CountCell
+spilled_cell it = record { number = it.spilled; overflow = it.overflow }
+
+-- its table and its kept rows
+abbrev pub count_rest : CountProducer → List Item
+count_rest it = table_items key_items number_items it.table ++ kept_items count_row_items it.kept
+
+-- a producer of counts is where its open part began, what was spilled, its table, and its kept rows
 abbrev pub count_items : CountProducer → List Item
-count_items it = Num it.start ∷ (table_items key_items number_items it.table ++ kept_items count_row_items it.kept)
+count_items it = Num it.start ∷ (cell_items (spilled_cell it) ++ count_rest it)
 
 -- its table is one, and its kept rows are within their bound
 pub record HasBounds (it : CountProducer) : Type 0 where
@@ -36,8 +46,8 @@ IsSavableCount it = All (IsValidPair IsShortKey Anything) it.table.rows × AreSa
 abbrev pub count_entries : CountProducer → ℕ
 count_entries it = table_entries key_items number_items it.table + kept_entries count_row_items it.kept
 
--- a head of seven items, and eight at most for each entry
-pub count_bounded : (it : CountProducer) → HasBounds it → length (count_items it) ≤ most_items 7 (count_entries it)
+-- a head of nine items, and eight at most for each entry
+pub count_bounded : (it : CountProducer) → HasBounds it → length (count_items it) ≤ most_items 9 (count_entries it)
 count_bounded it is =
     let table = table_bounded key_items number_items Anything Anything it.table is.table in
     let kept = kept_bounded count_row_items (IsRow Anything) it.kept is.kept in
@@ -58,6 +68,9 @@ count_savable it is can =
     let table = table_savable key_items number_items Anything Anything IsShortKey Anything key_savable number_savable
     it.table is.table can.0 in
     let kept = kept_savable count_row_items (IsRow Anything) (IsSavableRow Anything)
-    (row_savable number_items Anything Anything number_savable) it.kept is.kept can.1 in
-    items_savable (Num it.start) (table_items key_items number_items it.table ++ kept_items count_row_items it.kept) tt
-    (All-append IsSavable (table_items key_items number_items it.table) (kept_items count_row_items it.kept) table kept)
+    (row_savable cell_items Anything Anything cell_savable) it.kept is.kept can.1 in
+    let rest = All-append IsSavable (table_items key_items number_items it.table) (kept_items count_row_items it.kept)
+    table kept in
+    let spilled = cell_savable (spilled_cell it) tt tt in
+    items_savable (Num it.start) (cell_items (spilled_cell it) ++ count_rest it) tt
+    (All-append IsSavable (cell_items (spilled_cell it)) (count_rest it) spilled rest)

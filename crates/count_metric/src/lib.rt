@@ -3,6 +3,8 @@
 
 mod count;
 mod flat;
+mod laws;
 
 pub use count::CountProducer;
-pub use metric_producer::{Closed, Producer, ReadsEvents, Row};
+pub use laws::crossings_join;
+pub use metric_producer::{Closed, CountCell, Producer, ReadsEvents, Row};

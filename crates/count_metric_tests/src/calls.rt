@@ -1,5 +1,5 @@
 //! Calls of a producer by their words.
-use super::shown::key_of;
+use super::shown::{key_of, no_key};
 use atom_record::MetricKey;
 use bucket_clock::Crossings;
 use count_metric::Producer;
@@ -11,6 +11,8 @@ use test_tools::unsigned;
 pub enum Call {
     /// An event with a key comes at a time.
     Key(u64, i32),
+    /// An event with the empty key comes.
+    NoKey(u64),
     /// Its condition changes, which it doesn't look at.
     Condition(u64),
     /// A frame crosses a full end, and so many full buckets of a size after it.
@@ -19,11 +21,12 @@ pub enum Call {
     Cut(u64),
 }
 
-/// The call of some words, as `key 1 7`, `condition 2`, `cross 10 0 10` or `cuts 5`.
+/// The call of some words, as `key 1 7`, `no_key 1`, `condition 2`, `cross 10 0 10` or `cuts 5`.
 pub fn call_of(text: &str) -> Option<Call> {
     let (name, rest) = text.split_once(' ')?;
     match name {
         "key" => key_call(rest),
+        "no_key" => Some(Call::NoKey(unsigned(rest)?)),
         "condition" => Some(Call::Condition(unsigned(rest)?)),
         "cross" => cross_call(rest),
         "cuts" => Some(Call::Cut(unsigned(rest)?)),
@@ -53,6 +56,7 @@ pub fn act<P: Producer<Event = MetricKey, After = ()>>(
             let key = key_of(alloc, number)?;
             producer.event(at, key)
         }
+        Call::NoKey(at) => producer.event(at, no_key(alloc)),
         Call::Condition(at) => producer.condition(at, ()),
         Call::Cross(first_end, full_buckets, size) => producer.cross(Crossings {
             start: 0,

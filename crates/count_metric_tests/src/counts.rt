@@ -26,15 +26,20 @@ impl Table for Counts {
     }
 }
 
-/// The producer whose time begins at 0, with buckets of a size, and with so many keys at most, as `10 2`.
+/// The producer whose time begins at 0, with buckets of a size, and with so many keys at most, as `10 2`, or with
+/// overflow rows too, as `10 2 overflow`.
 fn made(alloc: Global, text: &str) -> Option<CountProducer> {
-    let (first, second) = text.split_once(' ')?;
+    let (numbers, overflow) = match text.strip_suffix(" overflow") {
+        Some(numbers) => (numbers, true),
+        None => (text, false),
+    };
+    let (first, second) = numbers.split_once(' ')?;
     let size = unsigned(first)?;
     let bound = second.parse::<usize>().ok()?;
     if size < 1 || size > 86_400_000_000_000 || bound < 1 || bound > 3000 {
         return None;
     }
-    Some(CountProducer::new(alloc, 0, size, bound))
+    Some(CountProducer::new(alloc, 0, size, bound, overflow))
 }
 
 /// Runs steps, which stand between semicolons.

@@ -1,6 +1,6 @@
 //! What a producer hands out, as text.
 use atom_record::{Leaf, MetricKey, Value};
-use count_metric::{Closed, Row};
+use count_metric::{Closed, CountCell, Row};
 use sd_base::Seq;
 use std::alloc::{AllocError, Global};
 
@@ -14,8 +14,17 @@ pub fn key_of(alloc: Global, number: i32) -> Result<MetricKey, AllocError> {
     })
 }
 
-/// The rows and what isn't among them, as `1:0..10=2 others 0 drops 2`: keys, starts, ends and counts.
-pub fn closed_text(alloc: Global, closed: &Closed<u64>) -> Result<String, AllocError> {
+/// The empty key.
+pub fn no_key(alloc: Global) -> MetricKey {
+    MetricKey {
+        dims: Seq::new(alloc),
+        slices: Seq::new(alloc),
+    }
+}
+
+/// The rows and what isn't among them, as `1:0..10=2 others 0 drops 2`: keys, starts, ends and counts. An overflow row
+/// says so, as `overflow none:0..10=2`.
+pub fn closed_text(alloc: Global, closed: &Closed<CountCell>) -> Result<String, AllocError> {
     let mut text = String::new(alloc);
     for row in closed.rows.as_slice() {
         push_row(&mut text, row)?;
@@ -28,16 +37,20 @@ pub fn closed_text(alloc: Global, closed: &Closed<u64>) -> Result<String, AllocE
     Ok(text)
 }
 
-fn push_row(text: &mut String, row: &Row<u64>) -> Result<(), AllocError> {
+fn push_row(text: &mut String, row: &Row<CountCell>) -> Result<(), AllocError> {
+    if row.value.overflow {
+        text.push_str("overflow ")?;
+    }
     push_key(text, &row.key)?;
-    let (start, end, value) = (row.start, row.end, row.value);
-    write!(text, ":{start}..{end}={value} ")
+    let (start, end, number) = (row.start, row.end, row.value.number);
+    write!(text, ":{start}..{end}={number} ")
 }
 
-/// Puts the number of a key that has one and nothing else.
+/// Puts the number of a key that has one and nothing else, or that the key is empty.
 fn push_key(text: &mut String, key: &MetricKey) -> Result<(), AllocError> {
     match (key.dims.as_slice(), key.slices.is_empty()) {
         ([Leaf::One(Value::Int(number))], true) => write!(text, "{number}"),
+        ([], true) => text.push_str("none"),
         _ => text.push_str("another key"),
     }
 }

@@ -31,3 +31,4 @@ mod SparseWorked
 pub mod InnerItemsLemmas
 pub mod SumFormLemmas
 pub mod SparseFormLemmas
+pub mod JoiningLemmas

@@ -5,6 +5,7 @@ mod change;
 mod counted;
 mod flat;
 mod inner;
+mod laws;
 mod memory;
 mod sparse;
 mod sparse_books;
@@ -15,6 +16,7 @@ mod sum_flat;
 mod tally;
 
 pub use change::{InnerChange, InnerDelta, InnerEvent};
+pub use laws::crossings_join;
 pub use metric_producer::{Closed, Producer, Row};
 pub use sparse::MaxProducer;
 pub use sum::SumProducer;

@@ -3,7 +3,7 @@ use super::texts::{key_text, leaves_text, lent_text};
 use atom_record::{Atom, AtomFault, parse_atom};
 use config_decode::{DecodeFault, decode};
 use config_types::{Config, FieldMatcher};
-use field_select::{FieldSet, SelectError, field_set, filter, key_of};
+use field_select::{FieldSet, SelectError, field_set, filter, key_into, key_of};
 use std::alloc::{AllocError, Global};
 use test_tools::{Row, Table, Tester, unsigned};
 
@@ -141,9 +141,13 @@ fn compare_key(
     atom: &Atom,
 ) -> Result<(), AllocError> {
     tester.case();
-    let key = key_of(alloc, set, atom)?;
+    let mut key = key_of(alloc, set, atom)?;
     let found = key_text(alloc, key.as_slice())?;
-    tester.same_text("key", row.word("key"), found.as_str().trim())
+    tester.same_text("key", row.word("key"), found.as_str().trim())?;
+    tester.case();
+    key_into(alloc, set, atom, &mut key)?;
+    let again = key_text(alloc, key.as_slice())?;
+    tester.same_text("key again", row.word("key"), again.as_str().trim())
 }
 
 fn compare_kept(

@@ -9,3 +9,4 @@ pub mod PulledCallsLemmas
 pub mod ItemsLemmas
 pub mod PulledMomentsLemmas
 pub mod PulledItemsLemmas
+pub mod JoiningLemmas

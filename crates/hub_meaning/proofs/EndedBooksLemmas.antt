@@ -6,12 +6,14 @@ use Rattle.std.proofs.lemmas.Bool.Decides.{nat_tests}
 use Rattle.sd_base.specs.Outputs.{outputs, outputs_after}
 use Rattle.sd_base.proofs.OutputsLemmas.{outputs-push}
 use Rattle.atom_record.specs.declared.atom.Atom.{Atom}
-use Rattle.bucket_meaning.specs.Marks.{Mark, Came, Ends, Asked, Books, no_edges, boundary, boundary_marks, after, books_from, books_of}
+use Rattle.bucket_meaning.specs.Marks.{Mark, Came, Ends, Asked, Part, Books, no_edges, boundary, boundary_marks, after, books_from, books_of}
 use Rattle.bucket_meaning.specs.Rows.{drops, row_of}
 use Rattle.bucket_meaning.proofs.MarksLemmas.{books-append}
 use Rattle.config_links.specs.declared.linked.LMetric.{LMetric}
 use Rattle.atom_record.specs.declared.value.MetricKey.{MetricKey}
+use Rattle.metric_kinds.specs.Counts.{gathered}
 use Rattle.metric_kinds.specs.Events.{EventAtom}
+use Rattle.metric_producer.specs.declared.row.CountCell.{CountCell}
 use Rattle.metric_producer.specs.declared.row.Row.{Row}
 use Rattle.metric_meaning.specs.Histories.{What, Logged, Reported, Step, Installation}
 use Rattle.metric_meaning.specs.StepMarks.{crossed_at, marks_at}
@@ -19,7 +21,7 @@ use Rattle.metric_meaning.specs.Ways.{Way}
 use Rattle.metric_meaning.specs.Arrivals.{arriving}
 use Rattle.metric_meaning.specs.CountSteps.{arrival_at, count_way}
 use Rattle.metric_meaning.specs.EventSteps.{event_marks, event_way}
-use Rattle.metric_meaning.specs.Balance.{books_after, part_until, rows_in, waiting_for_report, counted_keys, row_value, event_atoms, row_events}
+use Rattle.metric_meaning.specs.Balance.{books_after, part_until, rows_in, waiting_for_report, counted_keys, row_counted, row_gathered, event_atoms, row_events}
 use Rattle.metric_meaning.proofs.BalanceLemmas.{counts_balance, events_balance}
 use Rattle.std.specs.Prelude.{option_to_list}
 use Rattle.hub_meaning.specs.EndedBooks.{ended_after, EndedCountsBalance, EndedEventsBalance}
@@ -52,34 +54,61 @@ none_taken zero = refl
 none_taken (suc bound) = refl
 
 module _ (installed : Installation) (metric : LMetric) (steps : List Step) (clock : ℕ) where
-  -- a last report brings nothing to a metric of counts, and nothing waits after it
-  pub counts_ended : 0 < metric.size → length steps + 1 < 2 ^ 64
-      → EndedCountsBalance installed metric steps clock
-  counts_ended sized few =
-      let way = count_way installed metric in
-      let ended = ended_after steps clock in
+  -- after a last report the open part of a metric of counts is empty, and nothing is closed or dropped
+  ended_empty : (overflow : Bool) → 0 < metric.size
+      → books_after (count_way installed metric overflow) (ended_after steps clock)
+      ≡ record { start = clock; came = []; closed = []; dropped = 0; missing = 0 }
+  ended_empty overflow sized =
+      let way = count_way installed metric overflow in
       let is_sized : nat_lt 0 metric.size ≡ true = grind (arith, nat_tests, sized) in
-      let books : books_after way ended
-      ≡ record { start = clock; came = []; closed = []; dropped = 0; missing = 0 } =
       books-push way steps (last_step clock)
       ∙ ap (λ b. books_from (dropping way) (books_after way steps) (cond b (boundary no_edges clock) [] ++ Asked ∷ []))
-      is_sized in
-      let waits : waiting_for_report way row_value ended clock ≡ 0 =
-      ap (λ (b : Books (MetricKey × ℕ)). sum_by row_value (rows_in way (b.closed ++ part_until b clock ∷ []))) books
-      ∙ ap (λ keys. sum_by row_value
-      ((flat_map (row_of way.kind metric.bound (record { start = clock; end = clock; came = [] })) keys ++ []) ++ []))
-      (none_taken metric.bound) in
+      is_sized
+
+  -- so no row of it waits
+  none_wait : (overflow : Bool) (worth : Row CountCell → ℕ) → 0 < metric.size
+      → waiting_for_report (count_way installed metric overflow) worth (ended_after steps clock) clock ≡ 0
+  none_wait overflow worth sized =
+      let way = count_way installed metric overflow in
+      let part : Part (MetricKey × ℕ) = record { start = clock; end = clock; came = [] } in
+      ap (λ (b : Books (MetricKey × ℕ)). sum_by worth (rows_in way (b.closed ++ part_until b clock ∷ [])))
+      (ended_empty overflow sized)
+      ∙ ap (λ keys. sum_by worth
+      ((flat_map (row_of way.kind metric.bound part) keys ++ gathered overflow clock clock []) ++ []))
+      (none_taken metric.bound)
+      ∙ ap (λ rows. sum_by worth (rows ++ [])) (none_gathered overflow)
+    where
+      none_gathered : (overflow : Bool) → gathered overflow clock clock [] ≡ []
+      none_gathered true = refl
+      none_gathered false = refl
+
+  -- a last report brings nothing to a metric of counts, and nothing waits after it
+  pub counts_ended : (overflow : Bool) → 0 < metric.size → length steps + 1 < 2 ^ 64
+      → EndedCountsBalance installed metric overflow steps clock
+  counts_ended overflow sized few =
+      let way = count_way installed metric overflow in
+      let ended = ended_after steps clock in
+      let none_dropped = ap (λ (b : Books (MetricKey × ℕ)). b.dropped) (ended_empty overflow sized) in
       let same : counted_keys installed metric ended ≡ counted_keys installed metric steps ++ [] =
       outputs-push (λ before step. option_to_list (arrival_at installed metric before step)) steps (last_step clock) in
-      let all = counts_balance installed metric ended clock (omega (arith, few, length-append steps (last_step clock ∷ []))) in
-      omega (
-        arith,
-        all,
-        waits,
-        ap (λ (b : Books (MetricKey × ℕ)). b.dropped) books,
-        ap length same,
-        length-append (counted_keys installed metric steps) [],
-      )
+      let all = counts_balance installed metric overflow ended clock
+      (omega (arith, few, length-append steps (last_step clock ∷ []))) in
+      record {
+        arrived = omega (
+          arith,
+          all.arrived,
+          none_wait overflow row_counted sized,
+          none_dropped,
+          ap length same,
+          length-append (counted_keys installed metric steps) [],
+        );
+        gathered = λ is. omega (
+          arith,
+          all.gathered is,
+          none_wait overflow row_gathered sized,
+          none_dropped,
+        );
+      }
 
 -- At a metric of events, whose parts end with what comes.
 module _ (installed : Installation) (metric : LMetric) where

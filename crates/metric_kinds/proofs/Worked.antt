@@ -7,7 +7,9 @@ use Rattle.atom_record.specs.declared.value.MetricKey.{MetricKey}
 use Rattle.bucket_meaning.specs.Marks.{Mark, Ends, Came, Missed, Asked}
 use Rattle.bucket_meaning.specs.Rows.{report}
 use Rattle.config_types.specs.declared.metric.Aggregation.TheVariants.{Sum, Min, Max}
+use Rattle.metric_producer.specs.declared.row.CountCell.{CountCell}
 use Rattle.metric_producer.specs.declared.row.Row.{Row}
+use Rattle.metric_kinds.specs.Counts.{no_key, count_kind}
 use Rattle.metric_kinds.specs.Values.{integer_at, aggregate_of, value_kind}
 use Rattle.metric_kinds.specs.Gauges.{gauge_kind}
 use Rattle.metric_kinds.specs.Events.{EventAtom, event_key, event_kind}
@@ -32,6 +34,49 @@ past_the_least = refl
 -- a key of a number
 abbrev key : ℕ → MetricKey
 key n = record { dims = One (Int (pos n)) ∷ []; slices = [] }
+
+-- a key is counted
+abbrev counted : ℕ → Mark (MetricKey × ℕ)
+counted n = Came (key n, 1)
+
+-- the row of a key that was counted
+abbrev count : ℕ → ℕ → ℕ → ℕ → Row CountCell
+count n start end number =
+    record { key = key n; start = start; end = end; value = record { number = number; overflow = false } }
+
+-- an overflow row
+abbrev overflow : ℕ → ℕ → ℕ → Row CountCell
+overflow start end number =
+    record { key = no_key; start = start; end = end; value = record { number = number; overflow = true } }
+
+-- the arrivals of keys that found no room are one row of their part, the last, and are dropped all the same; a part
+-- in which each key found room has no such row
+spilled : report (count_kind true) 1 0 (counted 1 ∷ counted 2 ∷ counted 3 ∷ counted 1 ∷ counted 3 ∷ Ends 10
+    ∷ counted 2 ∷ counted 2 ∷ Ends 20 ∷ counted 1 ∷ counted 2 ∷ Ends 30 ∷ [])
+    ≡ record {
+      rows = count 1 0 10 2 ∷ overflow 0 10 3 ∷ count 2 10 20 2 ∷ count 1 20 30 1 ∷ overflow 20 30 1 ∷ [];
+      not_kept = 0;
+      dropped = 4;
+      missing = 0;
+    }
+spilled = refl
+
+-- a metric that doesn't gather them drops as many, and shows none
+not_gathered : report (count_kind false) 1 0 (counted 1 ∷ counted 2 ∷ counted 3 ∷ counted 1 ∷ Ends 10 ∷ [])
+    ≡ record { rows = count 1 0 10 2 ∷ []; not_kept = 0; dropped = 2; missing = 0 }
+not_gathered = refl
+
+-- the row of the empty key stands beside the overflow row
+beside_the_empty_key : report (count_kind true) 1 0 (Came (no_key, 1) ∷ counted 2 ∷ counted 3 ∷ Ends 10 ∷ [])
+    ≡ record {
+      rows =
+          record { key = no_key; start = 0; end = 10; value = record { number = 1; overflow = false } }
+          ∷ overflow 0 10 2 ∷ [];
+      not_kept = 0;
+      dropped = 2;
+      missing = 0;
+    }
+beside_the_empty_key = refl
 
 -- an integer of a key arrives
 abbrev came : ℕ → ℤ → Mark (MetricKey × ℤ)

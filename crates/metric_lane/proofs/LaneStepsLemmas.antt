@@ -73,7 +73,7 @@ module _ {Event After : Type 0} (demands : Demands Event After) where
   module _ {News : Type 0} (steps : List (LaneStep News)) (last : ℕ) (standing : Standing)
       (along : IsAlong demands steps last standing) where
     -- a frame that isn't before the last one may cross
-    may_cross : (clock : Option Times) (at : ℕ) → HasClock clock demands.base demands.size (told_by steps) → last ≤ at
+    pub may_cross : (clock : Option Times) (at : ℕ) → HasClock clock demands.base demands.size (told_by steps) → last ≤ at
         → at < time_limit → MayCross clock at
     may_cross None at has later fits = tt
     may_cross (Some clock) at has later fits =

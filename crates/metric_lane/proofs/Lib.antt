@@ -1,2 +1,6 @@
 pub mod LaneStandsLemmas
 pub mod LaneStepsLemmas
+pub mod JoinedEnds
+pub mod LaneJoiningLemmas
+pub mod CoversLemmas
+pub mod LaneRunLemmas

@@ -2,5 +2,7 @@
 #![tactic(auto)]
 
 mod lane;
+mod laws;
 
 pub use lane::Lane;
+pub use laws::frames_join;

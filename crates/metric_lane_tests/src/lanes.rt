@@ -16,7 +16,7 @@ fn shown<'a>(rows: &'a [(i32, u64, u64, u64)], not_kept: u64, dropped: u64) -> S
 
 // Whether a new lane with buckets of 10 from 3 on, and two keys a part, goes these steps.
 fn goes_well(alloc: Global, steps: &[Step]) -> Result<bool, AllocError> {
-    let mut lane = Lane::new(3, 10, CountProducer::new(alloc, 3, 10, 2));
+    let mut lane = Lane::new(3, 10, CountProducer::new(alloc, 3, 10, 2, false));
     Ok(run(alloc, &mut lane, steps)? == steps.len())
 }
 
@@ -96,7 +96,7 @@ fn jumps_over_many_buckets_at_once(rt: HostRuntime) -> Result<(), Fail> {
 
 #[test]
 fn without_buckets_nothing_is_crossed_or_cut(rt: HostRuntime) -> Result<(), Fail> {
-    let mut lane = Lane::new(3, 0, CountProducer::new(rt.alloc(), 3, 10, 2));
+    let mut lane = Lane::new(3, 0, CountProducer::new(rt.alloc(), 3, 10, 2, false));
     let steps = [
         Came(5, 1),
         Came(50, 2),
@@ -109,7 +109,7 @@ fn without_buckets_nothing_is_crossed_or_cut(rt: HostRuntime) -> Result<(), Fail
 
 #[test]
 fn hands_on_single_calls(rt: HostRuntime) -> Result<(), Fail> {
-    let mut lane = Lane::new(3, 10, CountProducer::new(rt.alloc(), 3, 10, 2));
+    let mut lane = Lane::new(3, 10, CountProducer::new(rt.alloc(), 3, 10, 2, false));
     lane.cross(12, false)?;
     lane.condition(12, ())?;
     let only = [(1, 3, 12, 1)];

@@ -1,6 +1,6 @@
 //! The steps of a lane, and what its reports show.
 use atom_record::{DimKey, Leaf, MetricKey, Value};
-use count_metric::{Closed, CountProducer, Row};
+use count_metric::{Closed, CountCell, CountProducer, Row};
 use metric_lane::Lane;
 use sd_base::Seq;
 use std::alloc::{AllocError, Global};
@@ -33,17 +33,21 @@ fn key_of(alloc: Global, number: i32) -> Result<MetricKey, AllocError> {
 }
 
 // Whether a row is of this key, these times and this count.
-fn is_row(row: &Row<u64>, wanted: (i32, u64, u64, u64)) -> bool {
+fn is_row(row: &Row<CountCell>, wanted: (i32, u64, u64, u64)) -> bool {
     let (number, start, end, count) = wanted;
     let same_key = match row.key.dims.get(0) {
         Some(Leaf::One(Value::Int(found))) => *found == number,
         _ => false,
     };
-    same_key && row.start == start && row.end == end && row.value == count
+    same_key
+        && row.start == start
+        && row.end == end
+        && row.value.number == count
+        && !row.value.overflow
 }
 
 // Whether a report shows just this.
-fn shows(closed: &Closed<u64>, shown: &Shown) -> bool {
+fn shows(closed: &Closed<CountCell>, shown: &Shown) -> bool {
     let mut same = closed.rows.len() == shown.rows.len();
     for (row, wanted) in closed.rows.as_slice().iter().zip(shown.rows) {
         same &= is_row(row, *wanted);
@@ -53,12 +57,19 @@ fn shows(closed: &Closed<u64>, shown: &Shown) -> bool {
         && closed.missing == 0
 }
 
+// A key comes, at even times as the lane's own, at odd times as one that is shown.
+fn comes(lane: &mut Lane<CountProducer>, at: u64, key: MetricKey) -> Result<(), AllocError> {
+    if at % 2 == 0 {
+        return lane.log(at, false, Some(key));
+    }
+    lane.log_of(at, false, Some(&key))
+}
+
 // Takes one step; whether a report shows what it has to.
 fn goes(alloc: Global, lane: &mut Lane<CountProducer>, step: &Step) -> Result<bool, AllocError> {
     match step {
         Step::Came(at, number) => {
-            let key = key_of(alloc, *number)?;
-            lane.log(*at, false, Some(key))?;
+            comes(lane, *at, key_of(alloc, *number)?)?;
             Ok(true)
         }
         Step::Passed(at) => {

@@ -1,7 +1,8 @@
 -- The books of metrics that count, of events and of sums of durations balance.
-use Rattle.std.proofs.Common.{◌≡◌, ℕ, ◌-◌, ◌^◌, ◌==◌, ◌<◌, ◌≤◌, min, Bool, true, false, List, [], ◌∷◌, ◌++◌, map, length, Option, Some, None, refl, sym, ap, ◌∙◌, arith, option_to_list, if◌then◌else◌, nat_lt, zero, suc, replicate}
+use Rattle.std.proofs.Common.{◌≡◌, ℕ, ◌+◌, ◌-◌, ◌^◌, ◌==◌, ◌<◌, ◌≤◌, Bool, true, false, List, [], ◌∷◌, ◌++◌, map, length, Option, Some, None, refl, sym, ap, ◌∙◌, arith, option_to_list, if◌then◌else◌, nat_lt, zero, suc, replicate}
 use Rattle.std.specs.Cmp.Lexicographic.{pointwise}
 use Rattle.std.specs.List.{sum_by, sum}
+use Rattle.std.proofs.lemmas.Bool.{true≢false}
 use Rattle.std.proofs.lemmas.Bool.Decides.{nat_tests}
 use Rattle.std.proofs.lemmas.List.{length-append}
 use Rattle.std.proofs.lemmas.List.Concat.{length-flat_map}
@@ -13,6 +14,9 @@ use Rattle.atom_record.specs.declared.value.MetricKey.{MetricKey}
 use Rattle.bucket_meaning.specs.Marks.{Mark, Ends, Came, Lost, Asked, no_edges, boundary_marks}
 use Rattle.config_links.specs.declared.linked.LMetric.{LMetric}
 use Rattle.config_types.specs.declared.parameters.PredSpec.{PredSpec}
+use Rattle.metric_producer.specs.declared.row.CountCell.{CountCell}
+use Rattle.metric_producer.specs.declared.row.Row.{Row}
+use Rattle.metric_kinds.specs.Counts.{key_cell, overflow_cell, no_key}
 use Rattle.metric_kinds.specs.Durations.{turned}
 use Rattle.metric_kinds.specs.Events.{EventAtom, event_row}
 use Rattle.metric_kinds.specs.Keys.{is_same_key}
@@ -23,12 +27,12 @@ use Rattle.metric_meaning.specs.CountSteps.{arrival_at, arrival_mark, count_news
 use Rattle.metric_meaning.specs.EventSteps.{event_marks, event_news, event_way}
 use Rattle.metric_meaning.specs.StepMarks.{StepNews, crossed_at, cut_marks, marks_at, marks_of}
 use Rattle.metric_meaning.specs.DurationSteps.{inner_after, active_keys, inner_drops, sum_news, sum_way}
-use Rattle.metric_meaning.specs.Balance.{coming, counted_keys, row_value, CountsBalance, event_atoms, row_events, EventsBalance, SumsBalance}
-use Rattle.metric_meaning.proofs.MarksBalance.{coming_with, asks, lost_at, HasNoReport}
+use Rattle.metric_meaning.specs.Balance.{arrived_by, drops_by, shown_by_reports, not_kept_by_reports, waiting_for_report, counted_keys, row_counted, row_gathered, row_value, CountsBalance, event_atoms, row_events, EventsBalance, SumsBalance}
+use Rattle.metric_meaning.proofs.MarksBalance.{arrived_by_all, asks, lost_at, HasNoReport}
 use Rattle.metric_meaning.proofs.StepsBalance.{IsQuietNews, both_quiet, all_in_parts}
 use Rattle.metric_meaning.proofs.PartedLemmas.{sum_by-zero}
 use Rattle.metric_meaning.proofs.AmountsBalance.{amounts_balance}
-use Rattle.metric_meaning.proofs.NumbersBalance.{sum_by-ones, numbers_balance}
+use Rattle.metric_meaning.proofs.NumbersBalance.{sum_by-ones, away_fits, numbers_balance, gathered_balance}
 
 -- no step brings more than one
 outputs-few : {A : Type 0} (gives : List Step → Step → Option A) (before steps : List Step)
@@ -121,29 +125,83 @@ module _ (installed : Installation) (metric : LMetric) where
     by_case None = refl
     by_case (Some key) = refl
 
-  -- its books balance
-  pub counts_balance : (steps : List Step) (now : ℕ) → length steps < 2 ^ 64 → CountsBalance installed metric steps now
-  counts_balance steps now fits =
-      let gives = arrival_at installed metric in
+  -- all that its marks bring are the keys that arrived
+  count_came : (steps : List Step)
+      → length (arrived_by_all (marks_of (count_news installed metric) installed.base metric.size steps))
+      ≡ length (counted_keys installed metric steps)
+  count_came steps =
       let marks = marks_of (count_news installed metric) installed.base metric.size steps in
-      let keys = counted_keys installed metric steps in
-      let came : length (coming_with marks) ≡ length keys =
-      length-flat_map coming marks
-      ∙ all_steps gives (λ step. arrival_mark) counts_silent installed.base metric.size
-      (λ mark. length (coming mark)) (λ at. refl) refl 1 (λ step. refl) (λ step key. refl) [] steps
-      ∙ sum_by-ones keys in
-      let lost : sum_by lost_at marks ≡ 0 =
-      all_steps gives (λ step. arrival_mark) counts_silent installed.base metric.size lost_at (λ at. refl) refl 0
-      (λ step. refl) (λ step key. refl) [] steps ∙ sum_by-zero keys in
-      let few = outputs-few gives [] steps in
-      sym came
-      ∙ numbers_balance (count_way installed metric) count_quiet metric_key_exact (λ start end others. refl)
-      (λ came end. refl) (λ came. refl) row_value count_row steps now (omega (arith, came, few, fits)) lost where
-        count_row : (start end : ℕ) (key : MetricKey) (ones : List ℕ) → length ones < 2 ^ 64
-            → sum_by row_value ((count_way installed metric).kind.row start end key ones) ≡ length ones
-        count_row start end key ones fits =
-            let n = min (length ones) (2 ^ 64 - 1) in
-            sum_by-cons row_value (record { key = key; start = start; end = end; value = n }) [] ∙ omega (arith, fits)
+      length-flat_map arrived_by marks
+      ∙ all_steps (arrival_at installed metric) (λ step. arrival_mark) counts_silent installed.base metric.size
+      (λ mark. length (arrived_by mark)) (λ at. refl) refl 1 (λ step. refl) (λ step key. refl) [] steps
+      ∙ sum_by-ones (counted_keys installed metric steps)
+
+  -- and none is lost before it arrives
+  count_lost : (steps : List Step)
+      → sum_by lost_at (marks_of (count_news installed metric) installed.base metric.size steps) ≡ 0
+  count_lost steps =
+      all_steps (arrival_at installed metric) (λ step. arrival_mark) counts_silent installed.base metric.size lost_at
+      (λ at. refl) refl 0 (λ step. refl) (λ step key. refl) [] steps ∙ sum_by-zero (counted_keys installed metric steps)
+
+  -- the row of a key has its arrivals, and none that was dropped
+  count_row : (overflow : Bool) (start end : ℕ) (key : MetricKey) (ones : List ℕ) → length ones < 2 ^ 64
+      → sum_by row_counted ((count_way installed metric overflow).kind.row start end key ones) ≡ length ones
+  count_row overflow start end key ones fits =
+      let row : Row CountCell =
+      record { key = key; start = start; end = end; value = key_cell (length ones) } in
+      sum_by-cons row_counted row [] ∙ omega (arith, fits)
+
+  none_in_row : (overflow : Bool) (start end : ℕ) (key : MetricKey) (ones : List ℕ)
+      → sum_by row_gathered ((count_way installed metric overflow).kind.row start end key ones) ≡ 0
+  none_in_row overflow start end key ones =
+      let row : Row CountCell =
+      record { key = key; start = start; end = end; value = key_cell (length ones) } in
+      sum_by-cons row_gathered row []
+
+  -- an overflow row has what was dropped, and no arrival of a key of its own
+  none_counted : (overflow : Bool) (start end : ℕ) (others : List (MetricKey × ℕ))
+      → sum_by row_counted ((count_way installed metric overflow).kind.others start end others) ≡ 0
+  none_counted false start end others = refl
+  none_counted true start end [] = refl
+  none_counted true start end (first ∷ more) =
+      let row : Row CountCell =
+      record { key = no_key; start = start; end = end; value = overflow_cell (length (first ∷ more)) } in
+      sum_by-cons row_counted row []
+
+  all_gathered : (start end : ℕ) (others : List (MetricKey × ℕ)) → length others < 2 ^ 64
+      → sum_by row_gathered ((count_way installed metric true).kind.others start end others) ≡ length others
+  all_gathered start end [] fits = refl
+  all_gathered start end (first ∷ more) fits =
+      let row : Row CountCell =
+      record { key = no_key; start = start; end = end; value = overflow_cell (length (first ∷ more)) } in
+      sum_by-cons row_gathered row [] ∙ omega (arith, fits)
+
+  -- its books balance
+  pub counts_balance : (overflow : Bool) (steps : List Step) (now : ℕ) → length steps < 2 ^ 64
+      → CountsBalance installed metric overflow steps now
+  counts_balance overflow steps now fits =
+      let few = outputs-few (arrival_at installed metric) [] steps in
+      let fit : length (arrived_by_all (marks_of (count_news installed metric) installed.base metric.size steps)) < 2 ^ 64 =
+      omega (arith, count_came steps, few, fits) in
+      record {
+        arrived = sym (count_came steps)
+            ∙ numbers_balance (count_way installed metric overflow) count_quiet metric_key_exact (λ came end. refl)
+            (λ came. refl) row_counted (none_counted overflow) (count_row overflow) steps now fit (count_lost steps);
+        gathered = gathered overflow fit;
+      } where
+        gathered : (overflow : Bool)
+            → length (arrived_by_all (marks_of (count_news installed metric) installed.base metric.size steps)) < 2 ^ 64
+            → overflow ≡ true
+            → let way = count_way installed metric overflow in
+            drops_by way steps
+            ≡ shown_by_reports way row_gathered steps + not_kept_by_reports way row_gathered steps
+            + waiting_for_report way row_gathered steps now
+        gathered false fit is = absurd (true≢false (sym is))
+        gathered true fit is =
+            gathered_balance (count_way installed metric true) count_quiet metric_key_exact (λ came end. refl)
+            (λ came. refl) row_gathered all_gathered (none_in_row true) steps now
+            (away_fits (count_way installed metric true) count_quiet metric_key_exact (λ came end. refl)
+            (λ came. refl) row_counted (none_counted true) (count_row true) steps now fit) (count_lost steps)
 
   events_silent : (before : List Step) (at : ℕ) (cut : Bool) (truths : List Bool)
       → arriving installed metric before (record { at = at; what = Reported cut; truths = truths }) ≡ None
@@ -165,18 +223,18 @@ module _ (installed : Installation) (metric : LMetric) where
       let gives = arriving installed metric in
       let marks = marks_of (event_news installed metric) installed.base 0 steps in
       let atoms = event_atoms installed metric steps in
-      let came : length (coming_with marks) ≡ length atoms =
-      length-flat_map coming marks
+      let came : length (arrived_by_all marks) ≡ length atoms =
+      length-flat_map arrived_by marks
       ∙ all_steps gives (λ (step : Step). event_marks step.at) events_silent installed.base 0
-      (λ mark. length (coming mark)) (λ at. refl) refl 1 (λ step. refl) (λ step atom. refl) [] steps
+      (λ mark. length (arrived_by mark)) (λ at. refl) refl 1 (λ step. refl) (λ step atom. refl) [] steps
       ∙ sum_by-ones atoms in
       let lost : sum_by lost_at marks ≡ 0 =
       all_steps gives (λ (step : Step). event_marks step.at) events_silent installed.base 0 lost_at (λ at. refl) refl 0
       (λ step. refl) (λ step atom. refl) [] steps ∙ sum_by-zero atoms in
       let few = outputs-few gives [] steps in
       sym came
-      ∙ numbers_balance (event_way installed metric) event_quiet metric_key_exact (λ start end others. refl)
-      (λ came end. refl) (λ came. refl) row_events event_rows steps now (omega (arith, came, few, fits)) lost where
+      ∙ numbers_balance (event_way installed metric) event_quiet metric_key_exact (λ came end. refl) (λ came. refl)
+      row_events (λ start end others. refl) event_rows steps now (omega (arith, came, few, fits)) lost where
         event_rows : (start end : ℕ) (key : MetricKey) (events : List EventAtom) → length events < 2 ^ 64
             → sum_by row_events ((event_way installed metric).kind.row start end key events) ≡ length events
         event_rows start end key [] fits = refl
@@ -211,8 +269,8 @@ module _ (installed : Installation) (metric : LMetric) where
   pub sums_balance : (spec : PredSpec) (steps : List Step) (now : ℕ) → SumsBalance installed metric spec steps now
   sums_balance spec steps now = record {
     parts = all_in_parts (sum_way installed metric spec) (sum_quiet spec) steps now;
-    times = amounts_balance (sum_way installed metric spec) metric_key_exact (λ start end others. refl) (λ time. time)
-        row_value (λ n. n ≡ n) (λ m n le fits. refl) time_row steps now refl;
+    times = amounts_balance (sum_way installed metric spec) metric_key_exact row_value
+        (λ start end others. refl) (λ time. time) (λ n. n ≡ n) (λ m n le fits. refl) time_row steps now refl;
   } where
     time_row : (start end : ℕ) (key : MetricKey) (times : List ℕ) → sum_by (λ time. time) times ≡ sum_by (λ time. time) times
         → sum_by row_value ((sum_way installed metric spec).kind.row start end key times) ≡ sum_by (λ time. time) times

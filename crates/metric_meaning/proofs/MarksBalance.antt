@@ -5,11 +5,11 @@ use Rattle.std.proofs.lemmas.List.{append-nil}
 use Rattle.std.proofs.lemmas.List.Concat.{flat_map-append}
 use Rattle.std.proofs.lemmas.List.Sums.{sum_by-cons, sum_by_push}
 use Rattle.bucket_meaning.specs.Marks.{Mark, Ends, Came, Lost, Missed, Asked, Part, Books, after, books_from}
-use Rattle.metric_meaning.specs.Balance.{coming, part_until}
+use Rattle.metric_meaning.specs.Balance.{arrived_by, part_until}
 
 -- what comes with these marks
-abbrev pub coming_with : {X : Type 0} → List (Mark X) → List X
-coming_with marks = flat_map coming marks
+abbrev pub arrived_by_all : {X : Type 0} → List (Mark X) → List X
+arrived_by_all marks = flat_map arrived_by marks
 
 -- how many reports a mark is
 abbrev pub asks : {X : Type 0} → Mark X → ℕ
@@ -38,7 +38,7 @@ all_that_came {X} books = flat_map (λ (part : Part X). part.came) books.closed 
 module _ {X : Type 0} (drops : List X → X → ℕ) where
   -- what one mark adds
   one_comes : (books : Books X) (mark : Mark X) → asks mark ≡ 0
-      → all_that_came (after drops books mark) ≡ all_that_came books ++ coming mark
+      → all_that_came (after drops books mark) ≡ all_that_came books ++ arrived_by mark
   one_comes books (Ends at) quiet =
       append-nil (flat_map (λ (part : Part X). part.came) (books.closed ++ part_until books at ∷ []))
       ∙ flat_map-append (λ (part : Part X). part.came) books.closed (part_until books at ∷ [])
@@ -52,13 +52,13 @@ module _ {X : Type 0} (drops : List X → X → ℕ) where
 
   -- What marks add to all that came.
   pub marks_come : (books : Books X) (marks : List (Mark X)) → HasNoReport marks
-      → all_that_came (books_from drops books marks) ≡ all_that_came books ++ coming_with marks
+      → all_that_came (books_from drops books marks) ≡ all_that_came books ++ arrived_by_all marks
   marks_come books [] quiet = sym (append-nil (all_that_came books))
   marks_come books (mark ∷ marks) quiet =
       let both = sum_by-cons asks mark marks in
       marks_come (after drops books mark) marks (omega (arith, both, quiet))
-      ∙ ap (λ l. l ++ coming_with marks) (one_comes books mark (omega (arith, both, quiet)))
-      ∙ append_assoc (all_that_came books) (coming mark) (coming_with marks)
+      ∙ ap (λ l. l ++ arrived_by_all marks) (one_comes books mark (omega (arith, both, quiet)))
+      ∙ append_assoc (all_that_came books) (arrived_by mark) (arrived_by_all marks)
 
   module _ (held : List X → ℕ) (nothing : held [] ≡ 0)
       (counts : (came : List X) (what : X) → held came + drops came what ≡ held (came ++ what ∷ [])) where

@@ -12,8 +12,8 @@ use Rattle.bucket_meaning.proofs.MarksLemmas.{books-append}
 use Rattle.metric_meaning.specs.Histories.{What, Logged, Reported, Step}
 use Rattle.metric_meaning.specs.StepMarks.{StepNews, crossed_at, cut_marks, marks_at, marks_of}
 use Rattle.metric_meaning.specs.Ways.{Way}
-use Rattle.metric_meaning.specs.Balance.{coming, part_until, books_after, books_told, told_parts, waiting_parts, IsAllInParts}
-use Rattle.metric_meaning.proofs.MarksBalance.{coming_with, asks, HasNoReport, lost_at, all_that_came, marks_come, marks_drop}
+use Rattle.metric_meaning.specs.Balance.{arrived_by, part_until, books_after, books_told, told_parts, waiting_parts, IsAllInParts}
+use Rattle.metric_meaning.proofs.MarksBalance.{arrived_by_all, asks, HasNoReport, lost_at, all_that_came, marks_come, marks_drop}
 
 -- Reports are only made by reports: no mark of what stands at boundaries is one.
 pub record HasQuietEdges {X : Type 0} (edges : Edges X) : Type 0 where
@@ -82,7 +82,7 @@ module _ {X K C R : Type 0} (way : Way X K C R) (quiet : IsQuietNews way.shown) 
   abbrev pub AllCame : List Step → Type 0
   AllCame steps =
       flat_map (λ (part : Part X). part.came) (outputs (told_parts way) steps) ++ all_that_came (books_after way steps)
-      ≡ coming_with (marks_of way.shown way.base way.size steps)
+      ≡ arrived_by_all (marks_of way.shown way.base way.size steps)
 
   -- one step more
   came_step : (before : List Step) (at : ℕ) (what : What) (truths : List Bool) → AllCame before
@@ -102,10 +102,10 @@ module _ {X K C R : Type 0} (way : Way X K C R) (quiet : IsQuietNews way.shown) 
       ∙ ap (λ l. flat_map (λ (part : Part X). part.came) told ++ l)
       (marks_come (drops way.kind way.bound) (books_after way before) marks calm)
       ∙ sym (append_assoc (flat_map (λ (part : Part X). part.came) told) (all_that_came (books_after way before))
-      (coming_with marks))
-      ∙ ap (λ l. l ++ coming_with marks) is
-      ∙ sym (flat_map-append coming (marks_of way.shown way.base way.size before) marks)
-      ∙ ap coming_with (sym (marks_push before step))
+      (arrived_by_all marks))
+      ∙ ap (λ l. l ++ arrived_by_all marks) is
+      ∙ sym (flat_map-append arrived_by (marks_of way.shown way.base way.size before) marks)
+      ∙ ap arrived_by_all (sym (marks_push before step))
   came_step before at (Reported cut) truths is =
       let step : Step = record { at = at; what = Reported cut; truths = truths } in
       let cuts = cut_marks (way.shown.edges before) way.size cut at in
@@ -125,13 +125,13 @@ module _ {X K C R : Type 0} (way : Way X K C R) (quiet : IsQuietNews way.shown) 
       (flat_map (λ (part : Part X). part.came) closed.closed) closed.came
       ∙ ap (λ l. flat_map (λ (part : Part X). part.came) told ++ l)
       (marks_come (drops way.kind way.bound) old cuts calm)
-      ∙ sym (append_assoc (flat_map (λ (part : Part X). part.came) told) (all_that_came old) (coming_with cuts))
-      ∙ ap (λ l. l ++ coming_with cuts) is
-      ∙ sym (flat_map-append coming (marks_of way.shown way.base way.size before) cuts)
-      ∙ sym (append-nil (coming_with (marks_of way.shown way.base way.size before ++ cuts)))
-      ∙ sym (flat_map-append coming (marks_of way.shown way.base way.size before ++ cuts) (Asked ∷ []))
-      ∙ ap coming_with (append_assoc (marks_of way.shown way.base way.size before) cuts (Asked ∷ []))
-      ∙ ap coming_with (sym (marks_push before step))
+      ∙ sym (append_assoc (flat_map (λ (part : Part X). part.came) told) (all_that_came old) (arrived_by_all cuts))
+      ∙ ap (λ l. l ++ arrived_by_all cuts) is
+      ∙ sym (flat_map-append arrived_by (marks_of way.shown way.base way.size before) cuts)
+      ∙ sym (append-nil (arrived_by_all (marks_of way.shown way.base way.size before ++ cuts)))
+      ∙ sym (flat_map-append arrived_by (marks_of way.shown way.base way.size before ++ cuts) (Asked ∷ []))
+      ∙ ap arrived_by_all (append_assoc (marks_of way.shown way.base way.size before) cuts (Asked ∷ []))
+      ∙ ap arrived_by_all (sym (marks_push before step))
 
   came_from : (before steps : List Step) → AllCame before → AllCame (before ++ steps)
   came_from before [] is = subst AllCame (sym (append-nil before)) is

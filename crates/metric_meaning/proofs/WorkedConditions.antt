@@ -11,6 +11,7 @@ use Rattle.config_links.specs.declared.linked.LPredBody.TheVariants.{Simple, Com
 use Rattle.config_links.specs.declared.linked.LLink.{LLink}
 use Rattle.config_links.specs.declared.linked.LMetric.{LMetric}
 use Rattle.config_links.specs.declared.linked.LKind.TheVariants.{Count}
+use Rattle.metric_producer.specs.declared.row.CountCell.{CountCell}
 use Rattle.metric_producer.specs.declared.row.Row.{Row}
 use Rattle.metric_meaning.specs.Histories.{Step}
 use Rattle.metric_meaning.specs.PredicateSteps.{predicate_drops}
@@ -45,7 +46,7 @@ counted condition links = record {
   size = 1000;
   bound = 800;
   slices = [];
-  kind = Count;
+  kind = Count false;
 }
 
 -- an atom without fields
@@ -72,19 +73,19 @@ abbrev what : ℕ → Step
 what at = came at (false ∷ false ∷ true ∷ [])
 
 -- so many were counted from 0 to a time
-abbrev row : ℕ → ℕ → Row ℕ
-row end count = record { key = record { dims = []; slices = [] }; start = 0; end = end; value = count }
+abbrev row : ℕ → ℕ → Row CountCell
+row end count = record { key = record { dims = []; slices = [] }; start = 0; end = end; value = record { number = count; overflow = false } }
 
 -- two starts and a stop leave it on, where starts are counted
 nesting_counted :
-    counts_shown (under (switched (plain true false) ∷ [])) (counted (Some 0) [])
+    counts_shown (under (switched (plain true false) ∷ [])) (counted (Some 0) []) false
     (start 1 ∷ start 2 ∷ stop 3 ∷ what 4 ∷ []) true 4
     ≡ record { rows = row 4 1 ∷ []; not_kept = 0; dropped = 0; missing = 0 }
 nesting_counted = refl
 
 -- and off where they aren't
 nesting_not_counted :
-    counts_shown (under (switched (plain false false) ∷ [])) (counted (Some 0) [])
+    counts_shown (under (switched (plain false false) ∷ [])) (counted (Some 0) []) false
     (start 1 ∷ start 2 ∷ stop 3 ∷ what 4 ∷ []) true 4
     ≡ record { rows = []; not_kept = 0; dropped = 0; missing = 0 }
 nesting_not_counted = refl
@@ -100,28 +101,28 @@ unsure = record { id = pos 11; body = Simple (Some 0) None (Some 1) no_fields (p
 -- what is unknown or true is unknown, and isn't counted; once the one is known to be false, it is
 unknown_absorbs :
     counts_shown (under (unsure ∷ other ∷ record { id = pos 13; body = Combo Or (0 ∷ 1 ∷ []) } ∷ []))
-    (counted (Some 2) [])
+    (counted (Some 2) []) false
     (came 1 (false ∷ false ∷ false ∷ true ∷ []) ∷ what 2 ∷ stop 3 ∷ what 4 ∷ []) true 4
     ≡ record { rows = row 4 1 ∷ []; not_kept = 0; dropped = 0; missing = 0 }
 unknown_absorbs = refl
 
 -- what isn't known isn't known to be false
 not_of_unknown :
-    counts_shown (under (unsure ∷ record { id = pos 13; body = Combo Not (0 ∷ []) } ∷ [])) (counted (Some 1) [])
+    counts_shown (under (unsure ∷ record { id = pos 13; body = Combo Not (0 ∷ []) } ∷ [])) (counted (Some 1) []) false
     (what 1 ∷ stop 2 ∷ what 3 ∷ []) true 3
     ≡ record { rows = row 3 1 ∷ []; not_kept = 0; dropped = 0; missing = 0 }
 not_of_unknown = refl
 
 -- a matcher that starts the condition and is counted: the atom sees the condition as it is after itself
 what_and_start_in_one_atom :
-    counts_shown (under (switched (plain true false) ∷ [])) (counted (Some 0) [])
+    counts_shown (under (switched (plain true false) ∷ [])) (counted (Some 0) []) false
     (came 2 (true ∷ false ∷ true ∷ []) ∷ came 3 (true ∷ false ∷ true ∷ []) ∷ []) true 3
     ≡ record { rows = row 3 2 ∷ []; not_kept = 0; dropped = 0; missing = 0 }
 what_and_start_in_one_atom = refl
 
 -- a matcher that stops it too comes first
 stop_before_start :
-    counts_shown (under (switched (plain true false) ∷ [])) (counted (Some 0) [])
+    counts_shown (under (switched (plain true false) ∷ [])) (counted (Some 0) []) false
     (came 2 (true ∷ true ∷ true ∷ []) ∷ []) true 2
     ≡ record { rows = []; not_kept = 0; dropped = 0; missing = 0 }
 stop_before_start = refl
@@ -150,7 +151,7 @@ by_number = record { predicate = 0; in_what = first_field 6; places = 0 ∷ [] }
 
 -- the second key finds no room, so it is false later on, and the drop stays in each report
 a_drop_changes_later_truth :
-    counts_shown (under (by_key ∷ [])) (counted (Some 0) (by_number ∷ []))
+    counts_shown (under (by_key ∷ [])) (counted (Some 0) (by_number ∷ [])) false
     (starts 1 (pos 1) ∷ starts 2 (pos 2) ∷ counts 3 (pos 1) ∷ counts 4 (pos 2) ∷ []) true 4
     ≡ record { rows = row 4 1 ∷ []; not_kept = 0; dropped = 0; missing = 0 }
 a_drop_changes_later_truth = refl
@@ -162,13 +163,13 @@ drops_stay = refl
 
 -- without a link some key is enough
 any_key :
-    counts_shown (under (by_key ∷ [])) (counted (Some 0) []) (starts 1 (pos 1) ∷ counts 3 (pos 2) ∷ []) true 3
+    counts_shown (under (by_key ∷ [])) (counted (Some 0) []) false (starts 1 (pos 1) ∷ counts 3 (pos 2) ∷ []) true 3
     ≡ record { rows = row 3 1 ∷ []; not_kept = 0; dropped = 0; missing = 0 }
 any_key = refl
 
 -- an atom without the field asks for a key that has nothing there
 missing_leaf :
-    counts_shown (under (by_key ∷ [])) (counted (Some 0) (by_number ∷ []))
+    counts_shown (under (by_key ∷ [])) (counted (Some 0) (by_number ∷ [])) false
     (starts 1 (pos 1) ∷ logged 2 (AtomAt 2 (bare 6)) (false ∷ false ∷ true ∷ []) ∷ stops 3 (pos 1)
     ∷ logged 4 (AtomAt 4 (bare 5)) (true ∷ false ∷ false ∷ [])
     ∷ logged 5 (AtomAt 5 (bare 6)) (false ∷ false ∷ true ∷ []) ∷ []) true 5

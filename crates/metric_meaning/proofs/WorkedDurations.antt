@@ -401,6 +401,7 @@ as_a_tree : report_of
             (record {
               leaves = [];
               slices = [];
+              overflow = false;
               buckets = record { start = 0; end = 1000; value = pos 500 } ∷ [];
             } ∷ []);
       } ∷ [];

@@ -44,10 +44,10 @@ part start end value = record { start = start; end = end; value = value }
 
 -- the parts of the one key without dimensions, and of a key of one number
 abbrev of_all : List NumBucket → NumTree
-of_all parts = record { leaves = []; slices = []; buckets = parts }
+of_all parts = record { leaves = []; slices = []; overflow = false; buckets = parts }
 
 abbrev of_key : ℤ → List NumBucket → NumTree
-of_key key parts = record { leaves = number_leaf key ∷ []; slices = []; buckets = parts }
+of_key key parts = record { leaves = number_leaf key ∷ []; slices = []; overflow = false; buckets = parts }
 
 -- the greatest number of 64 bits, and then 1, and a text
 abbrev three : List Step
@@ -144,6 +144,7 @@ dimensions_of_another_atom : metric_tree (under [])
     ≡ shown 0 (record {
       leaves = record { place = 0; value = None } ∷ [];
       slices = [];
+      overflow = false;
       buckets = part 0 2 (pos 7) ∷ [];
     } ∷ [])
 dimensions_of_another_atom = refl
@@ -155,6 +156,7 @@ absent_key : metric_tree (under [])
     ≡ shown 0 (record {
       leaves = record { place = 0; value = None } ∷ [];
       slices = [];
+      overflow = false;
       buckets = part 0 2 (pos 3) ∷ [];
     } ∷ of_key (pos 8) (part 0 2 (pos 4) ∷ []) ∷ [])
 absent_key = refl
@@ -191,6 +193,6 @@ by_states : metric_tree (beside (screen None) (screen_is 0 2 ∷ []))
     (meant 1 (holding (Int (pos 4))) ∷ logged 2 (screen_is 2 3) (false ∷ [])
     ∷ meant 3 (holding (Int (pos 5))) ∷ []) true 3
     (record (valued Sum) { slices = record { state = 0; in_what = None } ∷ [] })
-    ≡ shown 0 (record { leaves = []; slices = Plain 27 (pos 2) ∷ []; buckets = part 0 3 (pos 4) ∷ [] }
-    ∷ record { leaves = []; slices = Plain 27 (pos 3) ∷ []; buckets = part 0 3 (pos 5) ∷ [] } ∷ [])
+    ≡ shown 0 (record { leaves = []; slices = Plain 27 (pos 2) ∷ []; overflow = false; buckets = part 0 3 (pos 4) ∷ [] }
+    ∷ record { leaves = []; slices = Plain 27 (pos 3) ∷ []; overflow = false; buckets = part 0 3 (pos 5) ∷ [] } ∷ [])
 by_states = refl

@@ -15,6 +15,7 @@ use Rattle.config_links.specs.declared.linked.LState.{LState}
 use Rattle.config_links.specs.declared.linked.LGroup.{LGroup}
 use Rattle.config_links.specs.declared.linked.LMetric.{LMetric}
 use Rattle.config_links.specs.declared.linked.LKind.TheVariants.{Count}
+use Rattle.metric_producer.specs.declared.row.CountCell.{CountCell}
 use Rattle.metric_producer.specs.declared.row.Row.{Row}
 use Rattle.metric_meaning.specs.Histories.{Step, Installation}
 use Rattle.metric_meaning.specs.StateDrops.{told_ids, drops_of_states, dropped_for}
@@ -41,7 +42,7 @@ sliced link = record {
   size = 1000;
   bound = 800;
   slices = record { state = 0; in_what = link } ∷ [];
-  kind = Count;
+  kind = Count false;
 }
 
 -- an installation with this state, after this log
@@ -77,31 +78,31 @@ abbrev told : ℕ → LogFrame → Step
 told at frame = logged at frame (false ∷ [])
 
 -- a row of a slice
-abbrev row : Slice → ℕ → ℕ → Row ℕ
+abbrev row : Slice → ℕ → ℕ → Row CountCell
 row slice end count =
-    record { key = record { dims = []; slices = slice ∷ [] }; start = 0; end = end; value = count }
+    record { key = record { dims = []; slices = slice ∷ [] }; start = 0; end = end; value = record { number = count; overflow = false } }
 
 -- a report shows these rows, and nothing was dropped
-abbrev shown : List (Row ℕ) → Taken (Row ℕ)
+abbrev shown : List (Row CountCell) → Taken (Row CountCell)
 shown rows = record { rows = rows; not_kept = 0; dropped = 0; missing = 0 }
 
 -- a state that was told before the installation is known, and a later one from its own frame on
 states_of_the_whole_log :
     counts_shown (beside (screen None) (screen_is 0 2 ∷ [])) (sliced None)
-    (counted 2 1 ∷ told 5 (screen_is 5 3) ∷ counted 6 1 ∷ counted 7 1 ∷ []) true 9
+    false (counted 2 1 ∷ told 5 (screen_is 5 3) ∷ counted 6 1 ∷ counted 7 1 ∷ []) true 9
     ≡ shown (row (Plain 27 (pos 2)) 9 1 ∷ row (Plain 27 (pos 3)) 9 2 ∷ [])
 states_of_the_whole_log = refl
 
 -- by groups, where one lists the value 2: another value shows as -1
 states_by_groups :
     counts_shown (beside (screen (Some (record { group = pos 1; values = pos 2 ∷ [] } ∷ []))) (screen_is 0 2 ∷ []))
-    (sliced None) (counted 2 1 ∷ told 5 (screen_is 5 3) ∷ counted 6 1 ∷ []) true 9
+    (sliced None) false (counted 2 1 ∷ told 5 (screen_is 5 3) ∷ counted 6 1 ∷ []) true 9
     ≡ shown (row (Group 27 (pos 1)) 9 1 ∷ row (Plain 27 (negsuc 0)) 9 1 ∷ [])
 states_by_groups = refl
 
 -- where nothing was told, the state is -1; without a link the empty key is asked for
 nothing_told :
-    counts_shown (beside (screen None) []) (sliced None) (told 1 (state_of_key 1 7 6) ∷ counted 2 7 ∷ []) true 9
+    counts_shown (beside (screen None) []) (sliced None) false (told 1 (state_of_key 1 7 6) ∷ counted 2 7 ∷ []) true 9
     ≡ shown (row (Plain 27 (negsuc 0)) 9 1 ∷ [])
 nothing_told = refl
 
@@ -109,7 +110,7 @@ nothing_told = refl
 by_link :
     counts_shown (beside (screen None) (state_of_key 0 7 6 ∷ []))
     (sliced (Some (record { atom_id = 5; leaves = record { field = 1; position = None; sub = 0 } ∷ [] })))
-    (counted 2 7 ∷ counted 3 8 ∷ []) true 9
+    false (counted 2 7 ∷ counted 3 8 ∷ []) true 9
     ≡ shown (row (Plain 27 (pos 6)) 9 1 ∷ row (Plain 27 (negsuc 0)) 9 1 ∷ [])
 by_link = refl
 

@@ -1,6 +1,6 @@
 -- The books of a metric balance: what arrived since its installation is shown in reports, or stood in rows that weren't
 -- kept, or was turned away and counted, or waits for the next report. Nothing is lost, and nothing is told twice.
-use Rattle.std.specs.Prelude.{◌≡◌, ℕ, ◌+◌, Bool, List, [], ◌∷◌, ◌++◌, length, drop, option_to_list}
+use Rattle.std.specs.Prelude.{◌≡◌, ℕ, ◌+◌, Bool, true, if◌then◌else◌, List, [], ◌∷◌, ◌++◌, length, drop, option_to_list}
 use Rattle.std.specs.List.{flat_map, sum_by, sum}
 use Rattle.sd_base.specs.Outputs.{outputs}
 use Rattle.atom_record.specs.declared.atom.Atom.{Atom}
@@ -10,6 +10,7 @@ use Rattle.bucket_meaning.specs.Marks.{Mark, Ends, Came, Lost, Missed, Asked, Pa
 use Rattle.bucket_meaning.specs.Rows.{drops, rows_of}
 use Rattle.config_links.specs.declared.linked.LMetric.{LMetric}
 use Rattle.config_types.specs.declared.parameters.PredSpec.{PredSpec}
+use Rattle.metric_producer.specs.declared.row.CountCell.{CountCell}
 use Rattle.metric_producer.specs.declared.row.Row.{Row}
 use Rattle.metric_meaning.specs.Histories.{What, Logged, Reported, Step, Installation}
 use Rattle.metric_meaning.specs.Arrivals.{arriving}
@@ -20,12 +21,12 @@ use Rattle.metric_meaning.specs.StepMarks.{marks_of, marks_to}
 use Rattle.metric_meaning.specs.Ways.{Way, shown_by_steps}
 
 -- what comes with a mark
-abbrev pub coming : {X : Type 0} → Mark X → List X
-coming (Ends at) = []
-coming (Came what) = what ∷ []
-coming Lost = []
-coming Missed = []
-coming Asked = []
+abbrev pub arrived_by : {X : Type 0} → Mark X → List X
+arrived_by (Ends at) = []
+arrived_by (Came what) = what ∷ []
+arrived_by Lost = []
+arrived_by Missed = []
+arrived_by Asked = []
 
 -- an open part, as if it ended now
 abbrev pub part_until : {X : Type 0} → Books X → ℕ → Part X
@@ -84,7 +85,7 @@ module _ {X K C R : Type 0} (way : Way X K C R) where
 
   -- all that came by these steps, in order
   abbrev pub came_by : List Step → List X
-  came_by steps = flat_map coming (marks_of way.shown way.base way.size steps)
+  came_by steps = flat_map arrived_by (marks_of way.shown way.base way.size steps)
 
   -- all of it is in these parts, in order, each once
   abbrev pub IsAllInParts : List Step → ℕ → Type 0
@@ -121,17 +122,29 @@ abbrev pub counted_keys : Installation → LMetric → List Step → List Metric
 counted_keys installed metric =
     outputs (λ before step. option_to_list (arrival_at installed metric before step))
 
--- what a row of counts or times comes to
-abbrev pub row_value : Row ℕ → ℕ
-row_value row = row.value
+-- how many arrivals of its key a row of counts has; an overflow row has none, since it is of what was dropped
+abbrev pub row_counted : Row CountCell → ℕ
+row_counted row = if row.value.overflow then 0 else row.value.number
 
--- Of counts: each key that arrived is in a count that was shown, or in one that wasn't kept, or was dropped, or waits.
-abbrev pub CountsBalance : Installation → LMetric → List Step → ℕ → Type 0
-CountsBalance installed metric steps now =
-    let way = count_way installed metric in
-    length (counted_keys installed metric steps)
-    ≡ shown_by_reports way row_value steps + not_kept_by_reports way row_value steps + drops_by way steps
-    + waiting_for_report way row_value steps now
+-- how many dropped arrivals a row of counts has: those that an overflow row gathers
+abbrev pub row_gathered : Row CountCell → ℕ
+row_gathered row = if row.value.overflow then row.value.number else 0
+
+-- Of counts: each key that arrived is in a count of its own that was shown, or in one that wasn't kept, or was dropped,
+-- or waits; and those that were dropped are those of overflow rows, where the metric gathers them, shown, not kept or
+-- waiting.
+pub record CountsBalance (installed : Installation) (metric : LMetric) (overflow : Bool) (steps : List Step) (now : ℕ)
+    : Type 0 where
+  pub arrived :
+      let way = count_way installed metric overflow in
+      length (counted_keys installed metric steps)
+      ≡ shown_by_reports way row_counted steps + not_kept_by_reports way row_counted steps + drops_by way steps
+      + waiting_for_report way row_counted steps now
+  pub gathered : overflow ≡ true →
+      let way = count_way installed metric overflow in
+      drops_by way steps
+      ≡ shown_by_reports way row_gathered steps + not_kept_by_reports way row_gathered steps
+      + waiting_for_report way row_gathered steps now
 
 -- the atoms that arrived at a metric of events by these steps, in order
 abbrev pub event_atoms : Installation → LMetric → List Step → List Atom
@@ -148,6 +161,10 @@ EventsBalance installed metric steps now =
     length (event_atoms installed metric steps)
     ≡ shown_by_reports way row_events steps + not_kept_by_reports way row_events steps + drops_by way steps
     + waiting_for_report way row_events steps now
+
+-- what a row of times comes to
+abbrev pub row_value : Row ℕ → ℕ
+row_value row = row.value
 
 -- Of summed durations: wherever the active keys changed, it is told in one of the parts; and the time of all runs in these
 -- parts was shown, or not kept, or is that of runs that were turned away, or waits.

@@ -5,6 +5,7 @@ use Rattle.atom_record.specs.declared.value.MetricKey.{MetricKey}
 use Rattle.bucket_meaning.specs.Marks.{Mark, Came, no_edges}
 use Rattle.bucket_meaning.specs.Kept.{Taken}
 use Rattle.config_links.specs.declared.linked.LMetric.{LMetric}
+use Rattle.metric_producer.specs.declared.row.CountCell.{CountCell}
 use Rattle.metric_producer.specs.declared.row.Row.{Row}
 use Rattle.metric_kinds.specs.Counts.{count_kind}
 use Rattle.metric_meaning.specs.Histories.{Step, Installation}
@@ -34,16 +35,16 @@ count_news installed metric = record {
   comes = λ before step. arrival_mark (arrival_at installed metric before step);
 }
 
--- what a metric of counts is
-abbrev pub count_way : Installation → LMetric → Way (MetricKey × ℕ) MetricKey ℕ (Row ℕ)
-count_way installed metric = record {
+-- what a metric of counts is, which gathers what found no room in overflow rows, or doesn't
+abbrev pub count_way : Installation → LMetric → Bool → Way (MetricKey × ℕ) MetricKey ℕ (Row CountCell)
+count_way installed metric overflow = record {
   base = installed.base;
   size = metric.size;
   bound = metric.bound;
-  kind = count_kind;
+  kind = count_kind overflow;
   shown = count_news installed metric;
 }
 
 -- what a report shows of a metric of counts, which is made after these steps
-abbrev pub counts_shown : Installation → LMetric → List Step → Bool → ℕ → Taken (Row ℕ)
-counts_shown installed metric = shown_by_steps (count_way installed metric)
+abbrev pub counts_shown : Installation → LMetric → Bool → List Step → Bool → ℕ → Taken (Row CountCell)
+counts_shown installed metric overflow = shown_by_steps (count_way installed metric overflow)

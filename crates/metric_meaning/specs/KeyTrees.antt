@@ -1,5 +1,5 @@
 -- How a report shows rows: grouped by their keys, in the order in which the keys first come.
-use Rattle.std.specs.Prelude.{ℕ, ◌+◌, ◌-◌, ◌^◌, min, List, [], ◌∷◌, ◌++◌, map, filter, Some, None}
+use Rattle.std.specs.Prelude.{ℕ, ◌+◌, ◌-◌, ◌^◌, min, Bool, List, [], ◌∷◌, ◌++◌, map, filter, Some, None}
 use Rattle.atom_record.specs.declared.value.Leaf.{Leaf}
 use Rattle.atom_record.specs.declared.value.Leaf.TheVariants.{Missing, One, Many}
 use Rattle.atom_record.specs.declared.value.Slice.{Slice}
@@ -24,13 +24,25 @@ abbrev pub key_trees : ℕ → List Leaf → List LeafTree
 key_trees place [] = []
 key_trees place (leaf ∷ leaves) = leaf_trees (shown_place place) leaf ++ key_trees (place + 1) leaves
 
--- `tree` makes a key's leaves, slices and buckets one entry of the report, and `bucket` shows a row
-module _ {V B T : Type 0} (tree : List LeafTree → List Slice → List B → T) (bucket : Row V → B) where
-  -- the rows of one key
-  abbrev pub group_of : List (Row V) → MetricKey → T
-  group_of rows key =
-      tree (key_trees 0 key.dims) key.slices (map bucket (filter (λ (row : Row V). is_same_key row.key key) rows))
+-- Rows in groups: `group` tells the group of a row, `tree` makes a group with its buckets one entry of the report, and
+-- `bucket` shows a row.
+module _ {V G B T : Type 0} (same : G → G → Bool) (group : Row V → G) (tree : G → List B → T) (bucket : Row V → B) where
+  -- a group with its rows
+  abbrev pub group_by : List (Row V) → G → T
+  group_by rows one = tree one (map bucket (filter (λ (row : Row V). same (group row) one) rows))
 
-  -- the rows by their keys
-  abbrev pub groups_of : List (Row V) → List T
-  groups_of rows = map (group_of rows) (firsts is_same_key [] (map (λ (row : Row V). row.key) rows))
+  -- the groups, in the order in which they first come
+  abbrev pub groups_by : List (Row V) → List T
+  groups_by rows = map (group_by rows) (firsts same [] (map group rows))
+
+-- the key of a row
+abbrev pub row_key : {V : Type 0} → Row V → MetricKey
+row_key row = row.key
+
+-- a key with its buckets, which `tree` makes one entry of the report of the key's leaves, its slices and its buckets
+abbrev pub key_tree : {B T : Type 0} → (List LeafTree → List Slice → List B → T) → MetricKey → List B → T
+key_tree tree key buckets = tree (key_trees 0 key.dims) key.slices buckets
+
+-- the rows by their keys, where `bucket` shows a row
+abbrev pub groups_of : {V B T : Type 0} → (List LeafTree → List Slice → List B → T) → (Row V → B) → List (Row V) → List T
+groups_of tree bucket = groups_by is_same_key row_key (key_tree tree) bucket

@@ -20,6 +20,7 @@ pub mod PulledIntervals
 pub mod PulledValueSteps
 pub mod PulledGaugeSteps
 pub mod KeyTrees
+pub mod CountTrees
 pub mod EventTrees
 pub mod ValueTrees
 pub mod GaugeTrees

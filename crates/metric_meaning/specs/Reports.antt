@@ -1,5 +1,5 @@
 -- The report of a history, as a tree.
-use Rattle.std.specs.Prelude.{ℕ, ℤ, pos, ◌-◌, ◌^◌, min, Bool, List, [], ◌∷◌, map, filter}
+use Rattle.std.specs.Prelude.{ℕ, ℤ, pos, ◌-◌, ◌^◌, min, Bool, false, List, [], ◌∷◌, map, filter}
 use Rattle.bucket_meaning.specs.Kept.{Taken}
 use Rattle.config_links.specs.declared.linked.LMetric.{LMetric}
 use Rattle.config_links.specs.declared.linked.LKind.{LKind}
@@ -7,7 +7,7 @@ use Rattle.config_links.specs.declared.linked.LKind.TheVariants.{Event, Count, P
 use Rattle.report_writer.specs.declared.tree.NumBucket.{NumBucket}
 use Rattle.report_writer.specs.declared.tree.NumTree.{NumTree}
 use Rattle.report_writer.specs.declared.tree.MetricBody.{MetricBody}
-use Rattle.report_writer.specs.declared.tree.MetricBody.TheVariants.{Counts, Durations}
+use Rattle.report_writer.specs.declared.tree.MetricBody.TheVariants.{Durations}
 use Rattle.report_writer.specs.declared.tree.MetricTree.{MetricTree}
 use Rattle.report_writer.specs.declared.tree.ReportTree.{ReportTree}
 use Rattle.metric_producer.specs.declared.row.Row.{Row}
@@ -16,6 +16,7 @@ use Rattle.metric_meaning.specs.PredicateSteps.{predicate_drops}
 use Rattle.metric_meaning.specs.StateDrops.{drops_of_states, dropped_for}
 use Rattle.metric_meaning.specs.KeyTrees.{groups_of}
 use Rattle.metric_meaning.specs.CountSteps.{counts_shown}
+use Rattle.metric_meaning.specs.CountTrees.{counts_body}
 use Rattle.metric_meaning.specs.DurationSteps.{sums_shown, longest_shown}
 use Rattle.metric_meaning.specs.EventSteps.{events_shown}
 use Rattle.metric_meaning.specs.EventTrees.{events_body}
@@ -27,14 +28,15 @@ use Rattle.metric_meaning.specs.GaugeTrees.{gauge_body}
 use Rattle.metric_meaning.specs.PulledValueSteps.{pulled_values_shown}
 use Rattle.metric_meaning.specs.PulledGaugeSteps.{pulled_gauge_shown}
 
--- a count or a time in a report ends where a signed number of 64 bits does
-abbrev pub bucket_of : Row ℕ → NumBucket
-bucket_of row = record { start = row.start; end = row.end; value = pos (min row.value (2 ^ 63 - 1)) }
+-- a time in a report ends where a signed number of 64 bits does
+abbrev pub time_bucket : Row ℕ → NumBucket
+time_bucket row = record { start = row.start; end = row.end; value = pos (min row.value (2 ^ 63 - 1)) }
 
--- rows of counts or times by their keys
-abbrev pub count_groups : List (Row ℕ) → List NumTree
-count_groups = groups_of (λ leaves slices buckets. record { leaves = leaves; slices = slices; buckets = buckets })
-    bucket_of
+-- rows of times by their keys
+abbrev pub time_groups : List (Row ℕ) → List NumTree
+time_groups = groups_of
+    (λ leaves slices buckets. record { leaves = leaves; slices = slices; overflow = false; buckets = buckets })
+    time_bucket
 
 -- a metric with what is shown of it, and its rows
 abbrev pub tree_with_body : {A : Type 0} → ℕ → LMetric → Taken A → MetricBody → MetricTree
@@ -55,9 +57,9 @@ metric_tree installed steps include_current now metric = by_kind metric.kind whe
   by_kind Event =
       let shown = events_shown installed metric steps include_current now in
       tree_with_body installed.base metric shown (events_body shown.rows)
-  by_kind Count =
-      let shown = counts_shown installed metric steps include_current now in
-      tree_with_body installed.base metric shown (Counts (count_groups shown.rows))
+  by_kind (Count overflow) =
+      let shown = counts_shown installed metric overflow steps include_current now in
+      tree_with_body installed.base metric shown (counts_body shown.rows)
   by_kind (PushedValue atom_id leaf aggregation) =
       let source : ValueLeaf = record { atom_id = atom_id; leaf = leaf } in
       let shown = pushed_values_shown installed metric source aggregation steps include_current now in
@@ -74,10 +76,10 @@ metric_tree installed steps include_current now metric = by_kind metric.kind whe
       tree_with_body installed.base metric shown (gauge_body shown.rows)
   by_kind (SumDuration spec) =
       let shown = sums_shown installed metric spec steps include_current now in
-      tree_with_body installed.base metric shown (Durations (count_groups shown.rows))
+      tree_with_body installed.base metric shown (Durations (time_groups shown.rows))
   by_kind (MaxSparse spec) =
       let shown = longest_shown installed metric spec steps include_current now in
-      tree_with_body installed.base metric shown (Durations (count_groups shown.rows))
+      tree_with_body installed.base metric shown (Durations (time_groups shown.rows))
 
 -- the clock at the last report, or the base
 abbrev pub last_report : ℕ → List Step → ℕ

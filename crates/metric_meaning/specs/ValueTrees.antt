@@ -1,5 +1,5 @@
 -- How a report shows rows of values, pushed or pulled.
-use Rattle.std.specs.Prelude.{ℤ, List}
+use Rattle.std.specs.Prelude.{ℤ, false, List}
 use Rattle.report_writer.specs.declared.tree.NumBucket.{NumBucket}
 use Rattle.report_writer.specs.declared.tree.MetricBody.{MetricBody}
 use Rattle.report_writer.specs.declared.tree.MetricBody.TheVariants.{Values}
@@ -13,6 +13,6 @@ valued_bucket row = record { start = row.start; end = row.end; value = row.value
 -- the rows of a metric of values, by their keys
 abbrev pub values_body : List (Row ℤ) → MetricBody
 values_body rows = Values (groups_of
-    (λ leaves slices buckets. record { leaves = leaves; slices = slices; buckets = buckets })
+    (λ leaves slices buckets. record { leaves = leaves; slices = slices; overflow = false; buckets = buckets })
     valued_bucket
     rows)

@@ -112,6 +112,13 @@ module _ {K C V : Type 0} (same : K → K → Bool) (exact : (x y : K) → Decid
           none = more_is 0 (dropped_new same exact old.bound (map arrival_key came) key absent room ∙ omega arith);
         }
 
+    -- what came with an admitted key isn't dropped
+    pub none_lost : (mid : Table K V) (fresh : V) (place : ℕ) → Admits old mid key fresh (At place)
+        → lost_with old.bound came key share ≡ 0
+    none_lost mid fresh place admits =
+        let in_it : IsIn mid = ⊎_elim (is_there mid place) (is_added mid fresh place) admits in
+        in_it.none
+
     -- A key that was admitted, and whose row was written anew, has what came with this arrival; `fresh` is what no
     -- arrival makes.
     pub tabled_at : (mid new : Table K V) (fresh : V) (place : ℕ) (next : V → V) → Admits old mid key fresh (At place)
@@ -144,6 +151,20 @@ module _ {K C V : Type 0} (same : K → K → Bool) (exact : (x y : K) → Decid
               ∙ lost_more lost (lost_with old.bound came key share) in_it.none;
         }
 
+    -- the keys stay where one was turned away
+    keys_stay : (new : Table K V) → IsTurnedAway old new key
+        → admitted same old.bound (map arrival_key came ++ key ∷ []) ≡ admitted same old.bound (map arrival_key came)
+    keys_stay new away =
+        let full : old.bound ≤ length (admitted same old.bound (map arrival_key came)) =
+        omega (arith, size_is, away.full) in
+        admitted_full same old.bound (map arrival_key came) key full
+
+    -- what came with a key that was turned away is dropped
+    pub one_lost : (new : Table K V) → IsTurnedAway old new key → lost_with old.bound came key share ≡ 1
+    one_lost new away =
+        more_is 1 (dropped_same same old.bound (map arrival_key came) key (keys_stay new away)
+        ∙ ap (λ b. dropped same old.bound (map arrival_key came) + (if not b then 1 else 0)) (absent_is away.absent))
+
     -- A key that was turned away is counted.
     pub tabled_away : (new : Table K V) → IsTurnedAway old new key
         → IsTabled new (came ++ (key, share) ∷ []) (lost + lost_with old.bound came key share)
@@ -151,13 +172,8 @@ module _ {K C V : Type 0} (same : K → K → Bool) (exact : (x y : K) → Decid
         let ks = admitted same old.bound (map arrival_key came) in
         let all = map arrival_key (came ++ (key, share) ∷ []) in
         let after = value (came ++ (key, share) ∷ []) in
-        let absent = absent_is away.absent in
-        let full : old.bound ≤ length ks = omega (arith, size_is, away.full) in
-        let grows : admitted same old.bound (map arrival_key came ++ key ∷ []) ≡ ks =
-        admitted_full same old.bound (map arrival_key came) key full in
-        let one : lost_with old.bound came key share ≡ 1 =
-        more_is 1 (dropped_same same old.bound (map arrival_key came) key grows
-        ∙ ap (λ b. dropped same old.bound (map arrival_key came) + (if not b then 1 else 0)) absent) in
+        let grows : admitted same old.bound (map arrival_key came ++ key ∷ []) ≡ ks = keys_stay new away in
+        let one : lost_with old.bound came key share ≡ 1 = one_lost new away in
         let rows : new.rows ≡ rows_by after (admitted same old.bound all) =
         ap (λ (table : Table K V). table.rows) away.added ∙ rows_are
         ∙ rows_by-absent same exact (value came) after key (keys old) away.absent stays

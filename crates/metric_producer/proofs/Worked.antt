@@ -1,5 +1,8 @@
 -- Worked cases of the definitions, by computing.
 use Rattle.std.proofs.Common.{◌≡◌, ℕ, ◌==◌, Bool, true, false, not, if◌then◌else◌, List, [], ◌∷◌, ◌++◌, refl, Option, Some, None, arith}
+use Rattle.bucket_clock.specs.declared.crossings.Crossings.{Crossings}
+use Rattle.bucket_clock.specs.Clock.{ends_of}
+use Rattle.metric_producer.specs.Joining.{IsJoined}
 use Rattle.metric_producer.specs.Calls.{Call, Got, Learned, Crossed, CutAt, Took, Demands, standing_of}
 use Rattle.metric_producer.specs.Rules.{IsAdmitted}
 use Rattle.metric_producer.specs.LaneCalls.{LaneStep, Logged, Reported, calls_of, event_asks, event_demands}
@@ -177,3 +180,30 @@ begun_again may = absurd (false_true may.1)
   where
     false_true : false ≡ true → ⊥
     false_true same = grind (arith, same)
+
+-- A crossing of 13, and one of 23, 33 and 43 after it, are one of all four; one that leaves an end out isn't.
+abbrev to_13 : Crossings
+to_13 = record { start = 3; first_end = 13; full_buckets = 0; size = 10 }
+
+abbrev from_13_to_43 : Crossings
+from_13_to_43 = record { start = 13; first_end = 23; full_buckets = 2; size = 10 }
+
+abbrev to_43 : Crossings
+to_43 = record { start = 3; first_end = 13; full_buckets = 3; size = 10 }
+
+both : IsJoined to_13 from_13_to_43 to_43
+both = record {
+  follows = refl;
+  next_end = refl;
+  same_size = refl;
+  start = refl;
+  first_end = refl;
+  size = refl;
+  full_buckets = refl;
+}
+
+ends_of_both : ends_of (Some to_43) ≡ ends_of (Some to_13) ++ ends_of (Some from_13_to_43)
+ends_of_both = refl
+
+not_without_23 : ¬ IsJoined to_13 (record from_13_to_43 { first_end = 33 }) to_43
+not_without_23 made = absurd (omega (arith, made.next_end))

@@ -4,6 +4,8 @@ pub mod LaneCalls
 pub mod OpeningCalls
 pub mod Collecting
 pub mod Moves
+pub mod Joining
 pub mod RowItems
+pub mod CellItems
 pub use Rattle.bucket_clock.specs.Clock
 pub use Rattle.bucket_clock.specs.Sound

@@ -1,6 +1,10 @@
-//! The flat form of rows.
+//! The flat form of rows, and of what a row of counts holds.
+ghost use Rattle.std.proofs.Common.{refl};
+ghost use Rattle.std.specs.Prelude.{◌≡◌, Bool, MatchOption};
+ghost use Rattle.flat_form.specs.Bounded.{short_head};
+ghost use Rattle.metric_producer.specs.CellItems.{overflow_number};
 
-use crate::Row;
+use crate::{CountCell, Row};
 use atom_record::MetricKey;
 use flat_form::{Flat, FlatError, Items};
 use std::alloc::{AllocError, Global};
@@ -50,5 +54,56 @@ impl<V: Flat + Drop> Flat for Row<V> {
             value,
         };
         Ok((row, next))
+    }
+}
+
+// Whether a row is an overflow row, as a number.
+fn encode_overflow(overflow: bool) -> u64
+    ensures { result ≡ overflow_number overflow }
+{
+    if overflow { 1 } else { 0 }
+}
+
+// Whether a row is an overflow row by a number, or none where it is another number.
+fn decode_overflow(number: u64) -> Option<bool>
+    ensures { MatchOption result ((overflow : Bool) → ¬ (overflow_number overflow ≡ number))
+        (λ overflow. overflow_number overflow ≡ number) }
+{
+    match number {
+        0 => Some(false),
+        1 => Some(true),
+        _ => None,
+    }
+}
+
+impl Flat for CountCell {
+    ghost use Rattle.flat_form.specs.Bounded.{none_few};
+    ghost use Rattle.metric_producer.specs.CellItems.{cell_items, cell_bounded, cell_savable};
+
+    ghost flat = { cell_items };
+
+    ghost head = { 2 };
+
+    ghost short = { short_head 2 refl };
+
+    ghost bounded = { cell_bounded };
+
+    ghost few = { none_few cell_items };
+
+    ghost spells = { cell_savable };
+
+    fn show_valid(&self) {}
+
+    fn flatten(&self, alloc: Global, out: &mut Items) -> Result<(), AllocError> {
+        (self.number, encode_overflow(self.overflow)).flatten(alloc, out)
+    }
+
+    fn build(alloc: Global, items: &Items, place: usize) -> Result<(CountCell, usize), FlatError> {
+        let (form, next) = <(u64, u64)>::build(alloc, items, place)?;
+        let (number, flag) = form;
+        let Some(overflow) = decode_overflow(flag) else {
+            return Err(FlatError::Bad);
+        };
+        Ok((CountCell { number, overflow }, next))
     }
 }

@@ -6,4 +6,4 @@ mod producer;
 mod row;
 
 pub use producer::{Producer, ReadsEvents};
-pub use row::{Closed, Row};
+pub use row::{Closed, CountCell, Row};

@@ -17,6 +17,15 @@ pub struct Row<V> {
     pub value: V,
 }
 
+/// What a row of a metric that counts holds.
+#[derive(Clone, Copy, PartialEq)]
+pub struct CountCell {
+    /// The number of arrivals.
+    pub number: u64,
+    /// Whether it is an overflow row, which gathers the arrivals whose keys found no room.
+    pub overflow: bool,
+}
+
 /// What a metric closed, dropped and missed since its last report. A contract sees what the report shows.
 #[derive(Drop)]
 pub struct Closed<V> {

@@ -17,3 +17,4 @@ pub mod ChoiceNumbersLemmas
 pub mod SumsItemsLemmas
 pub mod BooksItemsLemmas
 pub mod PulledValueItemsLemmas
+pub mod JoiningLemmas

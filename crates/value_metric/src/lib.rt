@@ -4,6 +4,7 @@
 mod books_flat;
 mod key_sums;
 mod keyed_int;
+mod laws;
 mod numbers;
 mod pulled_flat;
 mod pulled_value;
@@ -13,6 +14,7 @@ mod sums_flat;
 mod value_books;
 
 pub use keyed_int::{KeyedInt, SnapInts};
+pub use laws::crossings_join;
 pub use metric_producer::{Closed, Producer, Row};
 pub use pulled_value::PulledValue;
 pub use pushed_value::PushedValue;

@@ -1,90 +1,149 @@
 //! Metrics that count.
 ghost use Rattle.std.specs.Prelude.{◌≡◌, ◌+◌, ◌≤◌, ◌∷◌, ◌<◌, [], length, OnOk, IfOk};
+ghost use Rattle.std.specs.Option.{option_copied};
 ghost use Rattle.bucket_meaning.specs.Limits.{time_limit};
 ghost use Rattle.config_links.specs.declared.linked.LKind.TheVariants.{Count};
 ghost use Rattle.config_links.specs.SoundConfig.{IsSize, IsBound, MayBeWithin};
 ghost use Rattle.metric_meaning.specs.Histories.{Installation};
 ghost use Rattle.metric_meaning.specs.Scenes.{Scene};
 ghost use Rattle.metric_meaning.specs.CountSteps.{arrival_by};
+ghost use Rattle.metric_meaning.specs.CountTrees.{count_tree};
+ghost use Rattle.metric_lane.specs.LaneClock.{NoEndBefore};
 ghost use Rattle.report_writer.specs.Writable.{IsWritableMetric};
 ghost use Rattle.client_engine.specs.Handed.{IsOfScene};
 ghost use Rattle.client_engine.specs.NextSteps.{TakesReport};
 ghost use Rattle.client_engine.specs.AskedFew.{AsksFew, arrival_questions};
 ghost use Rattle.client_engine.specs.Bringing.{handed_with, brought_step, TakesBrought};
-ghost use Rattle.client_engine.specs.CountsAlong.{CountsAlong, counts_shown_by, shown_count, count_entry};
+ghost use Rattle.client_engine.specs.CountsAlong.{CountsAlong, counts_shown_by, shown_count, shown_group};
 
-use crate::arriving::{arriving, key_in};
+use crate::arriving::{arriving, metric_key_into};
 use crate::brought::Brought;
 use crate::conditions::Conditions;
 use crate::groups::{RowShape, groups_of};
+use crate::leaves::leaves_of;
 use crate::moments::comes_by_pull;
 use crate::request::ReportRequest;
-use atom_record::{MetricKey, Slice};
+use atom_record::MetricKey;
 use condition_links::Steps;
 use config_links::LMetric;
-use count_metric::CountProducer;
+use count_metric::{CountCell, CountProducer};
 use metric_lane::Lane;
 use metric_producer::Closed;
-use report_writer::{LeafTree, MetricBody, MetricTree, NumBucket, NumTree};
+use report_writer::{MetricBody, MetricTree, NumBucket, NumTree};
 use sd_base::Seq;
 use session_frames::time_of;
 use std::alloc::{AllocError, Global};
+use std::marker::Model;
 use std::sync::ledger::Ledger;
 
-/// The greatest count that a report shows.
-const MOST_SHOWN: u64 = (1 << 63) - 1;
+/// The greatest count or time that a report shows.
+pub const MOST_SHOWN: u64 = (1 << 63) - 1;
 
-/// Counts, as a report shows them.
-pub struct CountRows;
+/// Counts, as a report shows them. The overflow rows are a group beside the rows of the empty key.
+struct CountRows;
 
 impl RowShape for CountRows {
-    type Value = u64;
+    ghost use Rattle.client_engine.specs.CountGroups.{group_exact};
+
+    type Value = CountCell;
+
+    type Group = (MetricKey, bool);
 
     type Bucket = NumBucket;
 
     type Tree = NumTree;
 
+    ghost group_of = { shown_group };
+
+    ghost exact = { group_exact };
+
     ghost bucket = { shown_count };
 
-    ghost tree = { count_entry };
+    ghost tree = { count_tree };
 
-    fn bucket(_alloc: Global, start: u64, end: u64, value: u64) -> Result<NumBucket, AllocError> {
+    fn group_of(key: MetricKey, value: &CountCell) -> (MetricKey, bool) {
+        (key, value.overflow)
+    }
+
+    fn bucket(
+        _alloc: Global,
+        start: u64,
+        end: u64,
+        value: CountCell,
+    ) -> Result<NumBucket, AllocError> {
         Ok(NumBucket {
             start,
             end,
-            value: value.min(MOST_SHOWN) as i64,
+            value: value.number.min(MOST_SHOWN) as i64,
         })
     }
 
-    fn tree(leaves: Seq<LeafTree>, slices: Seq<Slice>, buckets: Seq<NumBucket>) -> NumTree
-        ensures { result ≡ count_entry leaves slices buckets }
+    fn tree(
+        alloc: Global,
+        group: (MetricKey, bool),
+        buckets: Seq<NumBucket>,
+    ) -> Result<NumTree, AllocError>
+        ensures { IfOk result (λ shown. shown ≡ count_tree group buckets) }
     {
-        NumTree {
+        let (MetricKey { dims, slices }, overflow) = group;
+        let leaves = leaves_of(alloc, dims)?;
+        Ok(NumTree {
             leaves,
             slices,
-            overflow: false,
+            overflow,
             buckets,
-        }
+        })
     }
 }
 
-/// The lane of a metric that counts, which begins at `base`.
-pub fn begin(alloc: Global, base: u64, metric: &LMetric) -> Lane<CountProducer>
+/// A lane of counts, and the room in which the keys that arrive are made.
+#[derive(Drop)]
+pub struct CountLane {
+    lane: Lane<CountProducer>,
+    /// The key that arrived last. Nothing of it is read again.
+    key: MetricKey,
+}
+
+impl Model for CountLane {
+    ghost use Rattle.client_engine.specs.CountsAlong as along;
+
+    ghost Value = { along.CountLane };
+
+    ghost view = { λ it. it.lane };
+}
+
+impl CountLane {
+    /// A time before which no bucket ends. A frame before it that brings nothing leaves the lane as it is.
+    pub fn next_end(&self) -> u64
+        ensures { NoEndBefore result self.now.clock }
+    {
+        self.lane.next_end()
+    }
+}
+
+/// The lane of a metric that counts, with overflow rows or without, which begins at `base`.
+pub fn begin(alloc: Global, base: u64, metric: &LMetric, overflow: bool) -> CountLane
     requires fits { base < time_limit }
-    requires counts { metric.now.kind ≡ Count }
+    requires counts { metric.now.kind ≡ Count overflow }
     requires sized { IsSize metric.now.size }
     requires bound { IsBound metric.now.bound }
     ensures { (installed : Installation) → installed.base ≡ base
         → CountsAlong metric.now installed [] result }
 {
     let bound = metric.bound as usize;
-    let producer = CountProducer::new(alloc, base, metric.size, bound);
-    Lane::new(base, metric.size, producer)
+    let producer = CountProducer::new(alloc, base, metric.size, bound, overflow);
+    CountLane {
+        lane: Lane::new(base, metric.size, producer),
+        key: MetricKey {
+            dims: Seq::new(alloc),
+            slices: Seq::new(alloc),
+        },
+    }
 }
 
 /// A frame of the log comes.
 pub fn log<L: Ledger>(
-    lane: &mut Lane<CountProducer>,
+    lane: &mut CountLane,
     alloc: Global,
     metric: &LMetric,
     brought: &Brought<'_>,
@@ -98,13 +157,14 @@ pub fn log<L: Ledger>(
     ensures asks { AsksFew (CountsAlong metric.now) (metric.now ∷ [])
         conditions.old brought.now lane.old asks.old asks.new }
 {
-    let key = arrival(alloc, metric, brought, conditions, asks)?;
-    lane.log(time_of(brought.frame), comes_by_pull(brought.frame), key)
+    let CountLane { lane, key } = lane;
+    let key = arrival(alloc, metric, brought, conditions, asks, key)?;
+    lane.log_of(time_of(brought.frame), comes_by_pull(brought.frame), key)
 }
 
 /// A report, and what it shows of the metric.
 pub fn report(
-    lane: &mut Lane<CountProducer>,
+    lane: &mut CountLane,
     alloc: Global,
     metric: &LMetric,
     base: u64,
@@ -114,7 +174,7 @@ pub fn report(
         metric.now base request lane.old lane.new) }
     ensures writable { IfOk result IsWritableMetric }
 {
-    let closed = lane.report(request.at, request.include_current)?;
+    let closed = lane.lane.report(request.at, request.include_current)?;
     counts_tree(alloc, base, metric, closed)
 }
 
@@ -123,7 +183,7 @@ fn counts_tree(
     alloc: Global,
     base: u64,
     metric: &LMetric,
-    closed: Closed<u64>,
+    closed: Closed<CountCell>,
 ) -> Result<MetricTree, AllocError>
     ensures { IfOk result (λ tree. tree ≡ counts_shown_by base metric.now closed) }
 {
@@ -139,17 +199,19 @@ fn counts_tree(
     })
 }
 
-// The key that arrives with a frame, if an atom does.
-fn arrival<L: Ledger>(
+// The key that arrives with a frame, if an atom does. It is made in the room of another.
+fn arrival<'k, L: Ledger>(
     alloc: Global,
     metric: &LMetric,
     brought: &Brought<'_>,
     conditions: &mut Conditions,
     asks: &mut Steps<L>,
-) -> Result<Option<MetricKey>, AllocError>
+    room: &'k mut MetricKey,
+) -> Result<Option<&'k MetricKey>, AllocError>
     requires within { MayBeWithin (length conditions.old.predicates) metric.now.condition }
     ensures key { (scene : Scene) → IsOfScene (handed_with conditions.old brought.now) scene
-        → IfOk result (λ key. key ≡ arrival_by scene metric.now (brought_step brought.now)) }
+        → IfOk result (λ key. option_copied key
+        ≡ arrival_by scene metric.now (brought_step brought.now)) }
     ensures known { conditions.new ≡ conditions.old }
     ensures asks { asks.new ≤ asks.old
         + arrival_questions brought.now.frame.now brought.now.matched.now metric.now }
@@ -157,5 +219,6 @@ fn arrival<L: Ledger>(
     let Some(atom) = arriving(alloc, metric, brought, conditions, asks)? else {
         return Ok(None);
     };
-    Ok(Some(key_in(alloc, metric, brought, atom)?))
+    metric_key_into(alloc, metric, brought, atom, room)?;
+    Ok(Some(room))
 }

@@ -6,6 +6,7 @@ ghost use Rattle.config_links.specs.SoundConfig.{IsSize, IsBound, AreSamples, Ma
 ghost use Rattle.config_links.specs.declared.linked.LKind.TheVariants as kinds;
 ghost use Rattle.metric_meaning.specs.Histories.{Installation};
 ghost use Rattle.metric_meaning.specs.GaugeTrees.{gauge_body};
+ghost use Rattle.metric_meaning.specs.KeyTrees.{key_tree};
 ghost use Rattle.report_writer.specs.Writable.{AreWritableRows, IsWritableMetric};
 ghost use Rattle.client_engine.specs.NextSteps.{TakesReport};
 ghost use Rattle.client_engine.specs.AskedFew.{AsksFew};
@@ -16,17 +17,18 @@ use crate::arriving::{arriving, key_in};
 use crate::brought::Brought;
 use crate::conditions::Conditions;
 use crate::groups::{RowShape, groups_of};
+use crate::leaves::leaves_of;
 use crate::messages::message_rows;
 use crate::moments::comes_by_pull;
 use crate::request::ReportRequest;
 use crate::samples::sample_of;
-use atom_record::{Atom, Slice};
+use atom_record::{Atom, MetricKey};
 use condition_links::Steps;
 use config_links::{LKind, LMetric};
 use gauge_metric::{KeyedAtom, PushedGauge};
 use metric_lane::Lane;
 use metric_producer::{Closed, Row};
-use report_writer::{AtomBucket, AtomMsg, GaugeTree, LeafTree, MetricBody, MetricTree};
+use report_writer::{AtomBucket, AtomMsg, GaugeTree, MetricBody, MetricTree};
 use sd_base::Seq;
 use session_frames::time_of;
 use std::alloc::{AllocError, Global};
@@ -36,15 +38,27 @@ use std::sync::ledger::Ledger;
 struct SampleRows;
 
 impl RowShape for SampleRows {
+    ghost use Rattle.atom_record.specs.Equal.{metric_key_exact};
+
     type Value = Seq<AtomMsg>;
+
+    type Group = MetricKey;
 
     type Bucket = AtomBucket;
 
     type Tree = GaugeTree;
 
+    ghost group_of = { λ key value. key };
+
+    ghost exact = { metric_key_exact };
+
     ghost bucket = { sample_bucket };
 
-    ghost tree = { gauge_entry };
+    ghost tree = { key_tree gauge_entry };
+
+    fn group_of(key: MetricKey, _value: &Seq<AtomMsg>) -> MetricKey {
+        key
+    }
 
     fn bucket(
         _alloc: Global,
@@ -59,14 +73,20 @@ impl RowShape for SampleRows {
         })
     }
 
-    fn tree(leaves: Seq<LeafTree>, slices: Seq<Slice>, buckets: Seq<AtomBucket>) -> GaugeTree
-        ensures { result ≡ gauge_entry leaves slices buckets }
+    fn tree(
+        alloc: Global,
+        group: MetricKey,
+        buckets: Seq<AtomBucket>,
+    ) -> Result<GaugeTree, AllocError>
+        ensures { IfOk result (λ shown. shown ≡ key_tree gauge_entry group buckets) }
     {
-        GaugeTree {
+        let MetricKey { dims, slices } = group;
+        let leaves = leaves_of(alloc, dims)?;
+        Ok(GaugeTree {
             leaves,
             slices,
             buckets,
-        }
+        })
     }
 }
 

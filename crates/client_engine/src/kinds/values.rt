@@ -5,6 +5,7 @@ ghost use Rattle.bucket_meaning.specs.Limits.{time_limit};
 ghost use Rattle.config_links.specs.SoundConfig.{IsSize, IsBound, MayBeWithin};
 ghost use Rattle.metric_meaning.specs.Histories.{Installation};
 ghost use Rattle.metric_meaning.specs.Scenes.{Scene};
+ghost use Rattle.metric_meaning.specs.KeyTrees.{key_tree};
 ghost use Rattle.metric_meaning.specs.ValueLeaves.{ValueLeaf};
 ghost use Rattle.metric_meaning.specs.PushedValueSteps.{value_arrival_by};
 ghost use Rattle.metric_calls.specs.ValueCalls.{keyed_int};
@@ -20,15 +21,16 @@ use crate::brought::Brought;
 use crate::conditions::Conditions;
 use crate::groups::{RowShape, groups_of};
 use crate::integers::read_integer;
+use crate::leaves::leaves_of;
 use crate::moments::comes_by_pull;
 use crate::request::ReportRequest;
-use atom_record::Slice;
+use atom_record::MetricKey;
 use condition_links::Steps;
 use config_links::{LKind, LMetric};
 use config_types::Aggregation;
 use metric_lane::Lane;
 use metric_producer::Closed;
-use report_writer::{LeafTree, MetricBody, MetricTree, NumBucket, NumTree};
+use report_writer::{MetricBody, MetricTree, NumBucket, NumTree};
 use sd_base::Seq;
 use session_frames::time_of;
 use std::alloc::{AllocError, Global};
@@ -39,29 +41,43 @@ use value_metric::{KeyedInt, PushedValue};
 struct ValueRows;
 
 impl RowShape for ValueRows {
+    ghost use Rattle.atom_record.specs.Equal.{metric_key_exact};
+
     type Value = i64;
+
+    type Group = MetricKey;
 
     type Bucket = NumBucket;
 
     type Tree = NumTree;
 
+    ghost group_of = { λ key value. key };
+
+    ghost exact = { metric_key_exact };
+
     ghost bucket = { shown_value };
 
-    ghost tree = { value_entry };
+    ghost tree = { key_tree value_entry };
+
+    fn group_of(key: MetricKey, _value: &i64) -> MetricKey {
+        key
+    }
 
     fn bucket(_alloc: Global, start: u64, end: u64, value: i64) -> Result<NumBucket, AllocError> {
         Ok(NumBucket { start, end, value })
     }
 
-    fn tree(leaves: Seq<LeafTree>, slices: Seq<Slice>, buckets: Seq<NumBucket>) -> NumTree
-        ensures { result ≡ value_entry leaves slices buckets }
+    fn tree(alloc: Global, group: MetricKey, buckets: Seq<NumBucket>) -> Result<NumTree, AllocError>
+        ensures { IfOk result (λ shown. shown ≡ key_tree value_entry group buckets) }
     {
-        NumTree {
+        let MetricKey { dims, slices } = group;
+        let leaves = leaves_of(alloc, dims)?;
+        Ok(NumTree {
             leaves,
             slices,
             overflow: false,
             buckets,
-        }
+        })
     }
 }
 

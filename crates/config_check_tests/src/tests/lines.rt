@@ -6,11 +6,16 @@ use std::test::Fail;
 type Row = (&'static str, &'static [u8], &'static str);
 
 /// Configurations without a fault: matchers, predicates, states, metrics.
-const ACCEPTED: [Row; 4] = [
+const ACCEPTED: [Row; 5] = [
     ("no record", b"", "ok 0 0 0 0"),
     (
         "one count",
         b"\x3a\x06\x08\x01\x12\x02\x08\x05\x1a\x04\x08\x64\x10\x01",
+        "ok 1 0 0 1",
+    ),
+    (
+        "a count with an overflow row",
+        b"\x3a\x06\x08\x01\x12\x02\x08\x05\x1a\x15\x08\x64\x10\x01\x22\x06\x08\x05\x1a\x02\x08\x01\x28\xe8\x07\xc8\x3e\x02\xd0\x3e\x01",
         "ok 1 0 0 1",
     ),
     (
@@ -69,7 +74,7 @@ fn names_the_cause_and_the_offset(rt: HostRuntime) -> Result<(), Fail> {
 }
 
 /// The numbers that lead to a record that is not supported.
-const UNSUPPORTED: [Row; 4] = [
+const UNSUPPORTED: [Row; 5] = [
     ("an activation", b"\x8a\x01\0", "refused unsupported 17"),
     (
         "a field of a matcher that isn't listed",
@@ -85,6 +90,11 @@ const UNSUPPORTED: [Row; 4] = [
         "a field of five digits",
         b"\x3a\x04\xc8\x83\x06\x01",
         "refused unsupported 7.12345",
+    ),
+    (
+        "an overflow row of a value",
+        b"\x3a\x06\x08\x01\x12\x02\x08\x05\x22\x07\x08\x64\x10\x01\xd0\x3e\x01",
+        "refused unsupported 4.1002",
     ),
 ];
 

@@ -5,7 +5,7 @@ use Rattle.client_engine.proofs.track.lane_of.Goals as goal
 -- a sound metric that counts has buckets
 pub begin-requires-clause-sized : goal.begin-requires-clause-sized
 begin-requires-clause-sized c =
-    counts_sized c.requires.tracked.linked c.args.metric.now c.requires.tracked.sound c.in-Count.is
+    counts_sized c.requires.tracked.linked c.args.metric.now c.in-Count.overflow c.requires.tracked.sound c.in-Count.is
 
 -- the values of a metric are those at its leaf
 pub returns-in-PushedValue-clause-stands : goal.returns-in-PushedValue-clause-stands

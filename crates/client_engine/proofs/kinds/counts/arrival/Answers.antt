@@ -8,5 +8,5 @@ pub returns-clause-key : goal.returns-clause-key
 returns-clause-key g c = λ scene found.
     let metric = c.args.metric.now in
     let comes = rw (c.in-Some.is) at (c.in_ok-atom.ensures.atom scene found) in
-    ap (λ key. Some key) (c.in_ok-key_in.ensures c.args.conditions.now scene found)
+    ap (λ key. Some key) (c.in_ok-metric_key_into.ensures c.args.conditions.now scene found)
     ∙ ap (option_map (atom_key scene metric)) comes

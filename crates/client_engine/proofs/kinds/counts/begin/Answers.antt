@@ -6,5 +6,5 @@ use Rattle.client_engine.proofs.kinds.counts.begin.Goals as goal
 
 pub returns : goal.returns
 returns c = λ installed is.
-    counts_begin installed c.args.base c.args.metric.now c.new.result is c.requires.fits c.requires.counts
-    (c.new.ensures (count_params c.args.base c.args.metric.now) [] refl refl c.new-producer.ensures)
+    counts_begin installed c.args.base c.args.metric.now c.args.overflow c.new.result is c.requires.fits c.requires.counts
+    (c.new.ensures (count_params c.args.base c.args.metric.now c.args.overflow) [] refl refl c.new-producer.ensures)

@@ -1,8 +1,20 @@
 -- A key came.
-use Rattle.std.proofs.Common.{refl}
-use Rattle.std.proofs.lemmas.Result.{on_ok_weaker}
+use Rattle.std.proofs.Common.{refl, subst, arith}
+use Rattle.dim_table.specs.Table.{Admits}
 use Rattle.count_metric.proofs.CountLemmas.{came}
+use Rattle.count_metric.proofs.TallyLemmas.{takes_at, takes_none}
 use Rattle.count_metric.proofs.count.CountProducerReadsEvents.event_of.Goals as goal
 
-pub returns : goal.returns
-returns c = on_ok_weaker c.arrive.result (came c.args.self.now _ c.args.at c.args.ev.now refl refl) c.arrive.ensures.taken
+-- it has a row
+pub returns-in-At : goal.returns-in-At
+returns-in-At c = came c.args.self.now _ c.args.at c.args.ev.now 0 refl refl refl (λ n is. omega (arith, is))
+    (takes_at c.args.self.now.table c.admit_copy.new.self c.args.ev.now c.in-At.place c.raise.new.table
+    (subst (Admits c.args.self.now.table c.admit_copy.new.self c.args.ev.now 0) c.in-At.is c.in_ok-place.ensures.answer)
+    c.raise.ensures.bound c.raise.ensures.raised)
+
+-- it found no room
+pub returns-in-Full : goal.returns-in-Full
+returns-in-Full c = came c.args.self.now _ c.args.at c.args.ev.now 1 refl refl refl
+    (λ n is. omega (arith, is, c.saturating_add-self.ensures))
+    (takes_none c.args.self.now.table c.admit_copy.new.self c.args.ev.now
+    (subst (Admits c.args.self.now.table c.admit_copy.new.self c.args.ev.now 0) c.in-Full.is c.in_ok-place.ensures.answer))

@@ -3,7 +3,7 @@ use Rattle.std.proofs.Common.{◌∙◌, ◌++◌, sym, ap, arith, append-nil}
 use Rattle.std.proofs.lemmas.List.{drop_all}
 use Rattle.metric_meaning.specs.StateSlices.{named_slices}
 use Rattle.client_engine.proofs.SliceLemmas.{slices_on}
-use Rattle.client_engine.proofs.slices.slices_of.Goals as goal
+use Rattle.client_engine.proofs.slices.slices_into.Goals as goal
 
 -- one more slice
 pub loop-by-preserved : goal.loop-by-preserved

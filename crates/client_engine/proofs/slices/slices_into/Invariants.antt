@@ -3,7 +3,7 @@ use Rattle.std.proofs.Common.{◌≡◌, ◌++◌, List, drop}
 use Rattle.atom_record.specs.declared.log.LogFrame.{LogFrame}
 use Rattle.state_slicer.specs.StateBooks.{StateBookStandsFor}
 use Rattle.metric_meaning.specs.StateSlices.{named_slices}
-use Rattle.client_engine.proofs.slices.slices_of.Given as goal
+use Rattle.client_engine.proofs.slices.slices_into.Given as goal
 
 abbrev pub invariant-loop-by : goal.invariant-loop-by
 invariant-loop-by g l = (log : List LogFrame) → StateBookStandsFor l.book log

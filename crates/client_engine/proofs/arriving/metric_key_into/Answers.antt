@@ -1,0 +1,18 @@
+-- The values at the dimensions, and the slices.
+use Rattle.std.proofs.Common.{◌∙◌, ap}
+use Rattle.std.proofs.lemmas.Result.{on_ok_weaker}
+use Rattle.metric_meaning.specs.Readings.{atom_reading}
+use Rattle.metric_meaning.specs.StateSlices.{named_slices}
+use Rattle.client_engine.specs.Bringing.{handed_with}
+use Rattle.client_engine.proofs.ArrivingLemmas.{key_there}
+use Rattle.client_engine.proofs.arriving.metric_key_into.Goals as goal
+
+pub returns : goal.returns
+returns c = λ known scene found.
+    let brought = c.args.brought.now in
+    let reading = atom_reading c.args.atom.now in
+    on_ok_weaker c.slices_into.result
+    (λ shown. key_there (handed_with known brought) scene c.args.metric.now reading c.key_into.new.key
+    c.slices_into.new.shown found c.in_ok-key_into.ensures.key
+    (shown ∙ ap (λ by. named_slices brought.states.now scene.log reading by) c.as_slice-by.ensures))
+    (c.slices_into.ensures scene.log found.book)

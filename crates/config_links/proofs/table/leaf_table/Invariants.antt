@@ -1,6 +1,0 @@
-use Rattle.std.proofs.Common.{◌≡◌, take}
-use Rattle.config_links.proofs.table.leaf_table.Given as goal
-
--- the table has the leaves so far
-abbrev pub invariant-loop-leaf : goal.invariant-loop-leaf
-invariant-loop-leaf l = l.table ≡ take l.leaf-index l.leaves
