@@ -42,15 +42,18 @@ slice_fed (Group atom_id group) = fed.u32 atom_id ++ fed.i64 group
 abbrev pub metric_key_fed : MetricKey → HashWrites
 metric_key_fed key = fed.slice leaf_fed key.dims ++ flat_map slice_fed key.slices
 
--- equal ones feed alike, since they are the same
+-- equal values feed alike, since they are the same
 pub value_alike : Alike value.ghosts.eq value_fed
 value_alike = same_Alike value_fed value_exact
 
+-- so do equal leaves
 pub leaf_alike : Alike leaf.ghosts.eq leaf_fed
 leaf_alike = same_Alike leaf_fed leaf_exact
 
+-- so do equal slices
 pub slice_alike : Alike slice.ghosts.eq slice_fed
 slice_alike = same_Alike slice_fed slice_exact
 
+-- so do equal keys
 pub metric_key_alike : Alike metric_key.ghosts.eq metric_key_fed
 metric_key_alike = same_Alike metric_key_fed metric_key_exact

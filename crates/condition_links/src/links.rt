@@ -1,5 +1,5 @@
 //! What a link asks of its predicate.
-ghost use Rattle.std.specs.Prelude.{◌≡◌, IfOk, OnOk, length, slice_get, position, map};
+ghost use Rattle.std.specs.Prelude.{◌≡◌, IfOk, OnOk, IfSome, length, slice_get, position, map};
 ghost use Rattle.std.specs.Option.{option_copied};
 ghost use Rattle.field_select.specs.FieldSets.{same_leaf};
 ghost use Rattle.field_select.specs.LeafValues.{key_of};
@@ -7,10 +7,14 @@ ghost use Rattle.condition_links.specs.LinkBinds.{binds_of, with_next, leaf_or_m
 
 use atom_record::{Atom, DimKey, Leaf};
 use config_links::LLink;
+use distinct::Distinct;
 use field_select::{FieldSet, LeafPath, key_of};
 use predicate_state::{Bind, BindList};
 use sd_base::{Duplicate, Seq};
 use std::alloc::{AllocError, Global};
+
+// So many leaves are looked through faster than a table is made of them.
+const FEW: usize = 16;
 
 /// What a link asks of its predicate for an atom that is counted.
 pub fn bind_atom(alloc: Global, link: &LLink, atom: &Atom) -> Result<BindList, AllocError>
@@ -44,30 +48,45 @@ pub fn read_key(
 ) -> Result<DimKey, AllocError>
     ensures { IfOk result (λ values. values ≡ key_values_at inner.now key.now set.now) }
 {
-    values_at(
-        alloc,
-        inner.leaves.as_slice(),
-        key.as_slice(),
-        set.leaves.as_slice(),
-    )
+    let leaves = inner.leaves.as_slice();
+    let table = table_of(alloc, leaves)?;
+    values_at(alloc, leaves, &table, key.as_slice(), set.leaves.as_slice())
 }
 
 // The values that a key of some leaves has at others.
 fn values_at(
     alloc: Global,
     leaves: &[LeafPath],
+    table: &Option<Distinct<LeafPath>>,
     values: &[Leaf],
     others: &[LeafPath],
 ) -> Result<DimKey, AllocError>
+    requires { IfSome table.now (λ those. those ≡ leaves.now) }
     ensures { IfOk result (λ key.
         key ≡ map (λ leaf. value_at_leaf leaves.now values.now leaf) others.now) }
 {
     let mut key = Seq::new(alloc);
     for leaf in others {
-        let value = read_value(alloc, leaves, values, leaf)?;
+        let value = read_value(alloc, leaves, table, values, leaf)?;
         key.push(value)?;
     }
     Ok(key)
+}
+
+// The leaves as a table, by which each is found in one step; none where they are few, or where one comes twice.
+fn table_of(alloc: Global, leaves: &[LeafPath]) -> Result<Option<Distinct<LeafPath>>, AllocError>
+    ensures { IfOk result (λ table. IfSome table (λ those. those ≡ leaves.now)) }
+{
+    if leaves.len() <= FEW {
+        return Ok(None);
+    }
+    let mut table = Distinct::new(alloc);
+    for leaf in leaves {
+        if !table.add(*leaf)? {
+            return Ok(None);
+        }
+    }
+    Ok(Some(table))
 }
 
 // Each place with the value that has its turn.
@@ -96,10 +115,18 @@ fn bind_next(binds: &mut BindList, places: &[u32], value: Leaf) -> Result<(), Al
 }
 
 // The first place at which a leaf stands.
-fn place_of(leaves: &[LeafPath], leaf: &LeafPath) -> Option<usize>
+fn place_of(
+    leaves: &[LeafPath],
+    table: &Option<Distinct<LeafPath>>,
+    leaf: &LeafPath,
+) -> Option<usize>
+    requires { IfSome table.now (λ those. those ≡ leaves.now) }
     ensures { result ≡ position (λ other. same_leaf other leaf.now) leaves.now }
 {
-    leaves.iter().position(|other| *other == *leaf)
+    match table {
+        Some(table) => table.place(leaf),
+        None => leaves.iter().position(|other| *other == *leaf),
+    }
 }
 
 // A copy of what was found.
@@ -116,12 +143,14 @@ fn copy_of(alloc: Global, found: Option<&Leaf>) -> Result<Leaf, AllocError>
 fn read_value(
     alloc: Global,
     leaves: &[LeafPath],
+    table: &Option<Distinct<LeafPath>>,
     values: &[Leaf],
     leaf: &LeafPath,
 ) -> Result<Leaf, AllocError>
+    requires { IfSome table.now (λ those. those ≡ leaves.now) }
     ensures { IfOk result (λ value. value ≡ value_at_leaf leaves.now values.now leaf.now) }
 {
-    match place_of(leaves, leaf) {
+    match place_of(leaves, table, leaf) {
         Some(place) => copy_of(alloc, values.get(place)),
         None => Ok(Leaf::Missing),
     }

@@ -12,6 +12,7 @@ use Rattle.config_types.specs.declared.metric.CountDef.{CountDef}
 use Rattle.config_types.specs.declared.metric.DurationDef.{DurationDef}
 use Rattle.config_types.specs.declared.metric.Sliced.{Sliced}
 use Rattle.distinct.specs.Places.{first_place}
+use Rattle.field_select.specs.declared.leaf.LeafPath.{LeafPath}
 use Rattle.link_graph.specs.Ids.{reaches_by_id}
 use Rattle.link_rules.specs.Cycles.{cycle_fault}
 use Rattle.link_rules.specs.Entities.{no_slicing}
@@ -24,7 +25,7 @@ use Rattle.config_links.specs.declared.linked.LMetric.{LMetric}
 use Rattle.config_links.specs.declared.linked.LKind.TheVariants as kinds
 use Rattle.config_links.specs.LinkMetrics.{bad_rest}
 use Rattle.config_links.specs.MetricKinds.{bad_kind, linked_kind}
-use Rattle.config_links.specs.MetricLinks.{bad_links}
+use Rattle.config_links.specs.MetricLinks.{bad_links, rising_places, leaf_bound}
 use Rattle.config_links.specs.MetricSlices.{bad_times, bad_slices}
 use Rattle.config_links.specs.Verdict.{verdict, bad_type_fault, bad_part_fault, bad_metric_fault, matchers_linked, predicates_linked, states_linked, metrics_linked, linked_form}
 
@@ -231,3 +232,16 @@ unfolding verdict rule_fault id_fault reference_fault name_fault cycle_fault bad
     no_id_fault duplicate_id_fault matcher_ids predicate_ids state_ids metric_ids unknown_matcher_fault
     unknown_predicate_fault unknown_state_fault reaches_by_id first_place
 hidden_nothing = refl
+
+-- the leaf of a field
+abbrev leaf_of : ℕ → LeafPath
+leaf_of field = record { field = field; position = None; sub = 0 }
+
+-- leaves that are bound to the last and to the first of three dimensions stand in the order of these
+places_in_order : rising_places 3 (2 ∷ 0 ∷ []) ≡ 0 ∷ 2 ∷ []
+places_in_order = refl
+
+leaves_in_order : map (leaf_bound (2 ∷ 0 ∷ []) (leaf_of 7 ∷ leaf_of 8 ∷ [])) (0 ∷ 2 ∷ [])
+    ≡ leaf_of 8 ∷ leaf_of 7 ∷ []
+unfolding first_place
+leaves_in_order = refl

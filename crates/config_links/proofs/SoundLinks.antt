@@ -12,7 +12,6 @@ use Rattle.distinct.specs.Repeats.{repeat_in, AreApart}
 use Rattle.distinct.proofs.ApartLemmas.{apart_without_repeat}
 use Rattle.field_select.specs.declared.leaf.LeafPath.{LeafPath}
 use Rattle.field_select.specs.FieldSets.{IsLeaf, same_leaf}
-use Rattle.field_select.specs.contracts.leaf.LeafPathExact.TheImpl.Laws.{exact-law as leaf_exact}
 use Rattle.link_rules.specs.EntityIds.{place_in, set_ids}
 use Rattle.link_rules.specs.EntityNames.{link_condition}
 use Rattle.config_links.specs.declared.linked.LPredicate.{LPredicate}
@@ -26,7 +25,7 @@ use Rattle.config_links.specs.MetricLinks.{rising_places, leaf_bound, is_even, i
 use Rattle.config_links.specs.SoundConfig.{AreWithin, IsSoundLink}
 use Rattle.config_links.proofs.LinkOrderLemmas.{places_within, places_rise, some_place, leaves_kept, leaves_once}
 use Rattle.config_links.proofs.SoundParts.{left_holds, right_holds, set_is_sound, apart_mapped}
-use Rattle.config_links.proofs.SoundNames.{Known, MayBeKnown, led_to, same_place, pairs_mapped, place_below, not_zero, something_found, passes_first}
+use Rattle.config_links.proofs.SoundNames.{Known, MayBeKnown, led_to, same_place, pairs_mapped, place_below, not_zero, something_found}
 
 module _ (scope : Scope) (many : length scope.ids.predicates ≤ length scope.predicates) (condition : Option ℤ) where
   abbrev links_sound_here : List LLink → Type 0

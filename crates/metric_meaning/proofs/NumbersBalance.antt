@@ -15,7 +15,7 @@ use Rattle.metric_meaning.specs.Histories.{What, Logged, Reported, Step}
 use Rattle.metric_meaning.specs.StepMarks.{marks_of}
 use Rattle.metric_meaning.specs.Ways.{Way}
 use Rattle.metric_meaning.specs.Balance.{part_until, books_after, books_told, told_parts, told_drops, drops_by, waiting_parts, all_parts, shown_by_reports, not_kept_by_reports, waiting_for_report, arrived_in, turned_away_in}
-use Rattle.metric_meaning.proofs.MarksBalance.{coming_with, lost_at, all_that_came}
+use Rattle.metric_meaning.proofs.MarksBalance.{arrived_by_all, lost_at, all_that_came}
 use Rattle.metric_meaning.proofs.PartedLemmas.{sum_by-same, sum_by-zero, sum_by-flat_map}
 use Rattle.metric_meaning.proofs.AmountsBalance.{rows_balance, amounts_balance}
 use Rattle.metric_meaning.proofs.StepsBalance.{IsQuietNews, drops_at, all_came, all_told}
@@ -86,7 +86,7 @@ module _ {K C R : Type 0} (way : Way (K × C) K C R) (quiet : IsQuietNews way.sh
 
   -- How many have arrived.
   abbrev pub came_by : List Step → ℕ
-  came_by steps = length (coming_with (marks_of way.shown way.base way.size steps))
+  came_by steps = length (arrived_by_all (marks_of way.shown way.base way.size steps))
 
   arrived_all : (steps : List Step) (now : ℕ) → sum_by (arrived_in way one) (all_parts way steps now) ≡ came_by steps
   arrived_all steps now =

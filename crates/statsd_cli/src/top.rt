@@ -147,16 +147,19 @@ fn counted_replay<S: Source, K: Sink, L: Ledger>(
     let mut hub = Hub::new(alloc, FieldJudge::new());
     let mut asks: Steps<L> = Steps::new(blank);
     'frames: loop {
-        let frame = match reader.read(input) {
-            Ok(Some(frame)) => frame,
-            Ok(None) => return Ending::Done,
+        let read = match reader.read(input) {
+            Ok(read) => read,
             Err(e) => return ending_of(e),
+        };
+        let Some(frame) = read else {
+            return Ending::Done;
         };
         let Ok(reply) = hub.serve(frame, &mut asks) else {
             return Ending::NoMemory;
         };
-        if put_reply(reply, out).is_err() {
-            return Ending::WriteFault;
+        match put_reply(reply, out) {
+            Ok(()) => (),
+            Err(_) => return Ending::WriteFault,
         }
     }
 }

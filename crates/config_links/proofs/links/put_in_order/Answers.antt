@@ -1,11 +1,9 @@
 -- One place more.
-use Rattle.std.proofs.Common.{◌++◌, ◌∷◌, [], List, ℕ, map, get_or, nat_eq, sym, ap, ◌∙◌}
+use Rattle.std.proofs.Common.{get_or, nat_eq, sym, ap, ◌∙◌}
 use Rattle.std.specs.Option.{unwrap_or}
 use Rattle.std.specs.List.{list_any}
 use Rattle.distinct.specs.Places.{first_place}
-use Rattle.field_select.specs.declared.leaf.LeafPath.{LeafPath}
 use Rattle.config_links.specs.LinkReasons.{no_leaf}
-use Rattle.config_links.specs.MetricLinks.{leaf_bound, rising_places}
 use Rattle.config_links.proofs.LinkOrderLemmas.{places_with, places_without}
 use Rattle.config_links.proofs.links.put_in_order.Goals as goal
 use Rattle.config_links.proofs.links.put_in_order.Goals.{then-contains+in_ok-push+in_ok-push-2, else-contains}

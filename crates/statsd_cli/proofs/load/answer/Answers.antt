@@ -1,4 +1,4 @@
--- The whole session is left at the beginning; a frame that is served was answered and counted, whatever reply is let go.
+-- The whole session is left at the beginning; a frame that is served was answered and counted.
 use Rattle.statsd_cli.proofs.LoadLemmas.{begins_under_way, served_under_way}
 use Rattle.statsd_cli.proofs.load.answer.Goals as goal
 
@@ -6,48 +6,6 @@ pub frames-init : goal.frames-init
 frames-init g c =
     begins_under_way _ _ _ _ c.new-session.ensures.whole c.new-session.ensures.good c.new-session.ensures.few
     c.new-hub.ensures.stands
-
-pub frames-preserved-in_ok-reply : goal.frames-preserved-in_ok-reply
-frames-preserved-in_ok-reply g c =
-    let way = c.frames.invariant in
-    served_under_way _ _ _ _ _ way c.in-Some.frame _ c.in-Some.ensures c.in_ok-frame.frame c.in_ok-frame.ensures _
-    c.in_ok-reply.reply c.with-totals.result (c.in_ok-reply.ensures.serves way.answered way.stands)
-    c.with-totals.ensures.with c.with-totals.ensures.bound
-
-pub frames-preserved-in_ok-reply-2 : goal.frames-preserved-in_ok-reply-2
-frames-preserved-in_ok-reply-2 g c =
-    let way = c.frames.invariant in
-    served_under_way _ _ _ _ _ way c.in-Some.frame _ c.in-Some.ensures c.in_ok-frame.frame c.in_ok-frame.ensures _
-    c.in_ok-reply.reply c.with-totals.result (c.in_ok-reply.ensures.serves way.answered way.stands)
-    c.with-totals.ensures.with c.with-totals.ensures.bound
-
-pub frames-preserved-in_ok-reply-3 : goal.frames-preserved-in_ok-reply-3
-frames-preserved-in_ok-reply-3 g c =
-    let way = c.frames.invariant in
-    served_under_way _ _ _ _ _ way c.in-Some.frame _ c.in-Some.ensures c.in_ok-frame.frame c.in_ok-frame.ensures _
-    c.in_ok-reply.reply c.with-totals.result (c.in_ok-reply.ensures.serves way.answered way.stands)
-    c.with-totals.ensures.with c.with-totals.ensures.bound
-
-pub frames-preserved-in_ok-reply-4 : goal.frames-preserved-in_ok-reply-4
-frames-preserved-in_ok-reply-4 g c =
-    let way = c.frames.invariant in
-    served_under_way _ _ _ _ _ way c.in-Some.frame _ c.in-Some.ensures c.in_ok-frame.frame c.in_ok-frame.ensures _
-    c.in_ok-reply.reply c.with-totals.result (c.in_ok-reply.ensures.serves way.answered way.stands)
-    c.with-totals.ensures.with c.with-totals.ensures.bound
-
-pub frames-preserved-in_ok-reply-5 : goal.frames-preserved-in_ok-reply-5
-frames-preserved-in_ok-reply-5 g c =
-    let way = c.frames.invariant in
-    served_under_way _ _ _ _ _ way c.in-Some.frame _ c.in-Some.ensures c.in_ok-frame.frame c.in_ok-frame.ensures _
-    c.in_ok-reply.reply c.with-totals.result (c.in_ok-reply.ensures.serves way.answered way.stands)
-    c.with-totals.ensures.with c.with-totals.ensures.bound
-
-pub frames-preserved-in_ok-reply-6 : goal.frames-preserved-in_ok-reply-6
-frames-preserved-in_ok-reply-6 g c =
-    let way = c.frames.invariant in
-    served_under_way _ _ _ _ _ way c.in-Some.frame _ c.in-Some.ensures c.in_ok-frame.frame c.in_ok-frame.ensures _
-    c.in_ok-reply.reply c.with-totals.result (c.in_ok-reply.ensures.serves way.answered way.stands)
-    c.with-totals.ensures.with c.with-totals.ensures.bound
 
 pub frames-preserved : goal.frames-preserved
 frames-preserved g c =

@@ -11,23 +11,22 @@ pub returns-in-Err : goal.returns-in-Err
 returns-in-Err g c =
     let along = c.frames.invariant in
     let cause = c.in-Err.ensures.cause in
-    rw c.ending_of.ensures (ends_refused _ _ _ _ c.frames.reader c.frames.hub along (g.S.Source.state c.next.new.src)
+    rw c.ending_of.ensures (ends_refused _ _ _ _ c.frames.reader c.frames.hub along (g.S.Source.state c.read.new.src)
     c.in-Err.e (c.in-Err.ensures.refuses along.unended) cause.later
     (λ is. cause.failed (ap Err is)))
 
 pub returns-in_default : goal.returns-in_default
 returns-in_default g c =
     let along = c.frames.invariant in
-    ends_done _ _ _ _ c.frames.reader c.frames.hub along (g.S.Source.state c.next.new.src) c.in-Ok.given.0
+    ends_done _ _ _ _ c.frames.reader c.frames.hub along (g.S.Source.state c.read.new.src) c.read.new.self
     (rw c.in_default.is at (c.in-Ok.ensures.gives along.unended))
 
 pub frames-smaller : goal.frames-smaller
 frames-smaller g c =
     let along = c.frames.invariant in
-    comes_nearer _ _ _ _ c.frames.reader c.frames.hub along _ c.in-Ok.given.0 c.in-Some.frame
+    comes_nearer _ _ _ _ c.frames.reader c.frames.hub along _ c.read.new.self c.in-Some.frame
     (rw c.in-Some.is at (c.in-Ok.ensures.gives along.unended)) (g.K.Sink.state c.put_reply.new.out)
 
--- the reply was put; what it is made of is let go in one of seven ways, of which none changes the outcome
 pub frames-preserved : goal.frames-preserved
 frames-preserved g c =
     let along = c.frames.invariant in
@@ -35,79 +34,7 @@ frames-preserved g c =
     let in_time = subst (λ n. IsInTime n c.in-Some.frame) (clock_along _ _ _ _ c.frames.reader c.frames.hub along)
     good.1 in
     let served = c.in-Ok-serve.ensures.serves along.frames along.stands in_time in
-    goes_on _ _ _ _ c.frames.reader c.frames.hub along _ c.in-Ok.given.0 c.in-Some.frame
-    (rw c.in-Some.is at (c.in-Ok.ensures.gives along.unended)) _ c.serve.new.self c.in-Ok-serve.reply
-    served.0 served.1 c.in-Ok-put_reply.ensures.bytes c.in-Ok.ensures.cause.later
-    c.in-Ok-put_reply.ensures.cause.later
-
-pub frames-preserved-in-Ok-put_reply : goal.frames-preserved-in-Ok-put_reply
-frames-preserved-in-Ok-put_reply g c =
-    let along = c.frames.invariant in
-    let good = rw c.in-Some.is at c.in-Ok.ensures.faultless in
-    let in_time = subst (λ n. IsInTime n c.in-Some.frame) (clock_along _ _ _ _ c.frames.reader c.frames.hub along)
-    good.1 in
-    let served = c.in-Ok-serve.ensures.serves along.frames along.stands in_time in
-    goes_on _ _ _ _ c.frames.reader c.frames.hub along _ c.in-Ok.given.0 c.in-Some.frame
-    (rw c.in-Some.is at (c.in-Ok.ensures.gives along.unended)) _ c.serve.new.self c.in-Ok-serve.reply
-    served.0 served.1 c.in-Ok-put_reply.ensures.bytes c.in-Ok.ensures.cause.later
-    c.in-Ok-put_reply.ensures.cause.later
-
-pub frames-preserved-in-Ok-put_reply-2 : goal.frames-preserved-in-Ok-put_reply-2
-frames-preserved-in-Ok-put_reply-2 g c =
-    let along = c.frames.invariant in
-    let good = rw c.in-Some.is at c.in-Ok.ensures.faultless in
-    let in_time = subst (λ n. IsInTime n c.in-Some.frame) (clock_along _ _ _ _ c.frames.reader c.frames.hub along)
-    good.1 in
-    let served = c.in-Ok-serve.ensures.serves along.frames along.stands in_time in
-    goes_on _ _ _ _ c.frames.reader c.frames.hub along _ c.in-Ok.given.0 c.in-Some.frame
-    (rw c.in-Some.is at (c.in-Ok.ensures.gives along.unended)) _ c.serve.new.self c.in-Ok-serve.reply
-    served.0 served.1 c.in-Ok-put_reply.ensures.bytes c.in-Ok.ensures.cause.later
-    c.in-Ok-put_reply.ensures.cause.later
-
-pub frames-preserved-in-Ok-put_reply-3 : goal.frames-preserved-in-Ok-put_reply-3
-frames-preserved-in-Ok-put_reply-3 g c =
-    let along = c.frames.invariant in
-    let good = rw c.in-Some.is at c.in-Ok.ensures.faultless in
-    let in_time = subst (λ n. IsInTime n c.in-Some.frame) (clock_along _ _ _ _ c.frames.reader c.frames.hub along)
-    good.1 in
-    let served = c.in-Ok-serve.ensures.serves along.frames along.stands in_time in
-    goes_on _ _ _ _ c.frames.reader c.frames.hub along _ c.in-Ok.given.0 c.in-Some.frame
-    (rw c.in-Some.is at (c.in-Ok.ensures.gives along.unended)) _ c.serve.new.self c.in-Ok-serve.reply
-    served.0 served.1 c.in-Ok-put_reply.ensures.bytes c.in-Ok.ensures.cause.later
-    c.in-Ok-put_reply.ensures.cause.later
-
-pub frames-preserved-in-Ok-put_reply-4 : goal.frames-preserved-in-Ok-put_reply-4
-frames-preserved-in-Ok-put_reply-4 g c =
-    let along = c.frames.invariant in
-    let good = rw c.in-Some.is at c.in-Ok.ensures.faultless in
-    let in_time = subst (λ n. IsInTime n c.in-Some.frame) (clock_along _ _ _ _ c.frames.reader c.frames.hub along)
-    good.1 in
-    let served = c.in-Ok-serve.ensures.serves along.frames along.stands in_time in
-    goes_on _ _ _ _ c.frames.reader c.frames.hub along _ c.in-Ok.given.0 c.in-Some.frame
-    (rw c.in-Some.is at (c.in-Ok.ensures.gives along.unended)) _ c.serve.new.self c.in-Ok-serve.reply
-    served.0 served.1 c.in-Ok-put_reply.ensures.bytes c.in-Ok.ensures.cause.later
-    c.in-Ok-put_reply.ensures.cause.later
-
-pub frames-preserved-in-Ok-put_reply-5 : goal.frames-preserved-in-Ok-put_reply-5
-frames-preserved-in-Ok-put_reply-5 g c =
-    let along = c.frames.invariant in
-    let good = rw c.in-Some.is at c.in-Ok.ensures.faultless in
-    let in_time = subst (λ n. IsInTime n c.in-Some.frame) (clock_along _ _ _ _ c.frames.reader c.frames.hub along)
-    good.1 in
-    let served = c.in-Ok-serve.ensures.serves along.frames along.stands in_time in
-    goes_on _ _ _ _ c.frames.reader c.frames.hub along _ c.in-Ok.given.0 c.in-Some.frame
-    (rw c.in-Some.is at (c.in-Ok.ensures.gives along.unended)) _ c.serve.new.self c.in-Ok-serve.reply
-    served.0 served.1 c.in-Ok-put_reply.ensures.bytes c.in-Ok.ensures.cause.later
-    c.in-Ok-put_reply.ensures.cause.later
-
-pub frames-preserved-in-Ok-put_reply-6 : goal.frames-preserved-in-Ok-put_reply-6
-frames-preserved-in-Ok-put_reply-6 g c =
-    let along = c.frames.invariant in
-    let good = rw c.in-Some.is at c.in-Ok.ensures.faultless in
-    let in_time = subst (λ n. IsInTime n c.in-Some.frame) (clock_along _ _ _ _ c.frames.reader c.frames.hub along)
-    good.1 in
-    let served = c.in-Ok-serve.ensures.serves along.frames along.stands in_time in
-    goes_on _ _ _ _ c.frames.reader c.frames.hub along _ c.in-Ok.given.0 c.in-Some.frame
+    goes_on _ _ _ _ c.frames.reader c.frames.hub along _ c.read.new.self c.in-Some.frame
     (rw c.in-Some.is at (c.in-Ok.ensures.gives along.unended)) _ c.serve.new.self c.in-Ok-serve.reply
     served.0 served.1 c.in-Ok-put_reply.ensures.bytes c.in-Ok.ensures.cause.later
     c.in-Ok-put_reply.ensures.cause.later
@@ -120,12 +47,12 @@ returns-in-Err-put_reply g c =
     good.1 in
     let served = c.in-Ok-serve.ensures.serves along.frames along.stands in_time in
     let failed = c.in-Err-put_reply.ensures in
-    ends_in_reply _ _ _ _ c.frames.reader c.frames.hub along _ c.in-Ok.given.0 c.in-Some.frame
+    ends_in_reply _ _ _ _ c.frames.reader c.frames.hub along _ c.read.new.self c.in-Some.frame
     (rw c.in-Some.is at (c.in-Ok.ensures.gives along.unended)) _ c.in-Ok-serve.reply served.1 failed.bytes
     failed.cause.failed
 
-pub returns-in-Err-serve : goal.returns-in-Err-serve
-returns-in-Err-serve g c =
+pub returns-in_default-serve : goal.returns-in_default-serve
+returns-in_default-serve g c =
     let along = c.frames.invariant in
-    ends_in_step _ _ _ _ c.frames.reader c.frames.hub along _ c.in-Ok.given.0 c.in-Some.frame
+    ends_in_step _ _ _ _ c.frames.reader c.frames.hub along _ c.read.new.self c.in-Some.frame
     (rw c.in-Some.is at (c.in-Ok.ensures.gives along.unended)) _ along.written

@@ -6,5 +6,5 @@ use Rattle.client_engine.proofs.kinds.counts.report.Goals as goal
 pub returns-clause-reports : goal.returns-clause-reports
 returns-clause-reports c =
     IfOk-weaker c.counts_tree.result _ _
-    (λ tree is. counts_report c.args.metric.now c.args.base c.args.request c.args.lane.now
-    c.report.new.self c.in_ok-closed.closed c.in_ok-closed.ensures tree is) c.counts_tree.ensures
+    (λ tree is. rw (← c.lane.view_is) (counts_report c.args.metric.now c.args.base c.args.request c.lane.inside.lane
+    c.report.new.self c.in_ok-closed.closed c.in_ok-closed.ensures tree is)) c.counts_tree.ensures
