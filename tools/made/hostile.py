@@ -215,7 +215,7 @@ def hashed(state, number):
 def colliding_pair(first):
     """Two numbers whose key has the same hash, whatever the first is: the second brings the hasher's state to 0."""
     state = FIRST_STATE
-    for number in (2, 1, 1, first, 1, 1):  # two leaves; one value, a Long; the number; one value, a Long
+    for number in (2, first):  # two leaves, and the first of them
         state = hashed(state, number)
     return first, state - 2**64 if state >= 2**63 else state
 
