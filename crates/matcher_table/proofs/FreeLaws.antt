@@ -1,5 +1,5 @@
 -- What stays true where slots without a use are freed, one after another.
-use Rattle.std.proofs.Common.{◌≡◌, ◌≢◌, ℕ, ◌+◌, ◌<◌, List, length, get_or, set, take, Option, Some, None, false, refl, sym, ap, subst, ◌∙◌, arith, inl, inr}
+use Rattle.std.proofs.Common.{◌≡◌, ◌≢◌, ℕ, ◌+◌, ◌<◌, ◌≤◌, List, length, get_or, set, take, Option, Some, None, false, refl, sym, ap, subst, ◌∙◌, arith, inl, inr}
 use Rattle.std.specs.List.{remove}
 use Rattle.std.proofs.lemmas.Bool.{cases_eq, cases_lt}
 use Rattle.std.proofs.lemmas.List.{take_all}
@@ -8,10 +8,12 @@ use Rattle.matcher_table.specs.declared.store.Store.{Store}
 use Rattle.matcher_table.specs.Slots.{matcher_at, children_of, times_among}
 use Rattle.matcher_table.specs.Finding.{slot_for}
 use Rattle.matcher_table.specs.Steps.{Releases}
-use Rattle.matcher_table.specs.StoreParts.{AreSlotsHeld, StoreIsHeld, StoreIsIndexed, IsUsed, UsedFrom, Frees, ChangesOutside, table_in}
+use Rattle.matcher_table.specs.StoreParts.{AreSlotsHeld, AreReady, StoreIsHeld, StoreIsIndexed, StoreIsReady, IsUsed, UsedFrom, Frees, ChangesOutside, table_in}
+use Rattle.matcher_table.specs.Hanging.{slots_under, atom_ids, UnhangsFrom}
 use Rattle.matcher_table.proofs.Counting.{one_if_other, places_more, take_remove_below}
 use Rattle.matcher_table.proofs.IndexLaws.{indexed_freed, some_same}
 use Rattle.matcher_table.proofs.HeldLaws.{cases_live, held_freed, freed_others, now_gone, live_before, order_live, outside_live, live_listed}
+use Rattle.matcher_table.proofs.ReadyLaws.{ready_freed}
 
 -- all that is live stands in the order
 pub used_from_all : (store : Store) → StoreIsHeld store → UsedFrom store (length store.order.items)
@@ -130,6 +132,31 @@ module _ (old new : Store) (at : ℕ) (held : StoreIsHeld old) (within : at < le
         indexed_freed indexed new.bodies.slots new.index (get_or old.order.items at 0) live.0 live.1 gone others
         (lost live.0 live.1) (λ wanted other. stay wanted (λ e. other (some_same wanted live.0 (sym e ∙ live.1))))
   ]
+
+  -- the lists of its ids lose it, and what stays keeps its idle truth
+  pub freed_ready : StoreIsReady old
+      → UnhangsFrom old.hanging (get_or old.order.items at 0) new.hanging → new.idle.items ≡ old.idle.items
+      → new.last ≡ old.last → (at < old.settled → new.settled + 1 ≡ old.settled)
+      → (old.settled ≤ at → new.settled ≡ old.settled) → StoreIsReady new
+  freed_ready ready unhangs idle last above below =
+      let under = slots_under new.hanging in
+      let ids = atom_ids new.hanging in
+      let removed : AreSlotsHeld new.bodies.slots (remove old.order.items at) new.outside.items new.uses.items
+      old.results.items =
+      subst (λ bs. AreSlotsHeld new.bodies.slots (remove old.order.items at) new.outside.items new.uses.items bs)
+      results
+      (subst (λ (xs : List ℕ). AreSlotsHeld new.bodies.slots xs new.outside.items new.uses.items new.results.items)
+      order freed_held) in
+      subst (λ (xs : List ℕ). AreReady new.bodies.slots under ids xs new.settled new.last new.idle.items
+      new.results.items) (sym order)
+      (subst (λ (n : ℕ). AreReady new.bodies.slots under ids (remove old.order.items at) new.settled n new.idle.items
+      new.results.items) (sym last)
+      (subst (λ bs. AreReady new.bodies.slots under ids (remove old.order.items at) new.settled old.last bs
+      new.results.items) (sym idle)
+      (subst (λ bs. AreReady new.bodies.slots under ids (remove old.order.items at) new.settled old.last
+      old.idle.items bs) (sym results)
+      (ready_freed old.hanging new.hanging ready held at (get_or old.order.items at 0) new.settled removed within gone
+      others (sym (held.uses_are (get_or old.order.items at 0)) ∙ no_uses) unhangs above below))))
 
   pub freed_frees : Frees old new
   freed_frees = record {

@@ -7,3 +7,7 @@ pub mod MadeLaws
 pub mod TreeLaws
 pub mod EvaluationLaws
 pub mod TableLaws
+pub mod IdleLaws
+pub mod EnoughLaws
+pub mod HangingLaws
+pub mod ReadyLaws

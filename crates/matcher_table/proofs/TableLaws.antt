@@ -5,37 +5,24 @@ use Rattle.std.specs.List.{All}
 use Rattle.std.proofs.lemmas.Bool.{cases_eq}
 use Rattle.std.proofs.lemmas.List.{length-map, get_or-map}
 use mathlib.Core.Logic.{∥∥₁_elim}
-use Rattle.atom_record.specs.declared.atom.Atom.{Atom}
 use Rattle.matcher_table.specs.declared.shared.SharedMatcher.{SharedMatcher}
 use Rattle.matcher_table.specs.declared.shared.SharedMatcher.TheVariants.{Simple, Combination}
 use Rattle.matcher_table.specs.declared.store.Store.{Store}
 use Rattle.matcher_table.specs.declared.table.Slot.{Slot}
-use Rattle.matcher_table.specs.Slots.{matcher_at, children_of, times_among}
+use Rattle.matcher_table.specs.Slots.{matcher_at, times_among}
 use Rattle.matcher_table.specs.Tables.{IsUnchanged}
 use Rattle.matcher_table.specs.Steps.{Interns, Releases}
 use Rattle.matcher_table.specs.Trees.{slot_tree}
-use Rattle.matcher_table.specs.Truths.{IsEnough, MayAskAbout}
+use Rattle.matcher_table.specs.Truths.{MayAskAbout}
 use Rattle.matcher_table.specs.TableFacts.{IsSoundTable, KeepsTrees}
-use Rattle.matcher_table.specs.StoreParts.{AreSlotsHeld, StoreIsHeld, StoreIsIndexed, StoreIsSound, UsedFrom, table_in}
+use Rattle.matcher_table.specs.StoreParts.{AreSlotsHeld, StoreIsHeld, StoreIsIndexed, StoreIsReady, StoreIsSound, UsedFrom, table_in}
 use Rattle.matcher_table.proofs.Counting.{place_of}
-use Rattle.matcher_table.proofs.HeldLaws.{cases_live, some_live, live_listed}
+use Rattle.matcher_table.proofs.HeldLaws.{cases_live}
 use Rattle.matcher_table.proofs.IndexLaws.{matchers_set, one_slot}
 use Rattle.matcher_table.proofs.TreeLaws.{trees_meet_their_step, named_live, tree_kept}
 
 module _ {slots : List (Option SharedMatcher)} {order outside uses : List ℕ} {results : List Bool}
     (held : AreSlotsHeld slots order outside uses results) where
-  -- the whole order is enough for every atom
-  pub order_is_enough : (atom : Atom) → IsEnough slots atom order
-  order_is_enough atom = record {
-    simple = λ s matcher is of_atom. live_listed held s (some_live (matcher_at slots s) (Simple matcher) is);
-    above = λ s c named among. live_listed held s (λ gone.
-        let none : times_among c (children_of (matcher_at slots s)) ≡ 0 =
-        ap (λ (o : Option SharedMatcher). times_among c (children_of o)) gone in
-        omega arith);
-    once = λ s. omega (arith, held.listed s);
-    after = λ i c here named among. held.after i c here named;
-  }
-
   may_ask : (s : ℕ) (o : Option SharedMatcher) → matcher_at slots s ≡ o → MayAskAbout o
   may_ask s None e = tt
   may_ask s (Some (Simple matcher)) e = held.askable s matcher e
@@ -51,6 +38,9 @@ had_held store sound = ∥∥₁_elim sound (hlevel props) (λ s. s.held)
 pub had_indexed : (store : Store) → ∥ StoreIsSound store ∥₁ → StoreIsIndexed store
 had_indexed store sound = ∥∥₁_elim sound (hlevel (props, matchers_set)) (λ s. s.indexed)
 
+pub had_ready : (store : Store) → ∥ StoreIsSound store ∥₁ → StoreIsReady store
+had_ready store sound = ∥∥₁_elim sound (hlevel props) (λ s. s.ready)
+
 pub had_used : (store : Store) → ∥ StoreIsSound store ∥₁ → UsedFrom store 0
 had_used store sound s live =
     let some : 0 < get_or store.outside.items s 0 + get_or store.uses.items s 0 =
@@ -60,27 +50,43 @@ had_used store sound s live =
       | inr more ↦ inl (inl (omega arith))
     ]
 
-pub is_sound : (store : Store) → StoreIsHeld store → StoreIsIndexed store → UsedFrom store 0 → StoreIsSound store
-is_sound store held indexed used = record {
-  held = held;
-  indexed = indexed;
-  used = λ s live. elim (used s live) [
+-- what the law of every table rests on
+abbrev pub HasItsUses : Store → Type 0
+HasItsUses store =
+    StoreIsHeld store × StoreIsIndexed store
+    × ((s : ℕ) → matcher_at store.bodies.slots s ≢ None
+    → 0 < get_or store.outside.items s 0 + get_or store.uses.items s 0)
+
+pub is_sound : (store : Store) → StoreIsHeld store → StoreIsIndexed store → UsedFrom store 0 → HasItsUses store
+is_sound store held indexed used = (
+  held,
+  indexed,
+  λ s live. elim (used s live) [
     | inr counted ↦ absurd (omega arith)
     | inl has ↦ elim has [ inl outer ↦ omega arith | inr child ↦ omega arith ]
-  ];
+  ],
+)
+
+pub store_sound : (store : Store) → StoreIsHeld store → StoreIsIndexed store → StoreIsReady store → UsedFrom store 0
+    → StoreIsSound store
+store_sound store held indexed ready used = record {
+  held = held;
+  indexed = indexed;
+  ready = ready;
+  used = (is_sound store held indexed used).2;
 }
 
 -- what callers may know of every table
-pub sound_table : (store : Store) → StoreIsSound store → IsSoundTable (table_in store)
+pub sound_table : (store : Store) → HasItsUses store → IsSoundTable (table_in store)
 sound_table store sound = record {
-  used = λ s live. omega (arith, sound.used s live, sound.held.uses_are s);
-  unused = λ s gone. omega (arith, sound.held.none_outside s gone, sound.held.none_below s gone);
+  used = λ s live. omega (arith, sound.2 s live, sound.0.uses_are s);
+  unused = λ s gone. omega (arith, sound.0.none_outside s gone, sound.0.none_below s gone);
   apart = λ s t live same. elim (cases_live (matcher_at store.bodies.slots s)) [
     | inl none ↦ absurd (live none)
-    | inr there ↦ one_slot sound.indexed s t there.0 there.1 (sym same ∙ there.1)
+    | inr there ↦ one_slot sound.1 s t there.0 there.1 (sym same ∙ there.1)
   ];
-  children = λ s c named. named_live sound.held s c named;
-  trees = λ s live. trees_meet_their_step sound.held s live;
+  children = λ s c named. named_live sound.0 s c named;
+  trees = λ s live. trees_meet_their_step sound.0 s live;
 }
 
 pub unchanged_trees : (old new : Store) → IsUnchanged (table_in old) (table_in new)

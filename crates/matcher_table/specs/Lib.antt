@@ -4,6 +4,8 @@ pub mod Slots
 pub mod Counts
 pub mod Trees
 pub mod Truths
+pub mod Idle
+pub mod Hanging
 pub mod Tables
 pub mod Steps
 pub mod TableFacts

@@ -1,6 +1,7 @@
 -- How a store holds a table. No public clause cites this.
-use Rattle.std.specs.Prelude.{◌≡◌, ◌≢◌, ◌⊎◌, ℕ, ◌+◌, ◌<◌, ◌≤◌, Bool, List, length, take, Option, Some, None, slice_index_or, is_some, vec_len, vec_capacity}
+use Rattle.std.specs.Prelude.{◌≡◌, ◌≢◌, ◌⊎◌, ℕ, ◌+◌, ◌<◌, ◌≤◌, Bool, false, List, length, take, Option, Some, None, slice_index_or, is_some, vec_len, vec_capacity}
 use Rattle.std.specs.List.{count_by}
+use Rattle.atom_record.specs.declared.atom.Atom.{Atom}
 use Rattle.config_types.specs.declared.matcher.SimpleMatcher.{SimpleMatcher}
 use Rattle.config_types.specs.Askable.{IsAskable}
 use Rattle.matcher_table.specs.declared.shared.SharedMatcher.{SharedMatcher}
@@ -10,6 +11,10 @@ use Rattle.matcher_table.specs.declared.store.Store.{Store}
 use Rattle.matcher_table.specs.Finding.{slot_for, HasSpare}
 use Rattle.matcher_table.specs.Slots.{matcher_at, children_of, times_among, child_uses, live_count}
 use Rattle.matcher_table.specs.Tables.{SlotTable}
+use Rattle.matcher_table.specs.Trees.{slot_tree}
+use Rattle.matcher_table.specs.Truths.{IsEnough}
+use Rattle.matcher_table.specs.Idle.{idle_truth}
+use Rattle.matcher_table.specs.Hanging.{slots_under, atom_ids}
 use Rattle.slab.specs.Slab.{HasRoomFor}
 
 -- All that a table keeps between two calls, but for one thing: a slot may have no use.
@@ -41,6 +46,42 @@ pub record IsIndexed (slots : List (Option SharedMatcher)) (index : SlotIndex) :
 -- the index of a store finds what is live
 abbrev pub StoreIsIndexed : Store → Type 0
 StoreIsIndexed store = IsIndexed store.bodies.slots store.index
+
+-- Where a list of slots is kept for each atom id, and a list of ids for each slot: what stands in the list of an id has
+-- the id, and of the slots that were there at the last atom those outside of its list have their idle truths.
+pub record AreRested (slots : List (Option SharedMatcher)) (under ids : ℕ → List ℕ) (order : List ℕ) (settled last : ℕ)
+    (idle results : List Bool) : Type 0 where
+  pub known : (s id : ℕ) → 0 < times_among s (under id) → 0 < times_among id (ids s)
+  pub idle_are : (s : ℕ) → matcher_at slots s ≢ None → slice_index_or idle s false ≡ idle_truth (slot_tree slots s)
+  pub room : (s : ℕ) → matcher_at slots s ≢ None → s < length idle
+  pub front : settled ≤ length order
+  pub rest : (s : ℕ) → 0 < times_among s (take settled order) → times_among s (under last) ≡ 0
+      → slice_index_or results s false ≡ slice_index_or idle s false
+
+-- and the list of each id is enough for its atoms
+pub record AreReady (slots : List (Option SharedMatcher)) (under ids : ℕ → List ℕ) (order : List ℕ) (settled last : ℕ)
+    (idle results : List Bool) : Type 0 where
+  pub enough : (atom : Atom) → IsEnough slots atom (under atom.id)
+  pub rested : AreRested slots under ids order settled last idle results
+
+-- the slots of a store are rested
+abbrev pub StoreIsRested : Store → Type 0
+StoreIsRested store =
+    AreRested store.bodies.slots (slots_under store.hanging) (atom_ids store.hanging) store.order.items store.settled
+    store.last store.idle.items store.results.items
+
+-- a store is ready for the next atom
+abbrev pub StoreIsReady : Store → Type 0
+StoreIsReady store =
+    AreReady store.bodies.slots (slots_under store.hanging) (atom_ids store.hanging) store.order.items store.settled
+    store.last store.idle.items store.results.items
+
+-- the lists are enough once a matcher stands in the slot that comes next
+abbrev pub IsEnoughWith : Store → SharedMatcher → Type 0
+IsEnoughWith store shared =
+    (slots : List (Option SharedMatcher)) → matcher_at slots store.bodies.vacant_key ≡ Some shared
+    → ((k : ℕ) → k ≢ store.bodies.vacant_key → matcher_at slots k ≡ matcher_at store.bodies.slots k)
+    → (atom : Atom) → IsEnough slots atom (slots_under store.hanging atom.id)
 
 -- the slot has a use
 abbrev pub IsUsed : Store → ℕ → Type 0
@@ -86,6 +127,7 @@ pub record HasRoomReserved (store : Store) : Type 0 where
   pub outside : store.bodies.vacant_key < length store.outside.items
   pub uses : store.bodies.vacant_key < length store.uses.items
   pub results : store.bodies.vacant_key < length store.results.items
+  pub idle : store.bodies.vacant_key < length store.idle.items
 
 -- nothing but the outside uses of one slot is other
 pub record ChangesOutside (old new : Store) (slot : ℕ) : Type 0 where
@@ -100,5 +142,6 @@ pub record ChangesOutside (old new : Store) (slot : ℕ) : Type 0 where
 pub record StoreIsSound (store : Store) : Type 0 where
   pub held : StoreIsHeld store
   pub indexed : StoreIsIndexed store
+  pub ready : StoreIsReady store
   pub used : (s : ℕ) → matcher_at store.bodies.slots s ≢ None
       → 0 < slice_index_or store.outside.items s 0 + slice_index_or store.uses.items s 0

@@ -1,5 +1,5 @@
 //! The truths of slots for one atom.
-ghost use Rattle.std.specs.Prelude.{◌≡◌, ◌≢◌, ℕ, ◌<◌, length, slice_index_or, ◌&&◌, false, None, if◌then◌else◌};
+ghost use Rattle.std.specs.Prelude.{◌≡◌, ◌≢◌, ◌⊎◌, ℕ, ◌<◌, length, take, slice_index_or, ◌&&◌, false, None, if◌then◌else◌};
 ghost use Rattle.std.specs.List.{All};
 ghost use Rattle.slab.specs.Slab.{get};
 ghost use Rattle.atom_record.specs.AtomSound.{HasNoFault};
@@ -9,7 +9,7 @@ ghost use Rattle.matcher_table.specs.Trees.{slot_tree, TreesMeetTheirStep, Child
 ghost use Rattle.matcher_table.specs.Truths.{has_id_of, asks_about, truth_with, tree_truth, IsEnough, HaveRisen, questions, MayAskAbout};
 
 use crate::SharedMatcher;
-use crate::operation::joined_at;
+use crate::operation::{id_of, joined_at};
 use atom_record::Atom;
 use config_types::SimpleMatcher;
 use matcher_eval::Judge;
@@ -84,8 +84,40 @@ fn ask<J: Judge>(matcher: &SimpleMatcher, atom: &Atom, judge: &mut J) -> bool
 fn is_of(matcher: &SimpleMatcher, atom: &Atom) -> bool
     ensures { result ≡ has_id_of atom.now matcher.now }
 {
-    match matcher.atom_id {
-        Some(id) if id >= 0 => id as u32 == atom.id,
-        _ => atom.id == 0,
+    atom.id == id_of(matcher)
+}
+
+/// Gives slots their idle truths: those of a list, and those that stand in the order behind its front.
+pub(crate) fn put_all_back(
+    results: &mut [bool],
+    idle: &[bool],
+    list: &[usize],
+    order: &[usize],
+    front: usize,
+)
+    requires list { (s : ℕ) → 0 < times_among s list.now → (s < length results.old) × (s < length idle.now) }
+    requires order { (s : ℕ) → 0 < times_among s order.now → (s < length results.old) × (s < length idle.now) }
+    ensures put { (s : ℕ)
+        → (0 < times_among s list.now) ⊎ (times_among s (take front order.now) < times_among s order.now)
+        → slice_index_or results.new s false ≡ slice_index_or idle.now s false }
+    ensures either { (s : ℕ) → (slice_index_or results.new s false ≡ slice_index_or results.old s false)
+        ⊎ (slice_index_or results.new s false ≡ slice_index_or idle.now s false) }
+{
+    put_back(results, idle, list, 0);
+    put_back(results, idle, order, front);
+}
+
+// Gives the slots of a list from a place on their idle truths.
+fn put_back(results: &mut [bool], idle: &[bool], slots: &[usize], from: usize)
+    requires results { (s : ℕ) → 0 < times_among s slots.now → s < length results.old }
+    requires idle { (s : ℕ) → 0 < times_among s slots.now → s < length idle.now }
+    ensures done { (s : ℕ) → times_among s (take from slots.now) < times_among s slots.now
+        → slice_index_or results.new s false ≡ slice_index_or idle.now s false }
+    ensures either { (s : ℕ) → (slice_index_or results.new s false ≡ slice_index_or results.old s false)
+        ⊎ (slice_index_or results.new s false ≡ slice_index_or idle.now s false) }
+    ensures same { length results.new ≡ length results.old }
+{
+    for at in from..slots.len() {
+        results[slots[at]] = idle[slots[at]];
     }
 }

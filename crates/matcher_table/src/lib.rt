@@ -3,6 +3,8 @@
 
 mod counts;
 mod evaluation;
+mod hanging;
+mod id_lists;
 mod index;
 mod operation;
 mod shared;

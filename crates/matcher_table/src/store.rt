@@ -1,4 +1,5 @@
-//! How a table is held: what each slot stands for, the live slots in an order in which children come first, and counts.
+//! How a table is held: what each slot stands for, the live slots in an order in which children come first, counts, and
+//! for each atom id the slots whose truth it may change.
 ghost use Rattle.std.specs.Prelude.{◌≡◌, ◌≢◌, ◌↔◌, IsTrue, ℕ, ◌+◌, ◌<◌, ◌≤◌, [], ◌∷◌, ◌++◌, length, slice_index, slice_index_or, slice_set, false, IfOk, OnOk, OnErr, Some, None, vec_len, vec_capacity};
 ghost use Rattle.std.specs.List.{remove};
 ghost use Rattle.atom_record.specs.AtomSound.{HasNoFault};
@@ -6,15 +7,17 @@ ghost use Rattle.matcher_table.specs.Truths.{Evaluates, HaveRisen, questions};
 ghost use Rattle.matcher_table.specs.Slots.{matcher_at, children_of, times_among};
 ghost use Rattle.matcher_table.specs.Tables.{IsUnchanged};
 ghost use Rattle.matcher_table.specs.Steps.{Interns, Releases};
-ghost use Rattle.matcher_table.specs.StoreParts.{StoreIsHeld, StoreIsIndexed, IsUsed, UsedFrom, table_in, Frees, MayIntern, HasRoomReserved, ChangesOutside};
+ghost use Rattle.matcher_table.specs.StoreParts.{StoreIsHeld, StoreIsIndexed, StoreIsReady, StoreIsRested, IsEnoughWith, IsUsed, UsedFrom, table_in, Frees, MayIntern, HasRoomReserved, ChangesOutside};
 ghost use Rattle.matcher_table.specs.Counts.{CanAdd};
 ghost use Rattle.matcher_table.specs.Finding.{slot_for};
 ghost use Rattle.matcher_table.specs.declared.shared.SharedMatcher.{SharedMatcher};
 
 use crate::SharedMatcher;
 use crate::counts::{add_uses, can_add, drop_uses, lengthen, lengthen_truths, push_reserved};
-use crate::evaluation::evaluate_along;
+use crate::evaluation::{evaluate_along, put_all_back};
+use crate::hanging::AtomSlots;
 use crate::index::SlotIndex;
+use crate::operation::idle_of;
 use atom_record::Atom;
 use matcher_eval::Judge;
 use sd_base::Duplicate;
@@ -30,6 +33,12 @@ pub struct Store {
     pub(crate) outside: Vec<usize>,
     pub(crate) uses: Vec<usize>,
     pub(crate) results: Vec<bool>,
+    // For the evaluation: what hangs under each id, the truths where no simple matcher holds, how many slots at the
+    // front of the order were there at the last atom, and its id.
+    pub(crate) hanging: AtomSlots,
+    pub(crate) idle: Vec<bool>,
+    pub(crate) settled: usize,
+    pub(crate) last: u32,
 }
 
 impl Store {
@@ -37,6 +46,7 @@ impl Store {
     pub fn new(alloc: Global) -> Store
         ensures held { StoreIsHeld result }
         ensures indexed { StoreIsIndexed result }
+        ensures ready { StoreIsReady result }
         ensures used { UsedFrom result 0 }
         ensures slots { result.bodies.slots ≡ [] }
         ensures next { result.bodies.vacant_key ≡ 0 }
@@ -48,6 +58,10 @@ impl Store {
             outside: Vec::new(alloc),
             uses: Vec::new(alloc),
             results: Vec::new(alloc),
+            hanging: AtomSlots::new(alloc),
+            idle: Vec::new(alloc),
+            settled: 0,
+            last: 0,
         }
     }
 
@@ -55,12 +69,14 @@ impl Store {
     pub fn intern(&mut self, alloc: Global, shared: SharedMatcher) -> Result<usize, AllocError>
         requires held { StoreIsHeld self.old }
         requires indexed { StoreIsIndexed self.old }
+        requires ready { StoreIsReady self.old }
         requires used { UsedFrom self.old 0 }
         requires may { MayIntern self.old shared }
         ensures interns { IfOk result (λ slot. Interns (table_in self.old) shared slot (table_in self.new)) }
         ensures err { OnErr result (IsUnchanged (table_in self.old) (table_in self.new)) }
         ensures held { StoreIsHeld self.new }
         ensures indexed { StoreIsIndexed self.new }
+        ensures ready { StoreIsReady self.new }
         ensures used { UsedFrom self.new 0 }
     {
         match self.index.find(&shared) {
@@ -73,12 +89,14 @@ impl Store {
     fn raise(&mut self, slot: usize, shared: &SharedMatcher) -> Result<usize, AllocError>
         requires held { StoreIsHeld self.old }
         requires indexed { StoreIsIndexed self.old }
+        requires ready { StoreIsReady self.old }
         requires used { UsedFrom self.old 0 }
         requires live { matcher_at self.old.bodies.slots slot ≡ Some shared.now }
         ensures interns { IfOk result (λ s. Interns (table_in self.old) shared.now s (table_in self.new)) }
         ensures err { OnErr result (IsUnchanged (table_in self.old) (table_in self.new)) }
         ensures held { StoreIsHeld self.new }
         ensures indexed { StoreIsIndexed self.new }
+        ensures ready { StoreIsReady self.new }
         ensures used { UsedFrom self.new 0 }
     {
         if self.outside[slot] == usize::MAX {
@@ -92,6 +110,7 @@ impl Store {
     fn make(&mut self, alloc: Global, shared: SharedMatcher) -> Result<usize, AllocError>
         requires held { StoreIsHeld self.old }
         requires indexed { StoreIsIndexed self.old }
+        requires ready { StoreIsReady self.old }
         requires used { UsedFrom self.old 0 }
         requires may { MayIntern self.old shared }
         requires is_new { (s : ℕ) → matcher_at self.old.bodies.slots s ≢ Some shared }
@@ -99,6 +118,7 @@ impl Store {
         ensures err { OnErr result (IsUnchanged (table_in self.old) (table_in self.new)) }
         ensures held { StoreIsHeld self.new }
         ensures indexed { StoreIsIndexed self.new }
+        ensures ready { StoreIsReady self.new }
         ensures used { UsedFrom self.new 0 }
     {
         if !can_add(self.uses.as_slice(), shared.children()) {
@@ -106,6 +126,7 @@ impl Store {
         }
         let key = shared.duplicate(alloc)?;
         self.reserve()?;
+        self.hanging.add(alloc, self.bodies.vacant_key(), &shared)?;
         Ok(self.place(shared, key))
     }
 
@@ -113,12 +134,14 @@ impl Store {
     fn reserve(&mut self) -> Result<(), AllocError>
         requires held { StoreIsHeld self.old }
         requires indexed { StoreIsIndexed self.old }
+        requires ready { StoreIsReady self.old }
         requires used { UsedFrom self.old 0 }
         ensures room { OnOk result (HasRoomReserved self.new) }
         ensures unchanged { IsUnchanged (table_in self.old) (table_in self.new) }
         ensures uses { (s : ℕ) → slice_index self.new.uses.items s ≡ slice_index self.old.uses.items s }
         ensures held { StoreIsHeld self.new }
         ensures indexed { StoreIsIndexed self.new }
+        ensures ready { StoreIsReady self.new }
         ensures used { UsedFrom self.new 0 }
     {
         self.bodies.reserve(1)?;
@@ -130,13 +153,16 @@ impl Store {
         }
         lengthen(&mut self.outside, slot + 1)?;
         lengthen(&mut self.uses, slot + 1)?;
-        lengthen_truths(&mut self.results, slot + 1)
+        lengthen_truths(&mut self.results, slot + 1)?;
+        lengthen_truths(&mut self.idle, slot + 1)
     }
 
     // Puts it into the vacant slot that comes next.
     fn place(&mut self, shared: SharedMatcher, key: SharedMatcher) -> usize
         requires held { StoreIsHeld self.old }
         requires indexed { StoreIsIndexed self.old }
+        requires rested { StoreIsRested self.old }
+        requires enough { IsEnoughWith self.old shared }
         requires used { UsedFrom self.old 0 }
         requires may { MayIntern self.old shared }
         requires is_new { (s : ℕ) → matcher_at self.old.bodies.slots s ≢ Some shared }
@@ -146,13 +172,16 @@ impl Store {
         ensures interns { Interns (table_in self.old) shared result (table_in self.new) }
         ensures held { StoreIsHeld self.new }
         ensures indexed { StoreIsIndexed self.new }
+        ensures ready { StoreIsReady self.new }
         ensures used { UsedFrom self.new 0 }
     {
+        let idle = idle_of(&shared, self.idle.as_slice());
         add_uses(&mut self.uses, shared.children());
         let slot = self.bodies.insert_reserved(shared);
         self.index.add(key, slot);
         self.outside[slot] = 1;
         self.results[slot] = false;
+        self.idle[slot] = idle;
         push_reserved(&mut self.order, slot);
         slot
     }
@@ -161,11 +190,13 @@ impl Store {
     pub fn release(&mut self, slot: usize)
         requires held { StoreIsHeld self.old }
         requires indexed { StoreIsIndexed self.old }
+        requires ready { StoreIsReady self.old }
         requires used { UsedFrom self.old 0 }
         requires outside { 0 < slice_index self.old.outside.items slot }
         ensures releases { Releases (table_in self.old) slot (table_in self.new) }
         ensures held { StoreIsHeld self.new }
         ensures indexed { StoreIsIndexed self.new }
+        ensures ready { StoreIsReady self.new }
         ensures used { UsedFrom self.new 0 }
     {
         self.lower(slot);
@@ -193,30 +224,44 @@ impl Store {
     fn lower(&mut self, slot: usize)
         requires held { StoreIsHeld self.old }
         requires indexed { StoreIsIndexed self.old }
+        requires ready { StoreIsReady self.old }
         requires outside { 0 < slice_index self.old.outside.items slot }
         ensures outside { ChangesOutside self.old self.new slot }
         ensures lower { slice_index self.new.outside.items slot + 1 ≡ slice_index self.old.outside.items slot }
         ensures held { StoreIsHeld self.new }
         ensures indexed { StoreIsIndexed self.new }
+        ensures ready { StoreIsReady self.new }
     {
         self.outside[slot] -= 1;
     }
 
-    /// The truths of all live slots. It takes no memory.
+    /// The truths of all live slots: those under the atom's id are found, and the others have their idle truths, to
+    /// which those under the last id and the new ones are put back. It takes no memory.
     pub fn evaluate<J: Judge>(&mut self, atom: &Atom, judge: &mut J)
         requires held { StoreIsHeld self.old }
         requires indexed { StoreIsIndexed self.old }
+        requires ready { StoreIsReady self.old }
         requires used { UsedFrom self.old 0 }
         requires sound { HasNoFault atom.now }
         ensures evaluates { Evaluates J.says atom.now (table_in self.old) (table_in self.new) }
         ensures asked { HaveRisen (questions atom.now self.old.bodies.slots) (J.ticks judge.old) (J.ticks judge.new) }
         ensures held { StoreIsHeld self.new }
         ensures indexed { StoreIsIndexed self.new }
+        ensures ready { StoreIsReady self.new }
         ensures used { UsedFrom self.new 0 }
     {
+        put_all_back(
+            &mut self.results,
+            self.idle.as_slice(),
+            self.hanging.under(self.last),
+            self.order.as_slice(),
+            self.settled,
+        );
+        self.settled = self.order.len();
+        self.last = atom.id;
         evaluate_along(
             &self.bodies,
-            self.order.as_slice(),
+            self.hanging.under(atom.id),
             atom,
             judge,
             &mut self.results,
@@ -236,9 +281,11 @@ impl Store {
     fn sweep(&mut self)
         requires held { StoreIsHeld self.old }
         requires indexed { StoreIsIndexed self.old }
+        requires ready { StoreIsReady self.old }
         ensures frees { Frees self.old self.new }
         ensures held { StoreIsHeld self.new }
         ensures indexed { StoreIsIndexed self.new }
+        ensures ready { StoreIsReady self.new }
         ensures used { UsedFrom self.new 0 }
     {
         let mut at = self.order.len();
@@ -251,18 +298,22 @@ impl Store {
     fn free_if_unused(&mut self, at: usize)
         requires held { StoreIsHeld self.old }
         requires indexed { StoreIsIndexed self.old }
+        requires ready { StoreIsReady self.old }
         requires within { at < length self.old.order.items }
         requires used { UsedFrom self.old (at + 1) }
         ensures within { at ≤ length self.new.order.items }
         ensures frees { Frees self.old self.new }
         ensures held { StoreIsHeld self.new }
         ensures indexed { StoreIsIndexed self.new }
+        ensures ready { StoreIsReady self.new }
         ensures used { UsedFrom self.new at }
     {
         let slot = self.slot_at(at);
         if self.is_used(slot) {
             return;
         }
+        self.hanging.remove(slot);
+        self.settled = front_without(self.settled, at);
         self.free(at);
     }
 
@@ -288,10 +339,25 @@ impl Store {
         ensures stay { (wanted : SharedMatcher)
             → matcher_at self.old.bodies.slots (slice_index self.old.order.items at) ≢ Some wanted
             → slot_for self.new.index wanted ≡ slot_for self.old.index wanted }
+        ensures hanging { self.new.hanging ≡ self.old.hanging }
+        ensures idle { self.new.idle.items ≡ self.old.idle.items }
+        ensures last { self.new.last ≡ self.old.last }
+        ensures settled { self.new.settled ≡ self.old.settled }
     {
         let slot = self.order.remove(at);
         let shared = self.bodies.remove(slot);
         self.index.remove(&shared);
         drop_uses(&mut self.uses, shared.children());
     }
+}
+
+// How long a front of a list is without the place.
+fn front_without(front: usize, at: usize) -> usize
+    ensures above { at < front → result + 1 ≡ front }
+    ensures below { front ≤ at → result ≡ front }
+{
+    if at < front {
+        return front - 1;
+    }
+    front
 }

@@ -1,4 +1,5 @@
 //! Steps by chance, from a fixed seed, on a table and on the plain model.
+ghost use Rattle.std.specs.Prelude.{◌≤◌};
 
 use crate::model::{Body, Model};
 use crate::shared::Shared;
@@ -59,13 +60,25 @@ impl Pair {
         match self.dice.below(20) {
             0..7 => self.simple(),
             7..13 => self.combination(),
-            13..19 => self.release(),
+            13..18 => self.release(),
             _ => self.evaluate(),
         }
     }
 
+    // An atom id: 5 and 6 come often, and others seldom.
+    fn id(&mut self) -> u32
+        ensures { result ≤ 8 }
+    {
+        match self.dice.below(12) {
+            0..5 => 5,
+            5..9 => 6,
+            9..11 => 7,
+            _ => 8,
+        }
+    }
+
     fn simple(&mut self) -> Result<bool, AllocError> {
-        let id: u32 = if self.dice.below(2) == 0 { 5 } else { 6 };
+        let id = self.id();
         let number = match self.dice.below(6) {
             0 => Some(1),
             1 => Some(2),
@@ -107,7 +120,7 @@ impl Pair {
     }
 
     fn evaluate(&mut self) -> Result<bool, AllocError> {
-        let id: u32 = if self.dice.below(2) == 0 { 5 } else { 6 };
+        let id = self.id();
         let got = self.shared.evaluate(id)?;
         let want = self.model.evaluate(id)?;
         Ok(got == Some(want) && self.is_same())

@@ -1,4 +1,4 @@
-//! Runs rows of steps on a table of matchers, and 100,000 steps by chance beside a plain model.
+//! Runs rows of steps on a table of matchers, and 40,000 steps by chance beside a plain model.
 #![tactic(auto)]
 
 mod chance;
@@ -26,7 +26,7 @@ fn main(rt: HostRuntime) -> io::Result<()> {
         }
     }
     println!(rt; "{rows} rows, {differ} differ")?;
-    let told = chance::run(alloc, 100_000)?;
+    let told = chance::run(alloc, 40_000)?;
     println!(rt; "{told}")?;
     Ok(())
 }

@@ -1,12 +1,15 @@
-use Rattle.std.proofs.Common.{◌≡◌, ◌+◌, ℕ, List, length, get_or, set, Some, false, sym, ap, subst, ◌∙◌, arith, inl}
+use Rattle.std.proofs.Common.{◌≡◌, ◌+◌, ℕ, Bool, List, length, get_or, set, Some, false, sym, ap, subst, ◌∙◌, arith, inl}
 use Rattle.std.specs.Vec.{with_items}
 use Rattle.std.proofs.lemmas.List.{with_items_is, length-set, get_or-set_other, get_or-set_same}
-use Rattle.matcher_table.specs.Slots.{children_of, times_among}
+use Rattle.matcher_table.specs.Slots.{matcher_at, children_of, times_among}
+use Rattle.matcher_table.specs.Idle.{idle_with}
+use Rattle.matcher_table.specs.Hanging.{slots_under, atom_ids}
 use Rattle.matcher_table.specs.Finding.{slot_for}
-use Rattle.matcher_table.specs.StoreParts.{AreSlotsHeld}
+use Rattle.matcher_table.specs.StoreParts.{AreSlotsHeld, AreReady}
 use Rattle.matcher_table.proofs.HeldLaws.{held_made}
 use Rattle.matcher_table.proofs.IndexLaws.{indexed_made}
 use Rattle.matcher_table.proofs.MadeLaws.{made_used}
+use Rattle.matcher_table.proofs.ReadyLaws.{ready_made}
 use Rattle.matcher_table.proofs.store.Store.place.Goals as goal
 
 pub returns-clause-held : goal.returns-clause-held
@@ -62,3 +65,21 @@ returns-clause-indexed c =
     c.insert_reserved-slot.ensures.updates.others c.requires.is_new
     (ap (slot_for c.add.new.self) (sym c.requires.key) ∙ c.add.ensures.added)
     (λ wanted other. c.add.ensures.others wanted (λ e. other (e ∙ c.requires.key)))
+
+pub returns-clause-ready : goal.returns-clause-ready
+returns-clause-ready c =
+    let now = c.args.self.now in
+    let slot = c.insert_reserved-slot.result in
+    let slots = c.insert_reserved-slot.new.self.slots in
+    let b = c.idle_of-idle.result in
+    let is_b : b ≡ idle_with (λ y. get_or now.idle.items y false) (Some c.args.shared) =
+    c.idle_of-idle.ensures
+    ∙ ap (λ (bs : List Bool). idle_with (λ y. get_or bs y false) (Some c.args.shared)) c.as_slice.ensures.value in
+    let inserted = c.insert_reserved-slot.ensures in
+    subst (λ (xs : List ℕ). AreReady slots (slots_under now.hanging) (atom_ids now.hanging) xs now.settled now.last
+    (set now.idle.items slot b) (set now.results.items slot false)) (sym c.push_reserved.ensures)
+    (ready_made c.requires.rested c.requires.held (returns-clause-held c) slot c.args.shared inserted.was_vacant
+    inserted.updates.changed inserted.updates.others b is_b (omega (arith, inserted.key, c.requires.room.idle))
+    c.requires.may.children
+    (c.requires.enough slots (ap (matcher_at slots) (sym inserted.key) ∙ inserted.updates.changed)
+    (λ k other. inserted.updates.others k (λ e. other (e ∙ inserted.key)))))

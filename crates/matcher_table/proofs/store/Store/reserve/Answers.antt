@@ -2,6 +2,7 @@ use Rattle.std.proofs.Common.{refl, ap, arith}
 use Rattle.matcher_table.proofs.HeldLaws.{held_longer}
 use Rattle.matcher_table.proofs.IndexLaws.{indexed_as}
 use Rattle.matcher_table.proofs.MadeLaws.{held_as}
+use Rattle.matcher_table.proofs.ReadyLaws.{ready_as}
 use Rattle.matcher_table.proofs.store.Store.reserve.Goals as goal
 
 pub returns-in_err-lengthen-clause-held : goal.returns-in_err-lengthen-clause-held
@@ -23,6 +24,15 @@ returns-in_err-lengthen-2-clause-held c =
 
 pub returns-clause-held : goal.returns-clause-held
 returns-clause-held c =
+    let now = c.args.self.now in
+    held_as now.bodies.slots _ now.order.items _ _ _ _ (ap (λ s. s.slots) c.reserve.ensures.rest_kept)
+    c.reserve-3.ensures.items
+    (held_longer c.requires.held c.lengthen.new.counts.items c.lengthen-2.new.counts.items
+    c.lengthen_truths.new.truths.items c.lengthen.ensures.longer c.lengthen-2.ensures.longer
+    c.lengthen_truths.ensures.longer c.lengthen.ensures.same c.lengthen-2.ensures.same)
+
+pub returns-in_err-lengthen_truths-clause-held : goal.returns-in_err-lengthen_truths-clause-held
+returns-in_err-lengthen_truths-clause-held c =
     let now = c.args.self.now in
     held_as now.bodies.slots _ now.order.items _ _ _ _ (ap (λ s. s.slots) c.reserve.ensures.rest_kept)
     c.reserve-3.ensures.items
@@ -53,3 +63,43 @@ returns-in_err-lengthen-2-clause-indexed c =
 pub returns-clause-indexed : goal.returns-clause-indexed
 returns-clause-indexed c =
     indexed_as c.requires.indexed _ _ (ap (λ s. s.slots) c.reserve.ensures.rest_kept) c.reserve-2.ensures.same
+
+pub returns-in_err-lengthen_truths-clause-indexed : goal.returns-in_err-lengthen_truths-clause-indexed
+returns-in_err-lengthen_truths-clause-indexed c =
+    indexed_as c.requires.indexed _ _ (ap (λ s. s.slots) c.reserve.ensures.rest_kept) c.reserve-2.ensures.same
+
+pub returns-in_err-reserve-2-clause-ready : goal.returns-in_err-reserve-2-clause-ready
+returns-in_err-reserve-2-clause-ready c =
+    ready_as c.requires.ready _ _ _ _ _ _ (ap (λ s. s.slots) c.reserve.ensures.rest_kept) (λ id. refl) (λ s. refl)
+    refl (omega arith) (λ s. refl) (λ s. refl)
+
+pub returns-in_err-reserve-3-clause-ready : goal.returns-in_err-reserve-3-clause-ready
+returns-in_err-reserve-3-clause-ready c =
+    ready_as c.requires.ready _ _ _ _ _ _ (ap (λ s. s.slots) c.reserve.ensures.rest_kept) (λ id. refl) (λ s. refl)
+    c.reserve-3.ensures.items (omega arith) (λ s. refl) (λ s. refl)
+
+pub returns-then-slot-clause-ready : goal.returns-then-slot-clause-ready
+returns-then-slot-clause-ready c =
+    ready_as c.requires.ready _ _ _ _ _ _ (ap (λ s. s.slots) c.reserve.ensures.rest_kept) (λ id. refl) (λ s. refl)
+    c.reserve-3.ensures.items (omega arith) (λ s. refl) (λ s. refl)
+
+pub returns-in_err-lengthen-clause-ready : goal.returns-in_err-lengthen-clause-ready
+returns-in_err-lengthen-clause-ready c =
+    ready_as c.requires.ready _ _ _ _ _ _ (ap (λ s. s.slots) c.reserve.ensures.rest_kept) (λ id. refl) (λ s. refl)
+    c.reserve-3.ensures.items (omega arith) (λ s. refl) (λ s. refl)
+
+pub returns-in_err-lengthen-2-clause-ready : goal.returns-in_err-lengthen-2-clause-ready
+returns-in_err-lengthen-2-clause-ready c =
+    ready_as c.requires.ready _ _ _ _ _ _ (ap (λ s. s.slots) c.reserve.ensures.rest_kept) (λ id. refl) (λ s. refl)
+    c.reserve-3.ensures.items (omega arith) (λ s. refl) (λ s. refl)
+
+pub returns-in_err-lengthen_truths-clause-ready : goal.returns-in_err-lengthen_truths-clause-ready
+returns-in_err-lengthen_truths-clause-ready c =
+    ready_as c.requires.ready _ _ _ _ _ _ (ap (λ s. s.slots) c.reserve.ensures.rest_kept) (λ id. refl) (λ s. refl)
+    c.reserve-3.ensures.items (omega arith) (λ s. refl) c.lengthen_truths.ensures.same
+
+pub returns-clause-ready : goal.returns-clause-ready
+returns-clause-ready c =
+    ready_as c.requires.ready _ _ _ _ _ _ (ap (λ s. s.slots) c.reserve.ensures.rest_kept) (λ id. refl) (λ s. refl)
+    c.reserve-3.ensures.items c.lengthen_truths-2.ensures.longer c.lengthen_truths-2.ensures.same
+    c.lengthen_truths.ensures.same

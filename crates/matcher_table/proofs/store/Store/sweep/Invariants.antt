@@ -1,5 +1,5 @@
 use Rattle.std.proofs.Common.{◌≤◌, length}
-use Rattle.matcher_table.specs.StoreParts.{StoreIsHeld, StoreIsIndexed, UsedFrom, Frees}
+use Rattle.matcher_table.specs.StoreParts.{StoreIsHeld, StoreIsIndexed, StoreIsReady, UsedFrom, Frees}
 use Rattle.matcher_table.proofs.store.Store.sweep.Given as goal
 
 abbrev pub invariant-loop-at : goal.invariant-loop-at
@@ -7,6 +7,7 @@ invariant-loop-at l = record {
   within : l.at ≤ length l.self.order.items;
   held : StoreIsHeld l.self;
   indexed : StoreIsIndexed l.self;
+  ready : StoreIsReady l.self;
   used : UsedFrom l.self l.at;
   frees : Frees l.fn.self l.self;
 }

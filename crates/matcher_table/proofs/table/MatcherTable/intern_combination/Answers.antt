@@ -1,4 +1,4 @@
-use Rattle.matcher_table.proofs.TableLaws.{had_held, had_indexed, had_used, interned_trees, children_live}
+use Rattle.matcher_table.proofs.TableLaws.{had_held, had_indexed, had_ready, had_used, interned_trees, children_live}
 use Rattle.matcher_table.proofs.table.MatcherTable.intern_combination.Goals as goal
 
 pub intern-requires-clause-held : goal.intern-requires-clause-held
@@ -21,3 +21,6 @@ intern-requires-clause-may c = record {
 
 pub intern-requires-clause-indexed : goal.intern-requires-clause-indexed
 intern-requires-clause-indexed c = had_indexed c.args.self.now.store c.args.self.now.sound
+
+pub intern-requires-clause-ready : goal.intern-requires-clause-ready
+intern-requires-clause-ready c = had_ready c.args.self.now.store c.args.self.now.sound

@@ -1,5 +1,5 @@
 use Rattle.std.proofs.lemmas.Grind.{merely}
-use Rattle.matcher_table.proofs.TableLaws.{had_held, had_indexed, had_used, is_sound, released_trees}
+use Rattle.matcher_table.proofs.TableLaws.{had_held, had_indexed, had_ready, had_used, store_sound, released_trees}
 use Rattle.matcher_table.proofs.table.MatcherTable.release.Goals as goal
 
 pub release-requires-clause-held : goal.release-requires-clause-held
@@ -10,7 +10,8 @@ release-requires-clause-used c = had_used c.args.self.now.store c.args.self.now.
 
 pub invariant_of-self : goal.invariant_of-self
 invariant_of-self c = record {
-  sound = merely (is_sound c.release.new.self c.release.ensures.held c.release.ensures.indexed c.release.ensures.used);
+  sound = merely (store_sound c.release.new.self c.release.ensures.held c.release.ensures.indexed
+      c.release.ensures.ready c.release.ensures.used);
 }
 
 pub returns-clause-trees : goal.returns-clause-trees
@@ -20,3 +21,6 @@ returns-clause-trees c =
 
 pub release-requires-clause-indexed : goal.release-requires-clause-indexed
 release-requires-clause-indexed c = had_indexed c.args.self.now.store c.args.self.now.sound
+
+pub release-requires-clause-ready : goal.release-requires-clause-ready
+release-requires-clause-ready c = had_ready c.args.self.now.store c.args.self.now.sound
