@@ -1,0 +1,4 @@
+mod HeededLemmas
+pub mod HearingLaws
+mod IdleLemmas
+mod Worked

@@ -1,0 +1,7 @@
+-- No names are distinct.
+use Rattle.std.specs.List.{IsDistinct}
+use Rattle.id_notes.proofs.notes.Notes.under.Goals as goal
+
+pub returns-in-None-clause-distinct : goal.returns-in-None-clause-distinct
+unfolding IsDistinct
+returns-in-None-clause-distinct g c = tt

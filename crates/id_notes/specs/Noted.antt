@@ -1,0 +1,29 @@
+-- Which names are noted for which ids.
+use Rattle.std.specs.Prelude.{ℕ, ◌==◌, ◌<◌, Bool, ◌&&◌, not, List, [], length, IfSome}
+use Rattle.std.specs.List.{list_any}
+use Rattle.std.specs.Option.{option_map_or}
+use Rattle.std.specs.Map.{lookup}
+use Rattle.heard_ids.specs.declared.hearing.Hearing.{Hearing}
+use Rattle.id_notes.specs.declared.notes.Notes.{Notes}
+
+-- with these ids, a name is noted for this id: one that hears every atom is noted for no id of its own
+abbrev pub wants_id : Hearing → ℕ → Bool
+wants_id hearing id = not hearing.all && list_any (λ heard. heard == id) hearing.ids
+
+module _ {N : Type 0} where
+  -- a name is one of these
+  abbrev pub is_named : (N → N → Bool) → N → List N → Bool
+  is_named same name names = list_any (same name) names
+
+  -- the names that are noted for an id, and none where there is no list
+  abbrev pub names_under : Notes N → ℕ → List N
+  names_under notes id = option_map_or (λ names. names.keys) (lookup (λ other. id == other) notes.by_id.entries) []
+
+  -- the names that are noted for every atom
+  abbrev pub names_for_all : Notes N → List N
+  names_for_all notes = notes.for_all.keys
+
+  -- an id that has a list has a name on it: one that nobody hears has none
+  abbrev pub HasNoEmptyList : Notes N → Type 0
+  HasNoEmptyList notes =
+      (id : ℕ) → IfSome (lookup (λ other. id == other) notes.by_id.entries) (λ names. 0 < length names.keys)

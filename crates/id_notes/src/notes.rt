@@ -1,0 +1,131 @@
+//! Which names hear the frames of which ids.
+ghost use Rattle.std.specs.Prelude.{◌≡◌, ◌==◌, ◌&&◌, ◌||◌, not, ℕ, [], OnOk};
+ghost use Rattle.std.specs.List.{IsDistinct};
+
+use heard_ids::Hearing;
+use indexmap::{IndexMap, IndexSet};
+use std::alloc::{AllocError, Global};
+use std::hash::Hash;
+
+/// For each id the names of those that hear its frames.
+#[derive(Drop)]
+pub struct Notes<N: Eq + Hash> {
+    /// A name that hears every atom isn't noted here for that. No id has an empty list.
+    by_id: IndexMap<u32, IndexSet<N>>,
+    /// Those that hear every atom.
+    for_all: IndexSet<N>,
+}
+
+impl<N: Eq + Hash + Copy + Drop> Notes<N> {
+    ghost use Rattle.id_notes.specs.Noted.{is_named, names_under, names_for_all, wants_id, HasNoEmptyList};
+
+    /// Nothing is noted. It takes no memory yet.
+    pub fn new(alloc: Global) -> Notes<N>
+        ensures under { (id : ℕ) → names_under result id ≡ [] }
+        ensures for_all { names_for_all result ≡ [] }
+        ensures none_empty { HasNoEmptyList result }
+    {
+        Notes {
+            by_id: IndexMap::new(alloc),
+            for_all: IndexSet::new(alloc),
+        }
+    }
+
+    /// The names that are noted for an id.
+    pub fn under(&self, id: u32) -> &[N]
+        ensures names { result.now ≡ names_under self.now id }
+        ensures distinct { IsDistinct N.eq result.now }
+    {
+        match self.by_id.get(&id) {
+            Some(names) => names.as_slice(),
+            None => &[],
+        }
+    }
+
+    /// The names of those that hear every atom.
+    pub fn for_all(&self) -> &[N]
+        ensures names { result.now ≡ names_for_all self.now }
+        ensures distinct { IsDistinct N.eq result.now }
+    {
+        self.for_all.as_slice()
+    }
+
+    /// A name is noted for what it hears. After want of memory some of it may be.
+    pub fn add(&mut self, alloc: Global, name: N, hearing: &Hearing) -> Result<(), AllocError>
+        ensures under { OnOk result ((id : ℕ) (other : N) → is_named N.eq other (names_under self.new id)
+            ≡ (is_named N.eq other (names_under self.old id) || (N.eq other name && wants_id hearing.now id))) }
+        ensures for_all { OnOk result ((other : N) → is_named N.eq other (names_for_all self.new)
+            ≡ (is_named N.eq other (names_for_all self.old) || (N.eq other name && hearing.now.all))) }
+        ensures none_empty { HasNoEmptyList self.old → HasNoEmptyList self.new }
+    {
+        if hearing.all {
+            self.for_all.insert(name)?;
+            return Ok(());
+        }
+        for id in hearing.ids.as_slice() {
+            self.note(alloc, *id, name)?;
+        }
+        Ok(())
+    }
+
+    /// A name isn't noted any more for what it hears.
+    pub fn remove(&mut self, name: N, hearing: &Hearing)
+        ensures under { (id : ℕ) (other : N) → is_named N.eq other (names_under self.new id)
+            ≡ (is_named N.eq other (names_under self.old id) && not (N.eq other name && wants_id hearing.now id)) }
+        ensures for_all { (other : N) → is_named N.eq other (names_for_all self.new)
+            ≡ (is_named N.eq other (names_for_all self.old) && not (N.eq other name && hearing.now.all)) }
+        ensures none_empty { HasNoEmptyList self.old → HasNoEmptyList self.new }
+    {
+        if hearing.all {
+            self.for_all.swap_remove(&name);
+            return;
+        }
+        for id in hearing.ids.as_slice() {
+            self.forget(*id, name);
+        }
+    }
+
+    // A name is noted for an id.
+    fn note(&mut self, alloc: Global, id: u32, name: N) -> Result<(), AllocError>
+        ensures under { OnOk result ((heard : ℕ) (other : N) → is_named N.eq other (names_under self.new heard)
+            ≡ (is_named N.eq other (names_under self.old heard) || (N.eq other name && (id == heard)))) }
+        ensures for_all { OnOk result (self.new.for_all ≡ self.old.for_all) }
+        ensures none_empty { HasNoEmptyList self.old → HasNoEmptyList self.new }
+    {
+        if let Some(names) = self.by_id.get_mut(&id) {
+            names.insert(name)?;
+            return Ok(());
+        }
+        self.begin(alloc, id, name)
+    }
+
+    // A name is the first that is noted for an id.
+    fn begin(&mut self, alloc: Global, id: u32, name: N) -> Result<(), AllocError>
+        requires { names_under self.old id ≡ [] }
+        ensures under { OnOk result ((heard : ℕ) (other : N) → is_named N.eq other (names_under self.new heard)
+            ≡ (is_named N.eq other (names_under self.old heard) || (N.eq other name && (id == heard)))) }
+        ensures for_all { OnOk result (self.new.for_all ≡ self.old.for_all) }
+        ensures none_empty { HasNoEmptyList self.old → HasNoEmptyList self.new }
+    {
+        let mut names = IndexSet::new(alloc);
+        names.insert(name)?;
+        self.by_id.insert(id, names)?;
+        Ok(())
+    }
+
+    // A name isn't noted for an id any more. A list that gets empty goes.
+    fn forget(&mut self, id: u32, name: N)
+        ensures under { (heard : ℕ) (other : N) → is_named N.eq other (names_under self.new heard)
+            ≡ (is_named N.eq other (names_under self.old heard) && not (N.eq other name && (id == heard))) }
+        ensures for_all { self.new.for_all ≡ self.old.for_all }
+        ensures none_empty { HasNoEmptyList self.old → HasNoEmptyList self.new }
+    {
+        let Some(names) = self.by_id.get_mut(&id) else {
+            return;
+        };
+        names.swap_remove(&name);
+        if names.is_empty() {
+            self.by_id.swap_remove(&id);
+        }
+    }
+}
