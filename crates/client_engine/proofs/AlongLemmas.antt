@@ -45,12 +45,12 @@ timely_after news last before (step ∷ steps) in_time =
     (timely_after news (last_at last (bare_step step)) (before ++ step ∷ []) steps in_time.1)
 
 -- steps that come in time are timely for a lane
-timely_from : {News : Type 0} (news : List Step → Step → News) (last : ℕ) (steps : List Step) → ComeInTime last steps
+pub timely_from : {News : Type 0} (news : List Step → Step → News) (last : ℕ) (steps : List Step) → ComeInTime last steps
     → AreTimely last (lane_steps news steps)
 timely_from news last steps in_time = timely_after news last [] steps in_time
 
 -- one more step, as a lane sees it
-steps-push : {News : Type 0} (news : List Step → Step → News) (steps : List Step) (step : Step)
+pub steps-push : {News : Type 0} (news : List Step → Step → News) (steps : List Step) (step : Step)
     → lane_steps news (steps ++ step ∷ []) ≡ lane_steps news steps ++ lane_step (news steps) step ∷ []
 steps-push news steps step = outputs-push (lane_step_after news) steps step
 

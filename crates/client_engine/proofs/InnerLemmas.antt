@@ -246,7 +246,7 @@ module _ {P X K C V : Type 0} (law : Law P DurationParams InnerEvent InnerDelta 
         event_there = sym (ap first_event_of idle);
         delta_there = λ calls time before tells stands knows. sym (ap (delta_with false)
             (subst (λ f. inner_changes installed metric spec steps (logged_step f truths) ≡ []) (sym frame_is)
-            (nothing_changes installed metric spec steps truths at atom untouched_there untold_there times)));
+            (nothing_changes installed metric spec steps truths at at atom untouched_there untold_there times)));
       }
 
   -- an atom brings the event that it makes, and the changes that are found once that came

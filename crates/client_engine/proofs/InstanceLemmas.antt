@@ -45,7 +45,7 @@ use Rattle.client_engine.specs.declared.track.Track.{Track}
 use Rattle.client_engine.specs.declared.request.ReportRequest.{ReportRequest}
 
 -- the clock at the last report, after a step at a time
-abbrev reported_or : ℕ → ℕ → What → ℕ
+abbrev pub reported_or : ℕ → ℕ → What → ℕ
 reported_or last at (Logged frame) = last
 reported_or last at (Reported include_current) = at
 
@@ -64,7 +64,7 @@ last_report-first last at (Logged frame) truths steps = refl
 last_report-first last at (Reported include_current) truths steps = refl
 
 -- the clock at the last report, with one more step
-last_report-push : (last : ℕ) (steps : List Step) (step : Step)
+pub last_report-push : (last : ℕ) (steps : List Step) (step : Step)
     → last_report last (steps ++ step ∷ []) ≡ reported_or (last_report last steps) step.at step.what
 last_report-push last [] step = last_report-first last step.at step.what step.truths []
 last_report-push last (first ∷ steps) step =

@@ -120,7 +120,7 @@ same_lists (x ∷ xs) (y ∷ ys) same each =
     (λ place none within. each (suc place) none (omega (arith, within))))
 
 -- nothing happens to a table without events
-no_events : (predicate : LPredicate) (truths : List Bool) (atom : Atom) → acts_on truths predicate ≡ false
+pub no_events : (predicate : LPredicate) (truths : List Bool) (atom : Atom) → acts_on truths predicate ≡ false
     → atom_events predicate.body truths atom ≡ []
 no_events predicate truths atom off = of_body predicate.body off where
   three_off : (stop_all stop start : Bool) → (stop_all || (stop || start)) ≡ false

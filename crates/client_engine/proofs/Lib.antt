@@ -36,4 +36,9 @@ pub mod SleepingLemmas
 pub mod WokenLemmas
 pub mod ListeningLemmas
 pub mod InstanceLemmas
+pub mod RunLemmas
+pub mod AloneLemmas
+pub mod UntouchingLemmas
+pub mod CaughtUpLemmas
+pub mod LastStepLemmas
 pub mod AskedLemmas

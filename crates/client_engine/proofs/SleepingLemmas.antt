@@ -73,7 +73,7 @@ use Rattle.client_engine.proofs.MarksLemmas.{get_or_any}
 use Rattle.client_engine.proofs.TouchersLemmas.{found_hold, none_below, named_holds}
 
 -- the matchers that touch what is named hold exactly where the atom acts below it
-touchers_named_hold : (predicates : List LPredicate) (truths : List Bool) (root : Option ℕ)
+pub touchers_named_hold : (predicates : List LPredicate) (truths : List Bool) (root : Option ℕ)
     → one_holds truths (touchers_named predicates root) ≡ acts_below predicates truths root
 touchers_named_hold predicates truths None = sym (none_below predicates truths)
 touchers_named_hold predicates truths (Some root) =
@@ -115,7 +115,7 @@ three false false true = refl
 three false false false = refl
 
 -- the only one isn't
-alone : (first : Bool) → (first || false) ≡ false → first ≡ false
+pub alone : (first : Bool) → (first || false) ≡ false → first ≡ false
 alone true off = absurd (true≢false off)
 alone false off = refl
 
@@ -124,7 +124,7 @@ module _ (predicates : List LPredicate) (metric : LMetric) (truths : List Bool) 
   holds matcher = truth_at matcher truths
 
   -- where none of the matchers holds that touch its condition or the predicate that it times, a duration isn't touched
-  duration_untouched : one_holds truths
+  pub duration_untouched : one_holds truths
       (touchers_named predicates metric.condition ++ touchers_named predicates (Some metric.what)) ≡ false
       → (acts_below predicates truths metric.condition || acts_below predicates truths (Some metric.what)) ≡ false
   duration_untouched off =
@@ -137,7 +137,7 @@ module _ (predicates : List LPredicate) (metric : LMetric) (truths : List Bool) 
       ∙ off
 
   -- where neither what is counted holds nor a matcher that touches the condition, a pulled metric isn't touched
-  pulled_untouched : one_holds truths (metric.what ∷ touchers_named predicates metric.condition) ≡ false
+  pub pulled_untouched : one_holds truths (metric.what ∷ touchers_named predicates metric.condition) ≡ false
       → (truth_at metric.what truths || (acts_below predicates truths metric.condition || acts_below predicates truths None))
       ≡ false
   pulled_untouched off =
@@ -148,7 +148,7 @@ module _ (predicates : List LPredicate) (metric : LMetric) (truths : List Bool) 
       ∙ off
 
   -- nor where its trigger doesn't hold either
-  gauge_untouched : (trigger : Option ℕ)
+  pub gauge_untouched : (trigger : Option ℕ)
       → one_holds truths (metric.what ∷ (place_named trigger ++ touchers_named predicates metric.condition)) ≡ false
       → ((truth_at metric.what truths || named_truth trigger truths)
       || (acts_below predicates truths metric.condition || acts_below predicates truths None)) ≡ false
@@ -173,7 +173,7 @@ module _ (given : Handed) (metric : LMetric) (shown : LogFrame) (truths : List B
       (lane : Lane P Event After V) → NoEndBefore time lane.clock
       → GetsFrame law lane lane (moment_of shown (log_time shown))
   crosses_none law lane later =
-      frame_before_end law lane (moment_of shown (log_time shown)) time later early no_pull
+      frame_before_end law lane (moment_of shown (log_time shown)) time later early
 
   -- and gets no event
   logs_none : {P Params Event After X K C V : Type 0} (law : Law P Params Event After X K C (Row V))

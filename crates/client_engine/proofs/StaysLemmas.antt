@@ -74,8 +74,8 @@ module _ (installed : Installation) (metric : LMetric) (spec : PredSpec) (steps 
   stays_so false true listed off tells_state many =
       λ place key known there was.
       ap (λ (k : Known). k.truth) (told_is key known (sym (told_before place key there) ∙ was))
-      ∙ sym (truth_left installed metric spec steps truths at atom off key)
+      ∙ sym (truth_left installed metric spec steps truths at at atom off key)
   stays_so false false listed off untold many =
       λ place key within there.
       told_old place key (omega (arith, within, many)) there
-      ∙ ap (λ (k : Known). Some k) (sym (known_stays installed metric spec steps truths at atom off untold key))
+      ∙ ap (λ (k : Known). Some k) (sym (known_stays installed metric spec steps truths at at atom off untold key))

@@ -77,7 +77,7 @@ pub touchers_hold : (predicates : List LPredicate) (root : ℕ) (truths : List B
 touchers_hold predicates root truths = places_hold predicates root truths (range_with_len 0 (length predicates))
 
 -- none of these passes
-none_any : (test : ℕ → Bool) (places : List ℕ) → ((place : ℕ) → test place ≡ false) → list_any test places ≡ false
+pub none_any : (test : ℕ → Bool) (places : List ℕ) → ((place : ℕ) → test place ≡ false) → list_any test places ≡ false
 none_any test [] none = refl
 none_any test (place ∷ places) none =
     ap (λ b. b || list_any test places) (none place) ∙ none_any test places none
@@ -99,7 +99,7 @@ first_not : (first second : Bool) → first ≡ false → (first && second) ≡ 
 first_not true second off = absurd (false≢true (sym off))
 first_not false second off = refl
 
-second_not : (first second : Bool) → second ≡ false → (first && second) ≡ false
+pub second_not : (first second : Bool) → second ≡ false → (first && second) ≡ false
 second_not true second off = off
 second_not false second off = refl
 

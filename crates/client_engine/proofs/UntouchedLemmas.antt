@@ -16,7 +16,7 @@ use Rattle.predicate_state.specs.declared.truth.Truth.{Truth}
 use Rattle.predicate_state.specs.PredicateStates.{PredicateState}
 use Rattle.predicate_state.specs.PredicateTable.{LeafKey, same_leaves}
 use Rattle.duration_metric.specs.declared.inner.Known.{Known}
-use Rattle.metric_meaning.specs.Histories.{Step, Installation, frames_at, logged_frames, log_after}
+use Rattle.metric_meaning.specs.Histories.{Logged, Step, Installation, frames_at, logged_frames, log_after}
 use Rattle.metric_meaning.specs.ShownFrames.{shown_as}
 use Rattle.metric_meaning.specs.PredicateSteps.{tables_after}
 use Rattle.metric_meaning.specs.MetricConditions.{condition_truth}
@@ -29,7 +29,6 @@ use Rattle.metric_meaning.proofs.TouchedDurations.{untouched_inner}
 use Rattle.metric_calls.specs.DurationCalls.{told_as, listed_after, known_after, told_after, inner_changes}
 use Rattle.metric_calls.proofs.InnerChangesLemmas.{nothing_told}
 use Rattle.metric_calls.proofs.InnerToldLemmas.{listed_told}
-use Rattle.client_engine.specs.NextSteps.{logged_step, with_logged}
 use Rattle.client_engine.specs.Touchers.{tells_one}
 use Rattle.client_engine.proofs.StatesStayLemmas.{slices_stay}
 use Rattle.client_engine.proofs.TouchersLemmas.{past_below}
@@ -41,19 +40,21 @@ shown_atom log (Tick when) at atom is = absurd cc
 shown_atom log (AtomAt when other) at atom is = is
 shown_atom log (Pull when id outcome) at atom is = absurd cc
 
--- the log with one atom more
-log_on : (installed : Installation) (steps : List Step) (frame : LogFrame) (truths : List Bool)
-    → log_after installed (with_logged steps frame truths) ≡ log_after installed steps ++ frame ∷ []
-log_on installed steps frame truths =
-    let step = logged_step frame truths in
+-- the log with one frame more
+log_on : (installed : Installation) (steps : List Step) (time : ℕ) (frame : LogFrame) (truths : List Bool)
+    → let step : Step = record { at = time; what = Logged frame; truths = truths } in
+    log_after installed (steps ++ step ∷ []) ≡ log_after installed steps ++ frame ∷ []
+log_on installed steps time frame truths =
+    let step : Step = record { at = time; what = Logged frame; truths = truths } in
     ap (λ (frames : List LogFrame). installed.opening ++ frames)
     (flat_map-append (λ (s : Step). frames_at s.what) steps (step ∷ []))
     ∙ sym (append_assoc installed.opening (logged_frames steps) (frame ∷ []))
 
 module _ (installed : Installation) (metric : LMetric) (spec : PredSpec) (steps : List Step) (truths : List Bool)
-    (at : ℕ) (atom : Atom) where
+    (time at : ℕ) (atom : Atom) where
+  -- an atom, whatever time its step has
   abbrev step : Step
-  step = logged_step (AtomAt at atom) truths
+  step = record { at = time; what = Logged (AtomAt at atom); truths = truths }
 
   -- an atom that doesn't act below the condition leaves its truth: it doesn't touch a metric that has this condition, and
   -- times a predicate that isn't there
@@ -89,7 +90,7 @@ module _ (installed : Installation) (metric : LMetric) (spec : PredSpec) (steps 
       ap (λ truth. now truth (named_slices states (log_after installed (steps ++ step ∷ [])) reading metric.slices))
       (condition_left off reading)
       ∙ ap (now (condition_truth predicates (tables_after predicates steps) metric reading))
-      (ap (λ log. named_slices states log reading metric.slices) (log_on installed steps (AtomAt at atom) truths)
+      (ap (λ log. named_slices states log reading metric.slices) (log_on installed steps time (AtomAt at atom) truths)
       ∙ slices_stay states (log_after installed steps) at atom reading metric.slices untold)
 
   -- where the atom doesn't touch the metric at all, nothing changes of any

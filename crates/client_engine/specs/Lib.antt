@@ -33,4 +33,6 @@ pub mod Tracks
 pub mod Running
 pub mod InstanceParts
 pub mod InstanceStands
+pub mod Asleep
+pub mod CaughtUp
 pub mod Woken

@@ -77,11 +77,13 @@ impl Model for Instance {
 }
 
 impl Instance {
+    ghost use Rattle.bucket_clock.specs.Clock.{frame_at};
     ghost use Rattle.bucket_meaning.specs.Limits.{time_limit};
     ghost use Rattle.config_links.specs.SoundConfig.{IsSoundConfig};
     ghost use Rattle.report_writer.specs.Writable.{IsWritableReport};
     ghost use Rattle.session_frames.specs.Faultless.{IsFaultlessLog};
     ghost use Rattle.client_engine.specs.Known.{drops_in};
+    ghost use Rattle.client_engine.specs.Asleep.{IsCaughtUp};
     ghost use Rattle.client_engine.specs.InstanceParts.{AreStateDrops};
     ghost use Rattle.client_engine.specs.InstanceStands.{IsFresh, Logs, AsksAtMost, Reports};
 
@@ -166,6 +168,15 @@ impl Instance {
             &mut self.conditions,
             asks,
         )
+    }
+
+    /// A run of frames went by that touch nothing of the configuration: one frame that stands for all catches it up. After
+    /// want of memory it is of no use.
+    pub fn catch_up(&mut self, at: u64, is_pull: bool) -> Result<(), AllocError>
+        ensures caught { OnOk result (IsCaughtUp self.old (frame_at at is_pull) self.new) }
+        ensures linked { linked_of self.new ≡ linked_of self.old }
+    {
+        self.tracks.catch_up(at, is_pull)
     }
 
     /// A report of the configuration, where the log gave these states. After want of memory it is of no use.

@@ -1,9 +1,11 @@
 //! What an instance does with each of its parts.
 ghost use Rattle.std.specs.Prelude.{◌≡◌, ◌<◌, [], ◌∷◌, ◌++◌, length, map, if◌then◌else◌, OnOk, IfOk};
 ghost use Rattle.std.specs.List.{All};
+ghost use Rattle.bucket_clock.specs.Clock.{frame_at};
 ghost use Rattle.bucket_meaning.specs.Limits.{time_limit};
 ghost use Rattle.client_engine.specs.AskedFew.{AsksFew};
 ghost use Rattle.client_engine.specs.Bringing.{TakesBrought};
+ghost use Rattle.client_engine.specs.CaughtUp.{AllTakeRun};
 ghost use Rattle.client_engine.specs.Finding.{MayAsk, CanBeMatched};
 ghost use Rattle.client_engine.specs.Tracks.{CanBeTracked, metric_in, AsksWithin, AllAskWithin, AreNew, AllStandFor, AllReport};
 ghost use Rattle.client_engine.specs.InstanceParts.{tree_with};
@@ -68,6 +70,17 @@ pub fn log_all<L: Ledger>(
 {
     for track in tracks.iter_mut() {
         track.log(alloc, brought, conditions, asks)?;
+    }
+    Ok(())
+}
+
+/// The one frame comes to each of these that stands for a run which leaves them alone.
+pub fn cross_all(tracks: &mut Vec<Track>, at: u64, is_pull: bool) -> Result<(), AllocError>
+    ensures takes { OnOk result (AllTakeRun (frame_at at is_pull) tracks.old.items tracks.new.items) }
+    ensures metrics { map metric_in tracks.new.items ≡ map metric_in tracks.old.items }
+{
+    for track in tracks.iter_mut() {
+        track.cross(at, is_pull)?;
     }
     Ok(())
 }

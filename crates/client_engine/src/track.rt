@@ -1,5 +1,6 @@
 //! A metric of a configuration, and the lane that collects for it.
 ghost use Rattle.std.specs.Prelude.{◌≡◌, ◌<◌, [], ◌∷◌, length, All, OnOk, IfOk};
+ghost use Rattle.bucket_clock.specs.Clock.{frame_at};
 ghost use Rattle.bucket_meaning.specs.Limits.{time_limit};
 ghost use Rattle.config_links.specs.SoundConfig.{MayBeWithin};
 ghost use Rattle.metric_meaning.specs.Histories.{Installation};
@@ -8,6 +9,7 @@ ghost use Rattle.client_engine.specs.NextSteps.{TakesReport};
 ghost use Rattle.client_engine.specs.SoundMetrics.{IsSoundIn};
 ghost use Rattle.client_engine.specs.AskedFew.{AsksFew};
 ghost use Rattle.client_engine.specs.Bringing.{TakesBrought};
+ghost use Rattle.client_engine.specs.CaughtUp.{TrackTakesRun};
 ghost use Rattle.client_engine.specs.Opens.{IsOpeningOf};
 ghost use Rattle.client_engine.specs.Finding.{MayAsk, CanBeMatched};
 ghost use Rattle.client_engine.specs.TrackStands.{LaneAlong, TrackStandsFor};
@@ -113,6 +115,23 @@ impl Track {
             MetricLane::Longest(lane) => longest::log(
                 lane, alloc, metric, brought, conditions, asks,
             ),
+        }
+    }
+
+    /// The one frame comes that stands for a run which leaves the metric alone: the lane crosses what that crosses.
+    pub fn cross(&mut self, at: u64, is_pull: bool) -> Result<(), AllocError>
+        ensures metric { self.new.metric ≡ self.old.metric }
+        ensures takes { OnOk result (TrackTakesRun (frame_at at is_pull) self.old self.new) }
+    {
+        match &mut self.lane {
+            MetricLane::Counts(lane) => lane.cross(at, is_pull),
+            MetricLane::Values(lane) => lane.cross(at, is_pull),
+            MetricLane::PulledValues(lane) => lane.cross(at, is_pull),
+            MetricLane::Gauges(lane) => lane.cross(at, is_pull),
+            MetricLane::PulledGauges(lane) => lane.cross(at, is_pull),
+            MetricLane::Events(lane) => lane.cross(at, is_pull),
+            MetricLane::Sums(lane) => lane.cross(at, is_pull),
+            MetricLane::Longest(lane) => lane.cross(at, is_pull),
         }
     }
 

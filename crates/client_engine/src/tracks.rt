@@ -1,9 +1,11 @@
 //! The metrics of a configuration with their lanes, and when the next bucket of theirs ends.
 ghost use Rattle.std.specs.Prelude.{◌≡◌, ◌<◌, length, map, replicate, false, OnOk, IfOk};
 ghost use Rattle.std.specs.List.{All};
+ghost use Rattle.bucket_clock.specs.Clock.{frame_at};
 ghost use Rattle.bucket_meaning.specs.Limits.{time_limit};
 ghost use Rattle.client_engine.specs.AskedFew.{AsksFew};
 ghost use Rattle.client_engine.specs.Bringing.{TakesBrought, handed_with};
+ghost use Rattle.client_engine.specs.CaughtUp.{AllTakeRun};
 ghost use Rattle.client_engine.specs.Finding.{MayAsk, CanBeMatched};
 ghost use Rattle.client_engine.specs.Tracks.{CanBeTracked, metric_in, AsksWithin, AllAskWithin, AreNew, AllStandFor, AllReport};
 ghost use Rattle.client_engine.specs.Waking.{OthersSleep};
@@ -15,7 +17,7 @@ use crate::conditions::Conditions;
 use crate::marks::{is_marked, no_marks};
 use crate::moments::comes_by_pull;
 use crate::opening::Opening;
-use crate::parts::{log_all, report_all, tracks_of};
+use crate::parts::{cross_all, log_all, report_all, tracks_of};
 use crate::request::ReportRequest;
 use crate::track::Track;
 use condition_links::Steps;
@@ -160,6 +162,26 @@ impl Tracks {
         let track = &mut self.list[place];
         track.log(alloc, brought, conditions, asks)?;
         Ok(due.min(track.next_end()))
+    }
+
+    /// The one frame comes that stands for a run which leaves all metrics alone. Where no bucket can end with it, nothing
+    /// is to be done.
+    pub fn catch_up(&mut self, at: u64, is_pull: bool) -> Result<(), AllocError>
+        requires due { AllDue self.old.due self.old.list.items }
+        requires marks { length self.old.marks.items ≡ length self.old.list.items }
+        ensures takes { OnOk result
+            (AllTakeRun (frame_at at is_pull) self.old.list.items self.new.list.items) }
+        ensures metrics { map metric_in self.new.list.items ≡ map metric_in self.old.list.items }
+        ensures due { AllDue self.new.due self.new.list.items }
+        ensures marks { length self.new.marks.items ≡ length self.new.list.items }
+    {
+        if at < self.due {
+            return Ok(());
+        }
+        self.due = 0;
+        cross_all(&mut self.list, at, is_pull)?;
+        self.due = least_end(self.list.as_slice());
+        Ok(())
     }
 
     /// What a report shows of each metric that is shown, in order.

@@ -95,6 +95,18 @@ impl Fed {
         log(&mut self.instance, &self.states, &frame, &[])
     }
 
+    /// One frame stands for all that went by since the last, of which nothing touched the instance.
+    pub fn catch_up(&mut self, at: u64, is_pull: bool) -> Result<bool, AllocError> {
+        if at >= LATE {
+            return Ok(false);
+        }
+        let Some(instance) = &mut self.instance else {
+            return Ok(false);
+        };
+        instance.catch_up(at, is_pull)?;
+        Ok(true)
+    }
+
     /// A report, which cuts the open part or leaves it.
     pub fn report(&mut self, at: u64, is_cut: bool) -> Result<Option<ReportTree>, AllocError> {
         if at >= LATE {

@@ -38,6 +38,8 @@ fn run_step(
         "sees" => see(alloc, tester, fed, at, words)?,
         "ticks" => fed.tick(at)?,
         "fails" => fed.failed_pull(at)?,
+        "slept" => fed.catch_up(at, false)?,
+        "slept-to-pull" => fed.catch_up(at, true)?,
         "shows" => show(alloc, tester, fed, at, false, words)?,
         "cuts" => show(alloc, tester, fed, at, true, words)?,
         _ => false,

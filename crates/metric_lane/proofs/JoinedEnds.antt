@@ -1,5 +1,5 @@
--- The ends that two frames cross one after the other are those that the later one crosses alone, if it covers the other;
--- and they are one bucket apart.
+-- The ends that two frames cross one after the other are those that the later one crosses alone, if it covers the
+-- other; and they are one bucket apart.
 use Rattle.std.proofs.Common.{◌≡◌, ℕ, zero, suc, ◌+◌, ◌-◌, ◌*◌, ◌/◌, ◌<◌, ◌≤◌, Bool, true, false, not, ◌&&◌, ◌||◌, ◌==◌, cond, if◌then◌else◌, List, [], ◌∷◌, ◌++◌, length, filter, refl, sym, ap, ◌∙◌, arith, append-nil, ⊎_elim, div-mul-le_self}
 use Rattle.std.specs.List.{list_any}
 use Rattle.std.proofs.lemmas.Bool.{cases_Bool, cases_lt, false≢true}
@@ -109,7 +109,7 @@ module _ (test other : ℕ → Bool) (falls : Falls test) (others_fall : Falls o
       skipped false c is first ends = refl
 
 -- an end after a frame isn't crossed by it
-beyond : (moment : Moment) (end : ℕ) → moment.at < end → crosses moment end ≡ false
+pub beyond : (moment : Moment) (end : ℕ) → moment.at < end → crosses moment end ≡ false
 beyond moment end after = grind (arith, nat_tests)
 
 module _ (base size : ℕ) (sized : 0 < size) (other : ℕ → Bool) where
@@ -203,24 +203,32 @@ module _ (base size : ℕ) (before : List Moment) where
         ∙ ap (λ l. l ++ ends_at base size (before ++ earlier ∷ []) later) (sym (no_ends base size before earlier none)))
         (cases_lt 0 size)
 
--- a frame crosses nothing where each of its ends was crossed before
+-- nothing passes a test that fails at each time after the base
+none_after : (base : ℕ) (test : ℕ → Bool) → ((end : ℕ) → base < end → test end ≡ false) → (first size n : ℕ)
+    → base < first → filter test (ends_from first size n) ≡ []
+none_after base test fails first size zero after = refl
+none_after base test fails first size (suc n) after =
+    let later = filter test (ends_from (first + size) size n) in
+    ap (λ b. cond b (first ∷ later) later) (fails first after)
+    ∙ none_after base test fails (first + size) size n (omega (arith, after))
+
+-- a frame crosses nothing where each end after the base that it crosses was crossed before
 pub ends_none : (base size : ℕ) (before : List Moment) (moment : Moment)
-    → ((end : ℕ) → crosses moment end ≡ true → list_any (λ earlier. crosses earlier end) before ≡ true)
+    → ((end : ℕ) → base < end → crosses moment end ≡ true → list_any (λ earlier. crosses earlier end) before ≡ true)
     → ends_at base size before moment ≡ []
-ends_none base size before moment were =
-    none (λ end. crosses moment end && not (crossed_by before end))
-    (λ end. by (crossed_by before end) (crosses moment end) (were end))
-    (full_ends base size moment.at)
+ends_none base size before moment were = ⊎_elim
+    (λ (sized : 0 < size).
+    ap (passing (crosses moment) (crossed_by before)) (full_ends_are base size sized moment.at)
+    ∙ none_after base (λ end. crosses moment end && not (crossed_by before end))
+    (λ end after. by (crossed_by before end) (crosses moment end) (were end after))
+    (base + size) size ((moment.at - base) / size) (omega (arith, sized)))
+    (λ (none : size ≤ 0). no_ends base size before moment none)
+    (cases_lt 0 size)
   where
     by : (was now : Bool) → (now ≡ true → was ≡ true) → (now && not was) ≡ false
     by was false goes = refl
     by true true goes = refl
     by false true goes = sym (goes refl)
-
-    none : (test : ℕ → Bool) → ((end : ℕ) → test end ≡ false) → (ends : List ℕ) → filter test ends ≡ []
-    none test fails [] = refl
-    none test fails (end ∷ ends) =
-        ap (λ b. cond b (end ∷ filter test ends) (filter test ends)) (fails end) ∙ none test fails ends
 
 -- Some ends, and the next after them.
 pub record GoOn (first : ℕ) (ends : List ℕ) (next size : ℕ) : Type 0 where

@@ -1,12 +1,13 @@
 -- A lane that was handed one frame for a run of frames that bring nothing has what the run brings.
-use Rattle.std.proofs.Common.{◌≡◌, ℕ, suc, ◌+◌, ◌*◌, Bool, true, false, ◌||◌, List, [], ◌∷◌, ◌++◌, map, length, Option, Some, None, refl, sym, ap, subst, ◌∙◌, append_assoc, append-nil, length-append}
+use Rattle.std.proofs.Common.{◌≡◌, ℕ, suc, ◌+◌, ◌*◌, Bool, true, false, ◌||◌, List, [], ◌∷◌, ◌++◌, map, length, Option, Some, None, refl, sym, ap, subst, ◌∙◌, append_assoc, append-nil, length-append, arith, ◌<◌, ◌≤◌, ⊎_elim}
 use Rattle.std.specs.List.{list_any, AllByRecursion}
 use Rattle.std.proofs.lemmas.List.Folds.{list_any-append}
 use Rattle.bucket_meaning.proofs.OutputsLemmas.{outputs-push}
 use Rattle.bucket_meaning.specs.Ends.{Moment, crosses, ends_at}
+use Rattle.bucket_meaning.proofs.EndsLemmas.{crosses-le}
 use Rattle.bucket_clock.specs.declared.crossings.Crossings.{Crossings}
 use Rattle.bucket_clock.specs.Sound.{Times}
-use Rattle.bucket_clock.specs.Clock.{Told, Saw, moments_told, boundaries, boundaries_at, last_time}
+use Rattle.bucket_clock.specs.Clock.{Told, Saw, Cut, moments_told, boundaries, boundaries_at, last_time}
 use Rattle.bucket_clock.proofs.ClockLemmas.{moments_told-frame}
 use Rattle.metric_producer.specs.Calls.{Call}
 use Rattle.metric_producer.specs.Joining.{Joins}
@@ -18,7 +19,7 @@ use Rattle.metric_producer.proofs.LaneCallsLemmas.{calls_with-push}
 use Rattle.metric_producer.proofs.LaneReach.{told_by-frame}
 use Rattle.metric_lane.specs.LaneClock.{HasClock}
 use Rattle.metric_lane.specs.LaneStands.{LaneHas}
-use Rattle.metric_lane.specs.LaneJoining.{Covers, crossings_of, CatchesUp, TakesBefore}
+use Rattle.metric_lane.specs.LaneJoining.{Covers, IsCoveredBy, StandsForRun, crossings_of, CatchesUp, TakesBefore}
 use Rattle.metric_lane.specs.declared.lane.Lane.{Lane}
 use Rattle.metric_lane.proofs.JoinedEnds.{AreApart, ends_apart, ends_joined, ends_none, go_on}
 
@@ -33,7 +34,8 @@ module _ {P Params Event After X K C R : Type 0} (law : Law P Params Event After
   crossings_join : (object : P) (params : Params) (calls : List (Call Event After)) (start size : ℕ)
       (ends more : List ℕ) → AreApart size (ends ++ more)
       → law.stands object params (calls ++ crossing_of start size (ends ++ more))
-      → law.stands object params (calls ++ (crossing_of start size ends ++ crossing_of (last_time start ends) size more))
+      → law.stands object params
+      (calls ++ (crossing_of start size ends ++ crossing_of (last_time start ends) size more))
   crossings_join object params calls start size [] more apart stands = stands
   crossings_join object params calls start size (first ∷ ends) [] apart stands =
       subst (λ l. law.stands object params (calls ++ crossing_of start size (first ∷ l))) (append-nil ends) stands
@@ -77,56 +79,64 @@ any_joined before earlier later end goes =
 -- nor does one more that crosses nothing new
 any_again : (before : List Moment) (moment : Moment) (end : ℕ)
     → (crosses moment end ≡ true → any_crosses before end ≡ true)
-    → any_crosses before end ≡ any_crosses (before ++ moment ∷ []) end
+    → any_crosses (before ++ moment ∷ []) end ≡ any_crosses before end
 any_again before moment end goes =
-    by (any_crosses before end) (crosses moment end) goes
-    ∙ sym (list_any-append (λ m. crosses m end) before (moment ∷ []))
+    list_any-append (λ m. crosses m end) before (moment ∷ [])
+    ∙ by (any_crosses before end) (crosses moment end) goes
   where
-    by : (b c : Bool) → (c ≡ true → b ≡ true) → b ≡ (b || (c || false))
+    by : (b c : Bool) → (c ≡ true → b ≡ true) → (b || (c || false)) ≡ b
     by true c goes = refl
-    by false true goes = goes refl
+    by false true goes = sym (goes refl)
     by false false goes = refl
 
--- what is crossed stays so with one more frame
-any_stays : (before : List Moment) (moment : Moment) (end : ℕ) → any_crosses before end ≡ true
-    → any_crosses (before ++ moment ∷ []) end ≡ true
-any_stays before moment end is =
-    list_any-append (λ m. crosses m end) before (moment ∷ [])
-    ∙ ap (λ b. b || (crosses moment end || false)) is
-
--- and that one's own ends are
-any_own : (before : List Moment) (moment : Moment) (end : ℕ) → crosses moment end ≡ true
-    → any_crosses (before ++ moment ∷ []) end ≡ true
-any_own before moment end is =
-    list_any-append (λ m. crosses m end) before (moment ∷ [])
-    ∙ by (any_crosses before end) (crosses moment end) is
+-- an end of a frame that one of these covers is crossed by that one
+any_covers : (frames : List Moment) (moment : Moment) (end : ℕ) → IsCoveredBy frames moment
+    → crosses moment end ≡ true → any_crosses frames end ≡ true
+any_covers [] moment end covered is = absurd covered
+any_covers (frame ∷ frames) moment end covered is = ⊎_elim
+    (λ (covers : Covers moment frame). ap (λ b. b || any_crosses frames end) (covers.crosses_all end is))
+    (λ (behind : IsCoveredBy frames moment).
+    by (crosses frame end) (any_crosses frames end) (any_covers frames moment end behind is))
+    covered
   where
-    by : (b c : Bool) → c ≡ true → (b || (c || false)) ≡ true
+    by : (b c : Bool) → c ≡ true → (b || c) ≡ true
     by true c is = refl
-    by false c is = ap (λ d. d || false) is
+    by false c is = is
 
--- Two lists of what a clock may be told make it stand alike.
-record StandAlike (told others : List Told) : Type 0 where
-  last : (base size : ℕ) → last_time base (boundaries base size told) ≡ last_time base (boundaries base size others)
-  crossed : (end : ℕ) → any_crosses (moments_told told) end ≡ any_crosses (moments_told others) end
+-- a frame that stands for a run crosses no end after the base that none of all these crosses
+pub any_stands : (base : ℕ) (came run : List Moment) (moment : Moment) (end : ℕ) → StandsForRun base came run moment
+    → base < end → crosses moment end ≡ true → any_crosses (came ++ run) end ≡ true
+any_stands base came run moment end stands after is = ⊎_elim
+    (λ (early : moment.at ≤ base).
+    let within = crosses-le moment end is in absurd (omega (arith, after, early, within)))
+    (λ (covered : IsCoveredBy (came ++ run) moment). any_covers (came ++ run) moment end covered is)
+    stands.is_covered
+
+-- Two lists of what a clock with a base may be told make it stand alike.
+record StandAlike (base : ℕ) (told others : List Told) : Type 0 where
+  last : (size : ℕ) → last_time base (boundaries base size told) ≡ last_time base (boundaries base size others)
+  crossed : (end : ℕ) → base < end → any_crosses (moments_told told) end ≡ any_crosses (moments_told others) end
 
 -- a clock that was told the one has what one has that was told the other
-clock_alike : (clock : Option Times) (base size : ℕ) (told others : List Told) → StandAlike told others
+clock_alike : (clock : Option Times) (base size : ℕ) (told others : List Told) → StandAlike base told others
     → HasClock clock base size told → HasClock clock base size others
 clock_alike None base size told others alike has = has
 clock_alike (Some clock) base size told others alike has =
     let next = has.stands.next_end in
+    let sized : 0 < clock.size = subst (λ n. 0 < n) (sym has.size_is) has.sized in
+    let here : StandAlike clock.base told others = subst (λ b. StandAlike b told others) (sym has.base_is) alike in
     record {
       base_is = has.base_is;
       size_is = has.size_is;
       sized = has.sized;
       stands = record {
-        start = has.stands.start ∙ alike.last clock.base clock.size;
+        start = has.stands.start ∙ here.last clock.size;
         next_end = record {
           passed = next.passed;
           at = next.at;
-          uncrossed = sym (alike.crossed clock.next_end) ∙ next.uncrossed;
-          crossed = λ i within. sym (alike.crossed (clock.base + suc i * clock.size)) ∙ next.crossed i within;
+          uncrossed = sym (here.crossed clock.next_end (omega (arith, next.at, sized))) ∙ next.uncrossed;
+          crossed = λ i within.
+              sym (here.crossed (clock.base + suc i * clock.size) (omega (arith, sized))) ∙ next.crossed i within;
         };
       };
     }
@@ -139,20 +149,38 @@ last-frame base size told moment =
     ap (last_time base) (outputs-push (boundaries_at base size) told (Saw moment))
     ∙ last_time-append base (boundaries base size told) (ends_at base size (moments_told told) moment)
 
--- a frame that was told crosses nothing that wasn't crossed before
-abbrev AddsNone : List Told → Moment → Type 0
-AddsNone told moment = (end : ℕ) → crosses moment end ≡ true → any_crosses (moments_told told) end ≡ true
+-- a frame that was told crosses nothing after the base that wasn't crossed before
+abbrev AddsNone : ℕ → List Told → Moment → Type 0
+AddsNone base told moment =
+    (end : ℕ) → base < end → crosses moment end ≡ true → any_crosses (moments_told told) end ≡ true
 
--- so a clock that is told of it stands as it did
-again_alike : (told : List Told) (moment : Moment) → AddsNone told moment → StandAlike told (told ++ Saw moment ∷ [])
-again_alike told moment none = record {
-  last = λ base size.
-      sym (last-frame base size told moment
+-- so a clock that wasn't told of it stands as one that was
+again_alike : (base : ℕ) (told : List Told) (moment : Moment) → AddsNone base told moment
+    → StandAlike base (told ++ Saw moment ∷ []) told
+again_alike base told moment none = record {
+  last = λ size.
+      last-frame base size told moment
       ∙ ap (last_time (last_time base (boundaries base size told)))
-      (ends_none base size (moments_told told) moment none));
-  crossed = λ end. any_again (moments_told told) moment end (none end)
-      ∙ ap (λ moments. any_crosses moments end) (sym (moments_told-frame told moment));
+      (ends_none base size (moments_told told) moment none);
+  crossed = λ end after.
+      ap (λ moments. any_crosses moments end) (moments_told-frame told moment)
+      ∙ any_again (moments_told told) moment end (none end after);
 }
+
+-- the frames that were told, with a run
+moments_told-run : (told : List Told) (run : List Moment)
+    → moments_told (told ++ map Saw run) ≡ moments_told told ++ run
+moments_told-run [] [] = refl
+moments_told-run [] (frame ∷ run) = ap (λ l. frame ∷ l) (moments_told-run [] run)
+moments_told-run (Saw first ∷ told) run = ap (λ l. first ∷ l) (moments_told-run told run)
+moments_told-run (Cut at ∷ told) run = moments_told-run told run
+
+-- a frame that stands for a run adds nothing after it
+adds_none : (base : ℕ) (told : List Told) (run : List Moment) (moment : Moment)
+    → StandsForRun base (moments_told told) run moment → AddsNone base (told ++ map Saw run) moment
+adds_none base told run moment stands end after is =
+    ap (λ moments. any_crosses moments end) (moments_told-run told run)
+    ∙ any_stands base (moments_told told) run moment end stands after is
 
 module _ (told : List Told) (earlier later : Moment) (covers : Covers earlier later) where
   -- two frames, as one after the other
@@ -172,9 +200,9 @@ module _ (told : List Told) (earlier later : Moment) (covers : Covers earlier la
   later_ends base size = ap (λ moments. ends_at base size moments later) (moments_told-frame told earlier)
 
   -- a clock that was told of the later frame alone stands as one that was told of both
-  before_alike : StandAlike (told ++ Saw later ∷ []) (told ++ Saw earlier ∷ Saw later ∷ [])
-  before_alike = record {
-    last = λ base size.
+  before_alike : (base : ℕ) → StandAlike base (told ++ Saw later ∷ []) (told ++ Saw earlier ∷ Saw later ∷ [])
+  before_alike base = record {
+    last = λ size.
         let start = last_time base (boundaries base size told) in
         let seen = moments_told told in
         let first = ends_at base size seen earlier in
@@ -186,7 +214,7 @@ module _ (told : List Told) (earlier later : Moment) (covers : Covers earlier la
         (sym (last-frame base size told earlier))
         ∙ sym (last-frame base size (told ++ Saw earlier ∷ []) later)
         ∙ ap (λ all. last_time base (boundaries base size all)) both_told;
-    crossed = λ end.
+    crossed = λ end after.
         ap (λ moments. any_crosses moments end) (moments_told-frame told later)
         ∙ any_joined (moments_told told) earlier later end (covers.crosses_all end)
         ∙ ap (λ moments. any_crosses moments end) (sym both_moments);
@@ -204,39 +232,19 @@ module _ {P Params Event After X K C Value : Type 0} (law : Law P Params Event A
   abbrev crossed_at : List Told → Moment → List (Call Event After)
   crossed_at told moment = crossing base size told moment
 
-  -- a frame that crosses nothing new may come besides
-  lane_again : (told : List Told) (calls : List (Call Event After)) (moment : Moment) → AddsNone told moment
-      → LaneHas law lane params told calls
+  -- a frame that crosses nothing new may be left out
+  lane_without : (told : List Told) (calls : List (Call Event After)) (moment : Moment) → AddsNone base told moment
       → LaneHas law lane params (told ++ Saw moment ∷ []) (calls ++ crossed_at told moment)
-  lane_again told calls moment none has = record {
-    clock = clock_alike lane.clock base size told (told ++ Saw moment ∷ []) (again_alike told moment none) has.clock;
+      → LaneHas law lane params told calls
+  lane_without told calls moment none has = record {
+    clock = clock_alike lane.clock base size (told ++ Saw moment ∷ []) told (again_alike base told moment none)
+        has.clock;
     producer = subst (law.stands lane.producer params)
-        (sym (append-nil calls)
-        ∙ ap (λ ends. calls ++ crossing_of (last_time base (boundaries base size told)) size ends)
-        (sym (ends_none base size (moments_told told) moment none)))
+        (ap (λ ends. calls ++ crossing_of (last_time base (boundaries base size told)) size ends)
+        (ends_none base size (moments_told told) moment none)
+        ∙ append-nil calls)
         has.producer;
   }
-
-  -- so may several that are covered by one that came
-  lane_behind : (moment : Moment) (behind : List Moment) (told : List Told) (calls : List (Call Event After))
-      → AddsNone told moment → AllByRecursion (λ frame. Covers frame moment) behind
-      → LaneHas law lane params told calls
-      → LaneHas law lane params (told ++ map Saw behind) (calls ++ crossings_of base size told behind)
-  lane_behind moment [] told calls none all has =
-      subst (λ t. LaneHas law lane params t (calls ++ [])) (sym (append-nil told))
-      (subst (LaneHas law lane params told) (sym (append-nil calls)) has)
-  lane_behind moment (frame ∷ behind) told calls none all has =
-      let told_more = told ++ Saw frame ∷ [] in
-      let adds : AddsNone told frame = λ end is. none end (all.0.crosses_all end is) in
-      let stays : AddsNone told_more moment = λ end is.
-      ap (λ moments. any_crosses moments end) (moments_told-frame told frame)
-      ∙ any_stays (moments_told told) frame end (none end is) in
-      subst (λ t. LaneHas law lane params t (calls ++ crossings_of base size told (frame ∷ behind)))
-      (append_assoc told (Saw frame ∷ []) (map Saw behind))
-      (subst (LaneHas law lane params (told_more ++ map Saw behind))
-      (append_assoc calls (crossed_at told frame) (crossings_of base size told_more behind))
-      (lane_behind moment behind told_more (calls ++ crossed_at told frame) stays all.1
-      (lane_again told calls frame adds has)))
 
   module _ (joins : Joins law) where
     -- a frame that a later one covers may come before it
@@ -252,7 +260,7 @@ module _ {P Params Event After X K C Value : Type 0} (law : Law P Params Event A
         let joined : ends_at base size seen later ≡ first ++ second = ends_joined base size seen earlier later covers in
         record {
           clock = clock_alike lane.clock base size (told ++ Saw later ∷ []) (told ++ Saw earlier ∷ Saw later ∷ [])
-              (before_alike told earlier later covers) has.clock;
+              (before_alike told earlier later covers base) has.clock;
           producer =
               subst (λ ends. law.stands lane.producer params
               (calls ++ (crossed_at told earlier
@@ -267,25 +275,19 @@ module _ {P Params Event After X K C Value : Type 0} (law : Law P Params Event A
               has.producer)));
         }
 
-    -- so may a run of frames that are covered, and others behind it
-    lane_run : (moment : Moment) (before behind : List Moment) (told : List Told) (calls : List (Call Event After))
-        → AllByRecursion (λ frame. Covers frame moment) (before ++ moment ∷ behind)
+    -- so may a run of frames that it covers
+    lane_run : (moment : Moment) (run : List Moment) (told : List Told) (calls : List (Call Event After))
+        → AllByRecursion (λ frame. Covers frame moment) run
         → LaneHas law lane params (told ++ Saw moment ∷ []) (calls ++ crossed_at told moment)
-        → LaneHas law lane params (told ++ map Saw (before ++ moment ∷ behind))
-        (calls ++ crossings_of base size told (before ++ moment ∷ behind))
-    lane_run moment [] behind told calls all has =
-        let told_more = told ++ Saw moment ∷ [] in
-        let own : AddsNone told_more moment = λ end is.
-        ap (λ moments. any_crosses moments end) (moments_told-frame told moment)
-        ∙ any_own (moments_told told) moment end is in
-        subst (λ t. LaneHas law lane params t (calls ++ crossings_of base size told (moment ∷ behind)))
-        (append_assoc told (Saw moment ∷ []) (map Saw behind))
-        (subst (LaneHas law lane params (told_more ++ map Saw behind))
-        (append_assoc calls (crossed_at told moment) (crossings_of base size told_more behind))
-        (lane_behind moment behind told_more (calls ++ crossed_at told moment) own all.1 has))
-    lane_run moment (frame ∷ before) behind told calls all has =
+        → LaneHas law lane params ((told ++ map Saw run) ++ Saw moment ∷ [])
+        ((calls ++ crossings_of base size told run) ++ crossed_at (told ++ map Saw run) moment)
+    lane_run moment [] told calls all has =
+        subst (λ t. LaneHas law lane params (t ++ Saw moment ∷ []) ((calls ++ []) ++ crossed_at t moment))
+        (sym (append-nil told))
+        (subst (λ l. LaneHas law lane params (told ++ Saw moment ∷ []) (l ++ crossed_at told moment))
+        (sym (append-nil calls)) has)
+    lane_run moment (frame ∷ run) told calls all has =
         let told_more = told ++ Saw frame ∷ [] in
-        let run = before ++ moment ∷ behind in
         let two = lane_before told calls frame moment all.0 has in
         let next : LaneHas law lane params (told_more ++ Saw moment ∷ [])
         ((calls ++ crossed_at told frame) ++ crossed_at told_more moment) =
@@ -293,22 +295,24 @@ module _ {P Params Event After X K C Value : Type 0} (law : Law P Params Event A
         (sym (append_assoc told (Saw frame ∷ []) (Saw moment ∷ [])))
         (subst (LaneHas law lane params (told ++ Saw frame ∷ Saw moment ∷ []))
         (sym (append_assoc calls (crossed_at told frame) (crossed_at told_more moment))) two) in
-        subst (λ t. LaneHas law lane params t (calls ++ crossings_of base size told (frame ∷ run)))
+        subst (λ t. LaneHas law lane params (t ++ Saw moment ∷ [])
+        ((calls ++ crossings_of base size told (frame ∷ run)) ++ crossed_at t moment))
         (append_assoc told (Saw frame ∷ []) (map Saw run))
-        (subst (LaneHas law lane params (told_more ++ map Saw run))
+        (subst (λ l. LaneHas law lane params ((told_more ++ map Saw run) ++ Saw moment ∷ [])
+        (l ++ crossed_at (told_more ++ map Saw run) moment))
         (append_assoc calls (crossed_at told frame) (crossings_of base size told_more run))
-        (lane_run moment before behind told_more (calls ++ crossed_at told frame) all.1 next))
+        (lane_run moment run told_more (calls ++ crossed_at told frame) all.1 next))
 
 module _ {P Params Event After X K C Value : Type 0} (law : Law P Params Event After X K C (Row Value))
     (joins : Joins law) where
   -- the one frame that stands for a run brings what the run brings
   pub catches_up : CatchesUp law
-  catches_up lane params told calls moment run is has =
+  catches_up lane params told calls moment run stands has =
       let demands = demands_of law params in
-      subst (λ frames. LaneHas law lane params (told ++ map Saw frames)
-      (calls ++ crossings_of demands.base demands.size told frames)) (sym is.among)
-      (lane_run law lane params joins moment is.before is.behind told calls
-      (subst (AllByRecursion (λ frame. Covers frame moment)) is.among is.covers_all) has)
+      lane_without law lane params (told ++ map Saw run)
+      (calls ++ crossings_of demands.base demands.size told run) moment
+      (adds_none demands.base told run moment stands)
+      (lane_run law lane params joins moment run told calls stands.covers_all has)
 
   module _ {News : Type 0} (asks : List (LaneStep News) → Moment → News → List (Call Event After))
       (opening : List (Call Event After)) where

@@ -9,7 +9,7 @@ use Rattle.metric_producer.specs.Calls.{Call, Crossed, Took}
 use Rattle.metric_producer.specs.Moves.{Moves, MovesAll}
 use Rattle.metric_producer.specs.LaneCalls.{crossing, crossing_of, cutting, handed_on}
 use Rattle.metric_producer.proofs.RuleLemmas.{admits-front, admits-back}
-use Rattle.metric_producer.proofs.LaneReach.{no_ends}
+use Rattle.metric_producer.proofs.LaneReach.{no_ends, reach_of, reaches, reach-le}
 use Rattle.metric_producer.proofs.ClockOfCalls.{handed_on_is}
 use Rattle.metric_producer.specs.declared.row.Row.{Row}
 use Rattle.bucket_meaning.specs.Kept.{Taken}
@@ -17,6 +17,7 @@ use Rattle.metric_producer.specs.Collecting.{Law, demands_of, Gives}
 use Rattle.metric_lane.specs.LaneClock.{HasClock, MayCross, ClockCrosses, NoEndBefore}
 use Rattle.metric_lane.specs.LaneStands.{GetsFrame, GetsCut, GetsReport, told_at}
 use Rattle.metric_lane.specs.declared.lane.Lane.{Lane}
+use Rattle.metric_lane.proofs.JoinedEnds.{beyond}
 
 -- a clock's base stays
 base_kept : (old new : Times) (moment : Moment) (answer : Option Crossings) → Answers old moment answer new
@@ -63,26 +64,17 @@ answered Event After (Some old) (Some new) base size told moment answer crosses 
       };
     }
 
--- an end is crossed by a frame that is no pull exactly where it isn't after it
-crossed_up_to : (moment : Moment) (end : ℕ) → moment.is_pull ≡ false → crosses moment end ≡ nat_le end moment.at
-crossed_up_to moment end isnt = by_both isnt
-  where
-    by_both : moment.is_pull ≡ false
-        → (nat_lt end moment.at || (end == moment.at && not moment.is_pull)) ≡ nat_le end moment.at
-    by_both no_pull = rw no_pull (grind arith)
-
--- a frame that is no pull and comes before the next end crosses none, and the clock stays as it is
+-- a frame before the next end crosses none, and the clock stays as it is
 none_crossed : (clock : Option Times) (moment : Moment) (time : ℕ) → NoEndBefore time clock → moment.at < time
-    → moment.is_pull ≡ false → ClockCrosses clock clock moment None
-none_crossed None moment time later before isnt = (refl, refl)
-none_crossed (Some clock) moment time none before isnt = λ may.
+    → ClockCrosses clock clock moment None
+none_crossed None moment time later before = (refl, refl)
+none_crossed (Some clock) moment time none before = λ may.
     let later = none (omega (arith, before)) in
     let end = later.later in
-    let beyond : crosses moment clock.next_end ≡ false =
-    crossed_up_to moment clock.next_end isnt ∙ grind (arith, end, before) in (
-      (beyond, refl),
-      none_made clock moment later.sound.least_size later.sound.in_bucket may.0 moment.at (omega (arith, end, before))
-          (λ end some. crossed_up_to moment end isnt) (omega (arith, end, before)),
+    let most = reach-le moment in (
+      (beyond moment clock.next_end (omega (arith, end, before)), refl),
+      none_made clock moment later.sound.least_size later.sound.in_bucket may.0 (reach_of moment)
+          (omega (arith, end, before)) (reaches moment) (omega (arith, end, before, most)),
     )
 
 -- one call, as a list of calls
@@ -115,15 +107,16 @@ module _ {P Params Event After X K C Value : Type 0} (law : Law P Params Event A
       frame_on old new moment (Some crossings) crosses
       (moves_one law old.producer new.producer (Crossed crossings) moves)
 
-  -- a frame that is no pull and comes before the next end leaves the lane as it is
+  -- a frame before the next end leaves the lane as it is
   pub frame_before_end : (lane : Lane P Event After Value) (moment : Moment) (time : ℕ) → NoEndBefore time lane.clock
-      → moment.at < time → moment.is_pull ≡ false → GetsFrame law lane lane moment
-  frame_before_end lane moment time later before isnt =
-      frame_on lane lane moment None (none_crossed lane.clock moment time later before isnt)
+      → moment.at < time → GetsFrame law lane lane moment
+  frame_before_end lane moment time later before =
+      frame_on lane lane moment None (none_crossed lane.clock moment time later before)
       (λ params calls stands admitted. subst (law.stands lane.producer params) (sym (append-nil calls)) stands)
 
   -- a report: the cut first, and then what is kept
-  pub report_on : (old middle new : Lane P Event After Value) (at : ℕ) (include_current : Bool) (closed : Taken (Row Value))
+  pub report_on : (old middle new : Lane P Event After Value) (at : ℕ) (include_current : Bool)
+      (closed : Taken (Row Value))
       → GetsCut law old middle at include_current → new.clock ≡ middle.clock
       → Gives law middle.producer closed
       → Moves law middle.producer new.producer Took

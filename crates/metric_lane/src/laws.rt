@@ -4,7 +4,7 @@ ghost use Rattle.metric_producer.specs.Joining.{Joins};
 
 use metric_producer::Producer;
 
-/// A run of frames that bring nothing means what the one of them means that stands for all, where two crossings with
+/// A run of frames that bring nothing means what the one frame means that stands for all, where two crossings with
 /// nothing between them mean what one that covers both means. It does nothing when it runs.
 pub fn frames_join<P: Producer>()
     ensures { Joins P.law → CatchesUp P.law }

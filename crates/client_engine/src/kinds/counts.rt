@@ -1,6 +1,7 @@
 //! Metrics that count.
 ghost use Rattle.std.specs.Prelude.{◌≡◌, ◌+◌, ◌≤◌, ◌∷◌, ◌<◌, [], length, OnOk, IfOk};
 ghost use Rattle.std.specs.Option.{option_copied};
+ghost use Rattle.bucket_clock.specs.Clock.{frame_at};
 ghost use Rattle.bucket_meaning.specs.Limits.{time_limit};
 ghost use Rattle.config_links.specs.declared.linked.LKind.TheVariants.{Count};
 ghost use Rattle.config_links.specs.SoundConfig.{IsSize, IsBound, MayBeWithin};
@@ -8,7 +9,9 @@ ghost use Rattle.metric_meaning.specs.Histories.{Installation};
 ghost use Rattle.metric_meaning.specs.Scenes.{Scene};
 ghost use Rattle.metric_meaning.specs.CountSteps.{arrival_by};
 ghost use Rattle.metric_meaning.specs.CountTrees.{count_tree};
+ghost use Rattle.count_metric.specs.CountStands.{count_law};
 ghost use Rattle.metric_lane.specs.LaneClock.{NoEndBefore};
+ghost use Rattle.metric_lane.specs.LaneStands.{GetsFrame};
 ghost use Rattle.report_writer.specs.Writable.{IsWritableMetric};
 ghost use Rattle.client_engine.specs.Handed.{IsOfScene};
 ghost use Rattle.client_engine.specs.NextSteps.{TakesReport};
@@ -118,6 +121,13 @@ impl CountLane {
         ensures { NoEndBefore result self.now.clock }
     {
         self.lane.next_end()
+    }
+
+    /// The one frame comes that stands for a run which brings nothing: hands on what it crosses.
+    pub fn cross(&mut self, at: u64, is_pull: bool) -> Result<(), AllocError>
+        ensures { OnOk result (GetsFrame count_law self.old self.new (frame_at at is_pull)) }
+    {
+        self.lane.cross(at, is_pull)
     }
 }
 
