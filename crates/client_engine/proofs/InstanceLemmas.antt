@@ -16,7 +16,6 @@ use Rattle.config_links.specs.declared.linked.LPredBody.{LPredBody}
 use Rattle.config_links.specs.declared.linked.LPredBody.TheVariants.{Simple, Combo}
 use Rattle.config_links.specs.SoundConfig.{IsBound, IsSoundBody, IsSoundMatcher, IsSoundPredicate, IsSoundMetric, IsSoundConfig}
 use Rattle.config_links.proofs.SoundUses.{references_end}
-use Rattle.metric_producer.specs.LaneCalls.{IsTimelyStep, last_at}
 use Rattle.session_frames.specs.FrameReading.{log_time}
 use Rattle.metric_meaning.specs.Histories.{Step, What, Reported, Logged, Installation, History, frames_at, logged_frames, log_after, log_of_history}
 use Rattle.metric_meaning.specs.ShownFrames.{shown_as}
@@ -39,6 +38,7 @@ use Rattle.client_engine.specs.Running.{Running, linked_of}
 use Rattle.client_engine.specs.InstanceParts.{tree_with, AreStateDrops}
 use Rattle.client_engine.specs.InstanceStands.{new_history, InstanceStandsFor, last_step_time, IsFresh, Logs, AsksAtMost, Reports}
 use Rattle.client_engine.specs.Finding.{MayAsk}
+use Rattle.client_engine.proofs.LastStepLemmas.{in_time-push}
 use Rattle.client_engine.specs.declared.opening.Opening.{Opening}
 use Rattle.client_engine.specs.declared.parts.Drops.{Drops}
 use Rattle.client_engine.specs.declared.track.Track.{Track}
@@ -48,13 +48,6 @@ use Rattle.client_engine.specs.declared.request.ReportRequest.{ReportRequest}
 abbrev pub reported_or : ℕ → ℕ → What → ℕ
 reported_or last at (Logged frame) = last
 reported_or last at (Reported include_current) = at
-
--- one more step that comes in time
-in_time-push : (last : ℕ) (steps : List Step) (step : Step) → ComeInTime last steps
-    → IsTimelyStep (last_from last steps) (bare_step step) → ComeInTime last (steps ++ step ∷ [])
-in_time-push last [] step all comes = (comes, tt)
-in_time-push last (first ∷ steps) step all comes =
-    (all.0, in_time-push (last_at last (bare_step first)) steps step all.1 comes)
 
 -- the clock at the last report, after a first step
 last_report-first : (last at : ℕ) (what : What) (truths : List Bool) (steps : List Step)

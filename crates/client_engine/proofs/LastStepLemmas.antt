@@ -33,6 +33,13 @@ in_time-behind last [] run in_time = in_time
 in_time-behind last (step ∷ steps) run in_time =
     in_time-behind (last_at last (bare_step step)) steps run in_time.1
 
+-- one more step that comes in time
+pub in_time-push : (last : ℕ) (steps : List Step) (step : Step) → ComeInTime last steps
+    → IsTimelyStep (last_from last steps) (bare_step step) → ComeInTime last (steps ++ step ∷ [])
+in_time-push last [] step all comes = (comes, tt)
+in_time-push last (first ∷ steps) step all comes =
+    (all.0, in_time-push (last_at last (bare_step first)) steps step all.1 comes)
+
 -- a history's last time is no later than that of the history with steps that come in time
 pub last_time_grows : (history : History) (run : List Step)
     → ComeInTime history.installed.base (history.steps ++ run)

@@ -18,7 +18,7 @@ use Rattle.link_graph.proofs.NodeLemmas.{map_same}
 use Rattle.matcher_eval.specs.AtomTests.{number_set}
 use Rattle.matcher_eval.specs.Combined.{combined_truth}
 use Rattle.matcher_truths.specs.MatcherTruths.{is_of_atom, truth_from, truth_step, matches, all_truths}
-use Rattle.heard_ids.specs.Hearing.{matched_id, is_heard, heeded_by_body, heeded_by_kind, heeded_matchers, idle_from, idle_step, holds_idle, idle_truths, truth_listed, some_holds, hears_all}
+use Rattle.heard_ids.specs.Hearing.{matched_id, is_heard, heeded_by_body, heeded_by_kind, heeded_matchers, idle_from, idle_step, holds_idle, silent_truths, truth_listed, some_holds, hears_all}
 
 -- where nothing in a row of lists passes, nothing in one of them does
 module _ {X : Type 0} (test : ℕ → Bool) (lists : X → List ℕ) where
@@ -82,7 +82,7 @@ module _ (says : SimpleMatcher → Atom → Bool) (atom : Atom) (linked : Linked
       (slice_get linked.matchers place) refl
 
   -- an atom that isn't heard leaves each matcher as it is where no simple one holds
-  pub unheard_truths : all_truths says atom linked.matchers ≡ idle_truths linked.matchers
+  pub unheard_truths : all_truths says atom linked.matchers ≡ silent_truths linked.matchers
   unheard_truths =
       map_same (matches says atom linked.matchers) (holds_idle linked.matchers)
       (range_with_len 0 (length linked.matchers)) (λ y named. idle_unrolled (length linked.matchers) y)

@@ -15,7 +15,7 @@ use Rattle.link_graph.proofs.NodeLemmas.{map_same, children_of}
 use Rattle.link_graph.proofs.UnrollingLaws.{equation}
 use Rattle.matcher_eval.specs.Combined.{combined_truth}
 use Rattle.matcher_truths.specs.MatcherTruths.{named_places}
-use Rattle.heard_ids.specs.Hearing.{idle_from, idle_step, holds_idle, idle_truths, truth_listed}
+use Rattle.heard_ids.specs.Hearing.{idle_from, idle_step, holds_idle, silent_truths, truth_listed}
 use Rattle.heard_ids.proofs.HeededLemmas.{listed_there}
 
 -- the places of an order so far have their truths
@@ -82,7 +82,7 @@ module _ (matchers : List LMatcher) where
 
       -- all
       pub all_idle : (i : ℕ) → length order ≤ i → (truths : List Bool) → length truths ≡ length matchers
-          → AreIdleSoFar matchers order i truths → truths ≡ idle_truths matchers
+          → AreIdleSoFar matchers order i truths → truths ≡ silent_truths matchers
       all_idle i end truths long so_far =
           fill_by_all (holds_idle matchers) truths (length matchers) false long
           (λ p here. so_far p (subst (λ (xs : List ℕ). Contains xs p) (sym (take_all i order end))

@@ -11,7 +11,7 @@ use Rattle.config_links.specs.declared.linked.LMetric.{LMetric}
 use Rattle.config_links.specs.declared.linked.LKind.{LKind}
 use Rattle.config_links.specs.declared.linked.LKind.TheVariants.{Count, PulledGauge, SumDuration}
 use Rattle.config_links.specs.declared.linked.Linked.{Linked}
-use Rattle.heard_ids.specs.Hearing.{heard_ids, is_heard, idle_truths, hears_all}
+use Rattle.heard_ids.specs.Hearing.{heard_ids, is_heard, silent_truths, hears_all}
 
 -- the atoms of an id
 abbrev atoms_of : ℕ → LMatcher
@@ -52,11 +52,11 @@ started_by start = record {
 abbrev five_and_others : List LMatcher
 five_and_others = atoms_of 5 ∷ Combo Not (0 ∷ []) ∷ []
 
-others_hold_idle : idle_truths five_and_others ≡ false ∷ true ∷ []
+others_hold_idle : silent_truths five_and_others ≡ false ∷ true ∷ []
 others_hold_idle = refl
 
 -- the order of the matchers doesn't matter
-named_before : idle_truths (Combo Not (1 ∷ []) ∷ Combo Nand (2 ∷ 2 ∷ []) ∷ atoms_of 5 ∷ []) ≡ false ∷ true ∷ false ∷ []
+named_before : silent_truths (Combo Not (1 ∷ []) ∷ Combo Nand (2 ∷ 2 ∷ []) ∷ atoms_of 5 ∷ []) ≡ false ∷ true ∷ false ∷ []
 named_before = refl
 
 -- who counts the atoms of any other id hears all of them, and who counts those of id 5 doesn't

@@ -68,8 +68,8 @@ abbrev pub holds_idle : List LMatcher → ℕ → Bool
 holds_idle matchers = unroll (idle_step matchers) false (length matchers)
 
 -- the truth of each matcher where no simple one holds, in config order
-abbrev pub idle_truths : List LMatcher → List Bool
-idle_truths matchers = map (holds_idle matchers) (range_with_len 0 (length matchers))
+abbrev pub silent_truths : List LMatcher → List Bool
+silent_truths matchers = map (holds_idle matchers) (range_with_len 0 (length matchers))
 
 -- the truth that is listed for a place, and none past the end
 abbrev pub truth_listed : ℕ → List Bool → Bool
@@ -83,4 +83,4 @@ some_holds truths places = list_any (λ place. truth_listed place truths) places
 
 -- a configuration hears every atom: one of the matchers that it heeds holds where no simple one does, as a negation may
 abbrev pub hears_all : Linked → Bool
-hears_all linked = some_holds (idle_truths linked.matchers) (heeded_matchers linked)
+hears_all linked = some_holds (silent_truths linked.matchers) (heeded_matchers linked)

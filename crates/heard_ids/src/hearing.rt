@@ -7,7 +7,7 @@ ghost use Rattle.config_links.specs.declared.linked.LState.{LState};
 ghost use Rattle.heard_ids.specs.Hearing.{matched_id, heard_ids, heeded_matchers, some_holds, hears_all};
 
 use crate::heeded::{metric_heeds, predicate_heeds};
-use crate::idle::idle_truths;
+use crate::idle::silent_truths;
 use config_links::{LMatcher, LState, Linked};
 use config_types::SimpleMatcher;
 use sd_base::Seq;
@@ -83,7 +83,7 @@ fn is_heeding_all(alloc: Global, linked: &Linked) -> Result<bool, AllocError>
     ensures { IfOk result (λ all. all ≡ hears_all linked.now) }
 {
     let matchers = linked.matchers.as_slice();
-    let truths = idle_truths(alloc, matchers)?;
+    let truths = silent_truths(alloc, matchers)?;
     Ok(is_heeding(linked, truths.as_slice()))
 }
 

@@ -2,7 +2,7 @@
 ghost use Rattle.std.specs.Prelude.{◌≡◌, ◌<◌, ◌^◌, length, map, Some, IfOk};
 ghost use Rattle.link_graph.specs.Links.{AreInRange, HasNoCycle, IsOrder};
 ghost use Rattle.matcher_truths.specs.MatcherTruths.{named_places};
-ghost use Rattle.heard_ids.specs.Hearing.{idle_from, idle_truths, truth_listed};
+ghost use Rattle.heard_ids.specs.Hearing.{idle_from, silent_truths, truth_listed};
 
 use crate::heeded::is_true_at;
 use config_links::LMatcher;
@@ -12,11 +12,11 @@ use sd_base::Seq;
 use std::alloc::{AllocError, Global};
 
 /// The truth of each matcher where no simple one holds, in config order.
-pub(crate) fn idle_truths(alloc: Global, matchers: &[LMatcher]) -> Result<Vec<bool>, AllocError>
+pub(crate) fn silent_truths(alloc: Global, matchers: &[LMatcher]) -> Result<Vec<bool>, AllocError>
     requires few { length matchers.now < 2 ^ 32 }
     requires in_range { AreInRange (named_places matchers.now) }
     requires no_cycle { HasNoCycle (named_places matchers.now) }
-    ensures { IfOk result (λ truths. truths.items ≡ idle_truths matchers.now) }
+    ensures { IfOk result (λ truths. truths.items ≡ silent_truths matchers.now) }
 {
     let order = evaluation_order(alloc, matchers)?;
     truths_along(alloc, matchers, order.as_slice())
@@ -31,7 +31,7 @@ fn truths_along(
     requires in_range { AreInRange (named_places matchers.now) }
     requires no_cycle { HasNoCycle (named_places matchers.now) }
     requires in_order { IsOrder (named_places matchers.now) order.now }
-    ensures { IfOk result (λ truths. truths.items ≡ idle_truths matchers.now) }
+    ensures { IfOk result (λ truths. truths.items ≡ silent_truths matchers.now) }
 {
     let mut truths = Vec::new(alloc);
     truths.resize(matchers.len(), false)?;

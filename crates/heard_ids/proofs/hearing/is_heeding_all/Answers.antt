@@ -6,12 +6,12 @@ use Rattle.link_graph.specs.Links.{AreInRange, HasNoCycle}
 use Rattle.matcher_truths.specs.MatcherTruths.{named_places}
 use Rattle.heard_ids.proofs.hearing.is_heeding_all.Goals as goal
 
-pub idle_truths-requires-clause-in_range : goal.idle_truths-requires-clause-in_range
-idle_truths-requires-clause-in_range c =
+pub silent_truths-requires-clause-in_range : goal.silent_truths-requires-clause-in_range
+silent_truths-requires-clause-in_range c =
     subst (λ (ms : List LMatcher). AreInRange (named_places ms)) (sym c.as_slice-matchers.ensures)
     (references_end c.args.linked.now c.requires.sound).matchers_there
 
-pub idle_truths-requires-clause-no_cycle : goal.idle_truths-requires-clause-no_cycle
-idle_truths-requires-clause-no_cycle c =
+pub silent_truths-requires-clause-no_cycle : goal.silent_truths-requires-clause-no_cycle
+silent_truths-requires-clause-no_cycle c =
     subst (λ (ms : List LMatcher). HasNoCycle (named_places ms)) (sym c.as_slice-matchers.ensures)
     c.requires.sound.matchers_end
