@@ -3,8 +3,6 @@ use Rattle.std.proofs.Common.{◌≡◌, ◌≢◌, ℕ, suc, ◌<◌, ℤ, Bool
 use Rattle.std.specs.Ordering.{int_eq}
 use Rattle.std.specs.Cmp.{signed_Decides}
 use Rattle.std.proofs.lemmas.Bool.{cases_eq}
-use Rattle.std.proofs.lemmas.Option.{same_Some}
-use Rattle.std.proofs.lemmas.List.Elements.{All-head, All-tail}
 use Rattle.atom_record.specs.declared.atom.Atom.{Atom}
 use Rattle.config_types.specs.declared.matcher.SimpleMatcher.{SimpleMatcher}
 use Rattle.config_links.specs.declared.linked.LMatcher.{LMatcher}
@@ -23,28 +21,17 @@ use Rattle.matcher_table.proofs.Counting.{place_of, counted_at}
 use Rattle.held_slots.specs.Holdings.{matcher_tree}
 use Rattle.held_slots.proofs.HoldingLaws.{held_live, held_tree}
 use Rattle.held_slots.proofs.TruthLaws.{table_sound}
-use Rattle.client_engine.specs.InstanceStands.{InstanceStandsFor}
+use Rattle.bucket_meaning.specs.Ends.{Moment}
 use Rattle.client_engine.specs.declared.live_id.LiveId.{LiveId}
 use Rattle.hub_core.specs.declared.live_instance.LiveInstance.{LiveInstance}
 use Rattle.hub_core.specs.declared.hub.Hub.{Hub}
 use Rattle.hub_core.specs.HubStands.{SlotStandsFor, HubStandsFor}
-use Rattle.hub_core.specs.SharedTable.{IsHeldIn, AllHeld, slots_of}
+use Rattle.hub_core.specs.SharedTable.{IsHeldIn, slots_of}
 use Rattle.hub_core.specs.Slots.{live_id, same_id, slot_at}
-use Rattle.hub_core.specs.Alone.{live_at, hub_table, HoldsSlot, IsSameLive, RunsAsAlone}
+use Rattle.hub_core.specs.Sleeping.{StandsAsleep}
+use Rattle.hub_core.specs.Alone.{live_at, hub_table, last_moment, HoldsSlot, IsSameLive, RunsAsAlone}
+use Rattle.hub_core.proofs.LogLemmas.{found_held}
 use Rattle.hub_core.proofs.OneSlotLemmas.{one_slot}
-
--- what is found among what is held is held
-found_held : (table : SlotTable) (name : LiveId) (it : LiveInstance) (rows : List (LiveId × LiveInstance))
-    → AllHeld table rows → slot_at name rows ≡ Some it → IsHeldIn table it
-found_held table name it [] all is = absurd (cc)
-found_held table name it (row ∷ rows) all is =
-    let P : LiveId × LiveInstance → Type 0 = λ row. IsHeldIn table row.1 in
-    by_case (same_id name row.0) is (All-head P row rows all)
-    (λ later. found_held table name it rows (All-tail P row rows all) later) where
-      by_case : (same : Bool) → cond same (Some row.1) (slot_at name rows) ≡ Some it → IsHeldIn table row.1
-          → (slot_at name rows ≡ Some it → IsHeldIn table it) → IsHeldIn table it
-      by_case true is' here later = subst (IsHeldIn table) (same_Some row.1 it is') here
-      by_case false is' here later = later is'
 
 -- a list that has at each place what a function makes of the other's
 made_along : (f : ℕ → ℕ) (xs ys : List ℕ) → length ys ≡ length xs
@@ -116,15 +103,17 @@ module _ (says : SimpleMatcher → Atom → Bool) {J : Type 0} (client : ℤ) (a
   frames = own client all_frames
 
   alone_stands : (id : ℤ)
-      → SlotStandsFor says client frames (live_at client id alone) (config_at id (live frames))
+      → SlotStandsFor says (last_moment alone) client frames (live_at client id alone) (config_at id (live frames))
   alone_stands id =
-      subst (λ (fs : List Frame). SlotStandsFor says client fs (live_at client id alone) (config_at id (live fs)))
+      subst (λ (fs : List Frame). SlotStandsFor says (last_moment alone) client fs (live_at client id alone)
+      (config_at id (live fs)))
       (own-own client all_frames) (k.lives.slots client id)
 
   both_of : (id : ℤ) (a b : LiveInstance) (config : LiveConfig) → live_at client id shared ≡ Some a
       → live_at client id alone ≡ Some b → config_at id (live frames) ≡ Some config
-      → InstanceStandsFor a.instance (history_of says client frames config)
-      → InstanceStandsFor b.instance (history_of says client frames config) → Both client frames shared alone id
+      → StandsAsleep (last_moment shared) a.instance (history_of says client frames config)
+      → StandsAsleep (last_moment alone) b.instance (history_of says client frames config)
+      → Both client frames shared alone id
   both_of id a b config is_a is_b is_config stands stands_alone = record {
     a = a;
     b = b;
@@ -133,12 +122,13 @@ module _ (says : SimpleMatcher → Atom → Bool) {J : Type 0} (client : ℤ) (a
     is_config = is_config;
     held = found_held (hub_table shared) (live_id client id) a shared.lives.slots.entries h.table.all is_a;
     held_alone = found_held (hub_table alone) (live_id client id) b alone.lives.slots.entries k.table.all is_b;
-    same = ap (λ (l : Linked). l.matchers) (stands_alone.linked ∙ sym stands.linked);
+    same = ap (λ (l : Linked). l.matchers) (stands_alone.stands.linked ∙ sym stands.stands.linked);
   }
 
   both_at : (s : ℕ) (id : ℤ) (a b : Option LiveInstance) (config : Option LiveConfig)
       → live_at client id shared ≡ a → live_at client id alone ≡ b → config_at id (live frames) ≡ config
-      → SlotStandsFor says client frames a config → SlotStandsFor says client frames b config
+      → SlotStandsFor says (last_moment shared) client frames a config
+      → SlotStandsFor says (last_moment alone) client frames b config
       → 0 < times_among s (slots_of a) → Both client frames shared alone id
   both_at s id None b config is_a is_b is_config at at_alone some = absurd (omega (arith, some))
   both_at s id (Some a) b None is_a is_b is_config at at_alone some = absurd at
@@ -208,8 +198,9 @@ module _ (says : SimpleMatcher → Atom → Bool) {J : Type 0} (client : ℤ) (a
 
   same_live : (id : ℤ) (a b : Option LiveInstance) (config : Option LiveConfig) → live_at client id shared ≡ a
       → live_at client id alone ≡ b → config_at id (live frames) ≡ config
-      → SlotStandsFor says client frames a config → SlotStandsFor says client frames b config
-      → IsSameLive new_name a b
+      → SlotStandsFor says (last_moment shared) client frames a config
+      → SlotStandsFor says (last_moment alone) client frames b config
+      → IsSameLive new_name (last_moment shared) (last_moment alone) a b
   unfolding both_of
   same_live id None None config is_a is_b is_config at at_alone = tt
   same_live id None (Some b) None is_a is_b is_config at at_alone = absurd at_alone

@@ -1,4 +1,5 @@
 -- A configuration that goes in under its name, or is taken out.
+use Rattle.bucket_meaning.specs.Ends.{Moment}
 use Rattle.std.proofs.Common.{◌≡◌, ℕ, ◌+◌, ℤ, true, false, cond, List, Option, Some, None, is_some, Result, Ok, Err, refl, sym, ap, subst, ◌∙◌}
 use Rattle.std.specs.Prelude.{nat_le, IfOk}
 use Rattle.std.specs.Bool.{MatchBool}
@@ -17,62 +18,70 @@ use Rattle.client_engine.specs.declared.live_id.LiveId.{LiveId}
 use Rattle.hub_core.specs.declared.live_instance.LiveInstance.{LiveInstance}
 use Rattle.hub_core.specs.declared.lives.Lives.{Lives}
 use Rattle.hub_meaning.specs.Acceptance.{most_configs, linked_read}
-use Rattle.hub_core.specs.Slots.{same_id, slot_at, count_at}
+use Rattle.hub_core.specs.Slots.{last_asked, count_at, others_at, ReportsAt}
 use Rattle.client_engine.specs.Handed.{BookOfStates}
-use Rattle.hub_core.specs.Commands.{change, held_at, others, StaysWith, IsEnded, Replaces, PutsIn, InstallsLinked, Installs, TakesOut, Removes}
+use Rattle.hub_core.specs.Commands.{change, held_at, others, Changes, StaysWith, Replaces, GoesIn, PutsIn, InstallsLinked, Installs, TakesOut, Removes, body_of_install, body_of_remove}
+use Rattle.hub_core.proofs.LastReportLemmas.{still_there, hides_old, replaces_old, removes_old}
 
--- it stands under its name, and its client's count is one more than that of the others
-pub puts_in : (clock : ℕ) (books : Books) (name : LiveId) (linked : Linked) (old new : Lives) (body : ReplyBody)
-    (fresh : LiveInstance) (count : ℕ)
-    → ((opening : List LogFrame) → BooksStandFor books opening → IsFresh linked clock opening fresh.instance)
-    → ((other : LiveId) → slot_at other new.slots.entries
-    ≡ cond (same_id name other) (Some fresh) (slot_at other old.slots.entries))
-    → ((client : ℤ) → count_at client new.counts.entries
-    ≡ cond (int_eq name.uid client) (count + 1) (count_at client old.counts.entries))
-    → count ≡ others name old → Replaces clock books.states name (held_at name old) body
-    → PutsIn clock books name linked (change old new body)
-puts_in clock books name linked old new body fresh count is_fresh slots counts is answer = record {
-  fresh = fresh;
-  is_fresh = is_fresh;
-  changes = record {
-    slots = slots;
+-- What a command makes of the live configurations once what it ends was reported, if something was.
+module _ (moment : Moment) (book : BookOfStates) (name : LiveId) (old reported new : Lives) (last : Option (List ℕ))
+    (report : ReportsAt moment (last_asked name moment.at) book old.slots.entries reported.slots.entries last)
+    (counts : reported.counts ≡ old.counts) where
+  -- the others of its client are as many as before
+  pub same_others : others name reported ≡ others name old
+  same_others =
+      ap (λ b. others_at name.uid b reported.counts.entries)
+      (still_there moment book name old.slots.entries reported.slots.entries last report)
+      ∙ ap (λ (c : _). others_at name.uid (is_some (held_at name old)) c.entries) counts
+
+  -- a change after the report is one before it
+  after_report : (slot : Option LiveInstance) (count : ℕ) → Changes name slot count reported new
+      → Changes name slot count old new
+  after_report slot count done = record {
+    slots = λ other.
+        done.slots other ∙ hides_old moment book name old.slots.entries reported.slots.entries last report slot other;
     counts = λ client.
-        counts client ∙ ap (λ n. cond (int_eq name.uid client) (n + 1) (count_at client old.counts.entries)) is;
-  };
-  answer = answer;
-}
+        done.counts client
+        ∙ ap (λ (c : _). cond (int_eq name.uid client) count (count_at client c.entries)) counts;
+  }
+
+  -- what goes in replaces what was reported
+  pub puts_in : (books : Books) (linked : Linked) (body : ReplyBody) → books.states ≡ book
+      → GoesIn moment.at books name linked reported new → body ≡ body_of_install last
+      → PutsIn moment books name linked (change old new body)
+  puts_in books linked body same goes is = record {
+    goes = record {
+      fresh = goes.fresh;
+      is_fresh = goes.is_fresh;
+      changes = after_report (Some goes.fresh) (others name old + 1)
+          (subst (λ n. Changes name (Some goes.fresh) (n + 1) reported new) same_others goes.changes);
+    };
+    answer = subst (λ states. Replaces moment states name (held_at name old) body) (sym same)
+        (replaces_old moment book name old.slots.entries reported.slots.entries last report body is);
+  }
+
+  -- what stood under the name is taken out
+  pub takes_out : (body : ReplyBody) → is_some (held_at name old) ≡ true
+      → Changes name None (others name reported) reported new → body ≡ body_of_remove last
+      → Removes moment book name (change old new body)
+  takes_out body there done is = by_slot (held_at name old) refl there where
+    by_slot : (slot : Option LiveInstance) → held_at name old ≡ slot → is_some slot ≡ true
+        → MatchOption slot (StaysWith answers.NoConfig (change old new body))
+        (λ live. TakesOut moment book name live (change old new body))
+    by_slot None e absent = absurd (false≢true absent)
+    by_slot (Some live) e held = record {
+      changes = after_report None (others name old)
+          (subst (λ n. Changes name None n reported new) same_others done);
+      answer = removes_old moment book name old.slots.entries reported.slots.entries last report live e body is;
+    }
 
 -- what goes in with room for it, and without a refusal, is installed
-pub installs : {E : Type 0} (clock : ℕ) (books : Books) (name : LiveId) (config : Config) (linked : Linked)
+pub installs : {E : Type 0} (moment : Moment) (books : Books) (name : LiveId) (config : Config) (linked : Linked)
     (old : Lives) (result : Result (Lives × ReplyBody) E) → nat_le most_configs (others name old) ≡ false
-    → linked_read name.uid config ≡ Ok linked → IfOk result (λ r. PutsIn clock books name linked (change old r.0 r.1))
-    → IfOk result (λ r. Installs clock books name (Ok config) (change old r.0 r.1))
-installs clock books name config linked old (Err e) room is puts = tt
-installs clock books name config linked old (Ok r) room is puts =
+    → linked_read name.uid config ≡ Ok linked → IfOk result (λ r. PutsIn moment books name linked (change old r.0 r.1))
+    → IfOk result (λ r. Installs moment books name (Ok config) (change old r.0 r.1))
+installs moment books name config linked old (Err e) room is puts = tt
+installs moment books name config linked old (Ok r) room is puts =
     subst (λ full. MatchBool full (StaysWith (answers.ClientFull most_configs) (change old r.0 r.1))
-    (InstallsLinked clock books name (linked_read name.uid config) (change old r.0 r.1))) (sym room)
-    (subst (λ read. InstallsLinked clock books name read (change old r.0 r.1)) (sym is) puts)
-
--- what stood under its name is taken out, and its client's count is that of the others
-pub takes_out : (clock : ℕ) (book : BookOfStates) (name : LiveId) (old new : Lives) (body : ReplyBody) (count : ℕ)
-    → is_some (held_at name old) ≡ true
-    → ((live : LiveInstance) → held_at name old ≡ Some live → IsEnded clock book name live answers.Removed body)
-    → ((other : LiveId) → slot_at other new.slots.entries
-    ≡ cond (same_id name other) None (slot_at other old.slots.entries))
-    → ((client : ℤ) → count_at client new.counts.entries
-    ≡ cond (int_eq name.uid client) count (count_at client old.counts.entries))
-    → count ≡ others name old → Removes clock book name (change old new body)
-takes_out clock book name old new body count there ends slots counts is =
-    by_slot (held_at name old) refl there where
-      by_slot : (slot : Option LiveInstance) → held_at name old ≡ slot → is_some slot ≡ true
-          → MatchOption slot (StaysWith answers.NoConfig (change old new body))
-          (λ live. TakesOut clock book name live (change old new body))
-      by_slot None e absent = absurd (false≢true absent)
-      by_slot (Some live) e held = record {
-        changes = record {
-          slots = slots;
-          counts = λ client.
-              counts client ∙ ap (λ n. cond (int_eq name.uid client) n (count_at client old.counts.entries)) is;
-        };
-        answer = ends live e;
-      }
+    (InstallsLinked moment books name (linked_read name.uid config) (change old r.0 r.1))) (sym room)
+    (subst (λ read. InstallsLinked moment books name read (change old r.0 r.1)) (sym is) puts)

@@ -2,7 +2,7 @@
 use Rattle.std.proofs.Common.{◌≡◌, ◌≢◌, ℕ, ◌<◌, Bool, List, [], ◌∷◌, length, get_or, None, refl, sym, ap, subst, ◌∙◌, arith}
 use Rattle.std.proofs.lemmas.List.{get_or_default}
 use Rattle.std.proofs.lemmas.List.FromFn.{length-map-range_with_len}
-use Rattle.std.proofs.lemmas.List.Elements.{All-weaker, All-head, All-tail}
+use Rattle.std.proofs.lemmas.List.Elements.{All-weaker}
 use Rattle.atom_record.specs.declared.atom.Atom.{Atom}
 use Rattle.atom_record.specs.declared.log.LogFrame.{LogFrame}
 use Rattle.atom_record.specs.declared.log.LogFrame.TheVariants.{Tick, AtomAt, Pull}
@@ -18,7 +18,9 @@ use Rattle.metric_meaning.specs.ShownFrames.{shown_as}
 use Rattle.client_engine.specs.Handed.{BookOfStates}
 use Rattle.hub_meaning.specs.LiveConfigs.{truths_at}
 use Rattle.client_engine.specs.NextSteps.{logged_step}
-use Rattle.client_engine.specs.InstanceStands.{Running, linked_of, InstanceStandsFor, IsView, Logs}
+use Rattle.bucket_meaning.specs.Ends.{Moment}
+use Rattle.heard_ids.specs.Hearing.{heard_ids, hears_all}
+use Rattle.client_engine.specs.InstanceStands.{Running, linked_of, InstanceStandsFor, IsView}
 use Rattle.hub_core.specs.FrameTruths.{truths_by, LogsBy}
 use Rattle.matcher_table.specs.Slots.{matcher_at}
 use Rattle.matcher_table.specs.Tables.{SlotTable}
@@ -29,25 +31,32 @@ use Rattle.held_slots.proofs.TruthLaws.{held_truths}
 use Rattle.client_engine.specs.declared.live_id.LiveId.{LiveId}
 use Rattle.hub_core.specs.declared.live_instance.LiveInstance.{LiveInstance}
 use Rattle.hub_core.specs.SharedTable.{IsHeldIn, AllHeld, IsHeldTable, HasSameSlots}
-use Rattle.hub_core.specs.SlotLogs.{results_for, questions_for, asked_by_all, AllShown, EvaluatesFor, AllLog}
+use Rattle.hub_core.specs.Sleeping.{LogsAwake}
+use Rattle.hub_core.specs.SlotLogs.{results_for, questions_for, asked_by_all, EvaluatesFor}
 use Rattle.hub_core.proofs.QuestionLemmas.{questions_are}
 
--- what was installed holds its matchers
+-- what was installed holds its matchers, and hears what it says
 pub new_held : (table : SlotTable) (linked : Linked) (live : LiveInstance) → IsSoundConfig linked
-    → linked_of live.instance ≡ linked → HoldMatchers table live.slots linked.matchers → IsHeldIn table live
-new_held table linked live sound is holds =
+    → linked_of live.instance ≡ linked → HoldMatchers table live.slots linked.matchers
+    → live.hearing.ids ≡ heard_ids linked → live.hearing.all ≡ hears_all linked → IsHeldIn table live
+new_held table linked live sound is holds ids all =
     let same : live.instance.matchers ≡ linked.matchers = ap (λ (l : Linked). l.matchers) is in
     record {
       slots = subst (HoldMatchers table live.slots) (sym same) holds;
       in_range = subst (λ (ms : List LMatcher). AreInRange (named_places ms)) (sym same)
           (references_end linked sound).matchers_there;
       no_cycle = subst (λ (ms : List LMatcher). HasNoCycle (named_places ms)) (sym same) sound.matchers_end;
+      hears = record { ids = ids ∙ ap heard_ids (sym is); all = all ∙ ap hears_all (sym is) };
     }
 
--- a configuration whose linked form stays keeps its slots
-pub same_slots : (old new : LiveInstance) → new.slots ≡ old.slots → linked_of new.instance ≡ linked_of old.instance
-    → HasSameSlots old new
-same_slots old new slots is = record { slots = slots; matchers = ap (λ (l : Linked). l.matchers) is }
+-- what is kept twice is kept
+pub same_twice : (first second third : LiveInstance) → HasSameSlots first second → HasSameSlots second third
+    → HasSameSlots first third
+same_twice first second third one other = record {
+  slots = other.slots ∙ one.slots;
+  linked = other.linked ∙ one.linked;
+  hearing = other.hearing ∙ one.hearing;
+}
 
 -- the slots of what is held are live
 pub held_are_live : (table : SlotTable) (live : LiveInstance) → IsHeldIn table live → AreLive table live.slots
@@ -77,17 +86,17 @@ module _ (says : SimpleMatcher → Atom → Bool) where
   truths_shown linked log (AtomAt at atom) = refl
   truths_shown linked log (Pull at id outcome) = refl
 
-  -- an instance that took a frame with the truths of its matchers took it as the judge says
-  pub logs_by : (shown : LogFrame) (book : BookOfStates) (old new : Running) (truths : List Bool)
-      → truths ≡ truths_by says old.matchers shown → Logs old shown truths book new
-      → LogsBy says shown book old new
-  logs_by shown book old new truths are logs history frame stands in_time shown_is book_is =
+  -- an instance that woke up and took a frame with the truths of its matchers took it as the judge says
+  pub logs_by : (before : Moment) (shown : LogFrame) (book : BookOfStates) (old new : Running) (truths : List Bool)
+      → truths ≡ truths_by says old.matchers shown → LogsAwake before old shown truths book new
+      → LogsBy says before shown book old new
+  logs_by before shown book old new truths are logs history frame asleep in_time shown_is book_is =
       let linked = history.installed.linked in
       let same : truths ≡ truths_at says linked frame =
-      are ∙ truths_are (linked_of old) shown ∙ ap (λ l. truths_at says l shown) stands.linked
+      are ∙ truths_are (linked_of old) shown ∙ ap (λ l. truths_at says l shown) asleep.stands.linked
       ∙ ap (truths_at says linked) shown_is ∙ truths_shown linked (log_of_history history) frame in
       subst (λ (given : List Bool). InstanceStandsFor new (with_step history (logged_step frame given))) same
-      (logs history frame stands in_time (subst (IsView linked frame) (sym same) (is_view linked frame)) shown_is
+      (logs history frame asleep in_time (subst (IsView linked frame) (sym same) (is_view linked frame)) shown_is
       book_is)
 
   -- the results of what is held are the truths of its matchers
@@ -99,21 +108,6 @@ module _ (says : SimpleMatcher → Atom → Bool) where
       held_truths says atom before table old.slots old.instance.matchers held.in_range held.no_cycle sound evaluates
       held.slots
   results_are before table old (Pull at id outcome) sound evaluates held = refl
-
-  -- where each took a frame with the results of its slots, each took it as the judge says
-  pub all_logs : (before table : SlotTable) (shown : LogFrame) (book : BookOfStates) → IsSoundTable table
-      → EvaluatesFor says shown before table → (olds news : List (LiveId × LiveInstance)) → AllHeld table olds
-      → AllShown table shown book olds news → AllLog says shown book olds news
-  all_logs before table shown book sound evaluates [] [] all shows = tt
-  all_logs before table shown book sound evaluates [] (new ∷ news) all shows = absurd shows
-  all_logs before table shown book sound evaluates (old ∷ olds) [] all shows = absurd shows
-  all_logs before table shown book sound evaluates (old ∷ olds) (new ∷ news) all shows =
-      let P : LiveId × LiveInstance → Type 0 = λ row. IsHeldIn table row.1 in (
-        shows.0,
-        logs_by shown book old.1.instance new.1.instance (results_for table shown old.1.slots)
-            (results_are before table old.1 shown sound evaluates (All-head P old olds all)) shows.1.logs,
-        all_logs before table shown book sound evaluates olds news (All-tail P old olds all) shows.2,
-      )
 
   -- an evaluation keeps what is held
   pub evaluated_held : (before table : SlotTable) (shown : LogFrame) (rows : List (LiveId × LiveInstance))
@@ -128,6 +122,7 @@ module _ (says : SimpleMatcher → Atom → Bool) where
           slots = evaluation_keeps says atom before table row.1.slots row.1.instance.matchers evaluates here.slots;
           in_range = here.in_range;
           no_cycle = here.no_cycle;
+          hears = here.hears;
         }) rows held.all;
     uses = λ s. ap (λ (uses : List ℕ). get_or uses s 0) evaluates.outside ∙ held.uses s;
   }

@@ -1,7 +1,8 @@
 -- How many slots a client has, from change to change.
 use Rattle.std.proofs.Common.{◌≡◌, ◌≢◌, ℕ, ◌+◌, ◌-◌, ◌<◌, ◌≤◌, ◌==◌, ℤ, Bool, true, false, not, cond, List, [], ◌∷◌, length, get_or, position, Option, Some, None, is_some, unwrap_or, refl, sym, ap, subst, ◌∙◌, ⊎_elim, true≢false, arith}
 use Rattle.std.specs.Prelude.{◌&&◌}
-use Rattle.std.specs.Map.{keys_of, set_value}
+use Rattle.std.specs.List.{count_by}
+use Rattle.std.specs.Map.{keys_of}
 use Rattle.std.specs.Ordering.{int_eq}
 use Rattle.std.specs.Cmp.{signed_Decides}
 use Rattle.std.proofs.lemmas.Bool.{cases_Bool}
@@ -14,7 +15,6 @@ use Rattle.indexmap.specs.IndexMap.{insert_entry, swap_remove_entry}
 use Rattle.indexmap.proofs.MapLemmas.{some_index, swap_remove_entry-found, swap_remove_entry-missing}
 use Rattle.client_engine.specs.declared.live_id.LiveId.{LiveId}
 use Rattle.hub_core.specs.declared.live_instance.LiveInstance.{LiveInstance}
-use Rattle.hub_core.specs.SharedTable.{AllKeepSlots}
 use Rattle.hub_core.specs.Slots.{live_id, same_id, slot_at, listed_at, listed, count_at, held_by}
 
 -- names that are the same are of one client
@@ -60,6 +60,7 @@ nothing = record {
     last = 0;
   };
   slots = [];
+  hearing = record { ids = []; all = false };
 }
 
 module _ (uid : ℤ) (name : LiveId) where
@@ -126,23 +127,6 @@ module _ (uid : ℤ) (name : LiveId) where
           sum_by-swap_remove (one_of uid) rows i d within,
         )
 
-  -- a write at a name leaves the number
-  pub held-set_value : (slot : LiveInstance) (rows : List (LiveId × LiveInstance))
-      → held_by uid (set_value (same_id name) rows slot) ≡ held_by uid rows
-  held-set_value slot [] = refl
-  held-set_value slot (row ∷ rows) = by_case (same_id name row.0) (held-set_value slot rows) where
-    by_case : (same : Bool) → held_by uid (set_value (same_id name) rows slot) ≡ held_by uid rows
-        → held_by uid (cond same ((row.0, slot) ∷ rows) (row ∷ set_value (same_id name) rows slot))
-        ≡ held_by uid (row ∷ rows)
-    by_case true rest = omega (arith, held-cons uid (row.0, slot) rows, held-cons uid row rows)
-    by_case false rest = omega (
-      arith,
-      held-cons uid row (set_value
-          (same_id name) rows slot),
-      held-cons uid row rows,
-      rest,
-    )
-
 -- a client that has a slot has one at least
 pub held-found : (name : LiveId) (rows : List (LiveId × LiveInstance)) → is_some (slot_at name rows) ≡ true
     → 0 < held_by name.uid rows
@@ -156,15 +140,20 @@ held-found name (row ∷ rows) there = by_case (same_id name row.0) refl there (
       omega (arith, held-cons name.uid row rows, one)
   by_case false e h rest = omega (arith, held-cons name.uid row rows, rest h)
 
--- slots that are kept leave the number
-pub held-kept : (uid : ℤ) (olds news : List (LiveId × LiveInstance)) → AllKeepSlots olds news
+-- the number hangs on the names alone
+held-names : (uid : ℤ) (rows : List (LiveId × LiveInstance))
+    → held_by uid rows ≡ count_by (λ (name : LiveId). int_eq name.uid uid) (keys_of rows)
+held-names uid [] = refl
+held-names uid (row ∷ rows) =
+    let rest = held-names uid rows in
+    let one = sum_by-cons (λ (name : LiveId). cond (int_eq name.uid uid) 1 0) row.0 (keys_of rows) in
+    omega (arith, held-cons uid row rows, rest, one)
+
+-- and stays with them
+pub held-kept : (uid : ℤ) (olds news : List (LiveId × LiveInstance)) → keys_of news ≡ keys_of olds
     → held_by uid news ≡ held_by uid olds
-held-kept uid [] [] kept = refl
-held-kept uid [] (new ∷ news) kept = absurd kept
-held-kept uid (old ∷ olds) [] kept = absurd kept
-held-kept uid (old ∷ olds) (new ∷ news) kept =
-    let one : one_of uid new ≡ one_of uid old = ap (λ (n : LiveId). cond (int_eq n.uid uid) 1 0) kept.0 in
-    omega (arith, held-cons uid old olds, held-cons uid new news, one, held-kept uid olds news kept.2)
+held-kept uid olds news same =
+    held-names uid news ∙ ap (count_by (λ (name : LiveId). int_eq name.uid uid)) same ∙ sym (held-names uid olds)
 
 -- both facts of one client
 abbrev IsCounted : ℤ → List (LiveId × LiveInstance) → List (ℤ × ℕ) → Type 0

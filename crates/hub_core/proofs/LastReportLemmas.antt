@@ -1,4 +1,5 @@
 -- What is reported before a command ends it: it is the last report, and what else is held stays.
+use Rattle.bucket_meaning.specs.Ends.{Moment}
 use Rattle.std.proofs.Common.{◌≡◌, ℕ, Bool, true, false, cond, List, Option, Some, None, is_some, refl, sym, ap, subst, ◌∙◌, arith}
 use Rattle.std.specs.Option.{MatchOption}
 use Rattle.session_frames.specs.declared.reply.ReplyBody.{ReplyBody}
@@ -19,16 +20,16 @@ keeps_held table olds news keeps held = record {
   uses = λ s. omega (arith, held.uses s, keeps.places s);
 }
 
-module _ (clock : ℕ) (book : BookOfStates) (name : LiveId) (olds news : List (LiveId × LiveInstance))
+module _ (moment : Moment) (book : BookOfStates) (name : LiveId) (olds news : List (LiveId × LiveInstance))
     (last : Option (List ℕ)) where
   -- what was found, and what was reported of it
   abbrev Shown : Option LiveInstance → Type 0
   Shown slot = MatchOption slot ((news ≡ olds) × (last ≡ None))
-      (λ live. ShowsAt (last_asked name clock) book live olds news last)
+      (λ live. ShowsAt moment (last_asked name moment.at) book live olds news last)
 
   -- it is replaced, and answered so
   replaces_found : (slot : Option LiveInstance) (body : ReplyBody) → Shown slot → body ≡ body_of_install last
-      → Replaces clock book name slot body
+      → Replaces moment book name slot body
   replaces_found None body r is = is ∙ ap body_of_install r.1
   replaces_found (Some live) body r is = record {
     next = r.next;
@@ -39,7 +40,7 @@ module _ (clock : ℕ) (book : BookOfStates) (name : LiveId) (olds news : List (
 
   -- it is removed, and answered so
   removed_found : (live : LiveInstance) (body : ReplyBody) → Shown (Some live) → body ≡ body_of_remove last
-      → IsEnded clock book name live answers.Removed body
+      → IsEnded moment book name live answers.Removed body
   removed_found live body r is = record {
     next = r.next;
     tree = r.tree;
@@ -68,13 +69,13 @@ module _ (clock : ℕ) (book : BookOfStates) (name : LiveId) (olds news : List (
     by_case false = refl
 
   -- The report was made of what stood under the name.
-  module _ (r : ReportsAt (last_asked name clock) book olds news last) where
+  module _ (r : ReportsAt moment (last_asked name moment.at) book olds news last) where
     pub replaces_old : (body : ReplyBody) → body ≡ body_of_install last
-        → Replaces clock book name (slot_at name olds) body
+        → Replaces moment book name (slot_at name olds) body
     replaces_old body is = replaces_found (slot_at name olds) body r is
 
     pub removes_old : (live : LiveInstance) → slot_at name olds ≡ Some live → (body : ReplyBody)
-        → body ≡ body_of_remove last → IsEnded clock book name live answers.Removed body
+        → body ≡ body_of_remove last → IsEnded moment book name live answers.Removed body
     removes_old live e body is = removed_found live body (subst Shown e r) is
 
     pub hides_old : (found : Option LiveInstance) (other : LiveId)

@@ -4,7 +4,13 @@ mod TableLemmas
 mod ReachedLemmas
 mod QuestionLemmas
 mod BookLemmas
-mod SlotLogsLemmas
+mod NamesLemmas
+mod KeptLemmas
+mod ShownNamesLemmas
+mod NotedLemmas
+mod SleepingLemmas
+mod LogLemmas
+mod WokenLemmas
 mod EvaluationLemmas
 mod InstallReadingLemmas
 mod CommandLemmas

@@ -11,6 +11,9 @@ use Rattle.std.proofs.lemmas.Option.{get_or_from_slice_get, slice_get-get_or, sa
 use Rattle.indexmap.specs.IndexMap.{insert_entry, swap_remove_entry}
 use Rattle.indexmap.proofs.MapLemmas.{Found-position, Missing-position, swap_remove_entry-found, swap_remove_entry-missing}
 use Rattle.config_links.specs.declared.linked.LMatcher.{LMatcher}
+use Rattle.config_links.specs.declared.linked.Linked.{Linked}
+use Rattle.heard_ids.specs.declared.hearing.Hearing.{Hearing}
+use Rattle.heard_ids.specs.Hearing.{heard_ids, hears_all}
 use Rattle.link_graph.specs.Links.{AreInRange, HasNoCycle}
 use Rattle.matcher_truths.specs.MatcherTruths.{named_places}
 use Rattle.matcher_table.specs.Slots.{times_among}
@@ -23,7 +26,7 @@ use Rattle.held_slots.proofs.HoldingLaws.{hold_keeps, release_keeps}
 use Rattle.client_engine.specs.declared.live_id.LiveId.{LiveId}
 use Rattle.hub_core.specs.declared.live_instance.LiveInstance.{LiveInstance}
 use Rattle.hub_core.specs.declared.lives.Lives.{Lives}
-use Rattle.hub_core.specs.SharedTable.{IsHeldIn, AllHeld, places_holding, IsHeldTable, slots_of, HasSameSlots, AllKeepSlots}
+use Rattle.hub_core.specs.SharedTable.{IsHeldIn, AllHeld, places_holding, IsHeldTable, slots_of, HasSameSlots}
 use Rattle.hub_core.specs.Slots.{same_id, slot_at}
 use Rattle.hub_core.proofs.HeldLemmas.{nothing}
 
@@ -52,12 +55,18 @@ RowHeld table row = IsHeldIn table row.1
 
 -- what has the same slots is held as before
 same_held : (table : SlotTable) (old new : LiveInstance) → HasSameSlots old new → IsHeldIn table old → IsHeldIn table new
-same_held table old new same held = record {
-  slots = subst (λ (slots : List ℕ). HoldMatchers table slots new.instance.matchers) (sym same.slots)
-      (subst (HoldMatchers table old.slots) (sym same.matchers) held.slots);
-  in_range = subst (λ (ms : List LMatcher). AreInRange (named_places ms)) (sym same.matchers) held.in_range;
-  no_cycle = subst (λ (ms : List LMatcher). HasNoCycle (named_places ms)) (sym same.matchers) held.no_cycle;
-}
+same_held table old new same held =
+    let matchers : new.instance.matchers ≡ old.instance.matchers = ap (λ (l : Linked). l.matchers) same.linked in
+    record {
+      slots = subst (λ (slots : List ℕ). HoldMatchers table slots new.instance.matchers) (sym same.slots)
+          (subst (HoldMatchers table old.slots) (sym matchers) held.slots);
+      in_range = subst (λ (ms : List LMatcher). AreInRange (named_places ms)) (sym matchers) held.in_range;
+      no_cycle = subst (λ (ms : List LMatcher). HasNoCycle (named_places ms)) (sym matchers) held.no_cycle;
+      hears = record {
+        ids = ap (λ (h : Hearing). h.ids) same.hearing ∙ held.hears.ids ∙ ap heard_ids (sym same.linked);
+        all = ap (λ (h : Hearing). h.all) same.hearing ∙ held.hears.all ∙ ap hears_all (sym same.linked);
+      };
+    }
 
 -- an item of a list, whatever stands for one past its end
 get_or-own : {A : Type 0} (xs : List A) (i : ℕ) (d : A) → i < length xs → get_or xs i d ≡ get_or xs i (get_or xs i d)
@@ -188,6 +197,7 @@ all-hold old new keeps rows all =
       slots = hold_keeps old new row.1.slots row.1.instance.matchers keeps held.slots;
       in_range = held.in_range;
       no_cycle = held.no_cycle;
+      hears = held.hears;
     }) rows all
 
 -- and after a release of another, where each place that holds a slot is an outside use
@@ -202,34 +212,10 @@ all-release old new released releases (row ∷ rows) enough all =
           (λ s some. omega (arith, places-cons s row rows, enough s)) releases held.slots;
       in_range = held.in_range;
       no_cycle = held.no_cycle;
+      hears = held.hears;
     })
     (all-release old new released releases rows (λ s. omega (arith, places-cons s row rows, enough s))
     (All-tail (RowHeld old) row rows all))
-
--- all keep their slots: they hold what they held
-pub all-kept : (table : SlotTable) (olds news : List (LiveId × LiveInstance)) → AllKeepSlots olds news
-    → AllHeld table olds → AllHeld table news
-all-kept table [] [] kept all = all
-all-kept table [] (new ∷ news) kept all = absurd kept
-all-kept table (old ∷ olds) [] kept all = absurd kept
-all-kept table (old ∷ olds) (new ∷ news) kept all =
-    All-cons (RowHeld table) new news
-    (same_held table old.1 new.1 kept.1 (All-head (RowHeld table) old olds all))
-    (all-kept table olds news kept.2 (All-tail (RowHeld table) old olds all))
-
-pub places-kept : (s : ℕ) (olds news : List (LiveId × LiveInstance)) → AllKeepSlots olds news
-    → places_holding s news ≡ places_holding s olds
-places-kept s [] [] kept = refl
-places-kept s [] (new ∷ news) kept = absurd kept
-places-kept s (old ∷ olds) [] kept = absurd kept
-places-kept s (old ∷ olds) (new ∷ news) kept =
-    omega (
-      arith,
-      places-cons s old olds,
-      places-cons s new news,
-      ap (times_among s) kept.1.slots,
-      places-kept s olds news kept.2,
-    )
 
 -- A configuration goes in: it is held first, and then what stood there is released.
 module _ (name : LiveId) (live : LiveInstance) (rows : List (LiveId × LiveInstance)) (first held last : SlotTable)

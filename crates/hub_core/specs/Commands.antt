@@ -3,6 +3,7 @@ use Rattle.std.specs.Prelude.{◌≡◌, ℕ, ◌+◌, ℤ, List, Option, Some, 
 use Rattle.std.specs.Bool.{MatchBool}
 use Rattle.std.specs.Option.{MatchOption}
 use Rattle.std.specs.Ordering.{int_eq}
+use Rattle.bucket_meaning.specs.Ends.{Moment}
 use Rattle.config_types.specs.declared.config.Config.{Config}
 use Rattle.session_frames.specs.declared.reply.Refusal.{Refusal}
 use Rattle.session_frames.specs.declared.reply.ReplyBody.{ReplyBody}
@@ -11,10 +12,11 @@ use Rattle.config_links.specs.declared.linked.Linked.{Linked}
 use Rattle.hub_meaning.specs.Acceptance.{most_configs, linked_read}
 use Rattle.atom_record.specs.declared.log.LogFrame.{LogFrame}
 use Rattle.client_engine.specs.Handed.{BookOfStates}
-use Rattle.client_engine.specs.InstanceStands.{IsFresh, Reports}
+use Rattle.client_engine.specs.InstanceStands.{IsFresh}
 use Rattle.client_engine.specs.declared.request.ReportRequest.{ReportRequest}
 use Rattle.hub_core.specs.declared.books.Books.{Books}
 use Rattle.hub_core.specs.BookStands.{BooksStandFor}
+use Rattle.hub_core.specs.Sleeping.{ReportsAwake}
 use Rattle.client_engine.specs.declared.live_id.LiveId.{LiveId}
 use Rattle.hub_core.specs.declared.live_instance.LiveInstance.{LiveInstance}
 use Rattle.hub_core.specs.declared.lives.Lives.{Lives}
@@ -33,11 +35,11 @@ abbrev pub change : Lives → Lives → ReplyBody → Change
 change old new body = record { old = old; new = new; body = body }
 
 -- One slot changes, and its client's count; all other slots and counts stay.
-pub record Changes (name : LiveId) (slot : Option LiveInstance) (count : ℕ) (done : Change) : Type 0 where
-  pub slots : (other : LiveId) → slot_at other done.new.slots.entries
-      ≡ (if same_id name other then slot else slot_at other done.old.slots.entries)
-  pub counts : (client : ℤ) → count_at client done.new.counts.entries
-      ≡ (if int_eq name.uid client then count else count_at client done.old.counts.entries)
+pub record Changes (name : LiveId) (slot : Option LiveInstance) (count : ℕ) (old new : Lives) : Type 0 where
+  pub slots : (other : LiveId) → slot_at other new.slots.entries
+      ≡ (if same_id name other then slot else slot_at other old.slots.entries)
+  pub counts : (client : ℤ) → count_at client new.counts.entries
+      ≡ (if int_eq name.uid client then count else count_at client old.counts.entries)
 
 -- what is found under a name
 abbrev pub held_at : LiveId → Lives → Option LiveInstance
@@ -58,18 +60,18 @@ pub record StaysWith (given : ReplyBody) (done : Change) : Type 0 where
   pub answer : done.body ≡ given
 
 -- A configuration is ended by a command, which is answered with its last report: the one that a report with a cut would
--- give before the command, at the clock.
-pub record IsEnded (clock : ℕ) (book : BookOfStates) (name : LiveId) (live : LiveInstance)
+-- give before the command, at the time of the last frame.
+pub record IsEnded (moment : Moment) (book : BookOfStates) (name : LiveId) (live : LiveInstance)
     (told : List ℕ → ReplyBody) (body : ReplyBody) : Type 0 where
   pub next : LiveInstance
   pub tree : ReportTree
-  pub steps : Reports live.instance (last_asked name clock) book next.instance tree
+  pub steps : ReportsAwake moment live.instance (last_asked name moment.at) book next.instance tree
   pub answer : body ≡ told (report_message tree)
 
 -- what stands under a name is replaced, or nothing stands there
-abbrev pub Replaces : ℕ → BookOfStates → LiveId → Option LiveInstance → ReplyBody → Type 0
-Replaces clock book name slot body =
-    MatchOption slot (body ≡ answers.Installed) (λ live. IsEnded clock book name live answers.Replaced body)
+abbrev pub Replaces : Moment → BookOfStates → LiveId → Option LiveInstance → ReplyBody → Type 0
+Replaces moment book name slot body =
+    MatchOption slot (body ≡ answers.Installed) (λ live. IsEnded moment book name live answers.Replaced body)
 
 -- the answer to an install that wasn't refused, by the last report of what stood under its name
 abbrev pub body_of_install : Option (List ℕ) → ReplyBody
@@ -86,41 +88,45 @@ abbrev pub body_of_report : Option (List ℕ) → ReplyBody
 body_of_report None = answers.NoConfig
 body_of_report (Some report) = answers.ReportBytes report
 
+-- A configuration goes in under its name, installed when the clock and the books stood so.
+pub record GoesIn (base : ℕ) (books : Books) (name : LiveId) (linked : Linked) (old new : Lives) : Type 0 where
+  pub fresh : LiveInstance
+  pub is_fresh : (opening : List LogFrame) → BooksStandFor books opening → IsFresh linked base opening fresh.instance
+  pub changes : Changes name (Some fresh) (others name old + 1) old new
+
 -- A configuration that wasn't refused goes where the one of its name stands, whose last report is the answer, or it is
 -- new.
-pub record PutsIn (clock : ℕ) (books : Books) (name : LiveId) (linked : Linked) (done : Change) : Type 0 where
-  pub fresh : LiveInstance
-  pub is_fresh : (opening : List LogFrame) → BooksStandFor books opening → IsFresh linked clock opening fresh.instance
-  pub changes : Changes name (Some fresh) (others name done.old + 1) done
-  pub answer : Replaces clock books.states name (held_at name done.old) done.body
+pub record PutsIn (moment : Moment) (books : Books) (name : LiveId) (linked : Linked) (done : Change) : Type 0 where
+  pub goes : GoesIn moment.at books name linked done.old done.new
+  pub answer : Replaces moment books.states name (held_at name done.old) done.body
 
--- an install with room for it, when the clock and the books stood so and this is the linked form
-abbrev pub InstallsLinked : ℕ → Books → LiveId → Result Linked Refusal → Change → Type 0
-InstallsLinked clock books name (Err refusal) done = StaysWith (answers.Refused refusal) done
-InstallsLinked clock books name (Ok linked) done = PutsIn clock books name linked done
+-- an install with room for it, when this was the last frame and the books stood so and this is the linked form
+abbrev pub InstallsLinked : Moment → Books → LiveId → Result Linked Refusal → Change → Type 0
+InstallsLinked moment books name (Err refusal) done = StaysWith (answers.Refused refusal) done
+InstallsLinked moment books name (Ok linked) done = PutsIn moment books name linked done
 
--- an install, when the clock and the books stood so and this was read: a full client is told so before the references
--- are judged
-abbrev pub Installs : ℕ → Books → LiveId → Result Config Refusal → Change → Type 0
-Installs clock books name (Err refusal) done = StaysWith (answers.Refused refusal) done
-Installs clock books name (Ok config) done =
+-- an install, when this was the last frame and the books stood so and this was read: a full client is told so before
+-- the references are judged
+abbrev pub Installs : Moment → Books → LiveId → Result Config Refusal → Change → Type 0
+Installs moment books name (Err refusal) done = StaysWith (answers.Refused refusal) done
+Installs moment books name (Ok config) done =
     MatchBool (nat_le most_configs (others name done.old)) (StaysWith (answers.ClientFull most_configs) done)
-    (InstallsLinked clock books name (linked_read name.uid config) done)
+    (InstallsLinked moment books name (linked_read name.uid config) done)
 
 -- One is taken out, and its last report is the answer.
-pub record TakesOut (clock : ℕ) (book : BookOfStates) (name : LiveId) (live : LiveInstance) (done : Change)
+pub record TakesOut (moment : Moment) (book : BookOfStates) (name : LiveId) (live : LiveInstance) (done : Change)
     : Type 0 where
-  pub changes : Changes name None (others name done.old) done
-  pub answer : IsEnded clock book name live answers.Removed done.body
+  pub changes : Changes name None (others name done.old) done.old done.new
+  pub answer : IsEnded moment book name live answers.Removed done.body
 
--- a remove, when the clock and the book of states stood so
-abbrev pub Removes : ℕ → BookOfStates → LiveId → Change → Type 0
-Removes clock book name done =
-    MatchOption (held_at name done.old) (StaysWith answers.NoConfig done) (λ live. TakesOut clock book name live done)
+-- a remove, when this was the last frame and the book of states stood so
+abbrev pub Removes : Moment → BookOfStates → LiveId → Change → Type 0
+Removes moment book name done =
+    MatchOption (held_at name done.old) (StaysWith answers.NoConfig done) (λ live. TakesOut moment book name live done)
 
 -- A report of what stands under a name, which is the answer; the counts stay.
-pub record ReportsLive (request : ReportRequest) (book : BookOfStates) (done : Change) : Type 0 where
+pub record ReportsLive (moment : Moment) (request : ReportRequest) (book : BookOfStates) (done : Change) : Type 0 where
   pub report : Option (List ℕ)
-  pub slots : ReportsAt request book done.old.slots.entries done.new.slots.entries report
+  pub slots : ReportsAt moment request book done.old.slots.entries done.new.slots.entries report
   pub counts : done.new.counts ≡ done.old.counts
   pub answer : done.body ≡ body_of_report report

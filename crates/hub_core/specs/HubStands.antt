@@ -1,5 +1,5 @@
 -- What the hub of all clients stands for.
-use Rattle.std.specs.Prelude.{◌≡◌, ℕ, ℤ, Bool, List, [], ◌∷◌, ◌++◌, length, Option, Some, None}
+use Rattle.std.specs.Prelude.{◌≡◌, ℕ, ℤ, Bool, false, List, [], ◌∷◌, ◌++◌, length, Option, Some, None}
 use Rattle.atom_record.specs.declared.atom.Atom.{Atom}
 use Rattle.config_types.specs.declared.matcher.SimpleMatcher.{SimpleMatcher}
 use Rattle.session_frames.specs.declared.frame.Frame.{Frame}
@@ -9,13 +9,16 @@ use Rattle.hub_meaning.specs.SessionLog.{own, log_frames, clock_of}
 use Rattle.hub_meaning.specs.Acceptance.{LiveConfig}
 use Rattle.hub_meaning.specs.LiveConfigs.{config_at, live, history_of}
 use Rattle.hub_meaning.specs.ClientAnswers.{reply_to}
-use Rattle.client_engine.specs.InstanceStands.{InstanceStandsFor, last_step_time}
+use Rattle.bucket_meaning.specs.Ends.{Moment}
+use Rattle.client_engine.specs.InstanceStands.{linked_of, last_step_time}
+use Rattle.client_engine.specs.declared.live_id.LiveId.{LiveId}
 use Rattle.matcher_table.specs.Contents.{contents_of}
 use Rattle.hub_core.specs.declared.live_instance.LiveInstance.{LiveInstance}
 use Rattle.hub_core.specs.declared.lives.Lives.{Lives}
 use Rattle.hub_core.specs.declared.hub.Hub.{Hub}
 use Rattle.hub_core.specs.BookStands.{BooksStandFor}
 use Rattle.hub_core.specs.SharedTable.{IsHeldTable}
+use Rattle.hub_core.specs.Sleeping.{moment_of_clock, hears, StandsAsleep}
 use Rattle.hub_core.specs.SlotLogs.{asked_by_all}
 use Rattle.hub_core.specs.Slots.{live_id, slot_at, count_at}
 
@@ -29,22 +32,31 @@ abbrev pub asked_in : {J : Type 0} → Frame → Hub J → ℕ
 asked_in (Log frame) hub = asked_by_all frame hub.lives.slots.entries
 asked_in _ hub = 0
 
+-- what is live and doesn't hear a frame is as it was, and a command is heard by none
+abbrev pub UnheardStay : {J : Type 0} → Frame → Hub J → Hub J → Type 0
+UnheardStay (Log frame) old new =
+    (name : LiveId) (live : LiveInstance) → slot_at name old.lives.slots.entries ≡ Some live
+    → hears (linked_of live.instance) frame ≡ false → slot_at name new.lives.slots.entries ≡ Some live
+UnheardStay _ old new = Unit {0}
+
 module _ (says : SimpleMatcher → Atom → Bool) where
-  -- A live configuration of a client with these own frames: its last step is at the clock.
-  pub record LiveStandsFor (uid : ℤ) (frames : List Frame) (it : LiveInstance) (config : LiveConfig) : Type 0 where
-    pub instance : InstanceStandsFor it.instance (history_of says uid frames config)
+  -- A live configuration of a client with these own frames, where this was the last frame of the log: it may have slept
+  -- through some of them, and its last step is at the clock.
+  pub record LiveStandsFor (moment : Moment) (uid : ℤ) (frames : List Frame) (it : LiveInstance) (config : LiveConfig)
+      : Type 0 where
+    pub instance : StandsAsleep moment it.instance (history_of says uid frames config)
     pub time : last_step_time (history_of says uid frames config) ≡ clock_of frames
 
   -- what is held at an id of a client with these own frames is its live configuration of that id
-  abbrev pub SlotStandsFor : ℤ → List Frame → Option LiveInstance → Option LiveConfig → Type 0
-  SlotStandsFor uid frames None None = Unit {0}
-  SlotStandsFor uid frames (Some it) (Some config) = LiveStandsFor uid frames it config
-  SlotStandsFor uid frames (Some it) None = ⊥
-  SlotStandsFor uid frames None (Some config) = ⊥
+  abbrev pub SlotStandsFor : Moment → ℤ → List Frame → Option LiveInstance → Option LiveConfig → Type 0
+  SlotStandsFor moment uid frames None None = Unit {0}
+  SlotStandsFor moment uid frames (Some it) (Some config) = LiveStandsFor moment uid frames it config
+  SlotStandsFor moment uid frames (Some it) None = ⊥
+  SlotStandsFor moment uid frames None (Some config) = ⊥
 
   -- What is live is held under its client and id, and counted.
-  pub record LivesStandFor (lives : Lives) (frames : List Frame) : Type 0 where
-    pub slots : (uid id : ℤ) → SlotStandsFor uid (own uid frames)
+  pub record LivesStandFor (moment : Moment) (lives : Lives) (frames : List Frame) : Type 0 where
+    pub slots : (uid id : ℤ) → SlotStandsFor moment uid (own uid frames)
         (slot_at (live_id uid id) lives.slots.entries) (config_at id (live (own uid frames)))
     pub counts : (uid : ℤ) → count_at uid lives.counts.entries ≡ length (live (own uid frames))
 
@@ -53,7 +65,7 @@ module _ (says : SimpleMatcher → Atom → Bool) where
     pub clock : hub.clock.time ≡ clock_of frames
     pub books : BooksStandFor hub.books (log_frames frames)
     pub table : IsHeldTable (contents_of hub.lives.table) hub.lives.slots.entries
-    pub lives : LivesStandFor hub.lives frames
+    pub lives : LivesStandFor (moment_of_clock hub.clock) hub.lives frames
 
   -- The hub stands for these frames with one more, and this is the answer to it.
   pub record Serves {J : Type 0} (hub : Hub J) (frames : List Frame) (frame : Frame) (reply : Option Reply) : Type 0 where

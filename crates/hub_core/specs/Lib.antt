@@ -1,4 +1,6 @@
 pub mod BookStands
+pub mod Sleeping
+pub mod NotedLives
 pub mod FrameTruths
 pub mod SharedTable
 pub mod DifferentMatchers

@@ -1,5 +1,5 @@
 -- How many questions a frame may cost all that is live: how often predicates are asked for the truth of a condition.
-use Rattle.std.specs.Prelude.{◌≡◌, ℕ, ◌+◌, ◌≤◌, ℤ, Bool, List, Some}
+use Rattle.std.specs.Prelude.{◌≡◌, ℕ, ◌+◌, ◌≤◌, ℤ, Bool, true, List, Some, if◌then◌else◌}
 use Rattle.std.specs.List.{sum_by}
 use Rattle.std.specs.Map.{keys_of}
 use Rattle.std.specs.Option.{option_map_or}
@@ -13,6 +13,8 @@ use Rattle.session_frames.specs.declared.frame.Frame.TheVariants.{Log}
 use Rattle.hub_meaning.specs.SessionLog.{own}
 use Rattle.hub_meaning.specs.Acceptance.{LiveConfig}
 use Rattle.hub_meaning.specs.LiveConfigs.{config_at, live, history_of, truths_at}
+use Rattle.bucket_meaning.specs.Ends.{Moment}
+use Rattle.id_notes.specs.Noted.{is_named}
 use Rattle.matcher_table.specs.Tables.{SlotTable}
 use Rattle.client_engine.specs.Handed.{BookOfStates}
 use Rattle.client_engine.specs.InstanceStands.{AsksAtMost}
@@ -22,7 +24,8 @@ use Rattle.hub_core.specs.declared.hub.Hub.{Hub}
 use Rattle.hub_core.specs.declared.live_instance.LiveInstance.{LiveInstance}
 use Rattle.hub_core.specs.FrameTruths.{truths_by}
 use Rattle.hub_core.specs.SlotLogs.{results_for}
-use Rattle.hub_core.specs.Slots.{slot_at}
+use Rattle.hub_core.specs.Sleeping.{AsksAwake}
+use Rattle.hub_core.specs.Slots.{same_id, slot_at}
 
 module _ (says : SimpleMatcher → Atom → Bool) where
   -- the questions of a client's live configuration at a frame of the log that comes after these own frames
@@ -42,25 +45,35 @@ module _ (says : SimpleMatcher → Atom → Bool) where
       sum_by (name_questions frames (AtomAt at atom)) (keys_of hub.lives.slots.entries)
   questions_in hub frames _ = 0
 
--- a live configuration asks no more than its metrics may, with the results of its slots
-abbrev pub LiveAsks : SlotTable → LogFrame → BookOfStates → LiveInstance → ℕ → ℕ → Type 0
-LiveAsks table shown book live before after =
+-- a live configuration that is awake asks no more than its metrics may, with the results of its slots
+abbrev pub AwakeAsks : SlotTable → LogFrame → BookOfStates → LiveInstance → ℕ → ℕ → Type 0
+AwakeAsks table shown book live before after =
     AsksAtMost live.instance shown (results_for table shown live.slots) book before after
 
--- whatever each of these may ask, by its name, all ask no more than the sum
-abbrev pub AllAsk : SlotTable → LogFrame → BookOfStates → List (LiveId × LiveInstance) → ℕ → ℕ → Type 0
-AllAsk table shown book rows before after =
-    (most : LiveId → ℕ)
-    → ((name : LiveId) (live : LiveInstance) → slot_at name rows ≡ Some live → (from to : ℕ)
-    → LiveAsks table shown book live from to → to ≤ from + most name)
-    → after ≤ before + sum_by most (keys_of rows)
+-- the same of one that slept up to this frame
+abbrev pub LiveAsks : SlotTable → Moment → LogFrame → BookOfStates → LiveInstance → ℕ → ℕ → Type 0
+LiveAsks table last shown book live before after =
+    AsksAwake last live.instance shown (results_for table shown live.slots) book before after
 
--- the same, by what a judge says of the matchers
-abbrev pub AllAskBy : (SimpleMatcher → Atom → Bool) → LogFrame → BookOfStates → List (LiveId × LiveInstance) → ℕ → ℕ
+-- what a name among these counts, and 0 of any other
+abbrev pub counted_for : List LiveId → (LiveId → ℕ) → LiveId → ℕ
+counted_for names most name = if is_named same_id name names then most name else 0
+
+-- whatever what stands under these names may ask, each by its name, all ask no more than the sum
+abbrev pub NamesAsk : SlotTable → Moment → LogFrame → BookOfStates → List LiveId → List (LiveId × LiveInstance) → ℕ → ℕ
     → Type 0
-AllAskBy says shown book rows before after =
+NamesAsk table last shown book names rows before after =
+    (most : LiveId → ℕ)
+    → ((name : LiveId) (live : LiveInstance) → is_named same_id name names ≡ true → slot_at name rows ≡ Some live
+    → (from to : ℕ) → LiveAsks table last shown book live from to → to ≤ from + most name)
+    → after ≤ before + sum_by (counted_for names most) (keys_of rows)
+
+-- whatever each of these may ask, by its name and by what a judge says of the matchers, all ask no more than the sum
+abbrev pub AllAskBy : (SimpleMatcher → Atom → Bool) → Moment → LogFrame → BookOfStates → List (LiveId × LiveInstance)
+    → ℕ → ℕ → Type 0
+AllAskBy says last shown book rows before after =
     (most : LiveId → ℕ)
     → ((name : LiveId) (live : LiveInstance) → slot_at name rows ≡ Some live → (from to : ℕ)
-    → AsksAtMost live.instance shown (truths_by says live.instance.matchers shown) book from to
+    → AsksAwake last live.instance shown (truths_by says live.instance.matchers shown) book from to
     → to ≤ from + most name)
     → after ≤ before + sum_by most (keys_of rows)

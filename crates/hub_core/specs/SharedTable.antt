@@ -1,19 +1,27 @@
 -- The table of matchers that all live configurations share, and what each of them holds of it.
-use Rattle.std.specs.Prelude.{◌≡◌, ℕ, List, [], ◌∷◌, Option, Some, None, sum_by}
+use Rattle.std.specs.Prelude.{◌≡◌, ℕ, List, [], Option, Some, None, sum_by}
 use Rattle.std.specs.List.{All}
+use Rattle.std.specs.Map.{keys_of}
+use Rattle.std.specs.Option.{option_map}
+use Rattle.heard_ids.specs.declared.hearing.Hearing.{Hearing}
 use Rattle.link_graph.specs.Links.{AreInRange, HasNoCycle}
 use Rattle.matcher_truths.specs.MatcherTruths.{named_places}
 use Rattle.matcher_table.specs.Slots.{times_among}
 use Rattle.matcher_table.specs.Tables.{SlotTable, outside_uses}
 use Rattle.held_slots.specs.Holdings.{HoldMatchers}
 use Rattle.client_engine.specs.declared.live_id.LiveId.{LiveId}
+use Rattle.client_engine.specs.Running.{linked_of}
 use Rattle.hub_core.specs.declared.live_instance.LiveInstance.{LiveInstance}
+use Rattle.hub_core.specs.Sleeping.{IsHearing}
+use Rattle.hub_core.specs.Slots.{slot_at}
 
--- Each slot of a live configuration stands for its own matcher, and no matcher is below itself.
+-- Each slot of a live configuration stands for its own matcher, no matcher is below itself, and it hears what its linked
+-- form says.
 pub record IsHeldIn (table : SlotTable) (live : LiveInstance) : Type 0 where
   pub slots : HoldMatchers table live.slots live.instance.matchers
   pub in_range : AreInRange (named_places live.instance.matchers)
   pub no_cycle : HasNoCycle (named_places live.instance.matchers)
+  pub hears : IsHearing live.hearing (linked_of live.instance)
 
 -- each of these configurations holds its matchers
 abbrev pub AllHeld : SlotTable → List (LiveId × LiveInstance) → Type 0
@@ -34,19 +42,19 @@ abbrev pub slots_of : Option LiveInstance → List ℕ
 slots_of None = []
 slots_of (Some live) = live.slots
 
--- a configuration has the slots and the matchers that it had
+-- a configuration has the slots that it had, is linked as it was, and hears the same
 pub record HasSameSlots (old new : LiveInstance) : Type 0 where
   pub slots : new.slots ≡ old.slots
-  pub matchers : new.instance.matchers ≡ old.instance.matchers
+  pub linked : linked_of new.instance ≡ linked_of old.instance
+  pub hearing : new.hearing ≡ old.hearing
 
--- each of these keeps its name, its slots and its matchers
-abbrev pub AllKeepSlots : List (LiveId × LiveInstance) → List (LiveId × LiveInstance) → Type 0
-AllKeepSlots [] [] = Unit {0}
-AllKeepSlots (old ∷ olds) (new ∷ news) = (new.0 ≡ old.0) × HasSameSlots old.1 new.1 × AllKeepSlots olds news
-AllKeepSlots [] (new ∷ news) = ⊥
-AllKeepSlots (old ∷ olds) [] = ⊥
+-- what stands under a name hears this, if something does
+abbrev pub hearing_at : LiveId → List (LiveId × LiveInstance) → Option Hearing
+hearing_at name rows = option_map (λ (live : LiveInstance). live.hearing) (slot_at name rows)
 
--- what is held of a table by these is held by those
+-- The names are the same, what is held of a table by these is held by those, and what stands under a name hears the same.
 pub record KeepsSlots (olds news : List (LiveId × LiveInstance)) : Type 0 where
+  pub names : keys_of news ≡ keys_of olds
   pub all : (table : SlotTable) → AllHeld table olds → AllHeld table news
   pub places : (s : ℕ) → places_holding s news ≡ places_holding s olds
+  pub hearing : (name : LiveId) → hearing_at name news ≡ hearing_at name olds

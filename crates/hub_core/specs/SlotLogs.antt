@@ -1,18 +1,23 @@
 -- What a frame of the log makes of all that is live.
-use Rattle.std.specs.Prelude.{◌≡◌, ℕ, Bool, List, [], ◌∷◌, map}
+use Rattle.std.specs.Prelude.{◌≡◌, ℕ, Bool, List, [], ◌∷◌, map, Option, Some, None}
+use Rattle.std.specs.Bool.{MatchBool}
 use Rattle.atom_record.specs.declared.atom.Atom.{Atom}
 use Rattle.atom_record.specs.declared.log.LogFrame.{LogFrame}
 use Rattle.atom_record.specs.declared.log.LogFrame.TheVariants.{AtomAt}
 use Rattle.config_types.specs.declared.matcher.SimpleMatcher.{SimpleMatcher}
+use Rattle.bucket_meaning.specs.Ends.{Moment}
+use Rattle.id_notes.specs.Noted.{is_named}
 use Rattle.matcher_table.specs.Tables.{SlotTable, result_at}
 use Rattle.matcher_table.specs.Truths.{Evaluates, questions}
 use Rattle.client_engine.specs.Handed.{BookOfStates}
-use Rattle.client_engine.specs.InstanceStands.{Logs}
+use Rattle.client_engine.specs.InstanceStands.{Logs, linked_of}
 use Rattle.client_engine.specs.declared.live_id.LiveId.{LiveId}
 use Rattle.hub_core.specs.declared.live_instance.LiveInstance.{LiveInstance}
 use Rattle.hub_core.specs.FrameTruths.{LogsBy}
 use Rattle.hub_core.specs.SharedTable.{HasSameSlots}
 use Rattle.hub_core.specs.DifferentMatchers.{count_different}
+use Rattle.hub_core.specs.Sleeping.{hears, LogsAwake}
+use Rattle.hub_core.specs.Slots.{same_id, slot_at}
 
 -- how many questions of a judge all of these are worth: one for each different simple matcher of an atom's id
 abbrev pub asked_by_all : LogFrame → List (LiveId × LiveInstance) → ℕ
@@ -29,20 +34,31 @@ abbrev pub questions_for : LogFrame → SlotTable → ℕ
 questions_for (AtomAt at atom) table = questions atom table.slots
 questions_for _ table = 0
 
--- A configuration took the frame that is shown so, with the results of its slots, and keeps its slots.
-pub record IsShown (table : SlotTable) (shown : LogFrame) (book : BookOfStates)
-    (old new : LiveInstance) : Type 0 where
+-- A configuration that was awake took the frame that is shown so, with the results of its slots, and keeps its slots.
+pub record IsTaken (table : SlotTable) (shown : LogFrame) (book : BookOfStates) (old new : LiveInstance) : Type 0 where
   pub logs : Logs old.instance shown (results_for table shown old.slots) book new.instance
   pub same : HasSameSlots old new
 
--- each took the frame so, and keeps its name
-abbrev pub AllShown : SlotTable → LogFrame → BookOfStates → List (LiveId × LiveInstance)
-    → List (LiveId × LiveInstance) → Type 0
-AllShown table shown book [] [] = Unit {0}
-AllShown table shown book (old ∷ olds) (new ∷ news) =
-    (new.0 ≡ old.0) × IsShown table shown book old.1 new.1 × AllShown table shown book olds news
-AllShown table shown book [] (new ∷ news) = ⊥
-AllShown table shown book (old ∷ olds) [] = ⊥
+-- A configuration woke up by the frame before, took the frame that is shown so, with the results of its slots, and keeps
+-- its slots.
+pub record IsShown (table : SlotTable) (before : Moment) (shown : LogFrame) (book : BookOfStates)
+    (old new : LiveInstance) : Type 0 where
+  pub logs : LogsAwake before old.instance shown (results_for table shown old.slots) book new.instance
+  pub same : HasSameSlots old new
+
+module _ (table : SlotTable) (before : Moment) (shown : LogFrame) (book : BookOfStates) where
+  -- what stood under a name took the frame so
+  abbrev pub FoundShown : Option LiveInstance → Option LiveInstance → Type 0
+  FoundShown None None = Unit {0}
+  FoundShown (Some old) (Some new) = IsShown table before shown book old new
+  FoundShown None (Some new) = ⊥
+  FoundShown (Some old) None = ⊥
+
+  -- what stands under these names took the frame so, and all else is as it was
+  abbrev pub NamedShown : List LiveId → List (LiveId × LiveInstance) → List (LiveId × LiveInstance) → Type 0
+  NamedShown names olds news =
+      (name : LiveId) → MatchBool (is_named same_id name names) (FoundShown (slot_at name olds) (slot_at name news))
+      (slot_at name news ≡ slot_at name olds)
 
 module _ (says : SimpleMatcher → Atom → Bool) where
   -- a table is evaluated for an atom, and for no other frame
@@ -50,11 +66,17 @@ module _ (says : SimpleMatcher → Atom → Bool) where
   EvaluatesFor (AtomAt at atom) old new = Evaluates says atom old new
   EvaluatesFor _ old new = new ≡ old
 
-  module _ (shown : LogFrame) (book : BookOfStates) where
-    -- each took the frame that is shown so, and keeps its name
+  module _ (before : Moment) (shown : LogFrame) (book : BookOfStates) where
+    -- what stood under a name woke up by the frame before and took the frame that is shown so, if it hears it, and else
+    -- is as it was
+    abbrev pub FoundLogs : Option LiveInstance → Option LiveInstance → Type 0
+    FoundLogs None None = Unit {0}
+    FoundLogs (Some old) (Some new) =
+        MatchBool (hears (linked_of old.instance) shown) (LogsBy says before shown book old.instance new.instance)
+        (new ≡ old)
+    FoundLogs None (Some new) = ⊥
+    FoundLogs (Some old) None = ⊥
+
+    -- the same of each name
     abbrev pub AllLog : List (LiveId × LiveInstance) → List (LiveId × LiveInstance) → Type 0
-    AllLog [] [] = Unit {0}
-    AllLog (old ∷ olds) (new ∷ news) =
-        (new.0 ≡ old.0) × LogsBy says shown book old.1.instance new.1.instance × AllLog olds news
-    AllLog [] (new ∷ news) = ⊥
-    AllLog (old ∷ olds) [] = ⊥
+    AllLog olds news = (name : LiveId) → FoundLogs (slot_at name olds) (slot_at name news)

@@ -3,14 +3,15 @@ use Rattle.std.specs.Prelude.{◌≡◌, ℕ, ◌-◌, ◌==◌, ℤ, Bool, true
 use Rattle.std.specs.Option.{MatchOption}
 use Rattle.std.specs.Map.{lookup}
 use Rattle.std.specs.Ordering.{int_eq}
+use Rattle.bucket_meaning.specs.Ends.{Moment}
 use Rattle.report_writer.specs.declared.tree.ReportTree.{ReportTree}
 use Rattle.report_writer.specs.ReportSpelling.{report_message}
 use Rattle.client_engine.specs.Handed.{BookOfStates}
-use Rattle.client_engine.specs.InstanceStands.{Reports}
 use Rattle.client_engine.specs.declared.request.ReportRequest.{ReportRequest}
 use Rattle.client_engine.specs.declared.live_id.LiveId.{LiveId}
 use Rattle.client_engine.specs.contracts.live_id.LiveIdPartialEq.TheImpl as block
 use Rattle.hub_core.specs.declared.live_instance.LiveInstance.{LiveInstance}
+use Rattle.hub_core.specs.Sleeping.{ReportsAwake}
 
 -- a client's configuration of an id
 abbrev pub live_id : ℤ → ℤ → LiveId
@@ -56,19 +57,19 @@ others_at uid there counts = count_at uid counts - (if there then 1 else 0)
 abbrev pub held_by : ℤ → List (LiveId × LiveInstance) → ℕ
 held_by uid slots = count_by (λ (row : LiveId × LiveInstance). int_eq row.0.uid uid) slots
 
--- A report of what stands under a name, as the bytes of its message.
-pub record ShowsAt (request : ReportRequest) (book : BookOfStates) (live : LiveInstance)
+-- A report of what stands under a name, which is caught up by the last frame, as the bytes of its message.
+pub record ShowsAt (moment : Moment) (request : ReportRequest) (book : BookOfStates) (live : LiveInstance)
     (old new : List (LiveId × LiveInstance)) (report : Option (List ℕ)) : Type 0 where
   pub next : LiveInstance
   pub tree : ReportTree
-  pub steps : Reports live.instance request book next.instance tree
+  pub steps : ReportsAwake moment live.instance request book next.instance tree
   pub slots : (other : LiveId) → slot_at other new
       ≡ (if same_id request.name other then Some next else slot_at other old)
   pub told : report ≡ Some (report_message tree)
 
 -- a report of what stands under a name, if something does
-abbrev pub ReportsAt : ReportRequest → BookOfStates → List (LiveId × LiveInstance) → List (LiveId × LiveInstance)
-    → Option (List ℕ) → Type 0
-ReportsAt request book old new report =
+abbrev pub ReportsAt : Moment → ReportRequest → BookOfStates → List (LiveId × LiveInstance)
+    → List (LiveId × LiveInstance) → Option (List ℕ) → Type 0
+ReportsAt moment request book old new report =
     MatchOption (slot_at request.name old) ((new ≡ old) × (report ≡ None))
-    (λ live. ShowsAt request book live old new report)
+    (λ live. ShowsAt moment request book live old new report)

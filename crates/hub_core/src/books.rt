@@ -22,6 +22,7 @@ impl Books {
     ghost use Rattle.client_engine.specs.declared.live_id.LiveId.{LiveId};
     ghost use Rattle.hub_core.specs.declared.live_instance.LiveInstance.{LiveInstance};
     ghost use Rattle.hub_core.specs.BookStands.{BooksStandFor};
+    ghost use Rattle.hub_core.specs.Sleeping.{heard_id_of};
     ghost use Rattle.hub_core.specs.SlotLogs.{asked_by_all};
 
     /// Books of no frame. They take no memory yet.
@@ -42,6 +43,7 @@ impl Books {
         ensures faultless { IfSome result IsFaultlessLog }
         ensures asked { (rows : List (LiveId × LiveInstance))
             → asked_by_all (unwrap_or result frame.now) rows ≡ asked_by_all frame.now rows }
+        ensures heard { heard_id_of (unwrap_or result frame.now) ≡ heard_id_of frame.now }
     {
         match frame {
             LogFrame::Tick { .. } => None,

@@ -13,11 +13,12 @@ use crate::books::{Books, shown_of};
 use crate::configs::read_config;
 use crate::lives::Lives;
 use crate::log_clock::LogClock;
+use crate::logging::Coming;
 use atom_record::LogFrame;
 use client_engine::{LiveId, ReportRequest};
 use condition_links::Steps;
 use matcher_eval::Judge;
-use session_frames::{Frame, Reply, ReplyBody, time_of};
+use session_frames::{Frame, Reply, ReplyBody};
 use std::alloc::{AllocError, Global};
 use std::mem;
 use std::sync::ledger::Ledger;
@@ -35,7 +36,7 @@ pub struct Hub<J: Judge> {
 }
 
 impl<J: Judge> Hub<J> {
-    ghost use Rattle.hub_core.specs.HubStands.{judge_of, asked_in, HubStandsFor, Serves};
+    ghost use Rattle.hub_core.specs.HubStands.{judge_of, asked_in, HubStandsFor, Serves, UnheardStay};
     ghost use Rattle.hub_core.specs.Alone.{RunsAsAlone};
     ghost use Rattle.hub_core.specs.LiveQuestions.{questions_in};
 
@@ -47,7 +48,10 @@ impl<J: Judge> Hub<J> {
         Hub {
             alloc,
             judge,
-            clock: LogClock { time: 0 },
+            clock: LogClock {
+                time: 0,
+                is_pull: false,
+            },
             books: Books::new(alloc),
             lives: Lives::new(alloc),
             truths: Vec::new(alloc),
@@ -99,8 +103,8 @@ impl<J: Judge> Hub<J> {
             → HubStandsFor J.says alone.now (own client frames) → RunsAsAlone client self.now alone.now }
     {}
 
-    // Takes in a frame of the log: the book of states takes it, then it comes to every configuration as it is shown,
-    // and what it pulled is recorded last.
+    // Takes in a frame of the log: the book of states takes it, then it comes to each configuration that hears it, as it
+    // is shown, and what it pulled is recorded last.
     fn log<L: Ledger>(&mut self, frame: LogFrame, asks: &mut Steps<L>) -> Result<(), AllocError>
         requires faultless { IsFaultlessLog frame }
         ensures stands { (frames : List Frame) → HubStandsFor J.says self.old frames
@@ -111,16 +115,19 @@ impl<J: Judge> Hub<J> {
         ensures questions { (frames : List Frame) → HubStandsFor J.says self.old frames
             → clock_of frames ≤ log_time frame
             → asks.new ≤ asks.old + questions_in J.says self.old frames (Log frame) }
+        ensures asleep { OnOk result (UnheardStay (Log frame) self.old self.new) }
     {
-        self.clock = LogClock {
-            time: time_of(&frame),
-        };
+        let before = self.clock;
+        self.clock = before.after(&frame);
         let instead = self.books.shown_instead(&frame);
         self.books.tell(&frame)?;
-        let shown = shown_of(&instead, &frame);
-        let states = &self.books.states;
+        let coming = Coming {
+            frame: shown_of(&instead, &frame),
+            states: &self.books.states,
+            before,
+        };
         self.lives
-            .log(&mut self.judge, shown, states, &mut self.truths, asks)?;
+            .log(&mut self.judge, &coming, &mut self.truths, asks)?;
         self.books.record(frame)
     }
 
@@ -141,6 +148,9 @@ impl<J: Judge> Hub<J> {
         ensures questions { (frames : List Frame) → HubStandsFor J.says self.old frames
             → IsInTime (clock_of frames) frame
             → asks.new ≤ asks.old + questions_in J.says self.old frames frame }
+
+        // A configuration that doesn't hear a frame is left as it was.
+        ensures asleep { OnOk result (UnheardStay frame self.old self.new) }
     {
         match frame {
             Frame::Log(frame) => {
@@ -174,7 +184,7 @@ impl<J: Judge> Hub<J> {
         ensures judge { OnOk result (judge_of self.new ≡ judge_of self.old) }
     {
         let read = read_config(self.alloc, config)?;
-        let now = self.clock.time;
+        let now = self.clock;
         let lives = mem::replace(&mut self.lives, Lives::new(self.alloc));
         let (lives, body) = lives.install(self.alloc, now, &self.books, name, read)?;
         self.lives = lives;
@@ -188,7 +198,7 @@ impl<J: Judge> Hub<J> {
             (Remove name.uid name.id) (reply_of name.uid name.id body)) }
         ensures judge { OnOk result (judge_of self.new ≡ judge_of self.old) }
     {
-        let now = self.clock.time;
+        let now = self.clock;
         let lives = mem::replace(&mut self.lives, Lives::new(self.alloc));
         let (lives, body) = lives.remove(self.alloc, now, &self.books.states, name)?;
         self.lives = lives;
@@ -207,8 +217,9 @@ impl<J: Judge> Hub<J> {
             include_current,
             at: self.clock.time,
         };
+        let now = self.clock;
         let lives = mem::replace(&mut self.lives, Lives::new(self.alloc));
-        let (lives, body) = lives.report(self.alloc, request, &self.books.states)?;
+        let (lives, body) = lives.report(self.alloc, request, now, &self.books.states)?;
         self.lives = lives;
         Ok(body)
     }

@@ -1,4 +1,5 @@
-//! An instance, with the slots of its matchers in the table that all share.
+//! An instance, with the slots of its matchers in the table that all share, and what it hears. It sleeps between the
+//! frames that it hears.
 ghost use Rattle.std.specs.Prelude.{◌≡◌, ℕ, ◌<◌, ◌≤◌, ◌^◌, List, IfOk, OnOk};
 ghost use Rattle.atom_record.specs.declared.log.LogFrame.{LogFrame};
 ghost use Rattle.session_frames.specs.Faultless.{IsFaultlessLog};
@@ -12,10 +13,13 @@ ghost use Rattle.held_slots.specs.HoldingSteps.{KeepsLive, AddsUses, ReleasesAll
 ghost use Rattle.hub_core.specs.BookStands.{BooksStandFor};
 
 use crate::books::Books;
+use crate::log_clock::LogClock;
+use crate::logging::Coming;
 use atom_record::LogFrame;
 use client_engine::{Instance, LogView, ReportRequest};
 use condition_links::Steps;
 use config_links::Linked;
+use heard_ids::Hearing;
 use held_slots::HeldSlots;
 use matcher_table::MatcherTable;
 use report_writer::ReportTree;
@@ -28,13 +32,16 @@ use std::sync::ledger::Ledger;
 pub struct LiveInstance {
     instance: Instance,
     slots: HeldSlots,
+    /// The frames to which it wakes.
+    pub hearing: Hearing,
 }
 
 impl LiveInstance {
     ghost use Rattle.client_engine.specs.InstanceStands.{IsFresh, Reports};
+    ghost use Rattle.hub_core.specs.Sleeping.{moment_of_clock, WakesUp, ReportsAwake};
     ghost use Rattle.hub_core.specs.SharedTable.{IsHeldIn, HasSameSlots};
-    ghost use Rattle.hub_core.specs.SlotLogs.{IsShown, results_for};
-    ghost use Rattle.hub_core.specs.LiveQuestions.{LiveAsks};
+    ghost use Rattle.hub_core.specs.SlotLogs.{IsTaken, IsShown, results_for};
+    ghost use Rattle.hub_core.specs.LiveQuestions.{AwakeAsks, LiveAsks};
 
     /// A configuration that was just installed, with its matchers interned. After want of memory some may be.
     pub fn new(
@@ -52,13 +59,46 @@ impl LiveInstance {
         ensures uses { IfOk result (λ live. AddsUses (contents_of table.old) live.slots (contents_of table.new)) }
         ensures others { OnOk result (KeepsLive (contents_of table.old) (contents_of table.new)) }
     {
+        let hearing = Hearing::of(alloc, &linked)?;
         let slots = HeldSlots::hold(alloc, table, &linked)?;
         let instance = Instance::new(alloc, linked, base, &books.pulls, &books.states)?;
-        Ok(LiveInstance { instance, slots })
+        Ok(LiveInstance {
+            instance,
+            slots,
+            hearing,
+        })
     }
 
-    /// Takes in a frame of the log as it is shown, an atom with the results of its slots. The buffer's room is kept.
+    /// Wakes up for a frame of the log that it hears: it is caught up, and then takes the frame in.
     pub fn log<L: Ledger>(
+        &mut self,
+        table: &MatcherTable,
+        coming: &Coming<'_>,
+        truths: &mut Vec<bool>,
+        asks: &mut Steps<L>,
+    ) -> Result<(), AllocError>
+        requires sound { IsFaultlessLog coming.now.frame.now }
+        requires live { AreLive (contents_of table.now) self.old.slots }
+        ensures shown { OnOk result (IsShown (contents_of table.now) (moment_of_clock coming.now.before)
+            coming.now.frame.now coming.now.states.now self.old self.new) }
+        ensures same { HasSameSlots self.old self.new }
+        ensures asks { LiveAsks (contents_of table.now) (moment_of_clock coming.now.before)
+            coming.now.frame.now coming.now.states.now self.old asks.old asks.new }
+    {
+        self.wake(coming.before)?;
+        self.take(table, coming.frame, coming.states, truths, asks)
+    }
+
+    // Crosses what ended while it slept, by the last frame that came.
+    fn wake(&mut self, clock: LogClock) -> Result<(), AllocError>
+        ensures caught { OnOk result (WakesUp (moment_of_clock clock) self.old.instance self.new.instance) }
+        ensures same { HasSameSlots self.old self.new }
+    {
+        self.instance.catch_up(clock.time, clock.is_pull)
+    }
+
+    // Takes in a frame of the log as it is shown, an atom with the results of its slots. The buffer's room is kept.
+    fn take<L: Ledger>(
         &mut self,
         table: &MatcherTable,
         frame: &LogFrame,
@@ -68,9 +108,9 @@ impl LiveInstance {
     ) -> Result<(), AllocError>
         requires sound { IsFaultlessLog frame.now }
         requires live { AreLive (contents_of table.now) self.old.slots }
-        ensures shown { OnOk result (IsShown (contents_of table.now) frame.now states.now self.old self.new) }
+        ensures taken { OnOk result (IsTaken (contents_of table.now) frame.now states.now self.old self.new) }
         ensures same { HasSameSlots self.old self.new }
-        ensures asks { LiveAsks (contents_of table.now) frame.now states.now self.old asks.old asks.new }
+        ensures asks { AwakeAsks (contents_of table.now) frame.now states.now self.old asks.old asks.new }
     {
         self.results(table, frame, truths)?;
         let view = LogView {
@@ -99,8 +139,24 @@ impl LiveInstance {
         }
     }
 
-    /// Reports what came since the last report.
+    /// Reports what came since the last report: it is caught up before.
     pub fn show(
+        &mut self,
+        request: ReportRequest,
+        clock: LogClock,
+        states: &StateBook,
+    ) -> Result<ReportTree, AllocError>
+        ensures reports { IfOk result (ReportsAwake (moment_of_clock clock) self.old.instance request states.now
+            self.new.instance) }
+        ensures slots { HasSameSlots self.old self.new }
+        ensures writable { IfOk result IsWritableReport }
+    {
+        self.wake(clock)?;
+        self.show_awake(request, states)
+    }
+
+    // Reports what came since the last report, where nothing was slept through.
+    fn show_awake(
         &mut self,
         request: ReportRequest,
         states: &StateBook,

@@ -1,22 +1,25 @@
 //! The live configurations of all clients, found by client and id, and how many each client has.
-ghost use Rattle.std.specs.Prelude.{◌≡◌, ◌≢◌, ◌≤◌, ◌<◌, ◌^◌, ℤ, [], Some, OnOk, IfOk};
+ghost use Rattle.std.specs.Prelude.{◌≡◌, ◌≢◌, ◌≤◌, ◌<◌, ℤ, [], true, Some, None, is_some, OnOk, IfOk};
 ghost use Rattle.matcher_table.specs.Contents.{contents_of};
 ghost use Rattle.hub_core.specs.Slots.{held_by, listed_at, count_at};
+ghost use Rattle.hub_core.specs.NotedLives.{AreNoted};
 ghost use Rattle.hub_core.specs.SharedTable.{IsHeldTable};
 
 use crate::books::Books;
 use crate::configs::link_config;
 use crate::live_instance::LiveInstance;
-use crate::logging::{evaluate, log_all};
+use crate::log_clock::LogClock;
+use crate::logging::{Coming, evaluate, log_heard};
 use crate::slots::{
     install_answer, last_request, others_of, put, release_old, remove_answer, report_answer,
     report_at, set_count, take_out,
 };
-use atom_record::LogFrame;
+use atom_record::Bytes;
 use client_engine::{LiveId, ReportRequest};
 use condition_links::Steps;
 use config_links::Linked;
 use config_types::Config;
+use id_notes::Notes;
 use indexmap::IndexMap;
 use matcher_eval::Judge;
 use matcher_table::MatcherTable;
@@ -34,11 +37,14 @@ pub struct Lives {
     slots: IndexMap<LiveId, LiveInstance>,
     /// How many slots a client has; a client without any isn't here.
     counts: IndexMap<i32, usize>,
+    /// For each id of atoms and pulls the names of those that hear it: all others sleep.
+    notes: Notes<LiveId>,
     /// The matchers of all of them, each different one once.
     table: MatcherTable,
     ghost counted: { (uid : ℤ) → held_by uid slots.entries ≡ count_at uid counts.entries },
     ghost few: { (uid : ℤ) → held_by uid slots.entries ≤ 10 },
     ghost above_zero: { (uid : ℤ) → listed_at uid counts.entries ≢ Some 0 },
+    ghost noted: { ∥ AreNoted notes slots.entries ∥₁ },
     ghost held: { ∥ IsHeldTable (contents_of table) slots.entries ∥₁ },
 }
 
@@ -46,9 +52,11 @@ impl Lives {
     ghost use Rattle.session_frames.specs.Faultless.{IsFaultlessLog};
     ghost use Rattle.matcher_table.specs.Truths.{HaveRisen};
     ghost use Rattle.config_links.specs.SoundConfig.{IsSoundConfig};
+    ghost use Rattle.hub_core.specs.Sleeping.{moment_of_clock};
     ghost use Rattle.hub_core.specs.SlotLogs.{AllLog, asked_by_all};
+    ghost use Rattle.hub_core.specs.Slots.{ReportsAt};
     ghost use Rattle.hub_core.specs.LiveQuestions.{AllAskBy};
-    ghost use Rattle.hub_core.specs.Commands.{change, others, Installs, PutsIn, Removes, ReportsLive};
+    ghost use Rattle.hub_core.specs.Commands.{change, held_at, others, Changes, GoesIn, Installs, PutsIn, Removes, ReportsLive};
 
     /// Nothing is live. It takes no memory yet.
     pub fn new(alloc: Global) -> Lives
@@ -58,42 +66,50 @@ impl Lives {
         Lives {
             slots: IndexMap::new(alloc),
             counts: IndexMap::new(alloc),
+            notes: Notes::new(alloc),
             table: MatcherTable::new(alloc),
         }
     }
 
-    /// A frame of the log comes to the table, and then to every configuration. After want of memory they are of no use.
+    /// A frame of the log comes to the table, and then to each configuration that hears it: it is caught up by the clock
+    /// before the frame, and takes it in. All others sleep on. After want of memory they are of no use.
     pub fn log<J: Judge, L: Ledger>(
         &mut self,
         judge: &mut J,
-        frame: &LogFrame,
-        states: &StateBook,
+        coming: &Coming<'_>,
         truths: &mut Vec<bool>,
         asks: &mut Steps<L>,
     ) -> Result<(), AllocError>
-        requires sound { IsFaultlessLog frame.now }
-        ensures slots { OnOk result
-            (AllLog J.says frame.now states.now self.old.slots.entries self.new.slots.entries) }
+        requires sound { IsFaultlessLog coming.now.frame.now }
+        ensures slots { OnOk result (AllLog J.says (moment_of_clock coming.now.before) coming.now.frame.now
+            coming.now.states.now self.old.slots.entries self.new.slots.entries) }
         ensures counts { self.new.counts ≡ self.old.counts }
-        ensures ticks { OnOk result (HaveRisen (asked_by_all frame.now self.old.slots.entries)
+        ensures ticks { OnOk result (HaveRisen (asked_by_all coming.now.frame.now self.old.slots.entries)
             (J.ticks judge.old) (J.ticks judge.new)) }
-        ensures asks { AllAskBy J.says frame.now states.now self.old.slots.entries asks.old asks.new }
+        ensures asks { AllAskBy J.says (moment_of_clock coming.now.before) coming.now.frame.now
+            coming.now.states.now self.old.slots.entries asks.old asks.new }
     {
-        evaluate(&mut self.table, judge, frame);
-        log_all(&mut self.slots, &self.table, frame, states, truths, asks)
+        evaluate(&mut self.table, judge, coming.frame);
+        log_heard(
+            &mut self.slots,
+            &self.notes,
+            &self.table,
+            coming,
+            truths,
+            asks,
+        )
     }
 
     /// What was read of a configuration goes where the client's configuration of that id stands, or it is new.
     pub fn install(
         self,
         alloc: Global,
-        clock: u64,
+        clock: LogClock,
         books: &Books,
         name: LiveId,
         read: Result<Config, Refusal>,
     ) -> Result<(Lives, ReplyBody), AllocError>
-        requires timely { clock < 2 ^ 63 }
-        ensures { IfOk result (λ r. Installs clock books.now name read (change self r.0 r.1)) }
+        ensures { IfOk result (λ r. Installs (moment_of_clock clock) books.now name read (change self r.0 r.1)) }
     {
         let config = match read {
             Ok(config) => config,
@@ -114,15 +130,33 @@ impl Lives {
     fn put_in(
         self,
         alloc: Global,
-        clock: u64,
+        clock: LogClock,
         books: &Books,
         name: LiveId,
         linked: Linked,
     ) -> Result<(Lives, ReplyBody), AllocError>
-        requires timely { clock < 2 ^ 63 }
         requires sound { IsSoundConfig linked }
         requires room { others name self < 10 }
-        ensures { IfOk result (λ r. PutsIn clock books.now name linked (change self r.0 r.1)) }
+        ensures { IfOk result (λ r. PutsIn (moment_of_clock clock) books.now name linked (change self r.0 r.1)) }
+    {
+        let request = last_request(name, clock.time);
+        let (reported, last) = self.reported(alloc, request, clock, &books.states)?;
+        let lives = reported.with_fresh(alloc, clock, books, name, linked)?;
+        Ok((lives, install_answer(last)))
+    }
+
+    // A new configuration takes the place of the one that stands under its name, whose slots of the table are released.
+    fn with_fresh(
+        self,
+        alloc: Global,
+        clock: LogClock,
+        books: &Books,
+        name: LiveId,
+        linked: Linked,
+    ) -> Result<Lives, AllocError>
+        requires sound { IsSoundConfig linked }
+        requires room { others name self < 10 }
+        ensures { IfOk result (GoesIn clock.time books.now name linked self) }
     {
         let there = self.slots.contains_key(&name);
         let others = others_of(&self.counts, name.uid, there);
@@ -130,50 +164,61 @@ impl Lives {
         let Lives {
             mut slots,
             mut counts,
+            mut notes,
             mut table,
         } = self;
-        let last = report_at(&mut slots, alloc, last_request(name, clock), &books.states)?;
-        let live = LiveInstance::new(alloc, linked, clock, books, &mut table)?;
-        let old = put(&mut slots, name, live)?;
+        let live = LiveInstance::new(alloc, linked, clock.time, books, &mut table)?;
+        let old = put(&mut slots, &mut notes, alloc, name, live)?;
         release_old(&mut table, old);
         set_count(&mut counts, name.uid, others + 1)?;
-        let lives = Lives {
+        Ok(Lives {
             slots,
             counts,
+            notes,
             table,
-        };
-        Ok((lives, install_answer(last)))
+        })
     }
 
-    /// Takes a client's configuration out, after its last report. The last slot of the table takes its place.
+    /// Takes a client's configuration out, after its last report.
     pub fn remove(
         self,
         alloc: Global,
-        clock: u64,
+        clock: LogClock,
         states: &StateBook,
         name: LiveId,
     ) -> Result<(Lives, ReplyBody), AllocError>
-        ensures { IfOk result (λ r. Removes clock states.now name (change self r.0 r.1)) }
+        ensures { IfOk result (λ r. Removes (moment_of_clock clock) states.now name (change self r.0 r.1)) }
     {
         if !self.slots.contains_key(&name) {
             return Ok((self, ReplyBody::NoConfig));
         }
+        let request = last_request(name, clock.time);
+        let (reported, last) = self.reported(alloc, request, clock, states)?;
+        let lives = reported.without(name)?;
+        Ok((lives, remove_answer(last)))
+    }
+
+    // Takes what stands under a name out, and releases its slots of the table. The last slot takes its place.
+    fn without(self, name: LiveId) -> Result<Lives, AllocError>
+        requires { is_some (held_at name self) ≡ true }
+        ensures { IfOk result (Changes name None (others name self) self) }
+    {
         let others = others_of(&self.counts, name.uid, true);
         let Lives {
             mut slots,
             mut counts,
+            mut notes,
             mut table,
         } = self;
-        let last = report_at(&mut slots, alloc, last_request(name, clock), states)?;
-        let old = take_out(&mut slots, name);
+        let old = take_out(&mut slots, &mut notes, name);
         release_old(&mut table, old);
         set_count(&mut counts, name.uid, others)?;
-        let lives = Lives {
+        Ok(Lives {
             slots,
             counts,
+            notes,
             table,
-        };
-        Ok((lives, remove_answer(last)))
+        })
     }
 
     /// Reports a client's configuration.
@@ -181,21 +226,40 @@ impl Lives {
         self,
         alloc: Global,
         request: ReportRequest,
+        clock: LogClock,
         states: &StateBook,
     ) -> Result<(Lives, ReplyBody), AllocError>
-        ensures { IfOk result (λ r. ReportsLive request states.now (change self r.0 r.1)) }
+        ensures { IfOk result (λ r. ReportsLive (moment_of_clock clock) request states.now (change self r.0 r.1)) }
+    {
+        let (lives, report) = self.reported(alloc, request, clock, states)?;
+        Ok((lives, report_answer(report)))
+    }
+
+    // Reports what stands under the name that is asked for, if something does. All else stays.
+    fn reported(
+        self,
+        alloc: Global,
+        request: ReportRequest,
+        clock: LogClock,
+        states: &StateBook,
+    ) -> Result<(Lives, Option<Bytes>), AllocError>
+        ensures reports { IfOk result (λ r. ReportsAt (moment_of_clock clock) request states.now
+            self.slots.entries r.0.slots.entries r.1) }
+        ensures counts { IfOk result (λ r. r.0.counts ≡ self.counts) }
     {
         let Lives {
             mut slots,
             counts,
+            notes,
             table,
         } = self;
-        let report = report_at(&mut slots, alloc, request, states)?;
+        let report = report_at(&mut slots, alloc, request, clock, states)?;
         let lives = Lives {
             slots,
             counts,
+            notes,
             table,
         };
-        Ok((lives, report_answer(report)))
+        Ok((lives, report))
     }
 }

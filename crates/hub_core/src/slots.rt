@@ -8,12 +8,16 @@ ghost use Rattle.matcher_table.specs.Tables.{outside_uses};
 ghost use Rattle.matcher_table.specs.Contents.{contents_of};
 ghost use Rattle.held_slots.specs.HoldingSteps.{ReleasesAll};
 ghost use Rattle.hub_core.specs.SharedTable.{slots_of, KeepsSlots};
+ghost use Rattle.hub_core.specs.Sleeping.{moment_of_clock};
+ghost use Rattle.hub_core.specs.NotedLives.{AreNoted, AreNotedBut};
 ghost use Rattle.hub_core.specs.Slots.{last_asked, same_id, slot_at, listed_at, listed, others_at, held_by, ReportsAt};
 ghost use Rattle.hub_core.specs.Commands.{body_of_install, body_of_remove, body_of_report};
 
 use crate::live_instance::LiveInstance;
+use crate::log_clock::LogClock;
 use atom_record::Bytes;
 use client_engine::{LiveId, ReportRequest};
+use id_notes::Notes;
 use indexmap::IndexMap;
 use matcher_table::MatcherTable;
 use report_writer::write;
@@ -22,9 +26,11 @@ use session_frames::ReplyBody;
 use state_slicer::StateBook;
 use std::alloc::{AllocError, Global};
 
-/// Puts a configuration under a name, and gives back the one that stood there.
+/// Puts a configuration under a name, with notes of what it hears, and gives back the one that stood there.
 pub fn put(
     slots: &mut IndexMap<LiveId, LiveInstance>,
+    notes: &mut Notes<LiveId>,
+    alloc: Global,
     name: LiveId,
     live: LiveInstance,
 ) -> Result<Option<LiveInstance>, AllocError>
@@ -35,12 +41,20 @@ pub fn put(
     ensures held { OnOk result ((uid : ℤ) → held_by uid slots.new.entries
         ≡ held_by uid slots.old.entries
         + (if int_eq name.uid uid && not (is_some (slot_at name slots.old.entries)) then 1 else 0)) }
+    ensures noted { OnOk result (AreNoted notes.old slots.old.entries
+        → AreNoted notes.new slots.new.entries) }
 {
+    forget(slots, notes, name);
+    notes.add(alloc, name, &live.hearing)?;
     Ok(slots.insert(name, live)?)
 }
 
-/// Takes what is under a name out; the last slot takes its place.
-pub fn take_out(slots: &mut IndexMap<LiveId, LiveInstance>, name: LiveId) -> Option<LiveInstance>
+/// Takes what is under a name out, and its notes; the last slot takes its place.
+pub fn take_out(
+    slots: &mut IndexMap<LiveId, LiveInstance>,
+    notes: &mut Notes<LiveId>,
+    name: LiveId,
+) -> Option<LiveInstance>
     ensures old { result ≡ slot_at name slots.old.entries }
     ensures entries { slots.new.entries ≡ swap_remove_entry (same_id name) slots.old.entries }
     ensures slots { (other : LiveId) → slot_at other slots.new.entries
@@ -48,8 +62,19 @@ pub fn take_out(slots: &mut IndexMap<LiveId, LiveInstance>, name: LiveId) -> Opt
     ensures held { (uid : ℤ) → held_by uid slots.new.entries
         + (if int_eq name.uid uid && is_some (slot_at name slots.old.entries) then 1 else 0)
         ≡ held_by uid slots.old.entries }
+    ensures noted { AreNoted notes.old slots.old.entries → AreNoted notes.new slots.new.entries }
 {
+    forget(slots, notes, name);
     slots.swap_remove(&name)
+}
+
+// Takes the notes of what stands under a name away.
+fn forget(slots: &IndexMap<LiveId, LiveInstance>, notes: &mut Notes<LiveId>, name: LiveId)
+    ensures { AreNoted notes.old slots.now.entries → AreNotedBut name notes.new slots.now.entries }
+{
+    if let Some(live) = slots.get(&name) {
+        notes.remove(name, &live.hearing);
+    }
 }
 
 /// Releases the slots of a configuration that was live, if there was one.
@@ -62,23 +87,23 @@ pub fn release_old(table: &mut MatcherTable, old: Option<LiveInstance>)
     }
 }
 
-/// Reports what is under the name that is asked for, if something is, as the bytes of its message.
+/// Reports what is under the name that is asked for, if something is, as the bytes of its message. It is caught up
+/// before.
 pub fn report_at(
     slots: &mut IndexMap<LiveId, LiveInstance>,
     alloc: Global,
     request: ReportRequest,
+    clock: LogClock,
     states: &StateBook,
 ) -> Result<Option<Bytes>, AllocError>
     ensures reports { IfOk result
-        (ReportsAt request states.now slots.old.entries slots.new.entries) }
-    ensures held { OnOk result ((uid : ℤ) →
-        held_by uid slots.new.entries ≡ held_by uid slots.old.entries) }
+        (ReportsAt (moment_of_clock clock) request states.now slots.old.entries slots.new.entries) }
     ensures same { OnOk result (KeepsSlots slots.old.entries slots.new.entries) }
 {
     let Some(live) = slots.get_mut(&request.name) else {
         return Ok(None);
     };
-    let tree = live.show(request, states)?;
+    let tree = live.show(request, clock, states)?;
     Ok(Some(Seq::from_vec(write(alloc, &tree)?)))
 }
 

@@ -11,7 +11,7 @@ returns-clause-stands g c = record {
   books = search;
   table = table_held c.new-2.result;
   lives = record {
-    slots = λ uid id. subst (λ slots. SlotStandsFor g.J.Judge.says uid [] (slot_at (live_id uid id) slots) None)
+    slots = λ uid id. subst (λ slots. SlotStandsFor g.J.Judge.says _ uid [] (slot_at (live_id uid id) slots) None)
         (sym c.new-2.ensures.slots) tt;
     counts = λ uid. ap (count_at uid) c.new-2.ensures.counts;
   };

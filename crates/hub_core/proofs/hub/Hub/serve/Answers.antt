@@ -4,6 +4,7 @@ use Rattle.std.proofs.lemmas.Int.{to_z-of_z}
 use Rattle.session_frames.specs.declared.frame.Frame.TheVariants.{Log}
 use Rattle.session_frames.specs.Frames.{IsInTime}
 use Rattle.hub_meaning.specs.SessionLog.{clock_of}
+use Rattle.hub_core.specs.HubStands.{UnheardStay}
 use Rattle.hub_core.specs.LiveQuestions.{questions_in}
 use Rattle.hub_core.proofs.HubStandsLemmas.{serves_as, served_log}
 use Rattle.hub_core.proofs.hub.Hub.serve.Goals as goal
@@ -49,3 +50,21 @@ pub returns-in_err-log-in-Log-clause-questions : goal.returns-in_err-log-in-Log-
 returns-in_err-log-in-Log-clause-questions g c = λ frames h in_time.
     subst (λ f. c.log.new.asks ≤ c.args.asks.now + questions_in g.J.Judge.says c.args.self.now frames f) (sym c.in-Log.is)
     (c.log.ensures.questions frames h (subst (IsInTime (clock_of frames)) c.in-Log.is in_time))
+
+-- what doesn't hear a frame of the log is as it was
+pub returns-in_ok-log-in-Log-clause-asleep : goal.returns-in_ok-log-in-Log-clause-asleep
+returns-in_ok-log-in-Log-clause-asleep g c =
+    subst (λ f. UnheardStay f c.args.self.now c.log.new.self) (sym c.in-Log.is) c.in_ok-log-in-Log.ensures.asleep
+
+-- and a command is heard by none
+pub returns-in_ok-body-in-Install-clause-asleep : goal.returns-in_ok-body-in-Install-clause-asleep
+returns-in_ok-body-in-Install-clause-asleep g c =
+    subst (λ f. UnheardStay f c.args.self.now c.install.new.self) (sym c.in-Install.is) tt
+
+pub returns-in_ok-body-in-Remove-clause-asleep : goal.returns-in_ok-body-in-Remove-clause-asleep
+returns-in_ok-body-in-Remove-clause-asleep g c =
+    subst (λ f. UnheardStay f c.args.self.now c.remove.new.self) (sym c.in-Remove.is) tt
+
+pub returns-in_ok-body-in-Report-clause-asleep : goal.returns-in_ok-body-in-Report-clause-asleep
+returns-in_ok-body-in-Report-clause-asleep g c =
+    subst (λ f. UnheardStay f c.args.self.now c.report.new.self) (sym c.in-Report.is) tt

@@ -1,29 +1,34 @@
--- The frame came with the results of the slots.
+-- It wakes up, and takes the frame.
 use Rattle.std.proofs.lemmas.Result.{on_ok_weaker}
-use Rattle.std.proofs.Common.{Bool, List, refl, subst, ◌∙◌, arith}
-use Rattle.client_engine.specs.InstanceStands.{Logs, AsksAtMost}
-use Rattle.hub_core.proofs.EvaluationLemmas.{same_slots}
+use Rattle.std.proofs.Common.{arith}
+use Rattle.matcher_table.specs.Contents.{contents_of}
+use Rattle.hub_core.specs.Sleeping.{moment_of_clock}
+use Rattle.hub_core.proofs.EvaluationLemmas.{same_twice}
+use Rattle.hub_core.proofs.WokenLemmas.{woken_shown, woken_asks, same_live}
 use Rattle.hub_core.proofs.live_instance.LiveInstance.log.Goals as goal
 
-pub returns-clause-same : goal.returns-clause-same
-returns-clause-same g c = same_slots c.args.self.now _ refl c.apply.ensures.linked
+pub take-requires-clause-live : goal.take-requires-clause-live
+take-requires-clause-live g c =
+    same_live (contents_of c.args.table.now) c.args.self.now c.wake.new.self c.wake.ensures.same c.requires.live
 
 pub returns-clause-shown : goal.returns-clause-shown
 returns-clause-shown g c =
-    on_ok_weaker c.apply.result
-    (λ logs. record {
-      logs = subst (λ (truths : List Bool). Logs c.args.self.now.instance c.args.frame.now truths c.args.states.now
-          c.apply.new.self) (c.as_slice.ensures.value ∙ c.in_ok-results.ensures) logs;
-      same = same_slots c.args.self.now _ refl c.apply.ensures.linked;
-    })
-    c.apply.ensures.logs
+    on_ok_weaker c.take.result
+    (woken_shown (contents_of c.args.table.now) (moment_of_clock c.args.coming.now.before) c.args.coming.now.frame.now
+    c.args.coming.now.states.now c.args.self.now c.wake.new.self c.wake.ensures.same c.in_ok-wake.ensures.caught
+    c.take.new.self)
+    c.take.ensures.taken
 
--- it asks no more than its metrics may, with the same results
+pub returns-clause-same : goal.returns-clause-same
+returns-clause-same g c =
+    same_twice c.args.self.now c.wake.new.self c.take.new.self c.wake.ensures.same c.take.ensures.same
+
 pub returns-clause-asks : goal.returns-clause-asks
 returns-clause-asks g c =
-    subst (λ (truths : List Bool). AsksAtMost c.args.self.now.instance c.args.frame.now truths c.args.states.now
-    c.args.asks.now c.apply.new.asks) (c.as_slice.ensures.value ∙ c.in_ok-results.ensures) c.apply.ensures.asks
+    woken_asks (contents_of c.args.table.now) (moment_of_clock c.args.coming.now.before) c.args.coming.now.frame.now
+    c.args.coming.now.states.now c.args.self.now c.wake.new.self c.wake.ensures.same c.in_ok-wake.ensures.caught
+    c.args.asks.now c.take.new.asks c.take.ensures.asks
 
--- where memory is wanting for the results, nothing is asked
-pub returns-in_err-results-clause-asks : goal.returns-in_err-results-clause-asks
-returns-in_err-results-clause-asks g c = λ history frame has later view shown_is book_is. omega arith
+-- where memory is wanting before, nothing is asked
+pub returns-in_err-wake-clause-asks : goal.returns-in_err-wake-clause-asks
+returns-in_err-wake-clause-asks g c = λ history frame asleep later view shown_is book_is. omega arith

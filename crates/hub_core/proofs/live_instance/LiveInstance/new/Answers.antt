@@ -1,4 +1,4 @@
--- What was installed holds its matchers.
+-- What was installed holds its matchers, and hears what it says.
 use Rattle.matcher_table.specs.Contents.{contents_of}
 use Rattle.hub_core.proofs.EvaluationLemmas.{new_held}
 use Rattle.hub_core.proofs.live_instance.LiveInstance.new.Goals as goal
@@ -6,4 +6,4 @@ use Rattle.hub_core.proofs.live_instance.LiveInstance.new.Goals as goal
 pub returns-clause-holds : goal.returns-clause-holds
 returns-clause-holds c =
     new_held (contents_of c.hold.new.table) c.args.linked _ c.requires.sound c.in_ok-instance.ensures.linked
-    c.in_ok-slots.ensures.holds
+    c.in_ok-slots.ensures.holds c.in_ok-hearing.ensures.ids c.in_ok-hearing.ensures.all

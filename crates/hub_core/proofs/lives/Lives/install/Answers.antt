@@ -2,6 +2,7 @@
 use Rattle.std.proofs.Common.{SFits, w32, rules, ◌≡◌, nat_le, false, arith, sym, ap, ◌∙◌}
 use Rattle.std.proofs.lemmas.Int.{to_z-of_z}
 use Rattle.std.proofs.lemmas.Bool.Decides.{nat_tests}
+use Rattle.hub_core.specs.Sleeping.{moment_of_clock}
 use Rattle.hub_core.specs.Slots.{others_at}
 use Rattle.hub_core.specs.Commands.{others}
 use Rattle.hub_core.proofs.CommandLemmas.{installs}
@@ -15,7 +16,7 @@ returns-in-Ok-2 c =
     let same : c.others_of.result ≡ others c.args.name c.args.self =
     count ∙ ap (λ b. others_at c.args.name.uid b c.args.self.counts.entries) c.contains_key-there.ensures in
     let room : nat_le 10 c.others_of.result ≡ false = grind (arith, nat_tests, c.if-others_of-ge-MOST_CONFIGS.false) in
-    rw c.in-Ok.is (installs c.args.clock c.args.books.now c.args.name c.in-Ok.config
+    rw c.in-Ok.is (installs (moment_of_clock c.args.clock) c.args.books.now c.args.name c.in-Ok.config
     c.in-Ok-2.linked c.args.self
     c.put_in.result (ap (nat_le 10) (sym same) ∙ room) (sym linked ∙ c.in-Ok-2.is)
     c.put_in.ensures)
