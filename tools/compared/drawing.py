@@ -10,12 +10,15 @@ from compared.drawn_config import (
     FIELDS,
     FIRST_N,
     INNER,
+    MANY_IDS,
+    MANY_PULLED,
     NUMBERS,
     PULLED_IDS,
     REPEATED,
     SECONDS,
     STATES,
-    draw_config,
+    DrawnConfig,
+    Sleeper,
 )
 from compared.faulty import draw_tree
 from compared.history import MOST_WEIGHT
@@ -81,6 +84,10 @@ def pull_body(atom_id, atoms):
 class Drawn:
     """A session so far, and its replies."""
 
+    # Of what ids its frames are, and which clients have which configurations.
+    atom_ids, pulled_ids = ATOM_IDS, PULLED_IDS
+    clients, configs = (10, 10, 20, 30), DrawnConfig
+
     def __init__(self, random):
         self.random = random
         self.now = 0
@@ -103,7 +110,13 @@ class Drawn:
         drawn = self.random.random()
         if drawn < 0.03:
             return draw_tree(self.random)
-        return draw_config(self.random, KINDS)
+        return self.configs(self.random, KINDS).tree
+
+    def begin(self):
+        """The log begins, mostly with an install."""
+        for _ in range(self.random.choice([0, 0, 3])):
+            self.log()
+        self.install((10, 1))
 
     def install(self, client):
         """An install of some configuration."""
@@ -132,8 +145,12 @@ class Drawn:
         elif drawn < 0.3:
             self.logged(PULL, self.pulled())
         else:
-            ids = ATOM_IDS if self.random.random() < 0.95 else PULLED_IDS
-            self.logged(ATOM, draw_atom(self.random, self.random.choice(ids)).payload())
+            self.logged(ATOM, self.atom())
+
+    def atom(self):
+        """The payload of an atom, mostly of an id that isn't pulled."""
+        ids = self.atom_ids if self.random.random() < 0.95 else self.pulled_ids
+        return draw_atom(self.random, self.random.choice(ids)).payload()
 
     def logged(self, kind, body):
         """A frame of the log, now."""
@@ -141,7 +158,7 @@ class Drawn:
 
     def pulled(self):
         """The body of a pull that failed, or of one with some atoms."""
-        atom_id = self.random.choice([*PULLED_IDS, *PULLED_IDS, ATOM_IDS[0]])
+        atom_id = self.random.choice([*self.pulled_ids, *self.pulled_ids, self.atom_ids[0]])
         if self.random.random() < 0.12:
             return struct.pack("<IB", atom_id, 1)
         count = self.random.choice([0, 1, 1, 2, 3, 5])
@@ -200,9 +217,13 @@ class Drawn:
             told = EXCLUSIVE | RESET if key == reset else EXCLUSIVE
             self.logged(ATOM, Atom(atom_id, [plain(1, key, PRIMARY), plain(2, 1, told)]).payload())
 
+    def client(self):
+        """A client, and the id of a configuration."""
+        return self.random.choice(self.clients), self.random.choice([1, 1, 2])
+
     def step(self):
         """A command, or a frame of the log."""
-        client = self.random.choice([10, 10, 20, 30]), self.random.choice([1, 1, 2])
+        client = self.client()
         drawn = self.random.random()
         if drawn < 0.02:
             self.install(client)
@@ -220,6 +241,54 @@ class Drawn:
             self.many_samples()
         elif drawn < 0.1212:
             self.many_atoms()
+        else:
+            self.log()
+
+
+class Sleeping(Drawn):
+    """A session of many clients whose configurations hear few ids, over silences, and with frames where buckets end."""
+
+    atom_ids, pulled_ids = MANY_IDS, MANY_PULLED
+    clients, configs = range(10, 70, 10), Sleeper
+
+    def begin(self):
+        """Some clients install what sleeps."""
+        for client in self.random.sample(self.clients, self.random.randint(3, 6)):
+            self.install((client, 1))
+
+    def client(self):
+        """Mostly one that is live."""
+        live = list(self.answers.live)
+        return self.random.choice(live) if live and self.random.random() < 0.6 else super().client()
+
+    def install(self, client):
+        """An install, mostly where a second ends, so that buckets end with others."""
+        if self.random.random() < 0.7:
+            self.end_second(1)
+        super().install(client)
+
+    def end_second(self, seconds):
+        """So many seconds end. At the very end of the last one some frames come, mostly a pull among others."""
+        self.now = (self.now // SECOND + seconds) * SECOND
+        for _ in range(self.random.choice([1, 1, 2, 2, 3])):
+            kind = self.random.choice([TICK, PULL, PULL, PULL, ATOM])
+            self.logged(kind, self.pulled() if kind == PULL else self.atom() if kind == ATOM else b"")
+            if self.random.random() < 0.15:
+                self.report(self.client(), self.random.random() < 0.3)
+
+    def step(self):
+        """A command, a frame of the log, a silence, or what comes where a second ends."""
+        drawn = self.random.random()
+        if drawn < 0.06:
+            self.install(self.client())
+        elif drawn < 0.08:
+            self.command(REMOVE, self.client())
+        elif drawn < 0.2:
+            self.report(self.client(), self.random.random() < 0.4)
+        elif drawn < 0.45:
+            self.end_second(self.random.choice([1, 1, 1, 2, 5, 60]))
+        elif drawn < 0.46:
+            self.end_second(self.random.choice([400, 2_000, 4_000]))
         else:
             self.log()
 
@@ -262,11 +331,9 @@ def draw_check(random):
 
 
 def draw(random):
-    """A session, its replies and its status: three clients, and a last report of all that is live."""
-    drawn = Drawn(random)
-    for _ in range(random.choice([0, 0, 3])):
-        drawn.log()
-    drawn.install((10, 1))
+    """A session, its replies and its status: some clients, and a last report of all that is live."""
+    drawn = Sleeping(random) if random.random() < 0.3 else Drawn(random)
+    drawn.begin()
     for _ in range(random.randint(20, 120)):
         drawn.step()
     if random.random() < 0.08:

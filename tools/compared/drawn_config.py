@@ -8,6 +8,9 @@ from compared.matching import AND, NOR, NOT
 # Ids of atoms of the log, some more often than others.
 ATOM_IDS = (1, 1, 1, 1, 2, 2, 3)
 PULLED_IDS = (10_001, 10_001, 10_001, 150_000)
+# Ids of which a configuration that sleeps hears a few.
+MANY_IDS = range(1, 9)
+MANY_PULLED = (10_001, 10_002, 10_003, 150_000)
 FIELDS = (1, 2, 3)
 # A field that is repeated, and a field inside of its elements.
 REPEATED, INNER = 4, 1
@@ -28,7 +31,11 @@ def without_none(**fields):
 
 
 class DrawnConfig:
-    """A configuration that is drawn. What is drawn later names what stands already."""
+    """A configuration that is drawn, and is taken. What is drawn later names what stands already."""
+
+    # Of what ids its matchers, predicates and metrics are, and its states.
+    atom_ids, pulled_ids = ATOM_IDS, PULLED_IDS
+    state_ids = (*ATOM_IDS, 2, 3, PULLED_IDS[0])
 
     def __init__(self, random, kinds):
         self.random = random
@@ -84,7 +91,7 @@ class DrawnConfig:
         """The body of a matcher."""
         if len(self.matchers) > 1 and self.random.random() < 0.3:
             return self.combination(self.matchers)
-        atom_id = self.random.choice(ATOM_IDS if self.random.random() < 0.75 else PULLED_IDS)
+        atom_id = self.random.choice(self.atom_ids if self.random.random() < 0.75 else self.pulled_ids)
         tests = [self.test() for _ in range(self.random.choice([0, 0, 0, 0, 1, 1, 2]))]
         return {"simple": {"atom_id": atom_id, "tests": tests}}
 
@@ -100,7 +107,7 @@ class DrawnConfig:
     def fields(self, number=None, atom_id=None):
         """Fields of an atom."""
         number = self.random.choice([1, 1, 2]) if number is None else number
-        atom_id = self.random.choice(ATOM_IDS) if atom_id is None else atom_id
+        atom_id = self.random.choice(self.atom_ids) if atom_id is None else atom_id
         return {"field": atom_id, "children": self.children(number)}
 
     def part(self, fields):
@@ -123,7 +130,7 @@ class DrawnConfig:
 
     def switch(self):
         """What atoms of one id start by one number of a field and stop by another, for keys of theirs."""
-        atom_id, field = self.random.choice(ATOM_IDS), FIELDS[0]
+        atom_id, field = self.random.choice(self.atom_ids), FIELDS[0]
         return without_none(
             start=self.new_matcher(atom_id, field, 1),
             stop=self.new_matcher(atom_id, field, 0),
@@ -157,7 +164,7 @@ class DrawnConfig:
     def state(self):
         """A state of atoms of some id, which may be that of a pull, with groups of its numbers or without."""
         groups = self.some(0.5, lambda: [self.group() for _ in range(self.random.randint(0, 3))])
-        atom_id = self.random.choice([*ATOM_IDS, 2, 3, PULLED_IDS[0]])
+        atom_id = self.random.choice(self.state_ids)
         return without_none(atom_id=atom_id, map=None if groups is None else {"groups": groups})
 
     def group(self):
@@ -229,13 +236,13 @@ class DrawnConfig:
         """One of these matchers for a metric, and the id of the atoms that it mostly is of."""
         matcher = self.random.choice(matchers)
         atom_id = matcher.get("simple", {}).get("atom_id")
-        return matcher["id"], self.random.choice(ATOM_IDS) if atom_id is None else atom_id
+        return matcher["id"], self.random.choice(self.atom_ids) if atom_id is None else atom_id
 
     def counted_as(self, pulled):
         """The same among the matchers by which a value or a gauge is pulled, or isn't."""
         matchers = [one for one in self.matchers if is_of_pulled(one) == pulled]
         if not matchers:
-            atom_id = self.random.choice(PULLED_IDS if pulled else ATOM_IDS)
+            atom_id = self.random.choice(self.pulled_ids if pulled else self.atom_ids)
             matchers = [{"id": MATCHER_ID + len(self.matchers), "simple": {"atom_id": atom_id}}]
             self.matchers += matchers
         return self.counted(matchers)
@@ -257,7 +264,7 @@ class DrawnConfig:
         children = [{"field": FIELDS[0]}] if self.random.random() < 0.5 else self.children(1)
         if children[0].get("position") == ALL:
             children[0]["position"] = FIRST
-        field = {"field": atom_id if self.random.random() < 0.95 else ATOM_IDS[0], "children": children}
+        field = {"field": atom_id if self.random.random() < 0.95 else self.atom_ids[0], "children": children}
         own = without_none(
             field=field,
             aggregation=self.random.choice([None, None, 1, 2, 3]),
@@ -288,7 +295,7 @@ class DrawnConfig:
     def duration(self):
         """A metric of durations."""
         predicate = self.random.choice(self.timed())
-        among = predicate["simple"].get("dimensions", {"field": ATOM_IDS[0], "children": []})
+        among = predicate["simple"].get("dimensions", {"field": self.atom_ids[0], "children": []})
         is_sparse = self.random.random() < 0.5
         own = without_none(what=predicate["id"], aggregation=MAX_SPARSE if is_sparse else self.random.choice([None, 1]))
         own.update({"bucket": MINUTES} if is_sparse and self.random.random() < 0.5 else {})
@@ -309,6 +316,13 @@ DRAW = {
 }
 
 
-def draw_config(random, kinds):
-    """A configuration that is taken."""
-    return DrawnConfig(random, kinds).tree
+class Sleeper(DrawnConfig):
+    """A configuration that sleeps mostly: its matchers and predicates are of few ids, its states of any. One with a NOT
+    on top hears all."""
+
+    state_ids = MANY_IDS
+
+    def __init__(self, random, kinds):
+        self.atom_ids = random.sample(MANY_IDS, random.choice([1, 1, 2]))
+        self.pulled_ids = [random.choice(MANY_PULLED)]
+        super().__init__(random, kinds)
