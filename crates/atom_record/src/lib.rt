@@ -16,5 +16,5 @@ pub use fault::{
     AtomFault, BAD_FLAGS, BAD_ID, BAD_PLACE, BAD_TYPE, CUT, NOT_ABOVE, OTHER_ID, TOO_LONG,
 };
 pub use log::{LogFrame, PullOutcome, is_pulled};
-pub use parse::{MAX_BYTES, parse_atom};
+pub use parse::{MAX_BYTES, parse_atom, parse_atom_into};
 pub use value::{Bytes, CloneKey, DimKey, Leaf, MetricKey, Slice, Value};

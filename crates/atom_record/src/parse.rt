@@ -232,11 +232,16 @@ fn entry_of<'a>(
     Ok((entry, rest))
 }
 
-// All entries, to the end of the bytes.
-fn entries_of(alloc: Global, bytes: &[u8]) -> Result<Seq<AtomField>, AtomFault>
+// All entries, to the end of the bytes, in the room of others.
+fn entries_of(
+    alloc: Global,
+    room: Seq<AtomField>,
+    bytes: &[u8],
+) -> Result<Seq<AtomField>, AtomFault>
     ensures { GivesBy reason_of (λ entries. entries) result (entries_at [] bytes.now) }
 {
-    let mut entries = Seq::new(alloc);
+    let mut entries = room;
+    entries.clear();
     let mut exclusive = false;
     let mut rest = bytes;
     while !rest.is_empty() {
@@ -262,16 +267,16 @@ fn id_of(bytes: &[u8]) -> Result<(u32, &[u8]), AtomFault>
     Ok((id, rest))
 }
 
-// The atom that a payload spells.
+// The atom that a payload spells, with its entries in this room.
 #[tactic(auto, unfolding(crate::specs::AtomReading::atom_at))]
-pub(crate) fn atom_of(alloc: Global, bytes: &[u8]) -> Result<Atom, AtomFault>
+pub(crate) fn atom_of(alloc: Global, room: Seq<AtomField>, bytes: &[u8]) -> Result<Atom, AtomFault>
     ensures { GivesBy reason_of (λ atom. atom) result (atom_at bytes.now) }
 {
     if MAX_BYTES < bytes.len() {
         return Err(AtomFault::Bad(TOO_LONG));
     }
     let (id, rest) = id_of(bytes)?;
-    let fields = entries_of(alloc, rest)?;
+    let fields = entries_of(alloc, room, rest)?;
     Ok(Atom { id, fields })
 }
 
@@ -287,5 +292,16 @@ pub fn parse_atom(alloc: Global, bytes: &[u8]) -> Result<Atom, AtomFault>
     ensures only { (atom : Atom) → HasNoFault atom → bytes.now ≡ payload_of atom
         → GivesBy reason_of (λ atom. atom) result (Ok atom) }
 {
-    atom_of(alloc, bytes)
+    parse_atom_into(alloc, Seq::new(alloc), bytes)
+}
+
+/// The same, in the room of a list of entries that are dropped. After an error the room is gone.
+pub fn parse_atom_into(alloc: Global, room: Seq<AtomField>, bytes: &[u8]) -> Result<Atom, AtomFault>
+    ensures exact { GivesBy reason_of (λ atom. atom) result (atom_at bytes.now) }
+    ensures sound { IfOk result HasNoFault }
+    ensures spelled { IfOk result (λ atom. bytes.now ≡ payload_of atom) }
+    ensures only { (atom : Atom) → HasNoFault atom → bytes.now ≡ payload_of atom
+        → GivesBy reason_of (λ atom. atom) result (Ok atom) }
+{
+    atom_of(alloc, room, bytes)
 }

@@ -2,7 +2,7 @@ use Rattle.std.proofs.Common.{ap, ◌∙◌, subst, arith}
 use Rattle.sd_base.specs.Reads.{GivesBy}
 use Rattle.atom_record.specs.AtomReading.{reason_of, atom_at}
 use Rattle.atom_record.proofs.AtomReadingPayloads.{atom_again, read_is_sound, read_is_spelled}
-use Rattle.atom_record.proofs.parse.parse_atom.Goals as goal
+use Rattle.atom_record.proofs.parse.parse_atom_into.Goals as goal
 
 -- what is read has no fault
 pub returns-clause-sound : goal.returns-clause-sound
