@@ -1,1 +1,2 @@
+mod AddedLemmas
 mod NoEmptyLemmas

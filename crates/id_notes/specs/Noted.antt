@@ -1,10 +1,11 @@
 -- Which names are noted for which ids.
-use Rattle.std.specs.Prelude.{ℕ, ◌==◌, ◌<◌, Bool, ◌&&◌, not, List, [], length, IfSome}
+use Rattle.std.specs.Prelude.{ℕ, ◌==◌, ◌<◌, Bool, ◌&&◌, not, List, [], length, if◌then◌else◌, IfSome}
 use Rattle.std.specs.List.{list_any}
 use Rattle.std.specs.Option.{option_map_or}
 use Rattle.std.specs.Map.{lookup}
 use Rattle.heard_ids.specs.declared.hearing.Hearing.{Hearing}
 use Rattle.id_notes.specs.declared.notes.Notes.{Notes}
+use Rattle.id_notes.specs.Marks.{is_marked}
 
 -- with these ids, a name is noted for this id: one that hears every atom is noted for no id of its own
 abbrev pub wants_id : Hearing → ℕ → Bool
@@ -15,9 +16,11 @@ module _ {N : Type 0} where
   abbrev pub is_named : (N → N → Bool) → N → List N → Bool
   is_named same name names = list_any (same name) names
 
-  -- the names that are noted for an id, and none where there is no list
+  -- the names that are noted for an id, and none where it isn't marked or there is no list
   abbrev pub names_under : Notes N → ℕ → List N
-  names_under notes id = option_map_or (λ names. names.keys) (lookup (λ other. id == other) notes.by_id.entries) []
+  names_under notes id =
+      if is_marked notes.marks.items id
+      then option_map_or (λ names. names.keys) (lookup (λ other. id == other) notes.by_id.entries) [] else []
 
   -- the names that are noted for every atom
   abbrev pub names_for_all : Notes N → List N

@@ -1,7 +1,8 @@
 //! Which names hear the frames of which ids.
-ghost use Rattle.std.specs.Prelude.{◌≡◌, ◌==◌, ◌&&◌, ◌||◌, not, ℕ, [], OnOk};
+ghost use Rattle.std.specs.Prelude.{◌≡◌, ◌==◌, ◌&&◌, ◌||◌, not, ℕ, [], false, OnOk};
 ghost use Rattle.std.specs.List.{IsDistinct};
 
+use crate::marks::{is_marked, mark, unmark};
 use heard_ids::Hearing;
 use indexmap::{IndexMap, IndexSet};
 use std::alloc::{AllocError, Global};
@@ -14,6 +15,8 @@ pub struct Notes<N: Eq + Hash> {
     by_id: IndexMap<u32, IndexSet<N>>,
     /// Those that hear every atom.
     for_all: IndexSet<N>,
+    /// Which of the low ids have a list.
+    marks: Vec<bool>,
 }
 
 impl<N: Eq + Hash + Copy + Drop> Notes<N> {
@@ -28,6 +31,7 @@ impl<N: Eq + Hash + Copy + Drop> Notes<N> {
         Notes {
             by_id: IndexMap::new(alloc),
             for_all: IndexSet::new(alloc),
+            marks: Vec::new(alloc),
         }
     }
 
@@ -36,10 +40,20 @@ impl<N: Eq + Hash + Copy + Drop> Notes<N> {
         ensures names { result.now ≡ names_under self.now id }
         ensures distinct { IsDistinct N.eq result.now }
     {
+        if !is_marked(self.marks.as_slice(), id) {
+            return &[];
+        }
         match self.by_id.get(&id) {
             Some(names) => names.as_slice(),
             None => &[],
         }
+    }
+
+    /// Whether a name may be noted for an id: there is none where this is false. It costs no look-up.
+    pub fn may_have(&self, id: u32) -> bool
+        ensures { result ≡ false → names_under self.now id ≡ [] }
+    {
+        is_marked(self.marks.as_slice(), id)
     }
 
     /// The names of those that hear every atom.
@@ -92,6 +106,9 @@ impl<N: Eq + Hash + Copy + Drop> Notes<N> {
         ensures for_all { OnOk result (self.new.for_all ≡ self.old.for_all) }
         ensures none_empty { HasNoEmptyList self.old → HasNoEmptyList self.new }
     {
+        if !is_marked(self.marks.as_slice(), id) {
+            return self.begin(alloc, id, name);
+        }
         if let Some(names) = self.by_id.get_mut(&id) {
             names.insert(name)?;
             return Ok(());
@@ -109,6 +126,7 @@ impl<N: Eq + Hash + Copy + Drop> Notes<N> {
     {
         let mut names = IndexSet::new(alloc);
         names.insert(name)?;
+        mark(&mut self.marks, id)?;
         self.by_id.insert(id, names)?;
         Ok(())
     }
@@ -120,12 +138,16 @@ impl<N: Eq + Hash + Copy + Drop> Notes<N> {
         ensures for_all { self.new.for_all ≡ self.old.for_all }
         ensures none_empty { HasNoEmptyList self.old → HasNoEmptyList self.new }
     {
+        if !is_marked(self.marks.as_slice(), id) {
+            return;
+        }
         let Some(names) = self.by_id.get_mut(&id) else {
             return;
         };
         names.swap_remove(&name);
         if names.is_empty() {
             self.by_id.swap_remove(&id);
+            unmark(self.marks.as_mut_slice(), id);
         }
     }
 }
