@@ -7,16 +7,20 @@ use Rattle.std.proofs.lemmas.List.Edits.{remove-append_right}
 use Rattle.std.proofs.lemmas.List.Sums.{sum_by-take-le}
 use Rattle.matcher_table.specs.Slots.{times_among}
 use Rattle.matcher_table.specs.declared.hanging.AtomSlots.{AtomSlots}
-use Rattle.matcher_table.specs.Hanging.{slots_under, atom_ids, LeavesList}
+use Rattle.matcher_table.specs.Hanging.{slots_at, high_slots, slots_under, atom_ids, LeavesList}
 use Rattle.matcher_table.proofs.Counting.{one_if_same, one_if_other, places_push, places_more, places-remove, counted_at}
+use Rattle.matcher_table.proofs.RowLaws.{same_under}
 
 -- how often a number stands in a front of a list is at most how often it stands in it
 pub front_less : (s n : ℕ) (xs : List ℕ) → times_among s (take n xs) ≤ times_among s xs
 front_less s n xs = sum_by-take-le _ xs n
 
 -- maps that are the same have the same lists
-pub lists_same : (old new : AtomSlots) → new.by_id ≡ old.by_id → (id : ℕ) → slots_under new id ≡ slots_under old id
-lists_same old new same id = rw same refl
+pub lists_same : (old new : AtomSlots) → new.low ≡ old.low → new.by_id ≡ old.by_id → (id : ℕ)
+    → slots_under new id ≡ slots_under old id
+lists_same old new low same id =
+    let high : high_slots new id ≡ high_slots old id = rw same refl in
+    same_under old new id (ap (λ row. slots_at row.items id) low) high
 
 pub ids_same : (old new : AtomSlots) → new.ids.entries ≡ old.ids.entries → (s : ℕ) → atom_ids new s ≡ atom_ids old s
 ids_same old new same s = rw same refl

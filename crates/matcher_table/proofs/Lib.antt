@@ -9,5 +9,6 @@ pub mod EvaluationLaws
 pub mod TableLaws
 pub mod IdleLaws
 pub mod EnoughLaws
+pub mod RowLaws
 pub mod HangingLaws
 pub mod ReadyLaws

@@ -383,18 +383,25 @@ module _ (says : SimpleMatcher → Atom → Bool) (atom : Atom) {slots : List (O
     };
   }
 
-  -- the slots under the last id are put back, and the new ones
-  pub all_put_back : (after : List Bool)
-      → ((s : ℕ) → (0 < times_among s (under last)) ⊎ (times_among s (take settled order) < times_among s order)
+  -- the slots under the last id are put back, unless the next atom has it too, and the new ones
+  pub all_put_back : (left : List ℕ) (after : List Bool)
+      → (last ≢ atom.id → left ≡ under last)
+      → ((s : ℕ) → (0 < times_among s left) ⊎ (times_among s (take settled order) < times_among s order)
       → get_or after s false ≡ get_or idle s false)
       → ((s : ℕ) → (get_or after s false ≡ get_or results s false) ⊎ (get_or after s false ≡ get_or idle s false))
-      → (s : ℕ) → matcher_at slots s ≢ None → get_or after s false ≡ get_or idle s false
-  all_put_back after put either s live =
+      → (s : ℕ) → matcher_at slots s ≢ None → times_among s (under atom.id) ≡ 0
+      → get_or after s false ≡ get_or idle s false
+  all_put_back left after others put either s live outside =
       elim (cases_eq (times_among s (take settled order)) 0) [
         | inl new ↦ put s (inr (omega (arith, live_listed held s live)))
         | inr old ↦
             elim (cases_eq (times_among s (under last)) 0) [
-              | inr among ↦ put s (inl (omega arith))
+              | inr among ↦
+                  elim (cases_eq last atom.id) [
+                    | inl same ↦ absurd (among (ap (λ (id : ℕ). times_among s (under id)) same ∙ outside))
+                    | inr other ↦
+                        put s (inl (subst (λ (xs : List ℕ). 0 < times_among s xs) (sym (others other)) (omega arith)))
+                  ]
               | inl apart ↦
                   elim (either s) [
                     | inr back ↦ back

@@ -1,5 +1,6 @@
 -- The slots that hang on simple matchers of an atom id, and the ids of a slot. No public clause cites this.
-use Rattle.std.specs.Prelude.{◌≡◌, ◌≢◌, ◌⊎◌, ℕ, ◌<◌, nat_eq, List, [], ◌∷◌, ◌++◌, length, slice_index, Some}
+use Rattle.std.specs.Prelude.{◌≡◌, ◌≢◌, ◌⊎◌, ℕ, ◌<◌, nat_eq, nat_lt, if◌then◌else◌, List, [], ◌∷◌, ◌++◌, map, get_or, length, slice_index, Some}
+use Rattle.std.specs.Global.{Vec}
 use Rattle.std.specs.List.{remove}
 use Rattle.std.specs.Option.{option_map_or}
 use Rattle.indexmap.specs.IndexMap.{get}
@@ -10,9 +11,21 @@ use Rattle.matcher_table.specs.declared.shared.SharedMatcher.TheVariants.{Simple
 use Rattle.matcher_table.specs.declared.hanging.AtomSlots.{AtomSlots}
 use Rattle.matcher_table.specs.Slots.{children_of, times_among}
 
+-- ids below this have their lists in a row
+abbrev pub low_ids : ℕ
+low_ids = 4096
+
+-- the list at a place of a row of lists
+abbrev pub slots_at : List (Vec ℕ) → ℕ → List ℕ
+slots_at lists at = get_or (map (λ list. list.items) lists) at []
+
+-- the slots under an id that is looked for in the map
+abbrev pub high_slots : AtomSlots → ℕ → List ℕ
+high_slots lists id = option_map_or (λ slots. slots.items) (get nat_eq lists.by_id id) []
+
 -- the slots under an atom id, in the order in which they were made
 abbrev pub slots_under : AtomSlots → ℕ → List ℕ
-slots_under lists id = option_map_or (λ slots. slots.items) (get nat_eq lists.by_id id) []
+slots_under lists id = if nat_lt id low_ids then slots_at lists.low.items id else high_slots lists id
 
 -- the ids under which a slot hangs
 abbrev pub atom_ids : AtomSlots → ℕ → List ℕ

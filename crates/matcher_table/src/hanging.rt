@@ -3,19 +3,25 @@ ghost use Rattle.std.specs.Prelude.{◌≡◌, ◌≢◌, ◌⊎◌, ℕ, ◌<�
 ghost use Rattle.indexmap.specs.IndexMap.{spare};
 ghost use Rattle.matcher_eval.specs.AtomTests.{number_set};
 ghost use Rattle.matcher_table.specs.Slots.{children_of, times_among};
-ghost use Rattle.matcher_table.specs.Hanging.{slots_under, atom_ids, LeavesList, HangsUnder, UnhangsFrom, IsUnderAll};
+ghost use Rattle.matcher_table.specs.Hanging.{slots_under, high_slots, atom_ids, LeavesList, HangsUnder, UnhangsFrom, IsUnderAll};
 
 use crate::SharedMatcher;
 use crate::id_lists::{add_missing, leave_one, push_slot};
+use crate::low_lists::{join_at, leave_at, list_at};
 use crate::operation::id_of;
 use indexmap::IndexMap;
 use sd_base::Seq;
 use std::alloc::{AllocError, Global};
 
+// Ids below this have their lists in a row, so that these are found without a hash.
+const LOW_IDS: u32 = 4_096;
+
 /// Under each atom id the slots that hang on a simple matcher of it, in the order in which they were made; and the ids
-/// of each slot. An id with no slot isn't kept.
+/// of each slot. The lists of low ids stand in a row, as far as one was needed; of the others an id with no slot isn't
+/// kept.
 #[derive(Drop)]
 pub struct AtomSlots {
+    pub(crate) low: Vec<Vec<usize>>,
     pub(crate) by_id: IndexMap<u32, Vec<usize>>,
     pub(crate) ids: IndexMap<usize, Seq<u32>>,
 }
@@ -26,6 +32,7 @@ impl AtomSlots {
         ensures { (id : ℕ) → slots_under result id ≡ [] }
     {
         AtomSlots {
+            low: Vec::new(alloc),
             by_id: IndexMap::new(alloc),
             ids: IndexMap::new(alloc),
         }
@@ -34,6 +41,27 @@ impl AtomSlots {
     /// The slots under an id.
     pub(crate) fn under(&self, id: u32) -> &[usize]
         ensures { result.now ≡ slots_under self.now id }
+    {
+        if id < LOW_IDS {
+            return list_at(self.low.as_slice(), id as usize);
+        }
+        self.under_high(id)
+    }
+
+    /// The slots under an id, or none if it is this one: an atom of the same id writes their truths anyway.
+    pub(crate) fn under_other(&self, id: u32, than: u32) -> &[usize]
+        ensures some { (s : ℕ) → 0 < times_among s result.now → 0 < times_among s (slots_under self.now id) }
+        ensures other { id ≢ than → result.now ≡ slots_under self.now id }
+    {
+        if id == than {
+            return &[];
+        }
+        self.under(id)
+    }
+
+    // The slots under an id in the map.
+    fn under_high(&self, id: u32) -> &[usize]
+        ensures { result.now ≡ high_slots self.now id }
     {
         match self.by_id.get(&id) {
             Some(slots) => slots.as_slice(),
@@ -117,6 +145,7 @@ impl AtomSlots {
     fn note(&mut self, slot: usize, ids: Seq<u32>)
         requires { 0 < spare self.old.ids }
         ensures lists { self.new.by_id ≡ self.old.by_id }
+        ensures low { self.new.low ≡ self.old.low }
         ensures ids { atom_ids self.new slot ≡ ids }
         ensures others { (s : ℕ) → s ≢ slot → atom_ids self.new s ≡ atom_ids self.old s }
     {
@@ -181,18 +210,33 @@ impl AtomSlots {
         ensures others { (other : ℕ) → other ≢ id → slots_under self.new other ≡ slots_under self.old other }
         ensures ids { self.new.ids ≡ self.old.ids }
     {
+        if id < LOW_IDS {
+            return join_at(alloc, &mut self.low, id as usize, slot);
+        }
+        self.join_high(alloc, id, slot)
+    }
+
+    // The same in the map.
+    fn join_high(&mut self, alloc: Global, id: u32, slot: usize) -> Result<(), AllocError>
+        ensures own { OnOk result (high_slots self.new id ≡ high_slots self.old id ++ slot ∷ []) }
+        ensures err { OnErr result (high_slots self.new id ≡ high_slots self.old id) }
+        ensures others { (other : ℕ) → other ≢ id → high_slots self.new other ≡ high_slots self.old other }
+        ensures low { self.new.low ≡ self.old.low }
+        ensures ids { self.new.ids ≡ self.old.ids }
+    {
         let Some(slots) = self.by_id.get_mut(&id) else {
             return self.start(alloc, id, slot);
         };
         push_slot(slots, slot)
     }
 
-    // The first slot of an id.
+    // The first slot of an id in the map.
     fn start(&mut self, alloc: Global, id: u32, slot: usize) -> Result<(), AllocError>
-        requires { slots_under self.old id ≡ [] }
-        ensures own { OnOk result (slots_under self.new id ≡ slot ∷ []) }
-        ensures err { OnErr result (slots_under self.new id ≡ []) }
-        ensures others { (other : ℕ) → other ≢ id → slots_under self.new other ≡ slots_under self.old other }
+        requires { high_slots self.old id ≡ [] }
+        ensures own { OnOk result (high_slots self.new id ≡ slot ∷ []) }
+        ensures err { OnErr result (high_slots self.new id ≡ []) }
+        ensures others { (other : ℕ) → other ≢ id → high_slots self.new other ≡ high_slots self.old other }
+        ensures low { self.new.low ≡ self.old.low }
         ensures ids { self.new.ids ≡ self.old.ids }
     {
         let mut slots = Vec::new(alloc);
@@ -201,21 +245,36 @@ impl AtomSlots {
         Ok(())
     }
 
-    // Takes a slot out of the list of an id. A list that gets empty goes.
+    // Takes a slot out of the list of an id.
     fn leave(&mut self, id: u32, slot: usize)
         ensures left { LeavesList slot (slots_under self.old id) (slots_under self.new id) }
         ensures others { (other : ℕ) → other ≢ id → slots_under self.new other ≡ slots_under self.old other }
         ensures ids { self.new.ids ≡ self.old.ids }
     {
+        if id < LOW_IDS {
+            leave_at(&mut self.low, id as usize, slot);
+        } else {
+            self.leave_high(id, slot);
+        }
+    }
+
+    // The same in the map, of which a list that gets empty goes.
+    fn leave_high(&mut self, id: u32, slot: usize)
+        ensures left { LeavesList slot (high_slots self.old id) (high_slots self.new id) }
+        ensures others { (other : ℕ) → other ≢ id → high_slots self.new other ≡ high_slots self.old other }
+        ensures low { self.new.low ≡ self.old.low }
+        ensures ids { self.new.ids ≡ self.old.ids }
+    {
         self.leave_list(id, slot);
-        if self.under(id).is_empty() {
+        if self.under_high(id).is_empty() {
             self.drop_id(id);
         }
     }
 
     fn leave_list(&mut self, id: u32, slot: usize)
-        ensures left { LeavesList slot (slots_under self.old id) (slots_under self.new id) }
-        ensures others { (other : ℕ) → other ≢ id → slots_under self.new other ≡ slots_under self.old other }
+        ensures left { LeavesList slot (high_slots self.old id) (high_slots self.new id) }
+        ensures others { (other : ℕ) → other ≢ id → high_slots self.new other ≡ high_slots self.old other }
+        ensures low { self.new.low ≡ self.old.low }
         ensures ids { self.new.ids ≡ self.old.ids }
     {
         let Some(slots) = self.by_id.get_mut(&id) else {
@@ -224,10 +283,11 @@ impl AtomSlots {
         leave_one(slots, slot);
     }
 
-    // Forgets an id that has no slot.
+    // Forgets an id of the map that has no slot.
     fn drop_id(&mut self, id: u32)
-        requires { slots_under self.old id ≡ [] }
-        ensures lists { (other : ℕ) → slots_under self.new other ≡ slots_under self.old other }
+        requires { high_slots self.old id ≡ [] }
+        ensures lists { (other : ℕ) → high_slots self.new other ≡ high_slots self.old other }
+        ensures low { self.new.low ≡ self.old.low }
         ensures ids { self.new.ids ≡ self.old.ids }
     {
         self.by_id.swap_remove(&id);

@@ -6,6 +6,7 @@ mod evaluation;
 mod hanging;
 mod id_lists;
 mod index;
+mod low_lists;
 mod operation;
 mod shared;
 mod store;

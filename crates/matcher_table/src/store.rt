@@ -236,7 +236,7 @@ impl Store {
     }
 
     /// The truths of all live slots: those under the atom's id are found, and the others have their idle truths, to
-    /// which those under the last id and the new ones are put back. It takes no memory.
+    /// which those under the last id, if it is another, and the new ones are put back. It takes no memory.
     pub fn evaluate<J: Judge>(&mut self, atom: &Atom, judge: &mut J)
         requires held { StoreIsHeld self.old }
         requires indexed { StoreIsIndexed self.old }
@@ -253,7 +253,7 @@ impl Store {
         put_all_back(
             &mut self.results,
             self.idle.as_slice(),
-            self.hanging.under(self.last),
+            self.hanging.under_other(self.last, atom.id),
             self.order.as_slice(),
             self.settled,
         );

@@ -17,7 +17,7 @@ returns-clause-hangs c =
     let has : (id : ℕ) → 0 < times_among id ids → 0 < times_among id (atom_ids c.note.new.self slot) =
     λ id. subst (λ (xs : List ℕ). 0 < times_among id xs) (sym noted) in
     let lists : (id : ℕ) → slots_under c.note.new.self id ≡ slots_under c.join_all.new.self id =
-    lists_same c.join_all.new.self c.note.new.self c.note.ensures.lists in
+    lists_same c.join_all.new.self c.note.new.self c.note.ensures.low c.note.ensures.lists in
     record {
       joined = λ id its. lists id
           ∙ c.in_ok-join_all.ensures.joined id (subst (λ (xs : List ℕ). 0 < times_among id xs) (noted ∙ sym given) its);

@@ -1,4 +1,5 @@
-use Rattle.matcher_table.proofs.TableLaws.{had_held, had_indexed, had_ready, had_used, interned_trees, children_live}
+use Rattle.std.proofs.lemmas.Grind.{merely}
+use Rattle.matcher_table.proofs.TableLaws.{had_held, had_indexed, had_ready, had_used, store_sound, interned_trees, children_live}
 use Rattle.matcher_table.proofs.table.MatcherTable.intern_combination.Goals as goal
 
 pub intern-requires-clause-held : goal.intern-requires-clause-held
@@ -24,3 +25,9 @@ intern-requires-clause-indexed c = had_indexed c.args.self.now.store c.args.self
 
 pub intern-requires-clause-ready : goal.intern-requires-clause-ready
 intern-requires-clause-ready c = had_ready c.args.self.now.store c.args.self.now.sound
+
+pub invariant_of-self : goal.invariant_of-self
+invariant_of-self c = record {
+  sound = merely (store_sound c.intern.new.self c.intern.ensures.held c.intern.ensures.indexed c.intern.ensures.ready
+      c.intern.ensures.used);
+}
