@@ -1,5 +1,5 @@
 //! One frame, read from the bytes of its content.
-ghost use Rattle.std.specs.Prelude.{◌≡◌, ◌<◌, ◌≤◌, length, All, IfOk};
+ghost use Rattle.std.specs.Prelude.{◌≡◌, ◌<◌, ◌≤◌, length, All, IfOk, OnOk};
 ghost use Rattle.std.specs.Int.{w16, w32, w64};
 ghost use Rattle.sd_base.specs.Reads.{GivesBy, many};
 ghost use Rattle.atom_record.specs.Id.{IsAtomId};
@@ -16,10 +16,12 @@ use crate::frame::{
 };
 use crate::{Frame, FrameFault};
 use atom_record::{
-    Atom, AtomFault, BAD_ID, LogFrame, MAX_BYTES, OTHER_ID, PullOutcome, is_atom_id, parse_atom,
+    Atom, AtomFault, AtomField, BAD_ID, LogFrame, MAX_BYTES, OTHER_ID, PullOutcome, is_atom_id,
+    parse_atom, parse_atom_into,
 };
 use sd_base::{Seq, split_counted, split_u16, split_u32, split_u64};
 use std::alloc::{AllocError, Global};
+use std::mem;
 
 // The first time that is too late to be one.
 const FIRST_LATE_TIME: u64 = 1 << 63;
@@ -138,15 +140,19 @@ fn atom_of(alloc: Global, payload: &[u8]) -> Result<Atom, BodyError>
     }
 }
 
-// The body of an atom: its payload is the rest.
+// The body of an atom: its payload is the rest. Its entries stand in this room.
 #[tactic(auto, unfolding(crate::specs::FrameReading::atom_body))]
-fn read_atom(alloc: Global, body: &[u8]) -> Result<Frame, BodyError>
+fn read_atom(alloc: Global, room: &mut Seq<AtomField>, body: &[u8]) -> Result<Frame, BodyError>
     ensures exact { GivesBy fault_in (λ frame. frame) result (frames.atom_body body.now) }
     ensures sound { IfOk result IsFaultless }
 {
     let (at, rest) = read_time(body)?;
-    let atom = atom_of(alloc, rest)?;
-    Ok(Frame::Log(LogFrame::AtomAt { at, atom }))
+    let own = mem::replace(room, Seq::new(alloc));
+    match parse_atom_into(alloc, own, rest) {
+        Ok(atom) => Ok(Frame::Log(LogFrame::AtomAt { at, atom })),
+        Err(AtomFault::Bad(reason)) => Err(bad_atom(reason)),
+        Err(AtomFault::Memory) => Err(BodyError::Memory),
+    }
 }
 
 // Whether a payload that isn't too long begins with the id of another atom.
@@ -320,13 +326,18 @@ fn read_report(body: &[u8]) -> Result<Frame, BodyError>
 }
 
 // The frame of a kind that has this body.
-fn read_body(alloc: Global, kind: u8, body: &[u8]) -> Result<Frame, BodyError>
+fn read_body(
+    alloc: Global,
+    room: &mut Seq<AtomField>,
+    kind: u8,
+    body: &[u8],
+) -> Result<Frame, BodyError>
     ensures exact { GivesBy fault_in (λ frame. frame) result (frames.frame_of_kind kind body.now) }
     ensures sound { IfOk result IsFaultless }
 {
     match kind {
         TICK => read_tick(body),
-        ATOM => read_atom(alloc, body),
+        ATOM => read_atom(alloc, room, body),
         PULL => read_pull(alloc, body),
         INSTALL => read_install(alloc, body),
         REMOVE => read_remove(body),
@@ -344,33 +355,39 @@ pub fn time_of(frame: &LogFrame) -> u64
     }
 }
 
-// The same frame, unless it is of the log and comes before the clock.
-fn check_time(clock: u64, frame: Frame) -> Result<Frame, BodyError>
-    ensures exact { GivesBy fault_in (λ frame. frame) result (frames.in_time clock frame) }
-    ensures sound { IsFaultless frame → IfOk result (λ f. IsFaultless f × IsInTime clock f) }
+// Whether a frame is a command, or comes no earlier than the clock stands.
+fn check_time(clock: u64, frame: &Frame) -> Result<(), BodyError>
+    ensures exact { GivesBy fault_in (λ _. frame.now) result (frames.in_time clock frame.now) }
+    ensures sound { OnOk result (IsInTime clock frame.now) }
 {
     match frame {
         Frame::Log(log) => {
-            let at = time_of(&log);
+            let at = time_of(log);
             if at < clock {
                 return Err(BodyError::Fault(FrameFault::TimeBackwards(clock, at)));
             }
-            Ok(Frame::Log(log))
+            Ok(())
         }
-        command => Ok(command),
+        _ => Ok(()),
     }
 }
 
-/// The frame that is this kind byte and body, where the clock stands at a time.
-pub fn read_frame(alloc: Global, clock: u64, content: &[u8]) -> Result<Frame, BodyError>
+/// The frame that is this kind byte and body, where the clock stands at a time. An atom's entries stand in this room.
+pub fn read_frame(
+    alloc: Global,
+    room: &mut Seq<AtomField>,
+    clock: u64,
+    content: &[u8],
+) -> Result<Frame, BodyError>
     ensures exact { GivesBy fault_in (λ frame. frame) result (frames.frame_of clock content.now) }
     ensures sound { IfOk result (λ f. IsFaultless f × IsInTime clock f) }
 {
     let [kind, body @ ..] = content else {
         return Err(BodyError::Fault(FrameFault::BadLength));
     };
-    let frame = read_body(alloc, *kind, body)?;
-    check_time(clock, frame)
+    let frame = read_body(alloc, room, *kind, body)?;
+    check_time(clock, &frame)?;
+    Ok(frame)
 }
 
 /// The clock after a frame, where it stood at a time before it.

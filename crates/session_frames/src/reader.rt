@@ -10,6 +10,8 @@ ghost use Rattle.session_frames.specs.Bodies.{FindsNext, IsOutside, StopsShort, 
 use crate::body::{BodyError, next_clock, read_frame};
 use crate::place::Place;
 use crate::{Frame, FrameError, SessionFault};
+use atom_record::{Atom, AtomField};
+use sd_base::Seq;
 use sd_io::Source;
 use std::alloc::{AllocError, Global};
 use std::marker::Model;
@@ -28,6 +30,7 @@ const PIECE: usize = 65_536;
 pub struct FrameReader {
     alloc: Global,
     room: Vec<u8>,
+    entries: Seq<AtomField>,
     place: Place,
     ended: bool,
 }
@@ -38,7 +41,7 @@ impl Model for FrameReader {
 
     ghost Value = { Reading };
 
-    // Its room is no part of it: what a call takes there is judged in that call.
+    // Its rooms are no part of it: what a call takes there is judged in that call.
     ghost view = { λ s. record { pending = []; place = s.place; ended = s.ended } };
 
     ghost invariant = { λ s. IsAtRest s.place };
@@ -52,6 +55,7 @@ impl FrameReader {
         FrameReader {
             alloc,
             room: Vec::new(alloc),
+            entries: Seq::new(alloc),
             place: Place {
                 bytes: 0,
                 clock: 0,
@@ -68,6 +72,13 @@ impl FrameReader {
     {
         let _ = &self.room;
         0
+    }
+
+    /// An atom that is done with gives its room to the next one.
+    pub fn reuse(&mut self, atom: Atom)
+        ensures { self.new ≡ self.old }
+    {
+        self.entries = atom.fields;
     }
 
     /// The next frame, or `None` where the source ended at a frame's end. Of what the reader holds, the bytes of
@@ -110,7 +121,8 @@ impl FrameReader {
             return Ok(None);
         }
         let count = take_next(&mut self.room, &self.place, src)?;
-        let Some(frame) = next_in(self.alloc, &self.place, &self.room[..count])? else {
+        let held = &self.room[..count];
+        let Some(frame) = next_in(self.alloc, &mut self.entries, &self.place, held)? else {
             self.ended = true;
             return Ok(None);
         };
@@ -204,9 +216,14 @@ fn make_room(room: &mut Vec<u8>, size: usize) -> Result<(), AllocError>
     room.resize(size, 0)
 }
 
-// What stands next in what is left: a frame, or nothing at the end.
+// What stands next in what is left: a frame, or nothing at the end. An atom's entries stand in this room.
 #[tactic(auto, unfolding(crate::specs::Frames::next_frame))]
-fn next_in(alloc: Global, place: &Place, left: &[u8]) -> Result<Option<Frame>, FrameError>
+fn next_in(
+    alloc: Global,
+    entries: &mut Seq<AtomField>,
+    place: &Place,
+    left: &[u8],
+) -> Result<Option<Frame>, FrameError>
     ensures finds { FindsNext place.now result (frames.next_frame place.now left.now) }
     ensures sound { IfOk result (λ found.
         IfSome found (λ f. IsFaultless f × IsInTime place.now.clock f)) }
@@ -232,7 +249,7 @@ fn next_in(alloc: Global, place: &Place, left: &[u8]) -> Result<Option<Frame>, F
     if after.len() < size {
         return Err(bad(place, SessionFault::Cut));
     }
-    match read_frame(alloc, place.clock, &after[..size]) {
+    match read_frame(alloc, entries, place.clock, &after[..size]) {
         Ok(frame) => Ok(Some(frame)),
         Err(BodyError::Fault(fault)) => Err(bad(place, SessionFault::from(fault))),
         Err(BodyError::Memory) => Err(FrameError::Memory),
