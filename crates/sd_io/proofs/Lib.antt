@@ -1,3 +1,4 @@
+pub mod AheadLemmas
 pub mod CausesLemmas
 pub mod PutLemmas
 pub mod MemLemmas

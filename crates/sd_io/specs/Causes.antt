@@ -1,5 +1,5 @@
 -- What reads and writes do to bytes that are told, and when they may fail.
-use Rattle.std.specs.Prelude.{◌≡◌, ℕ, ◌+◌, ◌-◌, ◌^◌, ◌≤◌, min, List, ◌++◌, Option, Result, OnErr, MatchResult}
+use Rattle.std.specs.Prelude.{◌≡◌, ℕ, ◌+◌, ◌-◌, ◌^◌, ◌≤◌, min, Bool, List, ◌++◌, length, Option, Result, OnErr, IfSome, MatchBool, MatchResult}
 use Rattle.sd_io.specs.States.{Input, Output}
 pub use Rattle.std.specs.Io.{ReadsAtMost}
 pub use Rattle.std.specs.Io.KnownBytes.{Appends, Consumes, IsAtEnd, Keeps, ReadConsumes}
@@ -21,6 +21,18 @@ pub record HasCause {T E : Type 0} (before now : ℕ) (result : Result T E) : Ty
 abbrev pub IsFrontOf : List ℕ → List ℕ → Type 0
 IsFrontOf front whole = (rest : List ℕ) × (whole ≡ front ++ rest)
 
+-- these bytes come next, where what is left is told
+abbrev pub ComesNext : Option (List ℕ) → List ℕ → Type 0
+ComesNext left bytes = IfSome left (IsFrontOf bytes)
+
+-- so many bytes were taken from the front of what was left
+abbrev pub TakesCount : Option (List ℕ) → Option (List ℕ) → ℕ → Type 0
+TakesCount old new count = (bytes : List ℕ) × Consumes old new bytes × (length bytes ≡ count)
+
+-- so many bytes were taken, or what is left stays as it was
+abbrev pub Skips : Option (List ℕ) → Option (List ℕ) → Bool → ℕ → Type 0
+Skips old new done count = MatchBool done (TakesCount old new count) (new ≡ old)
+
 -- known bytes grew by some front of the piece
 abbrev pub AppendsFront : Option (List ℕ) → Option (List ℕ) → List ℕ → Type 0
 AppendsFront old new piece = (front : List ℕ) × IsFrontOf front piece × Appends old new front
@@ -35,6 +47,15 @@ pub record IsRead {E : Type 0} (old new : Input) (result : Result ℕ E) (buffer
   pub bound : ReadsAtMost result buffer
   pub bytes : ReadConsumes old.left new.left result buffer
   pub cause : HasCause old.faults new.faults result
+
+-- these bytes come next in an input, where it tells
+abbrev pub IsHeld : Input → List ℕ → Type 0
+IsHeld input bytes = ComesNext input.left bytes
+
+-- So many bytes were taken, or what is left stays as it was; no call failed.
+pub record IsSkip (old new : Input) (done : Bool) (count : ℕ) : Type 0 where
+  pub bytes : Skips old.left new.left done count
+  pub faultless : new.faults ≡ old.faults
 
 -- A put wrote the whole piece; a failed put wrote a front of it and was counted.
 pub record IsPut {E : Type 0} (old new : Output) (result : Result Unit E) (piece : List ℕ) : Type 0 where

@@ -1,6 +1,6 @@
 //! What bytes are read from.
 ghost use Rattle.sd_io.specs.States.{Input};
-ghost use Rattle.sd_io.specs.Causes.{IsRead};
+ghost use Rattle.sd_io.specs.Causes.{IsRead, IsHeld, IsSkip};
 
 use std::error::Error;
 use std::fmt;
@@ -25,4 +25,19 @@ pub trait Source {
     /// Takes bytes into the front of `buf` and says how many. 0 for a `buf` with room means that the input ended.
     fn read(&mut self, buf: &mut [u8]) -> Result<usize, ReadFailed>
         ensures { IsRead (state self.old) (state self.new) result buf.new };
+
+    /// Bytes that come next and are at hand already, so that no call is needed to read them. A source may hold none.
+    fn held(&self) -> &[u8]
+        ensures { IsHeld (state self.now) result.now }
+    {
+        &[]
+    }
+
+    /// Takes so many of the bytes that it holds, and says whether it holds as many. If not, nothing is taken.
+    fn skip(&mut self, count: usize) -> bool
+        ensures { IsSkip (state self.old) (state self.new) result count }
+    {
+        let _ = count;
+        false
+    }
 }

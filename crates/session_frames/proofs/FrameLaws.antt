@@ -2,7 +2,7 @@
 -- frames, or after a fault, change none of them.
 use Rattle.std.proofs.Common.{◌≡◌, ℕ, zero, suc, ◌+◌, ◌-◌, ◌<◌, ◌≤◌, Bool, true, false, ◌==◌, nat_le, nat_lt, if◌then◌else◌, fold, List, [], ◌∷◌, ◌++◌, length, take, drop, Result, Ok, Err, refl, sym, ap, ap₂, ◌∙◌, subst, subst₂, arith}
 use Rattle.std.proofs.lemmas.Bool.Decides.{nat_tests}
-use Rattle.std.proofs.lemmas.List.{take-append-le, drop-append-le, length-append, length-drop, nil_from_length}
+use Rattle.std.proofs.lemmas.List.{take-take, take-append-le, drop-append-le, length-append, length-drop, length-take-le, nil_from_length}
 use Rattle.std.specs.Int.{w32, from_le_bytes}
 use Rattle.session_frames.specs.declared.frame.Frame.{Frame}
 use Rattle.session_frames.specs.declared.frame.FrameFault.{FrameFault}
@@ -623,3 +623,41 @@ needed_more place left more h =
       ap (λ n. nat_lt most_body n) same,
       same,
     )) h
+
+asks_four : (long : Bool) (size : ℕ) → 4 ≤ asked false false long size
+asks_four true size = omega arith
+asks_four false size = omega arith
+
+asked_front : (over short long short_front long_front : Bool) (len len_front size size_front : ℕ)
+    → nat_lt len 4 ≡ short
+    → nat_lt len_front 4 ≡ short_front
+    → len_front ≡ asked over short long size
+    → asked over short long size ≤ len
+    → (4 ≤ len_front → (long_front ≡ long) × (size_front ≡ size))
+    → asked over short_front long_front size_front ≡ asked over short long size
+asked_front true short long sf lf len len_front size size_front s f is here k = refl
+asked_front false true long sf lf len len_front size size_front s f is here k =
+    absurd (omega (arith, short_len len s, here))
+asked_front false false long true lf len len_front size size_front s f is here k =
+    absurd (omega (arith, short_len len_front f, is, asks_four long size))
+asked_front false false long false lf len len_front size size_front s f is here k =
+    let same = k (omega (arith, is, asks_four long size)) in
+    rw (same.0, same.1) refl
+
+-- Where there are as many bytes as the judgement asks for, it asks for as many of these.
+pub needed_front : (place : Place) (left : List ℕ)
+    → needed place left ≤ length left
+    → needed place (take (needed place left) left) ≡ needed place left
+unfolding needed
+needed_front place left here =
+    let count = asked (nat_le most_session_frames place.frames) (nat_lt (length left) 4) (nat_lt most_body (size_at left))
+    (size_at left) in
+    let front = take count left in
+    let len : length front ≡ count = length-take-le count left here in
+    asked_front (nat_le most_session_frames place.frames) (nat_lt (length left) 4) (nat_lt most_body (size_at left))
+    (nat_lt (length front) 4) (nat_lt most_body (size_at front)) (length left) (length front) (size_at left)
+    (size_at front) refl refl len here
+    (λ four.
+    let same : size_at front ≡ size_at left =
+    ap (from_le_bytes w32) (take-take 4 count left (omega (arith, four, len))) in
+    (ap (λ n. nat_lt most_body n) same, same))

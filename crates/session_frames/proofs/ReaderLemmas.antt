@@ -1,10 +1,10 @@
 -- On specs/Reader.antt, for the reader: bytes behind those that are held, how far the taking came, and a frame that was
 -- judged.
 use Rattle.std.proofs.Common.{◌≡◌, ℕ, ◌+◌, ◌-◌, ◌*◌, ◌<◌, ◌≤◌, Bool, true, false, List, [], ◌++◌, length, take, Option, None, Some, Result, Ok, Err, refl, sym, ap, ap₂, ◌∙◌, subst, append_assoc, arith}
-use Rattle.std.proofs.lemmas.List.{take-take, take-append-le, length-append, length-take, length-take-le, append-nil}
+use Rattle.std.proofs.lemmas.List.{take-take, take_all, take-append-le, length-append, length-take, length-take-le, append-nil}
 use Rattle.std.proofs.Math.Seq.{take-append-add}
-use Rattle.sd_io.specs.States.{Input}
-use Rattle.sd_io.specs.Causes.{IsFrontOf, Takes}
+use Rattle.sd_io.specs.States.{Input, input_with}
+use Rattle.sd_io.specs.Causes.{Consumes, ComesNext, IsFrontOf, IsHeld, IsSkip, Takes, TakesCount}
 use Rattle.sd_io.proofs.CausesLemmas.{Takes-nil, Takes-trans}
 use Rattle.session_frames.specs.declared.frame.Frame.{Frame}
 use Rattle.session_frames.specs.declared.frame.FrameError.{FrameError}
@@ -13,7 +13,7 @@ use Rattle.session_frames.specs.FrameLimits.{most_pending}
 use Rattle.session_frames.specs.Frames.{Ended, Broken, Whole, clock_after, next_frame, needed, Place, past}
 use Rattle.session_frames.specs.Reader.{Reading, GivesFrame, Refuses, IsAtRest}
 use Rattle.session_frames.specs.Bodies.{FindsNext, IsOutside, StopsShort, TakesNext, TakesSome}
-use Rattle.session_frames.proofs.FrameLaws.{StandsWhole-from_next, next_ended, cut_is_short, short_is_unfinished, whole_is_all, needed_more, needed_most, needed_some}
+use Rattle.session_frames.proofs.FrameLaws.{StandsWhole-from_next, next_ended, cut_is_short, short_is_unfinished, whole_is_all, needed_front, needed_more, needed_most, needed_some}
 
 -- a part of the room behind what is held was filled
 pub filled_behind : (front held buffer over back : List ℕ) (len count size : ℕ)
@@ -152,50 +152,42 @@ module _ (old mid new : Input) (place : Place) (room grown : List ℕ) (held goa
       later none)
 
 -- A reader after a frame that was judged.
-module _ (bytes clock frames len now : ℕ) (left : List ℕ) (frame : Frame) (is_len : len ≡ length left)
-    (moved : now ≡ clock_after clock frame) where
-  place_after : let place : Place = record { bytes = bytes + len; clock = now; frames = frames + 1 } in
-      place ≡ past (record { bytes = bytes; clock = clock; frames = frames }) left frame []
-  place_after =
-      let far : bytes + len ≡ bytes + (length left - 0) = omega (arith, is_len) in
-      ap₂ (λ (n m : ℕ). let place : Place = record { bytes = n; clock = m; frames = frames + 1 } in place) far moved
+module _ (before : Place) (len : ℕ) (after : Place) (left : List ℕ) (frame : Frame) (is_len : len ≡ length left)
+    (moved : after ≡ record {
+      bytes = before.bytes + len;
+      clock = clock_after before.clock frame;
+      frames = before.frames + 1;
+    }) where
+  place_past : after ≡ past before left frame []
+  place_past =
+      let far : before.bytes + len ≡ before.bytes + (length left - 0) = omega (arith, is_len) in
+      moved
+      ∙ ap (λ (n : ℕ). let place : Place = record {
+        bytes = n;
+        clock = clock_after before.clock frame;
+        frames = before.frames + 1;
+      } in
+      place) far
 
   -- it stands after the frame
-  pub reading_after : (ended : Bool) → ended ≡ false
-      → let after : Reading = record {
-        pending = [];
-        place = record { bytes = bytes + len; clock = now; frames = frames + 1 };
-        ended = ended;
-      } in
-      after ≡ record {
-        pending = [];
-        place = past (record { bytes = bytes; clock = clock; frames = frames }) left frame [];
-        ended = false;
-      }
-  reading_after ended unended =
+  pub reading_past : (ended : Bool) → ended ≡ false
+      → let made : Reading = record { pending = []; place = after; ended = ended } in
+      made ≡ record { pending = []; place = past before left frame []; ended = false }
+  reading_past ended unended =
       let made : Bool → Place → Reading = λ b place. record { pending = []; place = place; ended = b } in
-      ap (λ b. made b (record { bytes = bytes + len; clock = now; frames = frames + 1 })) unended
-      ∙ ap (made false) place_after
+      ap (λ b. made b after) unended ∙ ap (made false) place_past
 
   -- it is at rest
-  pub rest_after : (rest : List ℕ)
-      → bytes ≤ frames * most_pending
-      → length left ≤ needed (record { bytes = bytes; clock = clock; frames = frames }) left
-      → next_frame (record { bytes = bytes; clock = clock; frames = frames }) left ≡ Whole frame rest
-      → IsAtRest (record { bytes = bytes + len; clock = now; frames = frames + 1 })
-  rest_after rest placed few whole = record {
-    counted = omega (
-      arith,
-      (StandsWhole-from_next (record { bytes = bytes; clock = clock; frames = frames }) left frame rest whole).room,
-    );
-    placed = omega (
-      arith,
-      is_len,
-      few,
-      placed,
-      needed_most (record { bytes = bytes; clock = clock; frames = frames }) left,
-    );
-  }
+  pub rests_past : (rest : List ℕ)
+      → before.bytes ≤ before.frames * most_pending
+      → length left ≤ needed before left
+      → next_frame before left ≡ Whole frame rest
+      → IsAtRest after
+  rests_past rest placed few whole =
+      let far : before.bytes + len ≤ (before.frames + 1) * most_pending =
+      omega (arith, is_len, few, placed, needed_most before left) in
+      subst IsAtRest (sym moved)
+      (record { counted = omega (arith, (StandsWhole-from_next before left frame rest whole).room); placed = far })
 
 -- what was found in a slice stands next in the bytes
 pub found_whole : (place : Place) (slice left : List ℕ) (found : Option Frame) (frame : Frame)
@@ -289,3 +281,45 @@ refuses_before old new place ended failed.Memory breaks = record {
   no_more = omega (arith, breaks.short);
   cause = tt;
 }
+
+-- what a source holds comes next
+held_consumed : (old new : Option (List ℕ)) (held : List ℕ) (count : ℕ)
+    → ComesNext old held
+    → TakesCount old new count
+    → count ≤ length held
+    → Consumes old new (take count held)
+held_consumed None new held count next takes within = tt
+held_consumed (Some left) None held count next takes within = absurd takes.1
+held_consumed (Some left) (Some after) held count next takes within =
+    let front : take count left ≡ take count held =
+    ap (take count) next.1 ∙ take-append-le count held next.0 within in
+    let own : take count left ≡ takes.0 =
+    ap (take count) takes.1
+    ∙ take-append-le count takes.0 after (omega (arith, takes.2))
+    ∙ take_all count takes.0 (omega (arith, takes.2)) in
+    takes.1 ∙ ap (λ l. l ++ after) (sym own ∙ front)
+
+-- As many bytes as the judgement asks for were held, and skipped.
+pub held_taken : (old new : Input) (place : Place) (held slice : List ℕ) (count : ℕ)
+    → IsHeld old held
+    → IsSkip old new true count
+    → count ≡ needed place held
+    → count ≤ length held
+    → slice ≡ take count held
+    → TakesNext old new place slice
+held_taken old new place held slice count next skip is within taken =
+    let len : length slice ≡ count = ap length taken ∙ length-take-le count held within in
+    let asks : needed place slice ≡ count =
+    ap (needed place) (taken ∙ ap (λ n. take n held) is)
+    ∙ needed_front place held (omega (arith, is, within))
+    ∙ sym is in
+    record {
+      consumes = subst (Takes old new) (sym taken)
+          (held_consumed old.left new.left held count next skip.bytes within);
+      no_more = omega (arith, len, asks);
+      end = λ short. absurd (omega (arith, short, len, asks));
+    }
+
+-- nothing was skipped
+pub skipped_none : (old new : Input) (count : ℕ) → IsSkip old new false count → new ≡ old
+skipped_none old new count skip = ap₂ input_with skip.bytes skip.faultless

@@ -84,6 +84,7 @@ fn read_u64(bytes: &[u8]) -> Result<(u64, &[u8]), BodyError>
 
 // A time in nanoseconds.
 #[tactic(auto, unfolding(crate::specs::FrameReading::time_at))]
+#[inline(always)]
 fn read_time(bytes: &[u8]) -> Result<(u64, &[u8]), BodyError>
     ensures exact { GivesBy fault_in (λ x. (x.0, x.1.now)) result (frames.time_at bytes.now) }
     ensures early { IfOk result (λ x. x.0 < first_late_time) }
@@ -119,6 +120,7 @@ fn expect_end(frame: Frame, rest: &[u8]) -> Result<Frame, BodyError>
 
 // The body of a tick.
 #[tactic(auto, unfolding(crate::specs::FrameReading::tick_body))]
+#[inline(always)]
 fn read_tick(body: &[u8]) -> Result<Frame, BodyError>
     ensures exact { GivesBy fault_in (λ frame. frame) result (frames.tick_body body.now) }
     ensures sound { IfOk result IsFaultless }
@@ -142,6 +144,7 @@ fn atom_of(alloc: Global, payload: &[u8]) -> Result<Atom, BodyError>
 
 // The body of an atom: its payload is the rest. Its entries stand in this room.
 #[tactic(auto, unfolding(crate::specs::FrameReading::atom_body))]
+#[inline(always)]
 fn read_atom(alloc: Global, room: &mut Seq<AtomField>, body: &[u8]) -> Result<Frame, BodyError>
     ensures exact { GivesBy fault_in (λ frame. frame) result (frames.atom_body body.now) }
     ensures sound { IfOk result IsFaultless }
@@ -326,6 +329,7 @@ fn read_report(body: &[u8]) -> Result<Frame, BodyError>
 }
 
 // The frame of a kind that has this body.
+#[inline(always)]
 fn read_body(
     alloc: Global,
     room: &mut Seq<AtomField>,
@@ -373,6 +377,7 @@ fn check_time(clock: u64, frame: &Frame) -> Result<(), BodyError>
 }
 
 /// The frame that is this kind byte and body, where the clock stands at a time. An atom's entries stand in this room.
+#[inline(always)]
 pub fn read_frame(
     alloc: Global,
     room: &mut Seq<AtomField>,

@@ -1,5 +1,5 @@
 //! The reader of frames.
-ghost use Rattle.std.specs.Prelude.{◌≡◌, ◌+◌, ◌-◌, ◌<◌, ◌≤◌, [], false, length, take, vec_len, IsTrue, IfOk, IfErr, OnOk, OnErr, IfSome, None, Ok};
+ghost use Rattle.std.specs.Prelude.{◌≡◌, ◌+◌, ◌-◌, ◌^◌, ◌<◌, ◌≤◌, [], false, length, take, vec_len, IsTrue, IfOk, IfErr, OnOk, OnErr, IfSome, None, Ok};
 ghost use Rattle.sd_io.specs.Causes.{IsFrontOf, Takes};
 ghost use Rattle.session_frames.specs.Faultless.{IsFaultless, IsInTime};
 ghost use Rattle.session_frames.specs.FrameLimits.{most_pending};
@@ -105,7 +105,8 @@ impl FrameReader {
         Ok((self, frame))
     }
 
-    /// The same, where the reader stands: nothing of it is moved. After an error it is of no use.
+    /// The same, where the reader stands: nothing of it is moved. After an error it is of no use. A frame that stands whole
+    /// in what the source holds is read where it stands.
     pub fn read<S: Source>(&mut self, src: &mut S) -> Result<Option<Frame>, FrameError>
         ensures gives { self.old.ended ≡ false
             → IfOk result (λ found. GivesFrame (S.state src.old) (S.state src.new) self.old self.new found) }
@@ -120,18 +121,60 @@ impl FrameReader {
         if self.ended {
             return Ok(None);
         }
+        let held = src.held();
+        let count = needed(&self.place, held);
+        if held.len() < count {
+            return self.read_on(src);
+        }
+        let found = next_in(self.alloc, &mut self.entries, &self.place, &held[..count]);
+        if !src.skip(count) {
+            return self.read_on(src);
+        }
+        let Some(frame) = found? else {
+            self.ended = true;
+            return Ok(None);
+        };
+        self.place = place_after(&self.place, count, &frame);
+        Ok(Some(frame))
+    }
+
+    // The same, where what stands next isn't whole in what the source holds: its bytes are taken to the room.
+    #[cold]
+    #[inline(never)]
+    fn read_on<S: Source>(&mut self, src: &mut S) -> Result<Option<Frame>, FrameError>
+        ensures gives { self.old.ended ≡ false
+            → IfOk result (λ found. GivesFrame (S.state src.old) (S.state src.new) self.old self.new found) }
+        ensures faultless { IfOk result (λ found.
+            IfSome found (λ f. IsFaultless f × IsInTime self.old.place.clock f)) }
+        ensures refuses { self.old.ended ≡ false
+            → IfErr result (λ e. Refuses (S.state src.old) (S.state src.new) self.old e) }
+        ensures cause { HasReadCause (S.state src.old) (S.state src.new) result }
+    {
         let count = take_next(&mut self.room, &self.place, src)?;
         let held = &self.room[..count];
         let Some(frame) = next_in(self.alloc, &mut self.entries, &self.place, held)? else {
             self.ended = true;
             return Ok(None);
         };
-        self.place = Place {
-            bytes: self.place.bytes + count as u64,
-            clock: next_clock(self.place.clock, &frame),
-            frames: self.place.frames + 1,
-        };
+        self.place = place_after(&self.place, count, &frame);
         Ok(Some(frame))
+    }
+}
+
+// The place after a frame of so many bytes.
+fn place_after(place: &Place, count: usize, frame: &Frame) -> Place
+    requires in_bytes { place.now.bytes + count < 2 ^ 64 }
+    requires in_frames { place.now.frames + 1 < 2 ^ 64 }
+    ensures { result ≡ record {
+      bytes = place.now.bytes + count;
+      clock = frames.clock_after place.now.clock frame.now;
+      frames = place.now.frames + 1;
+    } }
+{
+    Place {
+        bytes: place.bytes + count as u64,
+        clock: next_clock(place.clock, frame),
+        frames: place.frames + 1,
     }
 }
 
@@ -217,6 +260,7 @@ fn make_room(room: &mut Vec<u8>, size: usize) -> Result<(), AllocError>
 }
 
 // What stands next in what is left: a frame, or nothing at the end. An atom's entries stand in this room.
+#[inline(always)]
 #[tactic(auto, unfolding(crate::specs::Frames::next_frame))]
 fn next_in(
     alloc: Global,
