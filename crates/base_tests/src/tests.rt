@@ -5,6 +5,7 @@ mod asserts;
 mod atoms;
 mod faults;
 mod flat;
+mod held;
 mod large;
 mod reading;
 mod replies;

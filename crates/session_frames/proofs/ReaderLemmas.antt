@@ -1,9 +1,9 @@
 -- On specs/Reader.antt, for the reader: bytes behind those that are held, how far the taking came, and a frame that was
 -- judged.
-use Rattle.std.proofs.Common.{◌≡◌, ℕ, ◌+◌, ◌-◌, ◌*◌, ◌<◌, ◌≤◌, Bool, true, false, List, [], ◌++◌, length, take, Option, None, Some, Result, Ok, Err, refl, sym, ap, ap₂, ◌∙◌, subst, append_assoc, arith}
+use Rattle.std.proofs.Common.{◌≡◌, ℕ, ◌+◌, ◌-◌, ◌*◌, ◌<◌, ◌≤◌, Bool, true, false, List, [], ◌++◌, length, take, Option, None, Some, Result, Ok, Err, refl, sym, ap, ◌∙◌, subst, append_assoc, arith}
 use Rattle.std.proofs.lemmas.List.{take-take, take_all, take-append-le, length-append, length-take, length-take-le, append-nil}
 use Rattle.std.proofs.Math.Seq.{take-append-add}
-use Rattle.sd_io.specs.States.{Input, input_with}
+use Rattle.sd_io.specs.States.{Input}
 use Rattle.sd_io.specs.Causes.{Consumes, ComesNext, IsFrontOf, IsHeld, IsSkip, Takes, TakesCount}
 use Rattle.sd_io.proofs.CausesLemmas.{Takes-nil, Takes-trans}
 use Rattle.session_frames.specs.declared.frame.Frame.{Frame}
@@ -319,7 +319,3 @@ held_taken old new place held slice count next skip is within taken =
       no_more = omega (arith, len, asks);
       end = λ short. absurd (omega (arith, short, len, asks));
     }
-
--- nothing was skipped
-pub skipped_none : (old new : Input) (count : ℕ) → IsSkip old new false count → new ≡ old
-skipped_none old new count skip = ap₂ input_with skip.bytes skip.faultless

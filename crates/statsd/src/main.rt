@@ -15,7 +15,7 @@ mod input;
 
 use crate::input::Input;
 use atom_record::Bytes;
-use sd_io::{Sink, StdSink, StdSource};
+use sd_io::{Ahead, Sink, StdSink, StdSource};
 use statsd_cli::{Command, STATUS_NO_MEMORY, statsd_top};
 use std::alloc::{AllocError, Global};
 use std::env::{self, Args};
@@ -72,7 +72,7 @@ fn run<R: Read + Drop, K: Sink, E: Sink>(
 }
 
 /// Does what the words ask for, on a reader.
-fn answer<R: Read + Drop, K: Sink, E: Sink>(
+fn answer<R: Ahead + Drop, K: Sink, E: Sink>(
     alloc: Global,
     words: &[Bytes],
     input: R,

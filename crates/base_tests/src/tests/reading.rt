@@ -1,5 +1,5 @@
 //! What all tests of sessions share: a session of four frames, and what a source is read as.
-use sd_io::MemSource;
+use sd_io::{MemSource, Source};
 use session_frames::{Frame, FrameError, FrameReader};
 use std::alloc::{AllocError, Global};
 
@@ -23,9 +23,9 @@ fn push_frame(frames: &mut Vec<Frame>, frame: Frame) -> Result<(), AllocError> {
 }
 
 /// Takes the next frame of a source, and gives the reader that goes on from there, or none where this is the end.
-fn take_next(
+fn take_next<S: Source>(
     reader: FrameReader,
-    source: &mut MemSource,
+    source: &mut S,
     frames: &mut Vec<Frame>,
 ) -> Result<Option<FrameReader>, FrameError> {
     let (next, frame) = reader.next(source)?;
@@ -37,9 +37,9 @@ fn take_next(
 }
 
 /// Takes the frames of a source up to its end or to its error, a hundred at most.
-fn take_all(
+fn take_all<S: Source>(
     alloc: Global,
-    source: &mut MemSource,
+    source: &mut S,
     frames: &mut Vec<Frame>,
 ) -> Result<(), FrameError> {
     let mut reader = FrameReader::new(alloc);
@@ -61,7 +61,7 @@ fn end_of(alloc: Global, taken: &Result<(), FrameError>) -> Result<String, Alloc
 }
 
 /// Reads a source to its end or to its error, a hundred frames at most.
-pub fn read(alloc: Global, source: &mut MemSource) -> Result<Session, AllocError> {
+pub fn read<S: Source>(alloc: Global, source: &mut S) -> Result<Session, AllocError> {
     let mut frames = Vec::new(alloc);
     let taken = take_all(alloc, source, &mut frames);
     let end = end_of(alloc, &taken)?;
@@ -86,6 +86,11 @@ fn are_printed(alloc: Global, frames: &Vec<Frame>, text: &str) -> Result<bool, A
     Ok(printed.as_str() == text)
 }
 
+/// Whether a session has these frames, by their `Debug`, and then this end.
+pub fn is_so(alloc: Global, session: &Session, text: &str, end: &str) -> bool {
+    session.end.as_str() == end && are_printed(alloc, &session.frames, text) == Ok(true)
+}
+
 /// Whether these bytes, in pieces of this size, are read as these frames, by their `Debug`, and then this end.
 pub fn reads_as(
     alloc: Global,
@@ -95,5 +100,5 @@ pub fn reads_as(
     end: &str,
 ) -> Result<bool, AllocError> {
     let session = read_bytes(alloc, bytes, piece)?;
-    Ok(session.end.as_str() == end && are_printed(alloc, &session.frames, text) == Ok(true))
+    Ok(is_so(alloc, &session, text, end))
 }

@@ -1,5 +1,5 @@
 -- A call in its two steps: the frame is all of the bytes that were taken.
-use Rattle.std.proofs.Common.{◌≡◌, ◌+◌, ◌≤◌, true, false, [], None, Some, Ok, IfErr, length, take, sym, ap, subst, arith}
+use Rattle.std.proofs.Common.{◌≡◌, ◌≤◌, true, false, [], None, Some, Ok, IfErr, length, take, sym, ap, subst, arith}
 use Rattle.std.proofs.lemmas.List.{length-take-le}
 use Rattle.std.proofs.lemmas.Result.{err_from_is_err_and}
 use Rattle.session_frames.specs.Bodies.{FindsNext}
