@@ -260,6 +260,7 @@ fn make_room(room: &mut Vec<u8>, size: usize) -> Result<(), AllocError>
 }
 
 // What stands next in what is left: a frame, or nothing at the end. An atom's entries stand in this room.
+// It is inlined with what it calls for atoms and ticks, so that their frames aren't copied from answer to answer.
 #[inline(always)]
 #[tactic(auto, unfolding(crate::specs::Frames::next_frame))]
 fn next_in(
