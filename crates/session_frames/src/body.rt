@@ -126,7 +126,10 @@ fn read_tick(body: &[u8]) -> Result<Frame, BodyError>
     ensures sound { IfOk result IsFaultless }
 {
     let (at, rest) = read_time(body)?;
-    expect_end(Frame::Log(LogFrame::Tick { at }), rest)
+    if !rest.is_empty() {
+        return Err(bad_body(LEFT_OVER));
+    }
+    Ok(Frame::Log(LogFrame::Tick { at }))
 }
 
 // The atom of a payload.
