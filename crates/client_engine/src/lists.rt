@@ -50,6 +50,7 @@ fn make_room(alloc: Global, lists: &mut Vec<Seq<usize>>, key: usize) -> Result<(
 }
 
 /// Adds the places under the matchers that hold.
+#[inline(always)]
 pub fn add_matched(
     lists: &[Seq<usize>],
     matched: &[bool],
@@ -66,12 +67,24 @@ pub fn add_matched(
 }
 
 /// Adds these places, if they are wanted.
+#[inline(always)]
 pub fn add_if(wanted: bool, places: &[usize], woken: &mut Vec<usize>) -> Result<(), AllocError>
     ensures { OnOk result
         (woken.new.items ≡ woken.old.items ++ (if wanted then places.now else [])) }
 {
     if wanted {
-        woken.extend_from_slice(places)?;
+        add_all(places, woken)?;
+    }
+    Ok(())
+}
+
+// Adds these places. They are few, mostly one.
+#[inline(always)]
+fn add_all(places: &[usize], woken: &mut Vec<usize>) -> Result<(), AllocError>
+    ensures { OnOk result (woken.new.items ≡ woken.old.items ++ places.now) }
+{
+    for place in places {
+        woken.push(*place)?;
     }
     Ok(())
 }
