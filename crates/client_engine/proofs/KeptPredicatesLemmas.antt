@@ -56,6 +56,15 @@ pub knows_atom : (predicates : List LPredicate) (old new : List PredicateTable) 
 knows_atom predicates old new at atom truths is = λ steps knows.
     is ∙ ap (tables_with truths atom predicates) knows ∙ acts_after predicates steps at atom truths
 
+-- where there is no table there is no predicate, and so nothing that a step does
+pub knows_none : (predicates : List LPredicate) (tables : List PredicateTable) (step : Step)
+    → HaveTheirSpecs predicates tables → length tables ≡ 0
+    → KnowsStep step (record { predicates = predicates; tables = tables })
+    (record { predicates = predicates; tables = tables })
+knows_none [] [] step have none = λ steps knows. refl
+knows_none (predicate ∷ predicates) [] step have none = cc
+knows_none predicates (table ∷ tables) step have none = cc
+
 -- a tick does nothing to predicates
 pub knows_tick : (known : Known) (at : ℕ) (truths : List Bool) → KnowsStep (logged_step (Tick at) truths) known known
 knows_tick known at truths = λ steps knows.

@@ -100,7 +100,8 @@ impl Conditions {
         })
     }
 
-    /// A frame of the log comes. An atom acts on each predicate of which a matcher holds.
+    /// A frame of the log comes. An atom acts on each predicate of which a matcher holds. Where there is no predicate,
+    /// nothing is looked at.
     pub fn log(
         &mut self,
         alloc: Global,
@@ -110,6 +111,9 @@ impl Conditions {
         ensures knows { OnOk result (KnowsStep (logged_step frame.now matched.now) self.old self.new) }
         ensures predicates { self.new.predicates ≡ self.old.predicates }
     {
+        if self.tables.is_empty() {
+            return Ok(());
+        }
         match frame {
             LogFrame::AtomAt { atom, .. } => {
                 self.acting.clear();

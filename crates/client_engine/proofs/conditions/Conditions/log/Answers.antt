@@ -1,11 +1,12 @@
-use Rattle.std.proofs.Common.{◌≡◌, ◌∙◌, ◌++◌, Bool, List, ℕ, ap, sym, subst}
+use Rattle.std.proofs.Common.{◌≡◌, ◌∙◌, ◌++◌, Bool, List, ℕ, length, ap, sym, subst, arith}
 use Rattle.config_links.specs.declared.linked.LPredicate.{LPredicate}
 use Rattle.metric_meaning.specs.Histories.{truth_at}
 use Rattle.predicate_state.specs.PredicateTable.{PredicateTable}
 use Rattle.client_engine.specs.KeptPredicates.{HaveTheirSpecs, acting_matchers, tables_with}
 use Rattle.client_engine.specs.Lists.{AreListed, places_under}
 use Rattle.client_engine.specs.Marks.{AreAllMarked}
-use Rattle.client_engine.proofs.KeptPredicatesLemmas.{knows_atom, as_many, all_acted}
+use Rattle.client_engine.specs.NextSteps.{logged_step}
+use Rattle.client_engine.proofs.KeptPredicatesLemmas.{knows_atom, knows_none, as_many, all_acted}
 use Rattle.client_engine.proofs.TracksLemmas.{whole}
 use Rattle.client_engine.proofs.conditions.Conditions.log.Goals as goal
 
@@ -40,3 +41,14 @@ returns-in_ok-act_on_each-in-AtomAt-clause-knows c =
     (subst (λ ps. AreAllMarked ps c.act_on_each.new.marks) places c.in_ok-act_on_each-in-AtomAt.ensures.all)
     ∙ ap (λ (ps : List LPredicate). tables_with truths atom ps old) same
     ∙ ap (λ (ts : List PredicateTable). tables_with truths atom nodes ts) were))
+
+-- without a table there is nothing that it could act on
+pub returns-then-is_empty-clause-knows : goal.returns-then-is_empty-clause-knows
+returns-then-is_empty-clause-knows c =
+    let tables = c.self.inside.tables in
+    let empty = c.if-is_empty.true in
+    let says = c.is_empty.ensures in
+    let none : length tables.items ≡ 0 = grind (arith, empty, says) in
+    rw (← c.self.view_is)
+    (knows_none c.self.inside.tree.nodes tables.items (logged_step c.args.frame.now c.args.matched.now)
+    c.self.invariant.0.specs none)
