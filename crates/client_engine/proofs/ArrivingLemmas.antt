@@ -1,5 +1,5 @@
 -- The atom that arrives with a frame of the log, and its key, for every kind of metric that gets atoms.
-use Rattle.std.proofs.Common.{◌≡◌, ℕ, Bool, true, false, List, [], ◌∷◌, ◌++◌, ◌&&◌, if◌then◌else◌, Option, Some, None, refl, sym, ap, subst, ◌∙◌}
+use Rattle.std.proofs.Common.{◌≡◌, ℕ, Bool, true, false, List, [], ◌∷◌, ◌++◌, ◌&&◌, if◌then◌else◌, Option, Some, None, refl, sym, ap, subst, ◌∙◌, rules}
 use Rattle.atom_record.specs.declared.atom.Atom.{Atom}
 use Rattle.atom_record.specs.declared.log.LogFrame.{LogFrame}
 use Rattle.atom_record.specs.declared.log.LogFrame.TheVariants.{AtomAt}
@@ -57,6 +57,11 @@ one_arriving scene metric frame at atom truths holds is what means on =
     subst (λ (f : LogFrame). Some atom ≡ arriving_by scene metric (logged_step f truths)) (sym is)
     (ap (λ b. if b then Some atom else None) (sym on ∙ means)
     ∙ ap (λ b. if b && holds_in scene metric (atom_reading atom) then Some atom else None) what)
+
+-- a metric without a condition has a true one
+pub plain_holds : (scene : Scene) (metric : LMetric) (reading : LeafReading) → metric.condition ≡ None
+    → holds_in scene metric reading ≡ true
+plain_holds scene metric reading none = search (rules, none)
 
 -- what is handed has the slices that a key of what is read has
 pub key_there : (given : Handed) (scene : Scene) (metric : LMetric) (reading : LeafReading) (dims : List Leaf)

@@ -1,10 +1,13 @@
 //! The atom that arrives at a metric with a frame of the log, and its key.
-ghost use Rattle.std.specs.Prelude.{◌≡◌, ◌≤◌, ◌+◌, length, OnOk, IfOk};
+ghost use Rattle.std.specs.Prelude.{◌≡◌, ◌≤◌, ◌+◌, List, None, length, OnOk, IfOk};
 ghost use Rattle.std.specs.Option.{option_copied};
+ghost use Rattle.atom_record.specs.declared.log.LogFrame.{LogFrame};
 ghost use Rattle.config_links.specs.SoundConfig.{MayBeWithin};
+ghost use Rattle.state_slicer.specs.StateBooks.{StateBookStandsFor};
 ghost use Rattle.metric_meaning.specs.Arrivals.{arriving_by, metric_key};
 ghost use Rattle.metric_meaning.specs.Readings.{atom_reading};
 ghost use Rattle.metric_meaning.specs.Scenes.{Scene};
+ghost use Rattle.metric_meaning.specs.StateSlices.{named_slices};
 ghost use Rattle.client_engine.specs.Handed.{IsOfScene};
 ghost use Rattle.client_engine.specs.AskedFew.{arrival_questions};
 ghost use Rattle.client_engine.specs.Known.{Known};
@@ -13,12 +16,14 @@ ghost use Rattle.client_engine.specs.Bringing.{handed_with, brought_step};
 use crate::asked::Asked;
 use crate::brought::Brought;
 use crate::conditions::Conditions;
+use crate::key_room::atom_key_into;
 use crate::matched::is_true_at;
 use crate::slices::{slices_into, slices_of};
-use atom_record::{Atom, LogFrame, MetricKey};
+use atom_record::{Atom, LogFrame, MetricKey, Slice};
 use condition_links::Steps;
-use config_links::LMetric;
-use field_select::key_into;
+use config_links::{LMetric, LSlice, LState};
+use sd_base::Seq;
+use state_slicer::StateBook;
 use std::alloc::{AllocError, Global};
 use std::sync::ledger::Ledger;
 
@@ -50,6 +55,44 @@ pub fn arriving<'a, L: Ledger>(
     Ok(Some(atom))
 }
 
+/// The same, where nothing is asked of predicates for a metric without a condition.
+pub fn soon_arriving<'a, L: Ledger>(
+    alloc: Global,
+    metric: &LMetric,
+    brought: &Brought<'a>,
+    conditions: &mut Conditions,
+    asks: &mut Steps<L>,
+) -> Result<Option<&'a Atom>, AllocError>
+    requires within { MayBeWithin (length conditions.old.predicates) metric.now.condition }
+    ensures atom { (scene : Scene) → IsOfScene (handed_with conditions.old brought.now) scene
+        → IfOk result (λ found. option_copied found
+        ≡ arriving_by scene metric.now (brought_step brought.now)) }
+    ensures known { conditions.new ≡ conditions.old }
+    ensures asks { asks.new ≤ asks.old
+        + arrival_questions brought.now.frame.now brought.now.matched.now metric.now }
+{
+    match metric.condition {
+        None => Ok(plain_arriving(metric, brought)),
+        Some(_) => arriving(alloc, metric, brought, conditions, asks),
+    }
+}
+
+// The atom that arrives at a metric without a condition, if one does.
+#[inline(always)]
+fn plain_arriving<'a>(metric: &LMetric, brought: &Brought<'a>) -> Option<&'a Atom>
+    requires { metric.now.condition ≡ None }
+    ensures { (scene : Scene)
+        → option_copied result ≡ arriving_by scene metric.now (brought_step brought.now) }
+{
+    let LogFrame::AtomAt { atom, .. } = brought.frame else {
+        return None;
+    };
+    if !is_true_at(brought.matched, metric.what) {
+        return None;
+    }
+    Some(atom)
+}
+
 /// A metric's key of what is read, as of an atom that arrives.
 pub fn key_in<A: Asked>(
     alloc: Global,
@@ -77,9 +120,9 @@ pub fn metric_key_into(
     ensures { (known : Known) (scene : Scene) → IsOfScene (handed_with known brought.now) scene
         → OnOk result (key.new ≡ metric_key scene metric.now (atom_reading atom.now)) }
 {
-    key_into(alloc, &metric.dims, atom, &mut key.dims)?;
+    atom_key_into(alloc, &metric.dims, atom, &mut key.dims)?;
     let by = metric.slices.as_slice();
-    slices_into(
+    atom_slices_into(
         alloc,
         brought.states,
         by,
@@ -87,4 +130,24 @@ pub fn metric_key_into(
         brought.book,
         &mut key.slices,
     )
+}
+
+// The slices of an atom, in the room of other slices. Most metrics are sliced by no state.
+#[inline(always)]
+fn atom_slices_into(
+    alloc: Global,
+    states: &[LState],
+    slices: &[LSlice],
+    atom: &Atom,
+    book: &StateBook,
+    shown: &mut Seq<Slice>,
+) -> Result<(), AllocError>
+    ensures { (log : List LogFrame) → StateBookStandsFor book.now log
+        → OnOk result (shown.new ≡ named_slices states.now log (atom_reading atom.now) slices.now) }
+{
+    if slices.is_empty() {
+        shown.clear();
+        return Ok(());
+    }
+    slices_into(alloc, states, slices, atom, book, shown)
 }

@@ -10,6 +10,7 @@ mod groups;
 mod inner;
 mod instance;
 mod integers;
+mod key_room;
 mod kinds;
 mod leaves;
 mod listeners;

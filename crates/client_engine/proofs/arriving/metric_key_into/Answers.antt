@@ -11,8 +11,8 @@ pub returns : goal.returns
 returns c = λ known scene found.
     let brought = c.args.brought.now in
     let reading = atom_reading c.args.atom.now in
-    on_ok_weaker c.slices_into.result
-    (λ shown. key_there (handed_with known brought) scene c.args.metric.now reading c.key_into.new.key
-    c.slices_into.new.shown found c.in_ok-key_into.ensures.key
+    on_ok_weaker c.atom_slices_into.result
+    (λ shown. key_there (handed_with known brought) scene c.args.metric.now reading c.atom_key_into.new.key
+    c.atom_slices_into.new.shown found c.in_ok-atom_key_into.ensures
     (shown ∙ ap (λ by. named_slices brought.states.now scene.log reading by) c.as_slice-by.ensures))
-    (c.slices_into.ensures scene.log found.book)
+    (c.atom_slices_into.ensures scene.log found.book)
