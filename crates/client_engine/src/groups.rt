@@ -71,7 +71,7 @@ pub fn groups_of<S: RowShape>(
         ≡ groups_by S.Group.eq (row_group S.group_of) S.tree (row_shown S.bucket) rows) }
 {
     let groups = collected::<S>(alloc, rows)?;
-    let mut trees = Seq::new(alloc);
+    let mut trees = Seq::with_capacity(alloc, groups.len())?;
     for (group, buckets) in groups {
         trees.push(S::tree(alloc, group, buckets)?)?;
     }
@@ -86,7 +86,7 @@ fn collected<S: RowShape>(
     ensures { IfOk result (λ groups. groups.entries
         ≡ grouped S.Group.eq (row_group S.group_of) (row_shown S.bucket) rows) }
 {
-    let mut groups = IndexMap::new(alloc);
+    let mut groups = IndexMap::with_capacity(alloc, rows.len())?;
     for row in rows.into_vec() {
         add_row::<S>(alloc, &mut groups, row)?;
     }

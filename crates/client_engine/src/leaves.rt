@@ -12,7 +12,7 @@ use std::alloc::{AllocError, Global};
 pub fn leaves_of(alloc: Global, dims: DimKey) -> Result<Seq<LeafTree>, AllocError>
     ensures { IfOk result (λ leaves. leaves ≡ key_trees 0 dims) }
 {
-    let mut leaves = Seq::new(alloc);
+    let mut leaves = Seq::with_capacity(alloc, dims.len())?;
     let mut place: u32 = 0;
     for leaf in dims.into_vec() {
         add_leaf(&mut leaves, place, leaf)?;
