@@ -10,6 +10,7 @@ mod ShownNamesLemmas
 mod NotedLemmas
 mod SleepingLemmas
 mod LogLemmas
+mod UnheardLemmas
 mod WokenLemmas
 mod EvaluationLemmas
 mod InstallReadingLemmas

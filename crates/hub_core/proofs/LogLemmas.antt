@@ -1,7 +1,7 @@
 -- A frame that came to those that are noted came to all that hear it.
 use Rattle.std.proofs.Common.{◌≡◌, ℕ, ◌+◌, ◌≤◌, ◌==◌, Bool, true, false, not, ◌&&◌, ◌||◌, cond, List, [], ◌∷◌, ◌++◌, Option, Some, None, refl, sym, ap, subst, ◌∙◌, arith}
 use Rattle.std.specs.Bool.{MatchBool}
-use Rattle.std.specs.List.{list_any}
+use Rattle.std.specs.List.{All, list_any}
 use Rattle.std.specs.Map.{keys_of}
 use Rattle.std.specs.Option.{option_map_or}
 use Rattle.std.proofs.lemmas.List.Elements.{All-head, All-tail}
@@ -31,18 +31,23 @@ use Rattle.hub_core.specs.Slots.{same_id, slot_at}
 use Rattle.hub_core.proofs.EvaluationLemmas.{logs_by, results_are}
 use Rattle.hub_core.proofs.NamesLemmas.{named-append, sum_all}
 
+-- what is so of all is so of what is found
+pub found_all : (P : LiveInstance → Type 0) (name : LiveId) (it : LiveInstance) (rows : List (LiveId × LiveInstance))
+    → All (λ (row : LiveId × LiveInstance). P row.1) rows → slot_at name rows ≡ Some it → P it
+found_all P name it [] all is = absurd (cc)
+found_all P name it (row ∷ rows) all is =
+    let Q : LiveId × LiveInstance → Type 0 = λ row. P row.1 in
+    by_case (same_id name row.0) is (All-head Q row rows all)
+    (λ later. found_all P name it rows (All-tail Q row rows all) later) where
+      by_case : (same : Bool) → cond same (Some row.1) (slot_at name rows) ≡ Some it → P row.1
+          → (slot_at name rows ≡ Some it → P it) → P it
+      by_case true is' here later = subst P (same_Some row.1 it is') here
+      by_case false is' here later = later is'
+
 -- what is found among what is held is held
 pub found_held : (table : SlotTable) (name : LiveId) (it : LiveInstance) (rows : List (LiveId × LiveInstance))
     → AllHeld table rows → slot_at name rows ≡ Some it → IsHeldIn table it
-found_held table name it [] all is = absurd (cc)
-found_held table name it (row ∷ rows) all is =
-    let P : LiveId × LiveInstance → Type 0 = λ row. IsHeldIn table row.1 in
-    by_case (same_id name row.0) is (All-head P row rows all)
-    (λ later. found_held table name it rows (All-tail P row rows all) later) where
-      by_case : (same : Bool) → cond same (Some row.1) (slot_at name rows) ≡ Some it → IsHeldIn table row.1
-          → (slot_at name rows ≡ Some it → IsHeldIn table it) → IsHeldIn table it
-      by_case true is' here later = subst (IsHeldIn table) (same_Some row.1 it is') here
-      by_case false is' here later = later is'
+found_held table = found_all (IsHeldIn table)
 
 -- for an id or for every id, by what a configuration hears
 either_noted : (all heard : Bool) → ((not all && heard) || all) ≡ (all || heard)
@@ -51,7 +56,7 @@ either_noted false true = refl
 either_noted false false = refl
 
 -- what stands under a name hears a frame
-abbrev hears_at : LogFrame → Option LiveInstance → Bool
+abbrev pub hears_at : LogFrame → Option LiveInstance → Bool
 hears_at shown slot = option_map_or (λ (live : LiveInstance). hears (linked_of live.instance) shown) slot false
 
 module _ (table : SlotTable) (notes : Notes LiveId) (rows : List (LiveId × LiveInstance)) (held : AllHeld table rows)
@@ -82,7 +87,7 @@ module _ (table : SlotTable) (notes : Notes LiveId) (rows : List (LiveId × Live
             ∙ ap (λ (ids : List ℕ). hears_all (linked_of live.instance) || list_any (λ h. h == id) ids) heard.ids
 
   -- and so where it hears a frame
-  named_hears : (shown : LogFrame)
+  pub named_hears : (shown : LogFrame)
       → is_named same_id name (noted_for notes shown) ≡ hears_at shown (slot_at name rows)
   named_hears (Tick at) = by_slot (slot_at name rows) where
     by_slot : (slot : Option LiveInstance) → false ≡ option_map_or (λ (live : LiveInstance). false) slot false

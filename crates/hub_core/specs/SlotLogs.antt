@@ -1,6 +1,7 @@
 -- What a frame of the log makes of all that is live.
-use Rattle.std.specs.Prelude.{◌≡◌, ℕ, Bool, List, [], ◌∷◌, map, Option, Some, None}
+use Rattle.std.specs.Prelude.{◌≡◌, ℕ, Bool, false, List, [], ◌∷◌, map, Option, Some, None}
 use Rattle.std.specs.Bool.{MatchBool}
+use Rattle.std.specs.List.{All}
 use Rattle.atom_record.specs.declared.atom.Atom.{Atom}
 use Rattle.atom_record.specs.declared.log.LogFrame.{LogFrame}
 use Rattle.atom_record.specs.declared.log.LogFrame.TheVariants.{AtomAt}
@@ -23,6 +24,10 @@ use Rattle.hub_core.specs.Slots.{same_id, slot_at}
 abbrev pub asked_by_all : LogFrame → List (LiveId × LiveInstance) → ℕ
 asked_by_all (AtomAt at atom) rows = count_different atom rows
 asked_by_all _ rows = 0
+
+-- none of these configurations hears a frame
+abbrev pub NoneHears : LogFrame → List (LiveId × LiveInstance) → Type 0
+NoneHears frame rows = All (λ (row : LiveId × LiveInstance). hears (linked_of row.1.instance) frame ≡ false) rows
 
 -- the results of slots, for an atom alone
 abbrev pub results_for : SlotTable → LogFrame → List ℕ → List Bool

@@ -10,6 +10,7 @@ use atom_record::{LogFrame, PullOutcome};
 use pull_book::PullBook;
 use state_slicer::StateBook;
 use std::alloc::{AllocError, Global};
+use std::mem;
 
 /// The two books of the log.
 #[derive(Drop)]
@@ -74,17 +75,20 @@ impl Books {
         }
     }
 
-    /// Takes what a frame pulled, if it is a pull.
-    pub fn record(&mut self, frame: LogFrame) -> Result<(), AllocError>
-        requires faultless { IsFaultlessLog frame }
+    /// Takes what a frame pulled out of it, if it is a pull.
+    pub fn record(&mut self, frame: &mut LogFrame) -> Result<(), AllocError>
+        requires faultless { IsFaultlessLog frame.old }
         ensures pulls { OnOk result ((log : List LogFrame) → PullBookStandsFor self.old.pulls log
-            → PullBookStandsFor self.new.pulls (log ++ frame ∷ [])) }
+            → PullBookStandsFor self.new.pulls (log ++ frame.old ∷ [])) }
         ensures states { self.new.states ≡ self.old.states }
     {
         match frame {
             LogFrame::Tick { .. } => Ok(()),
             LogFrame::AtomAt { .. } => Ok(()),
-            LogFrame::Pull { id, outcome, .. } => self.pulls.set(id, outcome),
+            LogFrame::Pull { id, outcome, .. } => {
+                let pulled = mem::replace(outcome, PullOutcome::Failed);
+                self.pulls.set(*id, pulled)
+            }
         }
     }
 }

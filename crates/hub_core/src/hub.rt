@@ -89,6 +89,9 @@ impl<J: Judge> Hub<J> {
             → IsInTime (clock_of frames) frame
             → asks.new ≤ asks.old + questions_in J.says self frames frame }
 
+        // A configuration that doesn't hear a frame of the log is left as it was.
+        ensures asleep { IfOk result (λ r. UnheardStay frame self r.0) }
+
         // What other clients do is no matter: equal own frames of a client have equal replies.
         ensures isolated { EqualOwnFramesEqualReplies J.says }
     {
@@ -103,26 +106,30 @@ impl<J: Judge> Hub<J> {
             → HubStandsFor J.says alone.now (own client frames) → RunsAsAlone client self.now alone.now }
     {}
 
-    // Takes in a frame of the log: the book of states takes it, then it comes to each configuration that hears it, as it
-    // is shown, and what it pulled is recorded last.
-    fn log<L: Ledger>(&mut self, frame: LogFrame, asks: &mut Steps<L>) -> Result<(), AllocError>
-        requires faultless { IsFaultlessLog frame }
+    /// Takes in a frame of the log: the book of states takes it, then it comes to each configuration that hears it, as it
+    /// is shown, and what it pulled is taken out of it and recorded last. After want of memory the hub is of no use.
+    pub fn log<L: Ledger>(
+        &mut self,
+        frame: &mut LogFrame,
+        asks: &mut Steps<L>,
+    ) -> Result<(), AllocError>
+        requires faultless { IsFaultlessLog frame.old }
         ensures stands { (frames : List Frame) → HubStandsFor J.says self.old frames
-            → clock_of frames ≤ log_time frame
-            → OnOk result (HubStandsFor J.says self.new (frames ++ Log frame ∷ [])) }
-        ensures asked { OnOk result (HaveRisen (asked_in (Log frame) self.old)
+            → clock_of frames ≤ log_time frame.old
+            → OnOk result (HubStandsFor J.says self.new (frames ++ Log frame.old ∷ [])) }
+        ensures asked { OnOk result (HaveRisen (asked_in (Log frame.old) self.old)
             (J.ticks (judge_of self.old)) (J.ticks (judge_of self.new))) }
         ensures questions { (frames : List Frame) → HubStandsFor J.says self.old frames
-            → clock_of frames ≤ log_time frame
-            → asks.new ≤ asks.old + questions_in J.says self.old frames (Log frame) }
-        ensures asleep { OnOk result (UnheardStay (Log frame) self.old self.new) }
+            → clock_of frames ≤ log_time frame.old
+            → asks.new ≤ asks.old + questions_in J.says self.old frames (Log frame.old) }
+        ensures asleep { OnOk result (UnheardStay (Log frame.old) self.old self.new) }
     {
         let before = self.clock;
-        self.clock = before.after(&frame);
-        let instead = self.books.shown_instead(&frame);
-        self.books.tell(&frame)?;
+        self.clock = before.after(frame);
+        let instead = self.books.shown_instead(frame);
+        self.books.tell(frame)?;
         let coming = Coming {
-            frame: shown_of(&instead, &frame),
+            frame: shown_of(&instead, frame),
             states: &self.books.states,
             before,
         };
@@ -153,8 +160,8 @@ impl<J: Judge> Hub<J> {
         ensures asleep { OnOk result (UnheardStay frame self.old self.new) }
     {
         match frame {
-            Frame::Log(frame) => {
-                self.log(frame, asks)?;
+            Frame::Log(mut frame) => {
+                self.log(&mut frame, asks)?;
                 Ok(None)
             }
             Frame::Install { uid, id, config } => {

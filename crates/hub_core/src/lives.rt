@@ -9,12 +9,12 @@ use crate::books::Books;
 use crate::configs::link_config;
 use crate::live_instance::LiveInstance;
 use crate::log_clock::LogClock;
-use crate::logging::{Coming, evaluate, log_heard};
+use crate::logging::{Coming, comes_to_none, evaluate, log_heard};
 use crate::slots::{
     install_answer, last_request, others_of, put, release_old, remove_answer, report_answer,
     report_at, set_count, take_out,
 };
-use atom_record::Bytes;
+use atom_record::{Bytes, LogFrame};
 use client_engine::{LiveId, ReportRequest};
 use condition_links::Steps;
 use config_links::Linked;
@@ -53,7 +53,7 @@ impl Lives {
     ghost use Rattle.matcher_table.specs.Truths.{HaveRisen};
     ghost use Rattle.config_links.specs.SoundConfig.{IsSoundConfig};
     ghost use Rattle.hub_core.specs.Sleeping.{moment_of_clock};
-    ghost use Rattle.hub_core.specs.SlotLogs.{AllLog, asked_by_all};
+    ghost use Rattle.hub_core.specs.SlotLogs.{AllLog, NoneHears, asked_by_all};
     ghost use Rattle.hub_core.specs.Slots.{ReportsAt};
     ghost use Rattle.hub_core.specs.LiveQuestions.{AllAskBy};
     ghost use Rattle.hub_core.specs.Commands.{change, held_at, others, Changes, GoesIn, Installs, PutsIn, Removes, ReportsLive};
@@ -72,7 +72,8 @@ impl Lives {
     }
 
     /// A frame of the log comes to the table, and then to each configuration that hears it: it is caught up by the clock
-    /// before the frame, and takes it in. All others sleep on. After want of memory they are of no use.
+    /// before the frame, and takes it in. All others sleep on; where all do, the table is left alone. After want of memory
+    /// they are of no use.
     pub fn log<J: Judge, L: Ledger>(
         &mut self,
         judge: &mut J,
@@ -89,6 +90,9 @@ impl Lives {
         ensures asks { AllAskBy J.says (moment_of_clock coming.now.before) coming.now.frame.now
             coming.now.states.now self.old.slots.entries asks.old asks.new }
     {
+        if self.is_unheard(coming.frame) {
+            return Ok(());
+        }
         evaluate(&mut self.table, judge, coming.frame);
         log_heard(
             &mut self.slots,
@@ -98,6 +102,14 @@ impl Lives {
             truths,
             asks,
         )
+    }
+
+    // Whether all sleep on at a frame.
+    fn is_unheard(&self, frame: &LogFrame) -> bool
+        ensures { result ≡ true → NoneHears frame.now self.now.slots.entries }
+    {
+        let is_empty = self.slots.len() == 0;
+        comes_to_none(&self.notes, frame) || is_empty
     }
 
     /// What was read of a configuration goes where the client's configuration of that id stands, or it is new.

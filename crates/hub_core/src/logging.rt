@@ -1,5 +1,5 @@
 //! A frame of the log comes to the table of matchers and to the live configurations that hear it.
-ghost use Rattle.std.specs.Prelude.{◌≡◌, ◌++◌, ℕ, OnOk};
+ghost use Rattle.std.specs.Prelude.{◌≡◌, ◌++◌, [], true, ℕ, OnOk};
 ghost use Rattle.std.specs.List.{IsDistinct};
 ghost use Rattle.session_frames.specs.Faultless.{IsFaultlessLog};
 ghost use Rattle.matcher_table.specs.Truths.{HaveRisen};
@@ -42,6 +42,16 @@ pub fn evaluate<J: Judge>(table: &mut MatcherTable, judge: &mut J, frame: &LogFr
 {
     if let LogFrame::AtomAt { atom, .. } = frame {
         table.evaluate(atom, judge);
+    }
+}
+
+/// Whether no name is noted for a frame.
+pub fn comes_to_none(notes: &Notes<LiveId>, frame: &LogFrame) -> bool
+    ensures { result ≡ true → noted_for notes.now frame.now ≡ [] }
+{
+    match heard_id(frame) {
+        Some(id) => !notes.may_have(id) && notes.for_all().is_empty(),
+        None => true,
     }
 }
 

@@ -1,11 +1,14 @@
 //! The top call, and each command: the run of a session, the check of a configuration, and a session of its own.
-ghost use Rattle.std.specs.Prelude.{◌≡◌, ◌<◌, ℕ, ◌⊎◌, List, take, IfSome};
+ghost use Rattle.std.specs.Prelude.{◌≡◌, ◌<◌, ℕ, ◌⊎◌, List, [], ◌∷◌, ◌++◌, take, IfOk, IfSome};
 ghost use Rattle.sd_io.specs.States.{ports};
 ghost use Rattle.sd_io.specs.Causes.{IsPut, Rose};
 ghost use Rattle.session_frames.specs.declared.frame.Frame.{Frame};
-ghost use Rattle.session_frames.specs.Frames.{Clean, frames_of};
+ghost use Rattle.session_frames.specs.Frames.{Clean, frames_of, IsFaultless, IsInTime};
 ghost use Rattle.matcher_eval.specs.AtomTests.{matcher_holds};
+ghost use Rattle.hub_meaning.specs.SessionLog.{clock_of};
+ghost use Rattle.hub_meaning.specs.ClientAnswers.{reply_to};
 ghost use Rattle.hub_meaning.specs.ClientIsolation.{EqualOwnFramesEqualReplies};
+ghost use Rattle.hub_core.specs.HubStands.{HubStandsFor};
 ghost use Rattle.config_check.specs.Findings.{finding_of};
 ghost use Rattle.config_check.specs.Checks.{most_taken};
 ghost use Rattle.statsd_cli.specs.Commands.{command_of, HasFewFrames};
@@ -18,14 +21,14 @@ ghost use Rattle.statsd_cli.specs.Does.{Did, Does, IsChecked, IsUndisturbed};
 use crate::load::load;
 use crate::note::tell;
 use crate::{Command, Ending};
-use atom_record::Bytes;
+use atom_record::{Bytes, LogFrame};
 use condition_links::Steps;
 use config_check::{CheckError, Finding, check_config};
 use hub_core::Hub;
 use matcher_eval::FieldJudge;
 use sd_io::{Sink, Source, WriteFailed};
-use session_frames::{FrameError, FrameReader, Reply, write_reply};
-use std::alloc::Global;
+use session_frames::{Frame, FrameError, FrameReader, Reply, write_reply};
+use std::alloc::{AllocError, Global};
 use std::marker::Brand;
 use std::sync::ledger::{Blank, Ledger};
 
@@ -154,13 +157,46 @@ fn counted_replay<S: Source, K: Sink, L: Ledger>(
         let Some(frame) = read else {
             return Ending::Done;
         };
-        let Ok(reply) = hub.serve(frame, &mut asks) else {
+        let Ok(reply) = serve(&mut hub, &mut reader, frame, &mut asks) else {
             return Ending::NoMemory;
         };
         match put_reply(reply, out) {
             Ok(()) => (),
             Err(_) => return Ending::WriteFault,
         }
+    }
+}
+
+/// The hub serves a frame. One of the log is lent to it, and the reader gets the room of an atom back.
+fn serve<L: Ledger>(
+    hub: &mut Hub<FieldJudge>,
+    reader: &mut FrameReader,
+    frame: Frame,
+    asks: &mut Steps<L>,
+) -> Result<Option<Reply>, AllocError>
+    requires faultless { IsFaultless frame }
+    ensures serves { (frames : List Frame) → HubStandsFor matcher_holds hub.old frames
+        → IsInTime (clock_of frames) frame
+        → IfOk result (λ reply. HubStandsFor matcher_holds hub.new (frames ++ frame ∷ [])
+        × (reply ≡ reply_to matcher_holds frames frame)) }
+    ensures reader { reader.new ≡ reader.old }
+{
+    match frame {
+        Frame::Log(mut frame) => {
+            hub.log(&mut frame, asks)?;
+            reuse(reader, frame);
+            Ok(None)
+        }
+        command => hub.serve(command, asks),
+    }
+}
+
+/// The reader gets the room of an atom back.
+fn reuse(reader: &mut FrameReader, frame: LogFrame)
+    ensures { reader.new ≡ reader.old }
+{
+    if let LogFrame::AtomAt { atom, .. } = frame {
+        reader.reuse(atom);
     }
 }
 

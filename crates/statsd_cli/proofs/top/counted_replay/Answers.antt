@@ -35,7 +35,7 @@ frames-preserved g c =
     good.1 in
     let served = c.in-Ok-serve.ensures.serves along.frames along.stands in_time in
     goes_on _ _ _ _ c.frames.reader c.frames.hub along _ c.read.new.self c.in-Some.frame
-    (rw c.in-Some.is at (c.in-Ok.ensures.gives along.unended)) _ c.serve.new.self c.in-Ok-serve.reply
+    (rw c.in-Some.is at (c.in-Ok.ensures.gives along.unended)) _ c.serve.new.hub c.in-Ok-serve.reply
     served.0 served.1 c.in-Ok-put_reply.ensures.bytes c.in-Ok.ensures.cause.later
     c.in-Ok-put_reply.ensures.cause.later
 

@@ -18,7 +18,7 @@ use Rattle.hub_core.proofs.hub.Hub.log.Goals as goal
 pub returns-clause-stands : goal.returns-clause-stands
 returns-clause-stands g c = λ frames h in_time.
     let log = log_frames frames in
-    let frame = c.args.frame in
+    let frame = c.args.frame.now in
     let shown = c.shown_of.result.now in
     let shown_is : shown ≡ shown_as log frame =
     c.shown_of.ensures ∙ c.shown_instead-instead.ensures.shown log h.books.pulls in
@@ -51,7 +51,7 @@ returns-clause-asked g c =
 pub returns-clause-questions : goal.returns-clause-questions
 returns-clause-questions g c = λ frames h in_time.
     let log = log_frames frames in
-    hub_asks g.J.Judge.says c.args.self.now frames c.shown_of.result.now c.tell.new.self.states c.args.frame
+    hub_asks g.J.Judge.says c.args.self.now frames c.shown_of.result.now c.tell.new.self.states c.args.frame.now
     c.args.asks.now c.log.new.asks in_time
     (c.shown_of.ensures ∙ c.shown_instead-instead.ensures.shown log h.books.pulls)
     (c.in_ok-tell.ensures.states log h.books.states) h c.log.ensures.asks
@@ -60,7 +60,7 @@ returns-clause-questions g c = λ frames h in_time.
 pub returns-in_err-log-clause-questions : goal.returns-in_err-log-clause-questions
 returns-in_err-log-clause-questions g c = λ frames h in_time.
     let log = log_frames frames in
-    hub_asks g.J.Judge.says c.args.self.now frames c.shown_of.result.now c.tell.new.self.states c.args.frame
+    hub_asks g.J.Judge.says c.args.self.now frames c.shown_of.result.now c.tell.new.self.states c.args.frame.now
     c.args.asks.now c.log.new.asks in_time
     (c.shown_of.ensures ∙ c.shown_instead-instead.ensures.shown log h.books.pulls)
     (c.in_ok-tell.ensures.states log h.books.states) h c.log.ensures.asks
@@ -70,6 +70,6 @@ pub returns-clause-asleep : goal.returns-clause-asleep
 returns-clause-asleep g c =
     on_ok_weaker c.record.result
     (λ records. unheard_stay g.J.Judge.says (moment_of_clock c.args.self.now.clock) c.shown_of.result.now
-    c.tell.new.self.states c.args.frame c.args.self.now.lives.slots.entries c.log.new.self.slots.entries
+    c.tell.new.self.states c.args.frame.now c.args.self.now.lives.slots.entries c.log.new.self.slots.entries
     (ap heard_id_of c.shown_of.ensures ∙ c.shown_instead-instead.ensures.heard) c.in_ok-log.ensures.slots)
     c.record.ensures.pulls

@@ -14,7 +14,24 @@ use Rattle.hub_core.proofs.LastReportLemmas.{keeps_held}
 use Rattle.hub_core.proofs.LogLemmas.{all_logs, ask_by}
 use Rattle.hub_core.proofs.NotedLemmas.{lives_noted, noted_kept, noted_apart}
 use Rattle.hub_core.proofs.TableLemmas.{table_held}
+use Rattle.hub_core.proofs.UnheardLemmas.{none_logs, none_risen, none_ask}
 use Rattle.hub_core.proofs.lives.Lives.log.Goals as goal
+
+-- where nobody hears the frame, all is as it was
+pub returns-then-is_unheard-clause-slots : goal.returns-then-is_unheard-clause-slots
+returns-then-is_unheard-clause-slots g c =
+    none_logs c.args.coming.now.frame.now c.args.self.now.slots.entries (c.is_unheard.ensures c.if-is_unheard.true)
+    g.J.Judge.says (moment_of_clock c.args.coming.now.before) c.args.coming.now.states.now
+
+pub returns-then-is_unheard-clause-ticks : goal.returns-then-is_unheard-clause-ticks
+returns-then-is_unheard-clause-ticks g c =
+    none_risen c.args.coming.now.frame.now c.args.self.now.slots.entries (c.is_unheard.ensures c.if-is_unheard.true)
+    (g.J.Judge.ticks c.args.judge.now)
+
+pub returns-then-is_unheard-clause-asks : goal.returns-then-is_unheard-clause-asks
+returns-then-is_unheard-clause-asks g c =
+    none_ask g.J.Judge.says (moment_of_clock c.args.coming.now.before) c.args.coming.now.frame.now
+    c.args.coming.now.states.now c.args.self.now.slots.entries c.args.asks.now
 
 pub log_heard-requires-clause-held : goal.log_heard-requires-clause-held
 log_heard-requires-clause-held g c =
