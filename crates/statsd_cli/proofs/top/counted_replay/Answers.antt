@@ -24,8 +24,9 @@ returns-in_default g c =
 pub frames-smaller : goal.frames-smaller
 frames-smaller g c =
     let along = c.frames.invariant in
-    comes_nearer _ _ _ _ c.frames.reader c.frames.hub along _ c.read.new.self c.in-Some.frame
-    (rw c.in-Some.is at (c.in-Ok.ensures.gives along.unended)) (g.K.Sink.state c.put_reply.new.out)
+    rw c.serve.ensures.reader
+    (comes_nearer _ _ _ _ c.frames.reader c.frames.hub along _ c.read.new.self c.in-Some.frame
+    (rw c.in-Some.is at (c.in-Ok.ensures.gives along.unended)) (g.K.Sink.state c.put_reply.new.out))
 
 pub frames-preserved : goal.frames-preserved
 frames-preserved g c =
@@ -34,10 +35,11 @@ frames-preserved g c =
     let in_time = subst (λ n. IsInTime n c.in-Some.frame) (clock_along _ _ _ _ c.frames.reader c.frames.hub along)
     good.1 in
     let served = c.in-Ok-serve.ensures.serves along.frames along.stands in_time in
-    goes_on _ _ _ _ c.frames.reader c.frames.hub along _ c.read.new.self c.in-Some.frame
+    rw c.serve.ensures.reader
+    (goes_on _ _ _ _ c.frames.reader c.frames.hub along _ c.read.new.self c.in-Some.frame
     (rw c.in-Some.is at (c.in-Ok.ensures.gives along.unended)) _ c.serve.new.hub c.in-Ok-serve.reply
     served.0 served.1 c.in-Ok-put_reply.ensures.bytes c.in-Ok.ensures.cause.later
-    c.in-Ok-put_reply.ensures.cause.later
+    c.in-Ok-put_reply.ensures.cause.later)
 
 pub returns-in-Err-put_reply : goal.returns-in-Err-put_reply
 returns-in-Err-put_reply g c =
