@@ -1,4 +1,4 @@
-pub mod AheadLemmas
+pub mod BufferedLemmas
 pub mod CausesLemmas
 pub mod PutLemmas
 pub mod MemLemmas

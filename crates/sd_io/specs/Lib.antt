@@ -1,4 +1,5 @@
 pub mod States
+pub mod Buffered
 pub mod Causes
 pub mod MemSource
 pub mod MemSink

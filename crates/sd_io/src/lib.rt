@@ -1,7 +1,7 @@
 //! Where bytes come from and go to: two traits, objects over memory, and adapters of std's streams.
 #![tactic(auto)]
 
-mod ahead;
+mod buffered_source;
 mod mem_sink;
 mod mem_source;
 mod sink;
@@ -9,7 +9,7 @@ mod source;
 mod std_sink;
 mod std_source;
 
-pub use ahead::Ahead;
+pub use buffered_source::BufferedSource;
 pub use mem_sink::MemSink;
 pub use mem_source::MemSource;
 pub use sink::{Sink, WriteFailed};

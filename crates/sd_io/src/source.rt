@@ -33,7 +33,7 @@ pub trait Source {
         &[]
     }
 
-    /// Takes so many of the bytes that it holds, and says whether it holds as many. If not, nothing is taken.
+    /// Takes so many of the bytes that it holds, and says whether it took them. If not, nothing is taken.
     fn skip(&mut self, count: usize) -> bool
         ensures { IsSkip (state self.old) (state self.new) result count }
     {

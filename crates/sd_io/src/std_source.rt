@@ -3,12 +3,12 @@ ghost use Rattle.std.specs.Prelude.{◌≡◌, is_err, if◌then◌else◌};
 ghost use Rattle.sd_io.specs.States.{input_with};
 ghost use Rattle.sd_io.specs.Causes.{IsRead, count_up};
 
-use crate::{Ahead, ReadFailed, Source};
+use crate::{ReadFailed, Source};
 use std::io::Read;
 use std::marker::Model;
 
 /// Reads from a reader of std, by one call of its `read` for each call. Every error, an interruption too, is a fault. It
-/// holds what the reader has read ahead.
+/// holds no bytes.
 #[derive(Drop)]
 pub struct StdSource<R> {
     inner: R,
@@ -32,7 +32,7 @@ impl<R: Read> StdSource<R> {
     }
 }
 
-impl<R: Ahead> Source for StdSource<R> {
+impl<R: Read> Source for StdSource<R> {
     ghost state = { λ s. input_with (R.remaining s.stream) s.faults };
 
     fn read(&mut self, buf: &mut [u8]) -> Result<usize, ReadFailed>
@@ -50,13 +50,5 @@ impl<R: Ahead> Source for StdSource<R> {
                 Err(ReadFailed)
             }
         }
-    }
-
-    fn held(&self) -> &[u8] {
-        self.inner.held()
-    }
-
-    fn skip(&mut self, count: usize) -> bool {
-        self.inner.skip(count)
     }
 }

@@ -15,7 +15,7 @@ mod input;
 
 use crate::input::Input;
 use atom_record::Bytes;
-use sd_io::{Ahead, Sink, StdSink, StdSource};
+use sd_io::{BufferedSource, Sink, Source, StdSink, StdSource};
 use statsd_cli::{Command, STATUS_NO_MEMORY, statsd_top};
 use std::alloc::{AllocError, Global};
 use std::env::{self, Args};
@@ -63,28 +63,27 @@ fn run<R: Read + Drop, K: Sink, E: Sink>(
     };
     let words = words.as_slice();
     if !Command::of(words).reads_input() {
-        return answer(alloc, words, Input::AsItCame(input), out, notes);
+        return answer(alloc, words, Input::AsItCame(StdSource::new(input)), out, notes);
     }
     let Ok(buffered) = BufReader::new(alloc, input) else {
         return ExitCode::from(STATUS_NO_MEMORY);
     };
-    answer(alloc, words, Input::ReadAhead(buffered), out, notes)
+    answer(alloc, words, Input::ReadAhead(BufferedSource::new(buffered)), out, notes)
 }
 
-/// Does what the words ask for, on a reader.
-fn answer<R: Ahead + Drop, K: Sink, E: Sink>(
+/// Does what the words ask for, on an input that is its own.
+fn answer<S: Source + Drop, K: Sink, E: Sink>(
     alloc: Global,
     words: &[Bytes],
-    input: R,
+    mut input: S,
     out: &mut K,
     notes: &mut E,
 ) -> ExitCode
     ensures { Ends (command_of words.now) (exit_status result)
-        (streams (input_with (R.remaining input) 0) (K.state out.old) (E.state notes.old))
+        (streams (S.state input) (K.state out.old) (E.state notes.old))
         (K.state out.new) (E.state notes.new) }
 {
-    let mut source = StdSource::new(input);
-    ExitCode::from(statsd_top(alloc, words, &mut source, out, notes))
+    ExitCode::from(statsd_top(alloc, words, &mut input, out, notes))
 }
 
 /// The words of the command line. There are none where an argument isn't text, since the engine takes no such word.

@@ -1,7 +1,7 @@
 //! The engine over readers and writers of std.
 use super::outcomes::{Outcome, left, words_of};
 use super::streams::AMPLE;
-use sd_io::{Ahead, MemSink, Sink, Source, StdSink, StdSource};
+use sd_io::{MemSink, Sink, Source, StdSink, StdSource};
 use statsd_cli::statsd_top;
 use std::alloc::{AllocError, Global};
 use std::io;
@@ -25,8 +25,6 @@ impl Read for Failing<'_> {
         Ok(1)
     }
 }
-
-impl Ahead for Failing<'_> {}
 
 /// What a writer does with a piece.
 #[derive(Clone, Copy)]

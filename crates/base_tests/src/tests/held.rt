@@ -1,7 +1,7 @@
 //! Frames of a source that holds bytes: such that stand whole in what it holds, such that begin there, and faults.
 use super::asserts::assert_found;
 use super::reading::{LEAST, Session, is_so, read};
-use sd_io::StdSource;
+use sd_io::BufferedSource;
 use std::alloc::{AllocError, Global};
 use std::io::BufReader;
 
@@ -10,7 +10,7 @@ fn read_ahead(alloc: Global, bytes: &[u8], ahead: usize) -> Result<Session, Allo
     let Ok(buffered) = BufReader::with_capacity(alloc, ahead, bytes) else {
         return Err(AllocError);
     };
-    read(alloc, &mut StdSource::new(buffered))
+    read(alloc, &mut BufferedSource::new(buffered))
 }
 
 /// Whether these bytes are read as these frames and this end, where so many are read ahead at once.

@@ -1,6 +1,6 @@
 //! Readers of std as sources.
 use super::super::asserts::{assert_found, assert_holds};
-use sd_io::{Ahead, ReadFailed, Source, StdSource};
+use sd_io::{ReadFailed, Source, StdSource};
 use std::alloc::{AllocError, Global};
 use std::io;
 use std::io::{ErrorKind, Read};
@@ -35,8 +35,6 @@ impl Read for Scripted<'_> {
         }
     }
 }
-
-impl Ahead for Scripted<'_> {}
 
 /// Whether reads into two bytes answer so, and then the end. A byte stands for a read that gives it, and none for one
 /// that fails and leaves the buffer alone.
