@@ -1,7 +1,7 @@
 -- The two laws of payloads, for `parse_atom`: what is read has no fault and is spelled so,
 -- and what has no fault and is spelled so is read.
 use Rattle.std.proofs.Common.{◌≡◌, ℕ, zero, suc, ◌+◌, ◌^◌, ◌≤◌, false, not, List, [], ◌∷◌, ◌++◌, length, Result, Ok, Err, refl, sym, ap, subst, ◌∙◌, append_assoc, arith}
-use Rattle.std.specs.Prelude.{if◌then◌else◌, nat_lt, All, IfOk}
+use Rattle.std.specs.Prelude.{if◌then◌else◌, nat_lt, All, OnOk}
 use Rattle.std.specs.Int.{w32, to_le_bytes}
 use Rattle.std.specs.List.{flat_map}
 use Rattle.std.specs.Option.{ok_or}
@@ -152,18 +152,18 @@ atom_again atom sound =
     entries_again (length rest) [] atom.fields (omega arith) sound.entries in
     rw (short, id_again atom.id rest sound.id, fields) refl
 
--- an atom that a call answers has no fault
-pub read_is_sound : (bytes : List ℕ) (answer : Result Atom AtomFault)
+-- an atom that a call leaves has no fault
+pub read_is_sound : (atom : Atom) (bytes : List ℕ) (answer : Result Unit AtomFault)
     → IsBytes bytes
-    → GivesBy reason_of (λ atom. atom) answer (atom_at bytes)
-    → IfOk answer HasNoFault
-read_is_sound bytes (Ok atom) fits given = (atom_takes bytes atom fits given).0
-read_is_sound bytes (Err e) fits given = tt
+    → GivesBy reason_of (λ _. atom) answer (atom_at bytes)
+    → OnOk answer (HasNoFault atom)
+read_is_sound atom bytes (Ok done) fits given = (atom_takes bytes atom fits given).0
+read_is_sound atom bytes (Err e) fits given = tt
 
 -- and the bytes are its payload
-pub read_is_spelled : (bytes : List ℕ) (answer : Result Atom AtomFault)
+pub read_is_spelled : (atom : Atom) (bytes : List ℕ) (answer : Result Unit AtomFault)
     → IsBytes bytes
-    → GivesBy reason_of (λ atom. atom) answer (atom_at bytes)
-    → IfOk answer (λ atom. bytes ≡ payload_of atom)
-read_is_spelled bytes (Ok atom) fits given = (atom_takes bytes atom fits given).1
-read_is_spelled bytes (Err e) fits given = tt
+    → GivesBy reason_of (λ _. atom) answer (atom_at bytes)
+    → OnOk answer (bytes ≡ payload_of atom)
+read_is_spelled atom bytes (Ok done) fits given = (atom_takes bytes atom fits given).1
+read_is_spelled atom bytes (Err e) fits given = tt

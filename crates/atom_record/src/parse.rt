@@ -1,5 +1,5 @@
 //! From the bytes of a payload to an atom.
-ghost use Rattle.std.specs.Prelude.{◌≡◌, [], Ok, IfOk};
+ghost use Rattle.std.specs.Prelude.{◌≡◌, [], Ok, IfOk, OnOk};
 ghost use Rattle.std.specs.Int.{w32, w64};
 ghost use Rattle.std.specs.List.{list_any};
 ghost use Rattle.sd_base.specs.Reads.{GivesBy};
@@ -15,6 +15,7 @@ use crate::fault::{BAD_FLAGS, BAD_ID, BAD_PLACE, BAD_TYPE, CUT, NOT_ABOVE, TOO_L
 use crate::{Atom, AtomFault, AtomField, Bytes, Value};
 use sd_base::{Seq, split_counted, split_u32, split_u64};
 use std::alloc::Global;
+use std::mem;
 
 /// The most bytes of a payload.
 pub const MAX_BYTES: usize = 4096;
@@ -233,12 +234,13 @@ fn entry_of<'a>(
 }
 
 // All entries, to the end of the bytes, in the room of others.
+#[inline(always)]
 fn entries_of(
     alloc: Global,
-    room: Seq<AtomField>,
+    room: Vec<AtomField>,
     bytes: &[u8],
-) -> Result<Seq<AtomField>, AtomFault>
-    ensures { GivesBy reason_of (λ entries. entries) result (entries_at [] bytes.now) }
+) -> Result<Vec<AtomField>, AtomFault>
+    ensures { GivesBy reason_of (λ entries. entries.items) result (entries_at [] bytes.now) }
 {
     let mut entries = room;
     entries.clear();
@@ -267,19 +269,6 @@ fn id_of(bytes: &[u8]) -> Result<(u32, &[u8]), AtomFault>
     Ok((id, rest))
 }
 
-// The atom that a payload spells, with its entries in this room.
-#[tactic(auto, unfolding(crate::specs::AtomReading::atom_at))]
-pub(crate) fn atom_of(alloc: Global, room: Seq<AtomField>, bytes: &[u8]) -> Result<Atom, AtomFault>
-    ensures { GivesBy reason_of (λ atom. atom) result (atom_at bytes.now) }
-{
-    if MAX_BYTES < bytes.len() {
-        return Err(AtomFault::Bad(TOO_LONG));
-    }
-    let (id, rest) = id_of(bytes)?;
-    let fields = entries_of(alloc, room, rest)?;
-    Ok(Atom { id, fields })
-}
-
 /// The atom that a payload spells, or the reason that is met first.
 pub fn parse_atom(alloc: Global, bytes: &[u8]) -> Result<Atom, AtomFault>
     ensures exact { GivesBy reason_of (λ atom. atom) result (atom_at bytes.now) }
@@ -292,16 +281,40 @@ pub fn parse_atom(alloc: Global, bytes: &[u8]) -> Result<Atom, AtomFault>
     ensures only { (atom : Atom) → HasNoFault atom → bytes.now ≡ payload_of atom
         → GivesBy reason_of (λ atom. atom) result (Ok atom) }
 {
-    parse_atom_into(alloc, Seq::new(alloc), bytes)
+    let mut atom = Atom {
+        id: 0,
+        fields: Seq::new(alloc),
+    };
+    match parse_atom_into(alloc, &mut atom, bytes) {
+        Ok(()) => Ok(atom),
+        Err(e) => Err(e),
+    }
 }
 
-/// The same, in the room of a list of entries that are dropped. After an error the room is gone.
-pub fn parse_atom_into(alloc: Global, room: Seq<AtomField>, bytes: &[u8]) -> Result<Atom, AtomFault>
-    ensures exact { GivesBy reason_of (λ atom. atom) result (atom_at bytes.now) }
-    ensures sound { IfOk result HasNoFault }
-    ensures spelled { IfOk result (λ atom. bytes.now ≡ payload_of atom) }
-    ensures only { (atom : Atom) → HasNoFault atom → bytes.now ≡ payload_of atom
-        → GivesBy reason_of (λ atom. atom) result (Ok atom) }
+/// The same, in the place and the room of another atom. After an error that one is of no use.
+pub fn parse_atom_into(alloc: Global, atom: &mut Atom, bytes: &[u8]) -> Result<(), AtomFault>
+    ensures exact { GivesBy reason_of (λ _. atom.new) result (atom_at bytes.now) }
+    ensures sound { OnOk result (HasNoFault atom.new) }
+    ensures spelled { OnOk result (bytes.now ≡ payload_of atom.new) }
+    ensures only { (other : Atom) → HasNoFault other → bytes.now ≡ payload_of other
+        → GivesBy reason_of (λ _. atom.new) result (Ok other) }
 {
-    atom_of(alloc, room, bytes)
+    read_into(alloc, atom, bytes)
+}
+
+// Reads what a payload spells into another atom.
+#[inline(always)]
+#[tactic(auto, unfolding(crate::specs::AtomReading::atom_at))]
+fn read_into(alloc: Global, atom: &mut Atom, bytes: &[u8]) -> Result<(), AtomFault>
+    ensures { GivesBy reason_of (λ _. atom.new) result (atom_at bytes.now) }
+{
+    if MAX_BYTES < bytes.len() {
+        return Err(AtomFault::Bad(TOO_LONG));
+    }
+    let (id, rest) = id_of(bytes)?;
+    let room = mem::replace(&mut atom.fields, Seq::new(alloc));
+    let entries = entries_of(alloc, room.into_vec(), rest)?;
+    atom.id = id;
+    atom.fields = Seq::from_vec(entries);
+    Ok(())
 }

@@ -120,6 +120,7 @@ impl Hash for Value {
 
     ghost respects_eq = { value_alike.fed };
 
+    #[inline(always)]
     fn hash<H: Hasher>(&self, state: &mut H) {
         match self {
             Value::Int(n) => state.write_i32(*n),
@@ -139,6 +140,7 @@ impl Hash for Leaf {
 
     ghost respects_eq = { leaf_alike.fed };
 
+    #[inline(always)]
     fn hash<H: Hasher>(&self, state: &mut H) {
         match self {
             Leaf::Missing => state.write_u8(MISSING),
@@ -177,7 +179,13 @@ impl Hash for MetricKey {
     ghost respects_eq = { metric_key_alike.fed };
 
     fn hash<H: Hasher>(&self, state: &mut H) {
-        self.dims.hash(state);
+        // Most keys have one dimension, which needs no loop.
+        if let [leaf] = self.dims.as_slice() {
+            state.write_usize(1);
+            leaf.hash(state);
+        } else {
+            self.dims.hash(state);
+        }
         Slice::hash_slice(self.slices.as_slice(), state);
     }
 }

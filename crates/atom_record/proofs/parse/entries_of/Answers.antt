@@ -11,29 +11,29 @@ pub returns-in_err-entry : goal.returns-in_err-entry
 returns-in_err-entry c =
     let p = err_from_is_err_and c.from_residual.result c.from_residual.ensures.1 in
     let some : 0 < length c.loop-rest.rest.now = grind (arith, nat_tests, c.is_empty.ensures) in
-    let failed : FailsBy (reason_of c.in_err-entry.field-0.0) (entry_at c.loop-rest.entries c.loop-rest.rest.now) =
-    rw c.as_slice.ensures at c.in_err-entry.ensures in
-    let whole = ends c.loop-rest.entries c.loop-rest.rest.now c.in_err-entry.field-0.0 some failed in
+    let failed : FailsBy (reason_of c.in_err-entry.field-0.0) (entry_at c.loop-rest.entries.items c.loop-rest.rest.now) =
+    rw c.as_slice.ensures.value at c.in_err-entry.ensures in
+    let whole = ends c.loop-rest.entries.items c.loop-rest.rest.now c.in_err-entry.field-0.0 some failed in
     rw (p.1, p.2) (rw c.loop-rest.invariant.reads at whole)
 
 -- an entry takes a byte at least
 pub loop-rest-smaller : goal.loop-rest-smaller
 loop-rest-smaller c =
-    let read : entry_at c.loop-rest.entries c.loop-rest.rest.now ≡ Ok (c.in_ok-entry.entry, c.in_ok-entry.after.now) =
-    rw c.as_slice.ensures at c.in_ok-entry.ensures in
-    entry_shortens c.loop-rest.entries c.loop-rest.rest.now _ read
+    let read : entry_at c.loop-rest.entries.items c.loop-rest.rest.now ≡ Ok (c.in_ok-entry.entry, c.in_ok-entry.after.now) =
+    rw c.as_slice.ensures.value at c.in_ok-entry.ensures in
+    entry_shortens c.loop-rest.entries.items c.loop-rest.rest.now _ read
 
 -- one more entry is read
 pub loop-rest-preserved : goal.loop-rest-preserved
 loop-rest-preserved c =
-    let read : entry_at c.loop-rest.entries c.loop-rest.rest.now ≡ Ok (c.in_ok-entry.entry, c.in_ok-entry.after.now) =
-    rw c.as_slice.ensures at c.in_ok-entry.ensures in
+    let read : entry_at c.loop-rest.entries.items c.loop-rest.rest.now ≡ Ok (c.in_ok-entry.entry, c.in_ok-entry.after.now) =
+    rw c.as_slice.ensures.value at c.in_ok-entry.ensures in
     record {
-      reads = rw c.in_ok-push.ensures.added (goes_on c.loop-rest.entries c.loop-rest.rest.now _ _ read
+      reads = rw c.in_ok-push.ensures.items (goes_on c.loop-rest.entries.items c.loop-rest.rest.now _ _ read
           ∙ c.loop-rest.invariant.reads);
       exclusive = rw (
-        c.in_ok-push.ensures.added,
-        any_exclusive-push c.loop-rest.entries c.in_ok-entry.entry,
+        c.in_ok-push.ensures.items,
+        any_exclusive-push c.loop-rest.entries.items c.in_ok-entry.entry,
         c.loop-rest.invariant.exclusive,
         c.has_flag-exclusive.ensures,
       ) refl;
@@ -43,4 +43,4 @@ loop-rest-preserved c =
 pub returns : goal.returns
 returns c =
     let none : length c.loop-rest.rest.now ≡ 0 = grind (arith, nat_tests, c.is_empty.ensures) in
-    sym c.loop-rest.invariant.reads ∙ is_done c.loop-rest.entries c.loop-rest.rest.now none
+    sym c.loop-rest.invariant.reads ∙ is_done c.loop-rest.entries.items c.loop-rest.rest.now none

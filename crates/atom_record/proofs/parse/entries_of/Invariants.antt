@@ -7,8 +7,8 @@ use Rattle.atom_record.proofs.parse.entries_of.Given as goal
 
 abbrev pub invariant-loop-rest : goal.invariant-loop-rest
 invariant-loop-rest l = record {
-  reads : entries_at l.entries l.rest ≡ entries_at [] l.bytes;
-  exclusive : l.exclusive ≡ list_any is_exclusive l.entries;
+  reads : entries_at l.entries.items l.rest ≡ entries_at [] l.bytes;
+  exclusive : l.exclusive ≡ list_any is_exclusive l.entries.items;
 }
 
 abbrev pub decreases-loop-rest : goal.decreases-loop-rest
