@@ -1,5 +1,5 @@
 //! A writer of fields in their shortest spelling.
-ghost use Rattle.std.specs.Prelude.{◌≡◌, ◌+◌, ◌<◌, ◌≤◌, ◌^◌, [], ◌++◌, length, take, OnOk, OnErr, vec_len};
+ghost use Rattle.std.specs.Prelude.{◌≡◌, ◌+◌, ◌<◌, ◌≤◌, ◌^◌, [], ◌++◌, length, take, IfOk, OnOk, OnErr, vec_len};
 ghost use Rattle.proto_wire.specs.Spelling.{varint, tag_bytes, varint_field, bytes_field, fixed32_field};
 
 use crate::tag::WireType;
@@ -28,6 +28,14 @@ impl Writer {
         Writer {
             bytes: Vec::new(alloc),
         }
+    }
+
+    /// A message without fields, with room for so many bytes.
+    pub fn with_capacity(alloc: Global, room: usize) -> Result<Writer, AllocError>
+        ensures { IfOk result (λ writer. writer ≡ []) }
+    {
+        let bytes = Vec::with_capacity(alloc, room)?;
+        Ok(Writer { bytes })
     }
 
     /// Adds a field of wire type 0. A negative number is given as the 64 bits of its two's complement.

@@ -7,6 +7,12 @@ use crate::numbers::WRAPPER_DATA;
 use proto_wire::Writer;
 use std::alloc::{AllocError, Global};
 
+// The room with which a message begins, so that a short one grows no buffer.
+const MESSAGE_ROOM: usize = 64;
+
+// The room with which the rows of a metric begin.
+const ROWS_ROOM: usize = 512;
+
 /// What a report shows as a message of its own.
 pub trait Message {
     /// The one spelling of its fields.
@@ -55,7 +61,7 @@ pub fn put_message<T: Message>(
     requires writable { T.is_writable item.now }
     ensures { OnOk result (out.new ≡ out.old ++ bytes_field number (T.spelled item.now)) }
 {
-    let mut message = Writer::new(alloc);
+    let mut message = Writer::with_capacity(alloc, MESSAGE_ROOM)?;
     item.put_fields(alloc, &mut message)?;
     out.bytes_field(number, &message.into_bytes())
 }
@@ -90,7 +96,7 @@ pub fn put_wrapped<T: Message>(
     requires writable { All T.is_writable rows.now }
     ensures { OnOk result (out.new ≡ out.old ++ wrapper_field number T.spelled rows.now) }
 {
-    let mut wrapper = Writer::new(alloc);
+    let mut wrapper = Writer::with_capacity(alloc, ROWS_ROOM)?;
     put_messages(alloc, &mut wrapper, WRAPPER_DATA, rows)?;
     out.bytes_field(number, &wrapper.into_bytes())
 }

@@ -1,6 +1,7 @@
 -- On specs/Reader.antt, for the reader: bytes behind those that are held, how far the taking came, and a frame that was
 -- judged.
 use Rattle.std.proofs.Common.{◌≡◌, ℕ, ◌+◌, ◌-◌, ◌*◌, ◌<◌, ◌≤◌, Bool, true, false, List, [], ◌++◌, length, take, Option, None, Some, Result, Ok, Err, refl, sym, ap, ◌∙◌, subst, append_assoc, arith}
+use Rattle.std.specs.Prelude.{IfSome}
 use Rattle.std.proofs.lemmas.List.{take-take, take_all, take-append-le, length-append, length-take, length-take-le, append-nil}
 use Rattle.std.proofs.Math.Seq.{take-append-add}
 use Rattle.sd_io.specs.States.{Input}
@@ -14,6 +15,14 @@ use Rattle.session_frames.specs.Frames.{Ended, Broken, Whole, clock_after, next_
 use Rattle.session_frames.specs.Reader.{Reading, GivesFrame, Refuses, IsAtRest}
 use Rattle.session_frames.specs.Bodies.{FindsNext, IsOutside, StopsShort, TakesNext, TakesSome}
 use Rattle.session_frames.proofs.FrameLaws.{StandsWhole-from_next, next_ended, cut_is_short, short_is_unfinished, whole_is_all, needed_front, needed_more, needed_most, needed_some}
+
+-- what holds of what was found, and what follows from it
+pub where_some : {A : Type 0} (found : Option A) (P Q : A → Type 0)
+    → ((a : A) → P a → Q a)
+    → IfSome found P
+    → IfSome found Q
+where_some None P Q follows holds = tt
+where_some (Some a) P Q follows holds = follows a holds
 
 -- a part of the room behind what is held was filled
 pub filled_behind : (front held buffer over back : List ℕ) (len count size : ℕ)

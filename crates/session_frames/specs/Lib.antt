@@ -6,6 +6,7 @@ pub mod FrameReading
 pub mod Faultless
 pub mod SessionFaults
 pub mod Frames
+pub mod LogRooms
 pub mod Bodies
 pub mod Reader
 pub mod Replies

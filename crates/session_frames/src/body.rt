@@ -16,12 +16,10 @@ use crate::frame::{
 };
 use crate::{Frame, FrameFault};
 use atom_record::{
-    Atom, AtomFault, AtomField, BAD_ID, LogFrame, MAX_BYTES, OTHER_ID, PullOutcome, is_atom_id,
-    parse_atom, parse_atom_into,
+    Atom, AtomFault, BAD_ID, LogFrame, MAX_BYTES, OTHER_ID, PullOutcome, is_atom_id, parse_atom,
 };
 use sd_base::{Seq, split_counted, split_u16, split_u32, split_u64};
 use std::alloc::{AllocError, Global};
-use std::mem;
 
 // The first time that is too late to be one.
 const FIRST_LATE_TIME: u64 = 1 << 63;
@@ -82,10 +80,10 @@ fn read_u64(bytes: &[u8]) -> Result<(u64, &[u8]), BodyError>
     split_u64(bytes).ok_or(bad_body(TOO_SHORT))
 }
 
-// A time in nanoseconds.
+/// A time in nanoseconds.
 #[tactic(auto, unfolding(crate::specs::FrameReading::time_at))]
 #[inline(always)]
-fn read_time(bytes: &[u8]) -> Result<(u64, &[u8]), BodyError>
+pub fn read_time(bytes: &[u8]) -> Result<(u64, &[u8]), BodyError>
     ensures exact { GivesBy fault_in (λ x. (x.0, x.1.now)) result (frames.time_at bytes.now) }
     ensures early { IfOk result (λ x. x.0 < first_late_time) }
 {
@@ -120,7 +118,6 @@ fn expect_end(frame: Frame, rest: &[u8]) -> Result<Frame, BodyError>
 
 // The body of a tick.
 #[tactic(auto, unfolding(crate::specs::FrameReading::tick_body))]
-#[inline(always)]
 fn read_tick(body: &[u8]) -> Result<Frame, BodyError>
     ensures exact { GivesBy fault_in (λ frame. frame) result (frames.tick_body body.now) }
     ensures sound { IfOk result IsFaultless }
@@ -145,20 +142,15 @@ fn atom_of(alloc: Global, payload: &[u8]) -> Result<Atom, BodyError>
     }
 }
 
-// The body of an atom: its payload is the rest. Its entries stand in this room.
+// The body of an atom: its payload is the rest.
 #[tactic(auto, unfolding(crate::specs::FrameReading::atom_body))]
-#[inline(always)]
-fn read_atom(alloc: Global, room: &mut Seq<AtomField>, body: &[u8]) -> Result<Frame, BodyError>
+fn read_atom(alloc: Global, body: &[u8]) -> Result<Frame, BodyError>
     ensures exact { GivesBy fault_in (λ frame. frame) result (frames.atom_body body.now) }
     ensures sound { IfOk result IsFaultless }
 {
     let (at, rest) = read_time(body)?;
-    let own = mem::replace(room, Seq::new(alloc));
-    match parse_atom_into(alloc, own, rest) {
-        Ok(atom) => Ok(Frame::Log(LogFrame::AtomAt { at, atom })),
-        Err(AtomFault::Bad(reason)) => Err(bad_atom(reason)),
-        Err(AtomFault::Memory) => Err(BodyError::Memory),
-    }
+    let atom = atom_of(alloc, rest)?;
+    Ok(Frame::Log(LogFrame::AtomAt { at, atom }))
 }
 
 // Whether a payload that isn't too long begins with the id of another atom.
@@ -332,19 +324,13 @@ fn read_report(body: &[u8]) -> Result<Frame, BodyError>
 }
 
 // The frame of a kind that has this body.
-#[inline(always)]
-fn read_body(
-    alloc: Global,
-    room: &mut Seq<AtomField>,
-    kind: u8,
-    body: &[u8],
-) -> Result<Frame, BodyError>
+fn read_body(alloc: Global, kind: u8, body: &[u8]) -> Result<Frame, BodyError>
     ensures exact { GivesBy fault_in (λ frame. frame) result (frames.frame_of_kind kind body.now) }
     ensures sound { IfOk result IsFaultless }
 {
     match kind {
         TICK => read_tick(body),
-        ATOM => read_atom(alloc, room, body),
+        ATOM => read_atom(alloc, body),
         PULL => read_pull(alloc, body),
         INSTALL => read_install(alloc, body),
         REMOVE => read_remove(body),
@@ -379,21 +365,15 @@ fn check_time(clock: u64, frame: &Frame) -> Result<(), BodyError>
     }
 }
 
-/// The frame that is this kind byte and body, where the clock stands at a time. An atom's entries stand in this room.
-#[inline(always)]
-pub fn read_frame(
-    alloc: Global,
-    room: &mut Seq<AtomField>,
-    clock: u64,
-    content: &[u8],
-) -> Result<Frame, BodyError>
+/// The frame that is this kind byte and body, where the clock stands at a time.
+pub fn read_frame(alloc: Global, clock: u64, content: &[u8]) -> Result<Frame, BodyError>
     ensures exact { GivesBy fault_in (λ frame. frame) result (frames.frame_of clock content.now) }
     ensures sound { IfOk result (λ f. IsFaultless f × IsInTime clock f) }
 {
     let [kind, body @ ..] = content else {
         return Err(BodyError::Fault(FrameFault::BadLength));
     };
-    let frame = read_body(alloc, room, *kind, body)?;
+    let frame = read_body(alloc, *kind, body)?;
     check_time(clock, &frame)?;
     Ok(frame)
 }

@@ -4,6 +4,7 @@
 mod body;
 mod frame;
 mod laws;
+mod log_room;
 mod place;
 mod reader;
 mod reply;
@@ -15,6 +16,7 @@ pub use frame::{
     TOO_SHORT,
 };
 pub use laws::bytes_have_one_reading;
+pub use log_room::{LogKind, LogRoom};
 pub use reader::FrameReader;
 pub use reply::{Refusal, Reply, ReplyBody};
 pub use writing::write_reply;

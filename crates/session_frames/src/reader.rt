@@ -1,6 +1,8 @@
 //! The reader of frames.
-ghost use Rattle.std.specs.Prelude.{◌≡◌, ◌+◌, ◌-◌, ◌^◌, ◌<◌, ◌≤◌, [], false, length, take, vec_len, IsTrue, IfOk, IfErr, OnOk, OnErr, IfSome, None, Ok};
+ghost use Rattle.std.specs.Prelude.{◌≡◌, ◌+◌, ◌-◌, ◌^◌, ◌<◌, ◌≤◌, [], false, length, take, vec_len, IsTrue, IfOk, IfErr, OnOk, OnErr, IfSome, IfNone, Some, None, Ok};
 ghost use Rattle.sd_io.specs.Causes.{IsFrontOf, Takes};
+ghost use Rattle.session_frames.specs.declared.frame.Frame.TheVariants.{Log};
+ghost use Rattle.session_frames.specs.LogRooms.{frame_in};
 ghost use Rattle.session_frames.specs.Faultless.{IsFaultless, IsInTime};
 ghost use Rattle.session_frames.specs.FrameLimits.{most_pending};
 ghost use Rattle.session_frames.specs.Frames as frames;
@@ -8,10 +10,9 @@ ghost use Rattle.session_frames.specs.Reader.{unread, GivesFrame, Refuses, HasRe
 ghost use Rattle.session_frames.specs.Bodies.{FindsNext, IsOutside, StopsShort, TakesNext, TakesSome};
 
 use crate::body::{BodyError, next_clock, read_frame};
+use crate::log_room::{LogKind, LogRoom};
 use crate::place::Place;
 use crate::{Frame, FrameError, SessionFault};
-use atom_record::{Atom, AtomField};
-use sd_base::Seq;
 use sd_io::Source;
 use std::alloc::{AllocError, Global};
 use std::marker::Model;
@@ -30,7 +31,6 @@ const PIECE: usize = 65_536;
 pub struct FrameReader {
     alloc: Global,
     room: Vec<u8>,
-    entries: Seq<AtomField>,
     place: Place,
     ended: bool,
 }
@@ -41,7 +41,7 @@ impl Model for FrameReader {
 
     ghost Value = { Reading };
 
-    // Its rooms are no part of it: what a call takes there is judged in that call.
+    // Its room is no part of it: what a call takes there is judged in that call.
     ghost view = { λ s. record { pending = []; place = s.place; ended = s.ended } };
 
     ghost invariant = { λ s. IsAtRest s.place };
@@ -55,7 +55,6 @@ impl FrameReader {
         FrameReader {
             alloc,
             room: Vec::new(alloc),
-            entries: Seq::new(alloc),
             place: Place {
                 bytes: 0,
                 clock: 0,
@@ -72,13 +71,6 @@ impl FrameReader {
     {
         let _ = &self.room;
         0
-    }
-
-    /// An atom that is done with gives its room to the next one.
-    pub fn reuse(&mut self, atom: Atom)
-        ensures { self.new ≡ self.old }
-    {
-        self.entries = atom.fields;
     }
 
     /// The next frame, or `None` where the source ended at a frame's end. Of what the reader holds, the bytes of
@@ -126,7 +118,7 @@ impl FrameReader {
         if held.len() < count {
             return self.read_on(src);
         }
-        let found = next_in(self.alloc, &mut self.entries, &self.place, &held[..count]);
+        let found = next_in(self.alloc, &self.place, &held[..count]);
         if !src.skip(count) {
             return self.read_on(src);
         }
@@ -138,7 +130,34 @@ impl FrameReader {
         Ok(Some(frame))
     }
 
-    // The same, where what stands next isn't whole in what the source holds: its bytes are taken to the room.
+    /// Takes what stands next, where it is a tick or an atom that stands whole in what the source holds and has no fault,
+    /// and reads it in a room. The answer is its kind. Where nothing is taken, the reader and the source stay as they are.
+    #[inline(always)]
+    pub fn take_log<S: Source>(&mut self, src: &mut S, room: &mut LogRoom) -> Option<LogKind>
+        ensures gives { IfSome result (λ kind. GivesFrame (S.state src.old) (S.state src.new) self.old self.new
+            (Some (Log (frame_in kind room.new)))) }
+        ensures faultless { IfSome result (λ kind. IsFaultless (Log (frame_in kind room.new))
+            × IsInTime self.old.place.clock (Log (frame_in kind room.new))) }
+        ensures nothing { IfNone result ((self.new ≡ self.old) × (S.state src.new ≡ S.state src.old)) }
+        ensures no_fault { (S.state src.new).faults ≡ (S.state src.old).faults }
+    {
+        if self.ended {
+            return None;
+        }
+        let held = src.held();
+        let count = needed(&self.place, held);
+        if held.len() < count {
+            return None;
+        }
+        let kind = log_in(self.alloc, room, &self.place, &held[..count])?;
+        if !src.skip(count) {
+            return None;
+        }
+        self.place = place_at(&self.place, count, room.time(kind));
+        Some(kind)
+    }
+
+    // The same as `read`, where what stands next isn't whole in what the source holds: its bytes are taken to the room.
     #[cold]
     #[inline(never)]
     fn read_on<S: Source>(&mut self, src: &mut S) -> Result<Option<Frame>, FrameError>
@@ -152,7 +171,7 @@ impl FrameReader {
     {
         let count = take_next(&mut self.room, &self.place, src)?;
         let held = &self.room[..count];
-        let Some(frame) = next_in(self.alloc, &mut self.entries, &self.place, held)? else {
+        let Some(frame) = next_in(self.alloc, &self.place, held)? else {
             self.ended = true;
             return Ok(None);
         };
@@ -174,6 +193,23 @@ fn place_after(place: &Place, count: usize, frame: &Frame) -> Place
     Place {
         bytes: place.bytes + count as u64,
         clock: next_clock(place.clock, frame),
+        frames: place.frames + 1,
+    }
+}
+
+// The place after a frame of the log of so many bytes and this time.
+fn place_at(place: &Place, count: usize, time: u64) -> Place
+    requires in_bytes { place.now.bytes + count < 2 ^ 64 }
+    requires in_frames { place.now.frames + 1 < 2 ^ 64 }
+    ensures { result ≡ record {
+      bytes = place.now.bytes + count;
+      clock = time;
+      frames = place.now.frames + 1;
+    } }
+{
+    Place {
+        bytes: place.bytes + count as u64,
+        clock: time,
         frames: place.frames + 1,
     }
 }
@@ -259,13 +295,10 @@ fn make_room(room: &mut Vec<u8>, size: usize) -> Result<(), AllocError>
     room.resize(size, 0)
 }
 
-// What stands next in what is left: a frame, or nothing at the end. An atom's entries stand in this room.
-// It is inlined with what it calls for atoms and ticks, so that their frames aren't copied from answer to answer.
-#[inline(always)]
+// What stands next in what is left: a frame, or nothing at the end.
 #[tactic(auto, unfolding(crate::specs::Frames::next_frame))]
 fn next_in(
     alloc: Global,
-    entries: &mut Seq<AtomField>,
     place: &Place,
     left: &[u8],
 ) -> Result<Option<Frame>, FrameError>
@@ -294,11 +327,35 @@ fn next_in(
     if after.len() < size {
         return Err(bad(place, SessionFault::Cut));
     }
-    match read_frame(alloc, entries, place.clock, &after[..size]) {
+    match read_frame(alloc, place.clock, &after[..size]) {
         Ok(frame) => Ok(Some(frame)),
         Err(BodyError::Fault(fault)) => Err(bad(place, SessionFault::from(fault))),
         Err(BodyError::Memory) => Err(FrameError::Memory),
     }
+}
+
+// Reads what stands next in what is left, where it is a tick or an atom that is whole and has no fault.
+#[inline(always)]
+#[tactic(auto, unfolding(crate::specs::Frames::next_frame))]
+fn log_in(alloc: Global, room: &mut LogRoom, place: &Place, left: &[u8]) -> Option<LogKind>
+    ensures finds { IfSome result (λ kind.
+        FindsNext place.now (Ok (Some (Log (frame_in kind room.new)))) (frames.next_frame place.now left.now)) }
+    ensures sound { IfSome result (λ kind. IsFaultless (Log (frame_in kind room.new))
+        × IsInTime place.now.clock (Log (frame_in kind room.new))) }
+{
+    if place.frames >= MAX_FRAMES || left.len() < 4 {
+        return None;
+    }
+    let size = size_of(left);
+    if size == 0 || size > MAX_BODY {
+        return None;
+    }
+    let size = size as usize;
+    let after = &left[4..];
+    if after.len() < size {
+        return None;
+    }
+    room.read(alloc, place.clock, &after[..size])
 }
 
 // The session has this fault, at the first byte of what stands next.
