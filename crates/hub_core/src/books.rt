@@ -1,5 +1,5 @@
 //! The two books of the log: the states that it gave, and what pulls gave.
-ghost use Rattle.std.specs.Prelude.{◌≡◌, ◌∷◌, ◌++◌, [], List, unwrap_or, IfSome, OnOk};
+ghost use Rattle.std.specs.Prelude.{◌≡◌, ◌∷◌, ◌++◌, [], List, OnOk};
 ghost use Rattle.atom_record.specs.declared.log.LogFrame.{LogFrame};
 ghost use Rattle.session_frames.specs.Faultless.{IsFaultlessLog};
 ghost use Rattle.state_slicer.specs.StateBooks.{StateBookStandsFor};
@@ -17,12 +17,14 @@ use std::mem;
 pub struct Books {
     pub states: StateBook,
     pub pulls: PullBook,
+    /// The last pull, as one that failed.
+    failed: LogFrame,
 }
 
 impl Books {
     ghost use Rattle.client_engine.specs.declared.live_id.LiveId.{LiveId};
     ghost use Rattle.hub_core.specs.declared.live_instance.LiveInstance.{LiveInstance};
-    ghost use Rattle.hub_core.specs.BookStands.{BooksStandFor};
+    ghost use Rattle.hub_core.specs.BookStands.{BooksStandFor, IsAsFailed};
     ghost use Rattle.hub_core.specs.Sleeping.{heard_id_of};
     ghost use Rattle.hub_core.specs.SlotLogs.{asked_by_all};
 
@@ -33,31 +35,45 @@ impl Books {
         Books {
             states: StateBook::new(alloc),
             pulls: PullBook::new(alloc),
+            failed: LogFrame::Tick { at: 0 },
         }
     }
 
-    /// The failed pull as which a frame is shown, if it is a pull that isn't kept.
-    pub fn shown_instead(&self, frame: &LogFrame) -> Option<LogFrame>
+    /// Notes a frame as a pull that failed, if it is a pull.
+    pub fn note_failed(&mut self, frame: &LogFrame)
+        ensures failed { IsAsFailed frame.now self.new.failed }
+        ensures states { self.new.states ≡ self.old.states }
+        ensures pulls { self.new.pulls ≡ self.old.pulls }
+    {
+        if let LogFrame::Pull { at, id, .. } = frame {
+            self.failed = LogFrame::Pull {
+                at: *at,
+                id: *id,
+                outcome: PullOutcome::Failed,
+            };
+        }
+    }
+
+    /// The frame as it is shown: a pull that isn't kept is shown as one that failed.
+    pub fn shown<'a>(&'a self, frame: &'a LogFrame) -> &'a LogFrame
         requires faultless { IsFaultlessLog frame.now }
+        requires failed { IsAsFailed frame.now self.now.failed }
         ensures shown { (log : List LogFrame) → PullBookStandsFor self.now.pulls log
-            → unwrap_or result frame.now ≡ shown_as log frame.now }
-        ensures faultless { IfSome result IsFaultlessLog }
+            → result.now ≡ shown_as log frame.now }
+        ensures faultless { IsFaultlessLog result.now }
         ensures asked { (rows : List (LiveId × LiveInstance))
-            → asked_by_all (unwrap_or result frame.now) rows ≡ asked_by_all frame.now rows }
-        ensures heard { heard_id_of (unwrap_or result frame.now) ≡ heard_id_of frame.now }
+            → asked_by_all result.now rows ≡ asked_by_all frame.now rows }
+        ensures heard { heard_id_of result.now ≡ heard_id_of frame.now }
     {
         match frame {
-            LogFrame::Tick { .. } => None,
-            LogFrame::AtomAt { .. } => None,
-            LogFrame::Pull { at, id, .. } => {
+            LogFrame::Tick { .. } => frame,
+            LogFrame::AtomAt { .. } => frame,
+            LogFrame::Pull { id, .. } => {
                 if self.pulls.keeps(*id) {
-                    return None;
+                    frame
+                } else {
+                    &self.failed
                 }
-                Some(LogFrame::Pull {
-                    at: *at,
-                    id: *id,
-                    outcome: PullOutcome::Failed,
-                })
             }
         }
     }
@@ -67,6 +83,7 @@ impl Books {
         ensures states { OnOk result ((log : List LogFrame) → StateBookStandsFor self.old.states log
             → StateBookStandsFor self.new.states (log ++ frame.now ∷ [])) }
         ensures pulls { self.new.pulls ≡ self.old.pulls }
+        ensures failed { self.new.failed ≡ self.old.failed }
     {
         match frame {
             LogFrame::Tick { .. } => Ok(()),
@@ -90,15 +107,5 @@ impl Books {
                 self.pulls.set(*id, pulled)
             }
         }
-    }
-}
-
-/// A frame, or what is shown in its place.
-pub fn shown_of<'a>(instead: &'a Option<LogFrame>, frame: &'a LogFrame) -> &'a LogFrame
-    ensures { result.now ≡ unwrap_or instead.now frame.now }
-{
-    match instead {
-        Some(shown) => shown,
-        None => frame,
     }
 }

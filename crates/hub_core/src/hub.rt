@@ -9,7 +9,7 @@ ghost use Rattle.hub_meaning.specs.SessionLog.{own, clock_of};
 ghost use Rattle.hub_meaning.specs.ClientAnswers.{reply_of, reply_to};
 ghost use Rattle.hub_meaning.specs.ClientIsolation.{EqualOwnFramesEqualReplies};
 
-use crate::books::{Books, shown_of};
+use crate::books::Books;
 use crate::configs::read_config;
 use crate::lives::Lives;
 use crate::log_clock::LogClock;
@@ -107,7 +107,8 @@ impl<J: Judge> Hub<J> {
     {}
 
     /// Takes in a frame of the log: the book of states takes it, then it comes to each configuration that hears it, as it
-    /// is shown, and what it pulled is taken out of it and recorded last. After want of memory the hub is of no use.
+    /// is shown, and what it pulled is recorded last. The frame is lent: an atom and a tick stay as they are, and a pull's
+    /// atoms are taken out, so that it is left as one that failed. After want of memory the hub is of no use.
     pub fn log<L: Ledger>(
         &mut self,
         frame: &mut LogFrame,
@@ -126,10 +127,10 @@ impl<J: Judge> Hub<J> {
     {
         let before = self.clock;
         self.clock = before.after(frame);
-        let instead = self.books.shown_instead(frame);
+        self.books.note_failed(frame);
         self.books.tell(frame)?;
         let coming = Coming {
-            frame: shown_of(&instead, frame),
+            frame: self.books.shown(frame),
             states: &self.books.states,
             before,
         };

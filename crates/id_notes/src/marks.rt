@@ -45,6 +45,19 @@ fn lengthen(marks: &mut Vec<bool>, len: usize) -> Result<(), AllocError>
     marks.resize(len, false)
 }
 
+/// Notes a place of a low id.
+pub(crate) fn note_place(places: &mut Vec<usize>, id: u32, place: usize) -> Result<(), AllocError> {
+    if id >= MARKED_IDS {
+        return Ok(());
+    }
+    let at = id as usize;
+    if places.len() <= at {
+        places.resize(at + 1, 0)?;
+    }
+    places[at] = place;
+    Ok(())
+}
+
 /// Takes the mark of an id away, if it has one.
 pub(crate) fn unmark(marks: &mut [bool], id: u32)
     ensures { (other : ℕ) → other ≢ id → is_marked marks.new other ≡ is_marked marks.old other }

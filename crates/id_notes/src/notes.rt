@@ -1,8 +1,10 @@
 //! Which names hear the frames of which ids.
-ghost use Rattle.std.specs.Prelude.{◌≡◌, ◌==◌, ◌&&◌, ◌||◌, not, ℕ, [], false, OnOk};
+ghost use Rattle.std.specs.Prelude.{◌≡◌, ◌==◌, ◌&&◌, ◌||◌, not, ℕ, [], false, Some, IfSome, OnOk};
 ghost use Rattle.std.specs.List.{IsDistinct};
+ghost use Rattle.std.specs.Map.{lookup};
+ghost use Rattle.std.specs.Option.{option_copied};
 
-use crate::marks::{is_marked, mark, unmark};
+use crate::marks::{is_marked, mark, note_place, unmark};
 use heard_ids::Hearing;
 use indexmap::{IndexMap, IndexSet};
 use std::alloc::{AllocError, Global};
@@ -17,6 +19,8 @@ pub struct Notes<N: Eq + Hash> {
     for_all: IndexSet<N>,
     /// Which of the low ids have a list.
     marks: Vec<bool>,
+    /// Where the list of a low id stood when it began. That is looked at first, and need not be so any more.
+    places: Vec<usize>,
 }
 
 impl<N: Eq + Hash + Copy + Drop> Notes<N> {
@@ -32,6 +36,7 @@ impl<N: Eq + Hash + Copy + Drop> Notes<N> {
             by_id: IndexMap::new(alloc),
             for_all: IndexSet::new(alloc),
             marks: Vec::new(alloc),
+            places: Vec::new(alloc),
         }
     }
 
@@ -43,10 +48,31 @@ impl<N: Eq + Hash + Copy + Drop> Notes<N> {
         if !is_marked(self.marks.as_slice(), id) {
             return &[];
         }
-        match self.by_id.get(&id) {
+        match self.list_of(id) {
             Some(names) => names.as_slice(),
             None => &[],
         }
+    }
+
+    // The list of an id. It mostly stands where it began, and then it is found without a hash.
+    fn list_of(&self, id: u32) -> Option<&IndexSet<N>>
+        ensures { option_copied result ≡ lookup (λ other. id == other) self.now.by_id.entries }
+    {
+        match self.list_where_it_began(id) {
+            Some(names) => Some(names),
+            None => self.by_id.get(&id),
+        }
+    }
+
+    // The list of an id, if it stands where it began.
+    #[inline(always)]
+    fn list_where_it_began(&self, id: u32) -> Option<&IndexSet<N>>
+        ensures { IfSome result (λ names.
+            lookup (λ other. id == other) self.now.by_id.entries ≡ Some names.now) }
+    {
+        let place = self.places.get(id as usize)?;
+        let (own, names) = self.by_id.get_index(*place)?;
+        if *own == id { Some(names) } else { None }
     }
 
     /// Whether a name may be noted for an id: there is none where this is false. It costs no look-up.
@@ -127,6 +153,7 @@ impl<N: Eq + Hash + Copy + Drop> Notes<N> {
         let mut names = IndexSet::new(alloc);
         names.insert(name)?;
         mark(&mut self.marks, id)?;
+        note_place(&mut self.places, id, self.by_id.len())?;
         self.by_id.insert(id, names)?;
         Ok(())
     }

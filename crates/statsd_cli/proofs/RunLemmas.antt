@@ -27,24 +27,12 @@ use Rattle.statsd_cli.specs.Endings.{status_of}
 use Rattle.statsd_cli.specs.declared.command.Command.{Command}
 use Rattle.statsd_cli.specs.declared.command.Command.TheVariants.{Replay, Check, Load, Unknown}
 use Rattle.statsd_cli.specs.Run.{IsBadSession, IsUnfinishedEnd, IsRun, bytes_if_any, ending_by}
+use Rattle.statsd_cli.specs.Along.{IsAlong}
 use Rattle.statsd_cli.specs.Does.{Did, IsUndisturbed}
 
 -- the bytes of the reply to a frame, if it has one
 abbrev reply_text : List Frame → Frame → List ℕ
 reply_text frames frame = bytes_if_any (reply_to matcher_holds frames frame)
-
--- A run under way: these frames were served, of the bytes taken.
-pub record IsAlong (left_old left_new : Input) (old new : Output) (reader : Reading) (hub : Hub FieldJudge) : Type 0
-  where
-    pub frames : List Frame
-    pub taken : List ℕ
-    pub consumes : Takes left_old left_new taken
-    pub begins : Begins start taken frames reader.place reader.pending
-    pub unended : reader.ended ≡ false
-    pub stands : HubStandsFor matcher_holds hub frames
-    pub written : Gains old new (text matcher_holds frames)
-    pub reads : left_old.faults ≤ left_new.faults
-    pub writes : old.faults ≤ new.faults
 
 clock_is : (clock : ℕ) (frames : List Frame) → fold clock_after clock frames ≡ clock_from clock frames
 clock_is clock [] = refl

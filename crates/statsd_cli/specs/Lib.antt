@@ -3,6 +3,7 @@ pub mod Endings
 pub mod Commands
 pub mod Streams
 pub mod Run
+pub mod Along
 pub mod Check
 pub mod Load
 pub mod Does

@@ -7,6 +7,7 @@ mod ending;
 mod isolation;
 mod load;
 mod note;
+mod replay;
 mod reply_len;
 mod top;
 

@@ -1,5 +1,5 @@
 -- The frame is told, shown and recorded, and the hub stands for the log with it.
-use Rattle.std.proofs.Common.{◌≡◌, ◌∙◌, ◌++◌, ◌∷◌, [], sym, ap, subst}
+use Rattle.std.proofs.Common.{◌≡◌, ◌∙◌, ◌++◌, ◌∷◌, [], sym, subst}
 use Rattle.std.proofs.lemmas.Result.{on_ok_weaker}
 use Rattle.state_slicer.specs.StateBooks.{StateBookStandsFor}
 use Rattle.pull_book.specs.PullBooks.{PullBookStandsFor}
@@ -7,8 +7,8 @@ use Rattle.matcher_table.specs.Truths.{HaveRisen}
 use Rattle.metric_meaning.specs.ShownFrames.{shown_as}
 use Rattle.hub_meaning.specs.SessionLog.{log_frames}
 use Rattle.hub_core.specs.HubStands.{judge_of}
-use Rattle.hub_core.specs.Sleeping.{moment_of_clock, heard_id_of}
-use Rattle.hub_core.specs.SlotLogs.{AllLog, asked_by_all}
+use Rattle.hub_core.specs.Sleeping.{moment_of_clock}
+use Rattle.hub_core.specs.SlotLogs.{AllLog}
 use Rattle.hub_core.proofs.HubStandsLemmas.{hub_log}
 use Rattle.hub_core.proofs.LogLemmas.{unheard_stay}
 use Rattle.hub_core.proofs.LiveQuestionsLemmas.{hub_asks}
@@ -19,11 +19,14 @@ pub returns-clause-stands : goal.returns-clause-stands
 returns-clause-stands g c = λ frames h in_time.
     let log = log_frames frames in
     let frame = c.args.frame.now in
-    let shown = c.shown_of.result.now in
-    let shown_is : shown ≡ shown_as log frame =
-    c.shown_of.ensures ∙ c.shown_instead-instead.ensures.shown log h.books.pulls in
-    let told = c.in_ok-tell.ensures.states log h.books.states in
-    let pulls = subst (λ book. PullBookStandsFor book log) (sym c.in_ok-tell.ensures.pulls) h.books.pulls in
+    let shown = c.shown.result.now in
+    let shown_is : shown ≡ shown_as log frame = c.shown.ensures.shown log
+    (subst (λ book. PullBookStandsFor book log)
+    (sym (c.in_ok-tell.ensures.pulls ∙ c.note_failed.ensures.pulls)) h.books.pulls) in
+    let told = c.in_ok-tell.ensures.states log
+    (subst (λ book. StateBookStandsFor book log) (sym c.note_failed.ensures.states) h.books.states) in
+    let pulls = subst (λ book. PullBookStandsFor book log)
+    (sym (c.in_ok-tell.ensures.pulls ∙ c.note_failed.ensures.pulls)) h.books.pulls in
     on_ok_weaker c.record.result
     (λ records. hub_log g.J.Judge.says c.args.self.now _ frames h frame shown in_time c.requires.faultless.timely
     c.after-self.ensures shown_is
@@ -43,7 +46,7 @@ returns-clause-asked g c =
     let rows = c.args.self.now.lives.slots.entries in
     on_ok_weaker c.record.result
     (λ records. subst (λ n. HaveRisen n (g.J.Judge.ticks (judge_of c.args.self.now)) (g.J.Judge.ticks c.log.new.judge))
-    (ap (λ f. asked_by_all f rows) c.shown_of.ensures ∙ c.shown_instead-instead.ensures.asked rows)
+    (c.shown.ensures.asked rows)
     c.in_ok-log.ensures.ticks)
     c.record.ensures.pulls
 
@@ -51,25 +54,31 @@ returns-clause-asked g c =
 pub returns-clause-questions : goal.returns-clause-questions
 returns-clause-questions g c = λ frames h in_time.
     let log = log_frames frames in
-    hub_asks g.J.Judge.says c.args.self.now frames c.shown_of.result.now c.tell.new.self.states c.args.frame.now
+    hub_asks g.J.Judge.says c.args.self.now frames c.shown.result.now c.tell.new.self.states c.args.frame.now
     c.args.asks.now c.log.new.asks in_time
-    (c.shown_of.ensures ∙ c.shown_instead-instead.ensures.shown log h.books.pulls)
-    (c.in_ok-tell.ensures.states log h.books.states) h c.log.ensures.asks
+    (c.shown.ensures.shown log (subst (λ book. PullBookStandsFor book log)
+    (sym (c.in_ok-tell.ensures.pulls ∙ c.note_failed.ensures.pulls)) h.books.pulls))
+    (c.in_ok-tell.ensures.states log
+    (subst (λ book. StateBookStandsFor book log) (sym c.note_failed.ensures.states) h.books.states)) h
+    c.log.ensures.asks
 
 -- also where memory is wanting
 pub returns-in_err-log-clause-questions : goal.returns-in_err-log-clause-questions
 returns-in_err-log-clause-questions g c = λ frames h in_time.
     let log = log_frames frames in
-    hub_asks g.J.Judge.says c.args.self.now frames c.shown_of.result.now c.tell.new.self.states c.args.frame.now
+    hub_asks g.J.Judge.says c.args.self.now frames c.shown.result.now c.tell.new.self.states c.args.frame.now
     c.args.asks.now c.log.new.asks in_time
-    (c.shown_of.ensures ∙ c.shown_instead-instead.ensures.shown log h.books.pulls)
-    (c.in_ok-tell.ensures.states log h.books.states) h c.log.ensures.asks
+    (c.shown.ensures.shown log (subst (λ book. PullBookStandsFor book log)
+    (sym (c.in_ok-tell.ensures.pulls ∙ c.note_failed.ensures.pulls)) h.books.pulls))
+    (c.in_ok-tell.ensures.states log
+    (subst (λ book. StateBookStandsFor book log) (sym c.note_failed.ensures.states) h.books.states)) h
+    c.log.ensures.asks
 
 -- what doesn't hear the frame is as it was
 pub returns-clause-asleep : goal.returns-clause-asleep
 returns-clause-asleep g c =
     on_ok_weaker c.record.result
-    (λ records. unheard_stay g.J.Judge.says (moment_of_clock c.args.self.now.clock) c.shown_of.result.now
+    (λ records. unheard_stay g.J.Judge.says (moment_of_clock c.args.self.now.clock) c.shown.result.now
     c.tell.new.self.states c.args.frame.now c.args.self.now.lives.slots.entries c.log.new.self.slots.entries
-    (ap heard_id_of c.shown_of.ensures ∙ c.shown_instead-instead.ensures.heard) c.in_ok-log.ensures.slots)
+    c.shown.ensures.heard c.in_ok-log.ensures.slots)
     c.record.ensures.pulls

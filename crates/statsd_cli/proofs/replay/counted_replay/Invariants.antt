@@ -2,8 +2,8 @@
 -- session has 2^32 frames at most.
 use Rattle.std.proofs.Common.{◌-◌}
 use Rattle.session_frames.specs.Frames.{most_session_frames}
-use Rattle.statsd_cli.proofs.RunLemmas.{IsAlong}
-use Rattle.statsd_cli.proofs.top.counted_replay.Given as goal
+use Rattle.statsd_cli.specs.Along.{IsAlong}
+use Rattle.statsd_cli.proofs.replay.counted_replay.Given as goal
 
 abbrev pub invariant-frames : goal.invariant-frames
 invariant-frames g l =

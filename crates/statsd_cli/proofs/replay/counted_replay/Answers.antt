@@ -1,0 +1,7 @@
+-- One frame after the other, to the one with which the run ends.
+use Rattle.statsd_cli.specs.Along.{ComesTo}
+use Rattle.statsd_cli.proofs.RunLemmas.{begins_along}
+use Rattle.statsd_cli.proofs.replay.counted_replay.Goals as goal
+
+pub frames-init : goal.frames-init
+frames-init g c = begins_along _ _ _ _ c.new-reader.ensures c.new-hub.ensures.stands
