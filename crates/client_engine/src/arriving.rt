@@ -27,8 +27,31 @@ use state_slicer::StateBook;
 use std::alloc::{AllocError, Global};
 use std::sync::ledger::Ledger;
 
-/// The atom that arrives at a metric, if one does, whatever the metric makes of it. The condition is asked last.
+/// The atom that arrives at a metric, if one does, whatever the metric makes of it. Where the metric has no condition,
+/// nothing is asked of predicates.
 pub fn arriving<'a, L: Ledger>(
+    alloc: Global,
+    metric: &LMetric,
+    brought: &Brought<'a>,
+    conditions: &mut Conditions,
+    asks: &mut Steps<L>,
+) -> Result<Option<&'a Atom>, AllocError>
+    requires within { MayBeWithin (length conditions.old.predicates) metric.now.condition }
+    ensures atom { (scene : Scene) → IsOfScene (handed_with conditions.old brought.now) scene
+        → IfOk result (λ found. option_copied found
+        ≡ arriving_by scene metric.now (brought_step brought.now)) }
+    ensures known { conditions.new ≡ conditions.old }
+    ensures asks { asks.new ≤ asks.old
+        + arrival_questions brought.now.frame.now brought.now.matched.now metric.now }
+{
+    match metric.condition {
+        None => Ok(plain_arriving(metric, brought)),
+        Some(_) => arriving_on_condition(alloc, metric, brought, conditions, asks),
+    }
+}
+
+// The atom that arrives at a metric, if one does. The condition is asked last.
+fn arriving_on_condition<'a, L: Ledger>(
     alloc: Global,
     metric: &LMetric,
     brought: &Brought<'a>,
@@ -53,28 +76,6 @@ pub fn arriving<'a, L: Ledger>(
         return Ok(None);
     }
     Ok(Some(atom))
-}
-
-/// The same, where nothing is asked of predicates for a metric without a condition.
-pub fn soon_arriving<'a, L: Ledger>(
-    alloc: Global,
-    metric: &LMetric,
-    brought: &Brought<'a>,
-    conditions: &mut Conditions,
-    asks: &mut Steps<L>,
-) -> Result<Option<&'a Atom>, AllocError>
-    requires within { MayBeWithin (length conditions.old.predicates) metric.now.condition }
-    ensures atom { (scene : Scene) → IsOfScene (handed_with conditions.old brought.now) scene
-        → IfOk result (λ found. option_copied found
-        ≡ arriving_by scene metric.now (brought_step brought.now)) }
-    ensures known { conditions.new ≡ conditions.old }
-    ensures asks { asks.new ≤ asks.old
-        + arrival_questions brought.now.frame.now brought.now.matched.now metric.now }
-{
-    match metric.condition {
-        None => Ok(plain_arriving(metric, brought)),
-        Some(_) => arriving(alloc, metric, brought, conditions, asks),
-    }
 }
 
 // The atom that arrives at a metric without a condition, if one does.

@@ -19,7 +19,7 @@ ghost use Rattle.client_engine.specs.AskedFew.{AsksFew, arrival_questions};
 ghost use Rattle.client_engine.specs.Bringing.{handed_with, brought_step, TakesBrought};
 ghost use Rattle.client_engine.specs.CountsAlong.{CountsAlong, counts_shown_by, shown_count, shown_group};
 
-use crate::arriving::{metric_key_into, soon_arriving};
+use crate::arriving::{arriving, metric_key_into};
 use crate::brought::Brought;
 use crate::conditions::Conditions;
 use crate::groups::{RowShape, groups_of};
@@ -226,7 +226,7 @@ fn arrival<'k, L: Ledger>(
     ensures asks { asks.new ≤ asks.old
         + arrival_questions brought.now.frame.now brought.now.matched.now metric.now }
 {
-    let Some(atom) = soon_arriving(alloc, metric, brought, conditions, asks)? else {
+    let Some(atom) = arriving(alloc, metric, brought, conditions, asks)? else {
         return Ok(None);
     };
     metric_key_into(alloc, metric, brought, atom, room)?;

@@ -3,7 +3,7 @@ use Rattle.std.proofs.Common.{◌∙◌, arith}
 use Rattle.metric_meaning.specs.Readings.{atom_reading}
 use Rattle.client_engine.specs.Bringing.{handed_with}
 use Rattle.client_engine.proofs.ArrivingLemmas.{condition_there, not_arriving, one_arriving}
-use Rattle.client_engine.proofs.arriving.arriving.Goals as goal
+use Rattle.client_engine.proofs.arriving.arriving_on_condition.Goals as goal
 
 -- the condition isn't true
 pub returns-then-not-branch-clause-atom : goal.returns-then-not-branch-clause-atom
