@@ -5,6 +5,7 @@ mod ReachedLemmas
 mod QuestionLemmas
 mod BookLemmas
 mod NamesLemmas
+mod PlaceLemmas
 mod KeptLemmas
 mod ShownNamesLemmas
 mod NotedLemmas

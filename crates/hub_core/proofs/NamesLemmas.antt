@@ -82,7 +82,7 @@ named_last name names =
     named-push name names name ∙ or_right (is_named same_id name names) (same_id name name) (same_equiv.refl name)
 
 -- what is so of each of a list
-all_at : (P : LiveId → Type 0) (names : List LiveId) (place : ℕ) (name : LiveId) → AllByRecursion P names
+pub all_at : (P : LiveId → Type 0) (names : List LiveId) (place : ℕ) (name : LiveId) → AllByRecursion P names
     → slice_get names place ≡ Some name → P name
 all_at P [] place name all is = absurd (none-some name is)
 all_at P (first ∷ names) zero name all is = subst P (same_Some first name is) all.0

@@ -1,7 +1,8 @@
 -- Slots under names, and counts of them. Nothing here names what holds them.
-use Rattle.std.specs.Prelude.{◌≡◌, ℕ, ◌-◌, ◌==◌, ℤ, Bool, true, List, Option, Some, None, unwrap_or, count_by, if◌then◌else◌}
+use Rattle.std.specs.Prelude.{◌≡◌, ℕ, ◌-◌, ◌==◌, ℤ, Bool, true, List, Option, Some, None, unwrap_or, count_by, slice_get, if◌then◌else◌}
 use Rattle.std.specs.Option.{MatchOption}
-use Rattle.std.specs.Map.{lookup}
+use Rattle.std.specs.Map.{lookup, set_value, values_of}
+use Rattle.indexmap.specs.IndexMap.{set_value_at}
 use Rattle.std.specs.Ordering.{int_eq}
 use Rattle.bucket_meaning.specs.Ends.{Moment}
 use Rattle.report_writer.specs.declared.tree.ReportTree.{ReportTree}
@@ -36,6 +37,11 @@ same_id = block.ghosts.eq
 -- what is held at a client's id
 abbrev pub slot_at : LiveId → List (LiveId × LiveInstance) → Option LiveInstance
 slot_at name slots = lookup (same_id name) slots
+
+-- A name stands at this place: what is held there is held at the name, and what is written there is written under it.
+pub record StandsAt (name : LiveId) (place : ℕ) (slots : List (LiveId × LiveInstance)) : Type 0 where
+  pub there : slot_at name slots ≡ slice_get (values_of slots) place
+  pub written : (live : LiveInstance) → set_value_at slots place live ≡ set_value (same_id name) slots live
 
 -- the number that is listed for a client, if one is
 abbrev pub listed_at : ℤ → List (ℤ × ℕ) → Option ℕ

@@ -5,6 +5,7 @@ ghost use Rattle.session_frames.specs.Faultless.{IsFaultlessLog};
 ghost use Rattle.state_slicer.specs.StateBooks.{StateBookStandsFor};
 ghost use Rattle.pull_book.specs.PullBooks.{PullBookStandsFor};
 ghost use Rattle.metric_meaning.specs.ShownFrames.{shown_as};
+ghost use Rattle.hub_core.specs.BookStands.{IsAsFailed};
 
 use atom_record::{LogFrame, PullOutcome};
 use pull_book::PullBook;
@@ -17,14 +18,12 @@ use std::mem;
 pub struct Books {
     pub states: StateBook,
     pub pulls: PullBook,
-    /// The last pull, as one that failed.
-    failed: LogFrame,
 }
 
 impl Books {
     ghost use Rattle.client_engine.specs.declared.live_id.LiveId.{LiveId};
     ghost use Rattle.hub_core.specs.declared.live_instance.LiveInstance.{LiveInstance};
-    ghost use Rattle.hub_core.specs.BookStands.{BooksStandFor, IsAsFailed};
+    ghost use Rattle.hub_core.specs.BookStands.{BooksStandFor};
     ghost use Rattle.hub_core.specs.Sleeping.{heard_id_of};
     ghost use Rattle.hub_core.specs.SlotLogs.{asked_by_all};
 
@@ -35,29 +34,13 @@ impl Books {
         Books {
             states: StateBook::new(alloc),
             pulls: PullBook::new(alloc),
-            failed: LogFrame::Tick { at: 0 },
         }
     }
 
-    /// Notes a frame as a pull that failed, if it is a pull.
-    pub fn note_failed(&mut self, frame: &LogFrame)
-        ensures failed { IsAsFailed frame.now self.new.failed }
-        ensures states { self.new.states ≡ self.old.states }
-        ensures pulls { self.new.pulls ≡ self.old.pulls }
-    {
-        if let LogFrame::Pull { at, id, .. } = frame {
-            self.failed = LogFrame::Pull {
-                at: *at,
-                id: *id,
-                outcome: PullOutcome::Failed,
-            };
-        }
-    }
-
-    /// The frame as it is shown: a pull that isn't kept is shown as one that failed.
-    pub fn shown<'a>(&'a self, frame: &'a LogFrame) -> &'a LogFrame
+    /// The frame as it is shown: a pull that isn't kept is shown as the one that failed.
+    pub fn shown<'a>(&self, frame: &'a LogFrame, failed: &'a LogFrame) -> &'a LogFrame
         requires faultless { IsFaultlessLog frame.now }
-        requires failed { IsAsFailed frame.now self.now.failed }
+        requires failed { IsAsFailed frame.now failed.now }
         ensures shown { (log : List LogFrame) → PullBookStandsFor self.now.pulls log
             → result.now ≡ shown_as log frame.now }
         ensures faultless { IsFaultlessLog result.now }
@@ -68,13 +51,7 @@ impl Books {
         match frame {
             LogFrame::Tick { .. } => frame,
             LogFrame::AtomAt { .. } => frame,
-            LogFrame::Pull { id, .. } => {
-                if self.pulls.keeps(*id) {
-                    frame
-                } else {
-                    &self.failed
-                }
-            }
+            LogFrame::Pull { id, .. } => { if self.pulls.keeps(*id) { frame } else { failed } }
         }
     }
 
@@ -83,7 +60,6 @@ impl Books {
         ensures states { OnOk result ((log : List LogFrame) → StateBookStandsFor self.old.states log
             → StateBookStandsFor self.new.states (log ++ frame.now ∷ [])) }
         ensures pulls { self.new.pulls ≡ self.old.pulls }
-        ensures failed { self.new.failed ≡ self.old.failed }
     {
         match frame {
             LogFrame::Tick { .. } => Ok(()),
@@ -107,5 +83,18 @@ impl Books {
                 self.pulls.set(*id, pulled)
             }
         }
+    }
+}
+
+/// Notes a frame as a pull that failed, if it is a pull.
+pub fn note_failed(failed: &mut LogFrame, frame: &LogFrame)
+    ensures { IsAsFailed frame.now failed.new }
+{
+    if let LogFrame::Pull { at, id, .. } = frame {
+        *failed = LogFrame::Pull {
+            at: *at,
+            id: *id,
+            outcome: PullOutcome::Failed,
+        };
     }
 }

@@ -9,11 +9,12 @@ ghost use Rattle.hub_meaning.specs.SessionLog.{own, clock_of};
 ghost use Rattle.hub_meaning.specs.ClientAnswers.{reply_of, reply_to};
 ghost use Rattle.hub_meaning.specs.ClientIsolation.{EqualOwnFramesEqualReplies};
 
-use crate::books::Books;
+use crate::books::{Books, note_failed};
 use crate::configs::read_config;
 use crate::lives::Lives;
 use crate::log_clock::LogClock;
-use crate::logging::Coming;
+use crate::logging::{Coming, Rooms};
+use crate::places::Places;
 use atom_record::LogFrame;
 use client_engine::{LiveId, ReportRequest};
 use condition_links::Steps;
@@ -31,8 +32,9 @@ pub struct Hub<J: Judge> {
     clock: LogClock,
     books: Books,
     lives: Lives,
-    /// Room for the truths of one configuration.
-    truths: Vec<bool>,
+    rooms: Rooms,
+    /// The last pull, as one that failed.
+    failed: LogFrame,
 }
 
 impl<J: Judge> Hub<J> {
@@ -54,7 +56,11 @@ impl<J: Judge> Hub<J> {
             },
             books: Books::new(alloc),
             lives: Lives::new(alloc),
-            truths: Vec::new(alloc),
+            rooms: Rooms {
+                truths: Vec::new(alloc),
+                places: Places::new(alloc),
+            },
+            failed: LogFrame::Tick { at: 0 },
         }
     }
 
@@ -127,15 +133,15 @@ impl<J: Judge> Hub<J> {
     {
         let before = self.clock;
         self.clock = before.after(frame);
-        self.books.note_failed(frame);
+        note_failed(&mut self.failed, frame);
         self.books.tell(frame)?;
         let coming = Coming {
-            frame: self.books.shown(frame),
+            frame: self.books.shown(frame, &self.failed),
             states: &self.books.states,
             before,
         };
         self.lives
-            .log(&mut self.judge, &coming, &mut self.truths, asks)?;
+            .log(&mut self.judge, &coming, &mut self.rooms, asks)?;
         self.books.record(frame)
     }
 

@@ -8,6 +8,7 @@ mod live_instance;
 mod lives;
 mod log_clock;
 mod logging;
+mod places;
 mod slots;
 
 pub use hub::Hub;

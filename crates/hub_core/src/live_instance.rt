@@ -90,6 +90,7 @@ impl LiveInstance {
     }
 
     // Crosses what ended while it slept, by the last frame that came.
+    #[inline(always)]
     fn wake(&mut self, clock: LogClock) -> Result<(), AllocError>
         ensures caught { OnOk result (WakesUp (moment_of_clock clock) self.old.instance self.new.instance) }
         ensures same { HasSameSlots self.old self.new }

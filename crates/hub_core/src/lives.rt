@@ -9,7 +9,7 @@ use crate::books::Books;
 use crate::configs::link_config;
 use crate::live_instance::LiveInstance;
 use crate::log_clock::LogClock;
-use crate::logging::{Coming, comes_to_none, evaluate, log_heard};
+use crate::logging::{Coming, Rooms, comes_to_none, evaluate, log_heard};
 use crate::slots::{
     install_answer, last_request, others_of, put, release_old, remove_answer, report_answer,
     report_at, set_count, take_out,
@@ -78,7 +78,7 @@ impl Lives {
         &mut self,
         judge: &mut J,
         coming: &Coming<'_>,
-        truths: &mut Vec<bool>,
+        rooms: &mut Rooms,
         asks: &mut Steps<L>,
     ) -> Result<(), AllocError>
         requires sound { IsFaultlessLog coming.now.frame.now }
@@ -99,7 +99,7 @@ impl Lives {
             &self.notes,
             &self.table,
             coming,
-            truths,
+            rooms,
             asks,
         )
     }
@@ -108,6 +108,7 @@ impl Lives {
     fn is_unheard(&self, frame: &LogFrame) -> bool
         ensures { result ≡ true → NoneHears frame.now self.now.slots.entries }
     {
+        // `len` says too that no two names are the same, so that a name has one row.
         let is_empty = self.slots.len() == 0;
         comes_to_none(&self.notes, frame) || is_empty
     }

@@ -1,5 +1,5 @@
 //! A frame of the log comes to the table of matchers and to the live configurations that hear it.
-ghost use Rattle.std.specs.Prelude.{◌≡◌, ◌++◌, [], true, ℕ, OnOk};
+ghost use Rattle.std.specs.Prelude.{◌≡◌, ◌++◌, ◌∷◌, [], true, ℕ, OnOk};
 ghost use Rattle.std.specs.List.{IsDistinct};
 ghost use Rattle.session_frames.specs.Faultless.{IsFaultlessLog};
 ghost use Rattle.matcher_table.specs.Truths.{HaveRisen};
@@ -7,13 +7,14 @@ ghost use Rattle.matcher_table.specs.Contents.{contents_of};
 ghost use Rattle.id_notes.specs.Noted.{names_under, names_for_all};
 ghost use Rattle.hub_core.specs.SharedTable.{AllHeld, KeepsSlots};
 ghost use Rattle.hub_core.specs.Sleeping.{moment_of_clock, heard_id_of};
-ghost use Rattle.hub_core.specs.Slots.{same_id};
+ghost use Rattle.hub_core.specs.Slots.{same_id, StandsAt};
 ghost use Rattle.hub_core.specs.NotedLives.{AreNotedApart, noted_for};
 ghost use Rattle.hub_core.specs.SlotLogs.{EvaluatesFor, questions_for, NamedShown};
 ghost use Rattle.hub_core.specs.LiveQuestions.{NamesAsk};
 
 use crate::live_instance::LiveInstance;
 use crate::log_clock::LogClock;
+use crate::places::Places;
 use atom_record::LogFrame;
 use client_engine::LiveId;
 use condition_links::Steps;
@@ -31,6 +32,14 @@ pub struct Coming<'a> {
     pub frame: &'a LogFrame,
     pub states: &'a StateBook,
     pub before: LogClock,
+}
+
+/// Room that is kept from frame to frame.
+#[derive(Drop)]
+pub struct Rooms {
+    /// For the truths of one configuration.
+    pub truths: Vec<bool>,
+    pub places: Places,
 }
 
 /// The truths of all matchers of the table, for an atom alone. No judge is asked elsewhere.
@@ -62,7 +71,7 @@ pub fn log_heard<L: Ledger>(
     notes: &Notes<LiveId>,
     table: &MatcherTable,
     coming: &Coming<'_>,
-    truths: &mut Vec<bool>,
+    rooms: &mut Rooms,
     asks: &mut Steps<L>,
 ) -> Result<(), AllocError>
     requires sound { IsFaultlessLog coming.now.frame.now }
@@ -77,7 +86,7 @@ pub fn log_heard<L: Ledger>(
         slots.old.entries asks.old asks.new }
 {
     match heard_id(coming.frame) {
-        Some(id) => log_under(slots, notes, id, table, coming, truths, asks),
+        Some(id) => log_under(slots, notes, id, table, coming, rooms, asks),
         None => Ok(()),
     }
 }
@@ -100,7 +109,7 @@ fn log_under<L: Ledger>(
     id: u32,
     table: &MatcherTable,
     coming: &Coming<'_>,
-    truths: &mut Vec<bool>,
+    rooms: &mut Rooms,
     asks: &mut Steps<L>,
 ) -> Result<(), AllocError>
     requires sound { IsFaultlessLog coming.now.frame.now }
@@ -114,8 +123,8 @@ fn log_under<L: Ledger>(
         coming.now.frame.now coming.now.states.now (names_under notes.now id ++ names_for_all notes.now)
         slots.old.entries asks.old asks.new }
 {
-    log_named(slots, notes.under(id), table, coming, truths, asks)?;
-    log_named(slots, notes.for_all(), table, coming, truths, asks)
+    log_named(slots, notes.under(id), table, coming, rooms, asks)?;
+    log_named(slots, notes.for_all(), table, coming, rooms, asks)
 }
 
 // A frame comes to the configurations of these names.
@@ -124,7 +133,7 @@ fn log_named<L: Ledger>(
     names: &[LiveId],
     table: &MatcherTable,
     coming: &Coming<'_>,
-    truths: &mut Vec<bool>,
+    rooms: &mut Rooms,
     asks: &mut Steps<L>,
 ) -> Result<(), AllocError>
     requires sound { IsFaultlessLog coming.now.frame.now }
@@ -137,9 +146,82 @@ fn log_named<L: Ledger>(
         coming.now.frame.now coming.now.states.now names.now slots.old.entries asks.old asks.new }
 {
     for name in names {
-        if let Some(live) = slots.get_mut(name) {
-            live.log(table, coming, truths, asks)?;
-        }
+        log_one(slots, *name, table, coming, rooms, asks)?;
     }
     Ok(())
+}
+
+// A frame comes to the configuration of a name, if there is one. It mostly stands where it stood.
+#[inline(always)]
+fn log_one<L: Ledger>(
+    slots: &mut IndexMap<LiveId, LiveInstance>,
+    name: LiveId,
+    table: &MatcherTable,
+    coming: &Coming<'_>,
+    rooms: &mut Rooms,
+    asks: &mut Steps<L>,
+) -> Result<(), AllocError>
+    requires sound { IsFaultlessLog coming.now.frame.now }
+    requires held { AllHeld (contents_of table.now) slots.old.entries }
+    ensures shown { OnOk result (NamedShown (contents_of table.now) (moment_of_clock coming.now.before)
+        coming.now.frame.now coming.now.states.now (name ∷ []) slots.old.entries slots.new.entries) }
+    ensures kept { KeepsSlots slots.old.entries slots.new.entries }
+    ensures asks { NamesAsk (contents_of table.now) (moment_of_clock coming.now.before)
+        coming.now.frame.now coming.now.states.now (name ∷ []) slots.old.entries asks.old asks.new }
+{
+    match rooms.places.of(slots, name) {
+        Some(place) => log_at(slots, name, place, table, coming, &mut rooms.truths, asks),
+        None => log_found(slots, name, table, coming, rooms, asks),
+    }
+}
+
+// A frame comes to the configuration of a name that stands at this place.
+#[inline(always)]
+fn log_at<L: Ledger>(
+    slots: &mut IndexMap<LiveId, LiveInstance>,
+    name: LiveId,
+    place: usize,
+    table: &MatcherTable,
+    coming: &Coming<'_>,
+    truths: &mut Vec<bool>,
+    asks: &mut Steps<L>,
+) -> Result<(), AllocError>
+    requires sound { IsFaultlessLog coming.now.frame.now }
+    requires held { AllHeld (contents_of table.now) slots.old.entries }
+    requires there { StandsAt name place slots.old.entries }
+    ensures shown { OnOk result (NamedShown (contents_of table.now) (moment_of_clock coming.now.before)
+        coming.now.frame.now coming.now.states.now (name ∷ []) slots.old.entries slots.new.entries) }
+    ensures kept { KeepsSlots slots.old.entries slots.new.entries }
+    ensures asks { NamesAsk (contents_of table.now) (moment_of_clock coming.now.before)
+        coming.now.frame.now coming.now.states.now (name ∷ []) slots.old.entries asks.old asks.new }
+{
+    match slots.get_index_mut(place) {
+        Some(live) => live.log(table, coming, truths, asks),
+        None => Ok(()),
+    }
+}
+
+// A frame comes to the configuration of a name, which is looked up. Where it stands is kept.
+#[inline(never)]
+fn log_found<L: Ledger>(
+    slots: &mut IndexMap<LiveId, LiveInstance>,
+    name: LiveId,
+    table: &MatcherTable,
+    coming: &Coming<'_>,
+    rooms: &mut Rooms,
+    asks: &mut Steps<L>,
+) -> Result<(), AllocError>
+    requires sound { IsFaultlessLog coming.now.frame.now }
+    requires held { AllHeld (contents_of table.now) slots.old.entries }
+    ensures shown { OnOk result (NamedShown (contents_of table.now) (moment_of_clock coming.now.before)
+        coming.now.frame.now coming.now.states.now (name ∷ []) slots.old.entries slots.new.entries) }
+    ensures kept { KeepsSlots slots.old.entries slots.new.entries }
+    ensures asks { NamesAsk (contents_of table.now) (moment_of_clock coming.now.before)
+        coming.now.frame.now coming.now.states.now (name ∷ []) slots.old.entries asks.old asks.new }
+{
+    rooms.places.keep(slots, name);
+    match slots.get_mut(&name) {
+        Some(live) => live.log(table, coming, &mut rooms.truths, asks),
+        None => Ok(()),
+    }
 }

@@ -297,11 +297,7 @@ fn make_room(room: &mut Vec<u8>, size: usize) -> Result<(), AllocError>
 
 // What stands next in what is left: a frame, or nothing at the end.
 #[tactic(auto, unfolding(crate::specs::Frames::next_frame))]
-fn next_in(
-    alloc: Global,
-    place: &Place,
-    left: &[u8],
-) -> Result<Option<Frame>, FrameError>
+fn next_in(alloc: Global, place: &Place, left: &[u8]) -> Result<Option<Frame>, FrameError>
     ensures finds { FindsNext place.now result (frames.next_frame place.now left.now) }
     ensures sound { IfOk result (λ found.
         IfSome found (λ f. IsFaultless f × IsInTime place.now.clock f)) }

@@ -63,12 +63,24 @@ fn run<R: Read + Drop, K: Sink, E: Sink>(
     };
     let words = words.as_slice();
     if !Command::of(words).reads_input() {
-        return answer(alloc, words, Input::AsItCame(StdSource::new(input)), out, notes);
+        return answer(
+            alloc,
+            words,
+            Input::AsItCame(StdSource::new(input)),
+            out,
+            notes,
+        );
     }
     let Ok(buffered) = BufReader::new(alloc, input) else {
         return ExitCode::from(STATUS_NO_MEMORY);
     };
-    answer(alloc, words, Input::ReadAhead(BufferedSource::new(buffered)), out, notes)
+    answer(
+        alloc,
+        words,
+        Input::ReadAhead(BufferedSource::new(buffered)),
+        out,
+        notes,
+    )
 }
 
 /// Does what the words ask for, on an input that is its own.

@@ -22,11 +22,10 @@ returns-clause-stands g c = λ frames h in_time.
     let shown = c.shown.result.now in
     let shown_is : shown ≡ shown_as log frame = c.shown.ensures.shown log
     (subst (λ book. PullBookStandsFor book log)
-    (sym (c.in_ok-tell.ensures.pulls ∙ c.note_failed.ensures.pulls)) h.books.pulls) in
-    let told = c.in_ok-tell.ensures.states log
-    (subst (λ book. StateBookStandsFor book log) (sym c.note_failed.ensures.states) h.books.states) in
+    (sym c.in_ok-tell.ensures.pulls) h.books.pulls) in
+    let told = c.in_ok-tell.ensures.states log h.books.states in
     let pulls = subst (λ book. PullBookStandsFor book log)
-    (sym (c.in_ok-tell.ensures.pulls ∙ c.note_failed.ensures.pulls)) h.books.pulls in
+    (sym c.in_ok-tell.ensures.pulls) h.books.pulls in
     on_ok_weaker c.record.result
     (λ records. hub_log g.J.Judge.says c.args.self.now _ frames h frame shown in_time c.requires.faultless.timely
     c.after-self.ensures shown_is
@@ -57,9 +56,8 @@ returns-clause-questions g c = λ frames h in_time.
     hub_asks g.J.Judge.says c.args.self.now frames c.shown.result.now c.tell.new.self.states c.args.frame.now
     c.args.asks.now c.log.new.asks in_time
     (c.shown.ensures.shown log (subst (λ book. PullBookStandsFor book log)
-    (sym (c.in_ok-tell.ensures.pulls ∙ c.note_failed.ensures.pulls)) h.books.pulls))
-    (c.in_ok-tell.ensures.states log
-    (subst (λ book. StateBookStandsFor book log) (sym c.note_failed.ensures.states) h.books.states)) h
+    (sym c.in_ok-tell.ensures.pulls) h.books.pulls))
+    (c.in_ok-tell.ensures.states log h.books.states) h
     c.log.ensures.asks
 
 -- also where memory is wanting
@@ -69,9 +67,8 @@ returns-in_err-log-clause-questions g c = λ frames h in_time.
     hub_asks g.J.Judge.says c.args.self.now frames c.shown.result.now c.tell.new.self.states c.args.frame.now
     c.args.asks.now c.log.new.asks in_time
     (c.shown.ensures.shown log (subst (λ book. PullBookStandsFor book log)
-    (sym (c.in_ok-tell.ensures.pulls ∙ c.note_failed.ensures.pulls)) h.books.pulls))
-    (c.in_ok-tell.ensures.states log
-    (subst (λ book. StateBookStandsFor book log) (sym c.note_failed.ensures.states) h.books.states)) h
+    (sym c.in_ok-tell.ensures.pulls) h.books.pulls))
+    (c.in_ok-tell.ensures.states log h.books.states) h
     c.log.ensures.asks
 
 -- what doesn't hear the frame is as it was

@@ -1,0 +1,72 @@
+-- What stands at the place stands under the name, and took the frame.
+use Rattle.std.proofs.Common.{◌≡◌, ◌∙◌, [], ◌∷◌, Some, refl, sym, ap, subst}
+use Rattle.std.specs.Prelude.{IsSome}
+use Rattle.std.proofs.lemmas.Result.{on_ok_weaker}
+use Rattle.matcher_table.specs.Contents.{contents_of}
+use Rattle.hub_core.specs.Sleeping.{moment_of_clock}
+use Rattle.hub_core.specs.Slots.{slot_at}
+use Rattle.hub_core.proofs.EvaluationLemmas.{held_are_live}
+use Rattle.hub_core.proofs.KeptLemmas.{kept_same, kept_written}
+use Rattle.hub_core.proofs.LogLemmas.{found_held}
+use Rattle.hub_core.proofs.PlaceLemmas.{slots_written}
+use Rattle.hub_core.proofs.ShownNamesLemmas.{none_shown, shown_on, shown_past, asks_none, asks_on}
+use Rattle.hub_core.proofs.logging.log_at.Goals as goal
+
+pub log-requires-clause-live : goal.log-requires-clause-live
+log-requires-clause-live g c =
+    let table = contents_of c.args.table.now in
+    held_are_live table c.in-Some.live.now
+    (found_held table c.args.name c.in-Some.live.now c.args.slots.now.entries c.requires.held
+    (c.requires.there.there ∙ sym c.in-Some.ensures.value))
+
+pub returns-in-Some-clause-shown : goal.returns-in-Some-clause-shown
+returns-in-Some-clause-shown g c =
+    let table = contents_of c.args.table.now in
+    let moment = moment_of_clock c.args.coming.now.before in
+    let frame = c.args.coming.now.frame.now in
+    let book = c.args.coming.now.states.now in
+    let name = c.args.name in
+    let rows = c.args.slots.now.entries in
+    let live = c.log.new.self in
+    let there : slot_at name rows ≡ Some c.in-Some.live.now = c.requires.there.there ∙ sym c.in-Some.ensures.value in
+    on_ok_weaker c.log.result
+    (λ shows. shown_on table moment frame book [] name rows rows _ refl (none_shown table moment frame book rows)
+    c.in-Some.live.now live there shows
+    (λ other. ap (slot_at other) (c.requires.there.written live)
+    ∙ slots_written name live rows (subst IsSome (sym there) refl) other))
+    c.log.ensures.shown
+
+pub returns-in-Some-clause-kept : goal.returns-in-Some-clause-kept
+returns-in-Some-clause-kept g c =
+    kept_written c.args.name c.in-Some.live.now c.log.new.self c.log.ensures.same c.args.slots.now.entries _
+    (c.requires.there.there ∙ sym c.in-Some.ensures.value) (c.requires.there.written c.log.new.self)
+
+pub returns-in-Some-clause-asks : goal.returns-in-Some-clause-asks
+returns-in-Some-clause-asks g c =
+    let table = contents_of c.args.table.now in
+    let moment = moment_of_clock c.args.coming.now.before in
+    let frame = c.args.coming.now.frame.now in
+    let book = c.args.coming.now.states.now in
+    let rows = c.args.slots.now.entries in
+    let asks = c.args.asks.now in
+    asks_on table moment frame book [] c.args.name rows rows rows refl (none_shown table moment frame book rows)
+    c.in-Some.live.now asks asks c.log.new.asks (c.requires.there.there ∙ sym c.in-Some.ensures.value)
+    (asks_none table moment frame book [] rows asks) c.log.ensures.asks
+
+pub returns-in-None-clause-shown : goal.returns-in-None-clause-shown
+returns-in-None-clause-shown g c =
+    let table = contents_of c.args.table.now in
+    let moment = moment_of_clock c.args.coming.now.before in
+    let frame = c.args.coming.now.frame.now in
+    let book = c.args.coming.now.states.now in
+    let rows = c.args.slots.now.entries in
+    shown_past table moment frame book [] c.args.name rows rows rows refl (none_shown table moment frame book rows)
+    (c.requires.there.there ∙ sym c.in-None.ensures.value) refl
+
+pub returns-in-None-clause-kept : goal.returns-in-None-clause-kept
+returns-in-None-clause-kept g c = kept_same c.args.slots.now.entries
+
+pub returns-in-None-clause-asks : goal.returns-in-None-clause-asks
+returns-in-None-clause-asks g c =
+    asks_none (contents_of c.args.table.now) (moment_of_clock c.args.coming.now.before) c.args.coming.now.frame.now
+    c.args.coming.now.states.now (c.args.name ∷ []) c.args.slots.now.entries c.args.asks.now
