@@ -29,6 +29,7 @@ use std::sync::ledger::Ledger;
 
 /// The atom that arrives at a metric, if one does, whatever the metric makes of it. Where the metric has no condition,
 /// nothing is asked of predicates.
+#[inline(always)]
 pub fn arriving<'a, L: Ledger>(
     alloc: Global,
     metric: &LMetric,
@@ -51,6 +52,7 @@ pub fn arriving<'a, L: Ledger>(
 }
 
 // The atom that arrives at a metric, if one does. The condition is asked last.
+#[inline(never)]
 fn arriving_on_condition<'a, L: Ledger>(
     alloc: Global,
     metric: &LMetric,

@@ -166,6 +166,7 @@ impl Tracks {
 
     /// The one frame comes that stands for a run which leaves all metrics alone. Where no bucket can end with it, nothing
     /// is to be done.
+    #[inline(always)]
     pub fn catch_up(&mut self, at: u64, is_pull: bool) -> Result<(), AllocError>
         requires due { AllDue self.old.due self.old.list.items }
         requires marks { length self.old.marks.items ≡ length self.old.list.items }
