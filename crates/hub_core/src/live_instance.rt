@@ -70,7 +70,6 @@ impl LiveInstance {
     }
 
     /// Wakes up for a frame of the log that it hears: it is caught up, and then takes the frame in.
-    #[inline(always)]
     pub fn log<L: Ledger>(
         &mut self,
         table: &MatcherTable,
@@ -100,7 +99,6 @@ impl LiveInstance {
     }
 
     // Takes in a frame of the log as it is shown, an atom with the results of its slots. The buffer's room is kept.
-    #[inline(always)]
     fn take<L: Ledger>(
         &mut self,
         table: &MatcherTable,
