@@ -1,5 +1,5 @@
 -- What stands under one name more took the frame.
-use Rattle.std.proofs.Common.{◌+◌, List, [], ◌∷◌, ◌++◌, length, take, drop, get_or, sym, subst, ◌∙◌, arith}
+use Rattle.std.proofs.Common.{◌+◌, List, [], ◌∷◌, ◌++◌, take, drop, get_or, sym, subst, arith}
 use Rattle.std.proofs.lemmas.List.{take_all, take-append-drop}
 use Rattle.matcher_table.specs.Contents.{contents_of}
 use Rattle.client_engine.specs.declared.live_id.LiveId.{LiveId}

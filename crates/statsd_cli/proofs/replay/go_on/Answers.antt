@@ -1,11 +1,10 @@
 -- A frame of the log has no reply.
-use Rattle.std.proofs.Common.{◌≡◌, ◌≤◌, None, refl, subst, arith}
+use Rattle.std.proofs.Common.{◌≤◌, None, refl, subst, arith}
 use Rattle.atom_record.specs.declared.log.LogFrame.{LogFrame}
 use Rattle.sd_io.proofs.CausesLemmas.{Gains-nil}
 use Rattle.session_frames.specs.declared.frame.Frame.TheVariants.{Log}
 use Rattle.session_frames.specs.Frames.{log_time}
 use Rattle.session_frames.specs.LogRooms.{frame_in}
-use Rattle.matcher_eval.specs.AtomTests.{matcher_holds}
 use Rattle.hub_meaning.specs.ClientAnswers.{reply_to}
 use Rattle.statsd_cli.proofs.RunLemmas.{clock_along, comes_nearer, goes_on, ends_in_step}
 use Rattle.statsd_cli.proofs.replay.go_on.Goals as goal

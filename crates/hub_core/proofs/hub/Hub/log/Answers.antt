@@ -1,5 +1,5 @@
 -- The frame is told, shown and recorded, and the hub stands for the log with it.
-use Rattle.std.proofs.Common.{◌≡◌, ◌∙◌, ◌++◌, ◌∷◌, [], sym, subst}
+use Rattle.std.proofs.Common.{◌≡◌, ◌++◌, ◌∷◌, [], sym, subst}
 use Rattle.std.proofs.lemmas.Result.{on_ok_weaker}
 use Rattle.state_slicer.specs.StateBooks.{StateBookStandsFor}
 use Rattle.pull_book.specs.PullBooks.{PullBookStandsFor}

@@ -1,7 +1,6 @@
 -- The name stands there, and no other row has it.
 use Rattle.std.proofs.Common.{◌≡◌, true, Some, sym, ap, ◌∙◌, rules}
 use Rattle.client_engine.specs.declared.live_id.LiveId.{LiveId}
-use Rattle.hub_core.specs.declared.live_instance.LiveInstance.{LiveInstance}
 use Rattle.hub_core.specs.Slots.{same_id}
 use Rattle.hub_core.proofs.NamesLemmas.{same_is}
 use Rattle.hub_core.proofs.PlaceLemmas.{stands_there}
