@@ -55,3 +55,11 @@ one_more_marked places turn here none old new within is before stay marked other
 pub all_are_marked : (places : List ℕ) (turn : ℕ) (marks : List Bool) → length places ≤ turn
     → AreAllMarked (take turn places) marks → AreAllMarked places marks
 all_are_marked places turn marks ends marked = subst (λ l. AreAllMarked l marks) (take_all turn places ends) marked
+
+-- there is but one of these places, and it is marked
+pub only_marked : (places : List ℕ) (marks : List Bool) → length places ≡ 1 → IsMarked marks (get_or places 0 0)
+    → AreAllMarked places marks
+only_marked places marks one marked =
+    all_are_marked places 1 marks (omega (arith, one))
+    (one_more_marked places 0 (get_or places 0 0) 0 marks marks (omega (arith, one)) refl (none_to_mark places marks)
+    (λ place on. on) marked)

@@ -11,7 +11,7 @@ use Rattle.client_engine.specs.NextSteps.{MayLog, TakesFrame}
 use Rattle.client_engine.specs.Questions.{questions_of}
 use Rattle.client_engine.specs.Tracks.{metric_in, AllStandFor}
 use Rattle.client_engine.specs.TrackStands.{TrackStandsFor}
-use Rattle.client_engine.specs.Marks.{IsMarked}
+use Rattle.client_engine.specs.Marks.{AreAllMarked, IsMarked}
 use Rattle.client_engine.specs.declared.track.MetricLane.{MetricLane}
 use Rattle.client_engine.specs.declared.track.MetricLane.TheVariants.{Counts, Values, PulledValues, Gauges, PulledGauges, Events, Sums, Longest}
 use Rattle.client_engine.specs.declared.track.Track.{Track}
@@ -61,6 +61,13 @@ pub record AreWoken (given : Handed) (shown : LogFrame) (truths : List Bool) (fi
       → MayLog installed steps given shown frame truths
       → after ≤ before + marked_questions marks (map metric_in first) installed steps shown truths
   pub ends : AllDue due now
+
+-- The same of metrics that are marked somehow, those at these places among them.
+pub record WakesThese (places : List ℕ) (given : Handed) (shown : LogFrame) (truths : List Bool) (first : List Track)
+    (before : ℕ) (now : List Track) (after due : ℕ) : Type 0 where
+  pub marks : List Bool
+  pub woken : AreWoken given shown truths first before now marks after due
+  pub all : AreAllMarked places marks
 
 module _ (given : Handed) (shown : LogFrame) (truths : List Bool) (old : List Track) (marks : List Bool) (here due : ℕ)
   where

@@ -10,7 +10,7 @@ ghost use Rattle.client_engine.specs.Finding.{MayAsk, CanBeMatched};
 ghost use Rattle.client_engine.specs.Tracks.{CanBeTracked, metric_in, AsksWithin, AllAskWithin, AreNew, AllStandFor, AllReport};
 ghost use Rattle.client_engine.specs.Waking.{OthersSleep};
 ghost use Rattle.client_engine.specs.Marks.{IsMarked, AreAllMarked, KeepsMarks};
-ghost use Rattle.client_engine.specs.Woken.{AllDue, AreWoken, OnMoreWoken, FewAsked};
+ghost use Rattle.client_engine.specs.Woken.{AllDue, AreWoken, OnMoreWoken, FewAsked, WakesThese};
 
 use crate::brought::Brought;
 use crate::conditions::Conditions;
@@ -93,9 +93,46 @@ impl Tracks {
             self.due = least_end(self.list.as_slice());
             return Ok(());
         }
+        if woken.len() == 1 {
+            self.due = self.wake_only(alloc, woken, due, brought, conditions, asks)?;
+            return Ok(());
+        }
         self.marks.fill(false);
         self.due = self.wake_all(alloc, woken, due, brought, conditions, asks)?;
         Ok(())
+    }
+
+    // A frame comes to the metric at the one place of these. No other one can come to it again, so it needs no mark. The
+    // answer is a time before which no bucket ends.
+    fn wake_only<L: Ledger>(
+        &mut self,
+        alloc: Global,
+        woken: &[usize],
+        due: u64,
+        brought: &Brought<'_>,
+        conditions: &mut Conditions,
+        asks: &mut Steps<L>,
+    ) -> Result<u64, AllocError>
+        requires one { length woken.now ≡ 1 }
+        requires within { AllAskWithin conditions.old self.old.list.items }
+        requires matched { CanBeMatched brought.now }
+        requires due { AllDue due self.old.list.items }
+        ensures woken { IfOk result (WakesThese woken.now (handed_with conditions.old brought.now) brought.now.frame.now
+            brought.now.matched.now self.old.list.items asks.old self.new.list.items asks.new) }
+        ensures metrics { map metric_in self.new.list.items ≡ map metric_in self.old.list.items }
+        ensures known { conditions.new ≡ conditions.old }
+        ensures asks { AsksFew AllStandFor (map metric_in self.old.list.items)
+            conditions.old brought.now self.old.list.items asks.old asks.new }
+        ensures due { self.new.due ≡ self.old.due }
+        ensures marks { self.new.marks ≡ self.old.marks }
+    {
+        let place = woken[0];
+        if place >= self.list.len() {
+            return Ok(due);
+        }
+        let track = &mut self.list[place];
+        track.log(alloc, brought, conditions, asks)?;
+        Ok(due.min(track.next_end()))
     }
 
     // A frame comes to the metrics at these places. The answer is a time before which no bucket ends.

@@ -10,6 +10,10 @@ returns-in_err-log_all-clause-due g c = rw (c.replace-due.ensures.after) (none_d
 
 pub returns-in_err-self-clause-due : goal.returns-in_err-self-clause-due
 returns-in_err-self-clause-due g c =
+    rw (c.wake_only.ensures.due, c.replace-due.ensures.after) (none_due c.wake_only.new.self.list.items)
+
+pub returns-in_err-self-2-clause-due : goal.returns-in_err-self-2-clause-due
+returns-in_err-self-2-clause-due g c =
     rw (c.wake_all.ensures.due, c.replace-due.ensures.after) (none_due c.wake_all.new.self.list.items)
 
 -- those that it doesn't wake sleep through it
@@ -20,7 +24,21 @@ returns-clause-logs g c =
     let at = c.time_of.ensures in
     let due = c.replace-due.ensures.value in
     all_woken (handed_with c.args.conditions.now brought) brought.frame.now brought.matched.now
-    c.args.self.now.list.items c.wake_all.new.self.list.items c.args.asks.now c.wake_all.new.asks c.in_ok-self.field-0
-    c.args.self.now.due c.wake_all.new.self.marks.items c.args.woken.now c.in_ok-self.ensures.woken
+    c.args.self.now.list.items c.wake_all.new.self.list.items c.args.asks.now c.wake_all.new.asks c.in_ok-self-2.field-0
+    c.args.self.now.due c.wake_all.new.self.marks.items c.args.woken.now c.in_ok-self-2.ensures.woken
     (omega (arith, before, at, due)) (sym c.comes_by_pull.ensures ∙ grind (arith, c.if-comes_by_pull.false))
-    c.requires.due c.requires.others c.in_ok-self.ensures.all
+    c.requires.due c.requires.others c.in_ok-self-2.ensures.all
+
+-- also where it wakes one alone
+pub returns-then-woken-eq1-clause-logs : goal.returns-then-woken-eq1-clause-logs
+returns-then-woken-eq1-clause-logs g c =
+    let brought = c.args.brought.now in
+    let before = c.if-time_of-due.false in
+    let at = c.time_of.ensures in
+    let due = c.replace-due.ensures.value in
+    let these = c.in_ok-self.ensures.woken in
+    all_woken (handed_with c.args.conditions.now brought) brought.frame.now brought.matched.now
+    c.args.self.now.list.items c.wake_only.new.self.list.items c.args.asks.now c.wake_only.new.asks
+    c.in_ok-self.field-0 c.args.self.now.due these.marks c.args.woken.now these.woken
+    (omega (arith, before, at, due)) (sym c.comes_by_pull.ensures ∙ grind (arith, c.if-comes_by_pull.false))
+    c.requires.due c.requires.others these.all
