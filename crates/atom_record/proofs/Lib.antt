@@ -9,3 +9,5 @@ pub mod AtomSoundLemmas
 pub mod TypedLaws
 pub mod LoopLemmas
 mod AtomReadingSteps
+pub mod SparseLemmas
+pub mod FedLemmas

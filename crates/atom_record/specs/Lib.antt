@@ -6,6 +6,8 @@ pub mod Equal
 pub mod Flags
 pub mod Hashing
 pub mod Id
+pub mod KeyHashing
 pub mod Pulled
+pub mod Sparse
 pub mod TypedValue
 pub mod ValueTypes

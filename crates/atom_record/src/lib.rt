@@ -5,6 +5,7 @@ mod atom;
 mod decode;
 mod encode;
 mod fault;
+mod key;
 mod log;
 mod parse;
 mod value;
@@ -15,6 +16,7 @@ pub use encode::{encode_atom, encode_value};
 pub use fault::{
     AtomFault, BAD_FLAGS, BAD_ID, BAD_PLACE, BAD_TYPE, CUT, NOT_ABOVE, OTHER_ID, TOO_LONG,
 };
+pub use key::{DimKey, Leaves};
 pub use log::{LogFrame, PullOutcome, is_pulled};
 pub use parse::{MAX_BYTES, parse_atom, parse_atom_into};
-pub use value::{Bytes, CloneKey, DimKey, Leaf, MetricKey, Slice, Value};
+pub use value::{Bytes, Leaf, MetricKey, Slice, Value};

@@ -2,12 +2,13 @@
 ghost use Rattle.std.specs.Prelude.{◌≡◌, IfOk};
 ghost use Rattle.std.proofs.Common.{rules};
 
+use crate::DimKey;
 use sd_base::{Duplicate, Exact, Seq};
 use std::alloc::{AllocError, Global};
 use std::hash::{Hash, Hasher};
 
 /// What a missing leaf feeds a hasher, which no truth does.
-const MISSING: u8 = 2;
+pub(crate) const MISSING: u8 = 2;
 
 /// A string of bytes.
 pub type Bytes = Seq<u8>;
@@ -39,9 +40,6 @@ pub enum Leaf {
     /// The values at all positions of a repeated field, in order.
     Many(Seq<Value>),
 }
-
-/// A key of dimensions: the values at the leaves, in the order of the leaves.
-pub type DimKey = Seq<Leaf>;
 
 /// The part of a key that comes from a state.
 #[derive(Clone, Copy, PartialEq, Eq)]
@@ -75,20 +73,6 @@ impl MetricKey {
     pub fn clone_key(&self, alloc: Global) -> Result<MetricKey, AllocError>
         ensures { IfOk result (λ copy. copy ≡ self.now) }
     {
-        self.duplicate(alloc)
-    }
-}
-
-/// Copies of keys of dimensions. Their type is a name of a list, which takes no methods of its own.
-pub trait CloneKey: Sized {
-    /// A copy of the dimensions. It equals its source, and memory is all that it can want.
-    fn clone_key(&self, alloc: Global) -> Result<Self, AllocError>
-        ensures { IfOk result (λ copy. copy ≡ self.now) };
-}
-
-impl CloneKey for DimKey {
-    /// A copy of the dimensions with leaves of its own.
-    fn clone_key(&self, alloc: Global) -> Result<DimKey, AllocError> {
         self.duplicate(alloc)
     }
 }
@@ -151,7 +135,7 @@ impl Hash for Leaf {
 }
 
 impl Hash for Slice {
-    ghost use Rattle.atom_record.specs.Hashing.{slice_fed, slice_alike};
+    ghost use Rattle.atom_record.specs.KeyHashing.{slice_fed, slice_alike};
 
     ghost hash_input = { slice_fed };
 
@@ -172,20 +156,14 @@ impl Hash for Slice {
 }
 
 impl Hash for MetricKey {
-    ghost use Rattle.atom_record.specs.Hashing.{metric_key_fed, metric_key_alike};
+    ghost use Rattle.atom_record.specs.KeyHashing.{metric_key_fed, metric_key_alike};
 
     ghost hash_input = { metric_key_fed };
 
     ghost respects_eq = { metric_key_alike.fed };
 
     fn hash<H: Hasher>(&self, state: &mut H) {
-        // Most keys have one dimension, which needs no loop.
-        if let [leaf] = self.dims.as_slice() {
-            state.write_usize(1);
-            leaf.hash(state);
-        } else {
-            self.dims.hash(state);
-        }
+        self.dims.hash(state);
         Slice::hash_slice(self.slices.as_slice(), state);
     }
 }

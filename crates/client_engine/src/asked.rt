@@ -66,7 +66,7 @@ impl Asked for Nothing {
 
     fn read(&self, alloc: Global, set: &FieldSet) -> Result<DimKey, AllocError> {
         let _set = set;
-        Ok(Seq::new(alloc))
+        Ok(DimKey::new(alloc))
     }
 
     fn bind(&self, alloc: Global, link: &LLink) -> Result<BindList, AllocError> {

@@ -14,7 +14,7 @@ pub fn leaves_of(alloc: Global, dims: DimKey) -> Result<Seq<LeafTree>, AllocErro
 {
     let mut leaves = Seq::with_capacity(alloc, dims.len())?;
     let mut place: u32 = 0;
-    for leaf in dims.into_vec() {
+    for leaf in dims.into_leaves() {
         add_leaf(&mut leaves, place, leaf)?;
         // It stands still at the end of its type, where no key comes.
         place = place.saturating_add(1);

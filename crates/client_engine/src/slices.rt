@@ -79,7 +79,7 @@ fn state_key<A: Asked>(
 {
     match in_what {
         Some(set) => asked.read(alloc, set),
-        None => Ok(Seq::new(alloc)),
+        None => Ok(DimKey::new(alloc)),
     }
 }
 

@@ -50,7 +50,7 @@ pub fn read_key(
 {
     let leaves = inner.leaves.as_slice();
     let table = table_of(alloc, leaves)?;
-    values_at(alloc, leaves, &table, key.as_slice(), set.leaves.as_slice())
+    values_at(alloc, leaves, &table, key, set.leaves.as_slice())
 }
 
 // The values that a key of some leaves has at others.
@@ -58,14 +58,14 @@ fn values_at(
     alloc: Global,
     leaves: &[LeafPath],
     table: &Option<Distinct<LeafPath>>,
-    values: &[Leaf],
+    values: &DimKey,
     others: &[LeafPath],
 ) -> Result<DimKey, AllocError>
     requires { IfSome table.now (λ those. those ≡ leaves.now) }
     ensures { IfOk result (λ key.
         key ≡ map (λ leaf. value_at_leaf leaves.now values.now leaf) others.now) }
 {
-    let mut key = Seq::new(alloc);
+    let mut key = DimKey::new(alloc);
     for leaf in others {
         let value = read_value(alloc, leaves, table, values, leaf)?;
         key.push(value)?;
@@ -94,7 +94,7 @@ fn bind_places(alloc: Global, places: &[u32], values: DimKey) -> Result<BindList
     ensures { IfOk result (λ binds. binds ≡ binds_of places.now values) }
 {
     let mut binds = Seq::new(alloc);
-    for value in values.into_vec() {
+    for value in values.into_leaves() {
         bind_next(&mut binds, places, value)?;
     }
     Ok(binds)
@@ -144,7 +144,7 @@ fn read_value(
     alloc: Global,
     leaves: &[LeafPath],
     table: &Option<Distinct<LeafPath>>,
-    values: &[Leaf],
+    values: &DimKey,
     leaf: &LeafPath,
 ) -> Result<Leaf, AllocError>
     requires { IfSome table.now (λ those. those ≡ leaves.now) }

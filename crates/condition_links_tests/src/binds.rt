@@ -78,7 +78,7 @@ fn binds_what_an_atom_has(rt: HostRuntime) -> Result<(), Fail> {
 
 // A key of these integers, or nothing.
 fn key(alloc: Global, numbers: &[Option<i32>]) -> Result<DimKey, AllocError> {
-    let mut key = Seq::new(alloc);
+    let mut key = DimKey::new(alloc);
     for number in numbers {
         let leaf = match number {
             Some(number) => Leaf::One(Value::Int(*number)),

@@ -3,6 +3,7 @@ ghost use Rattle.condition_links.specs.Conditions.{predicate_names, condition_of
 ghost use Rattle.link_graph.specs.Links.{AreInRange, HasNoCycle};
 ghost use Rattle.std.specs.Prelude.{◌≡◌, IfOk, IfSome, IsTrue, ◌<◌, ◌^◌, length};
 
+use atom_record::DimKey;
 use condition_links::{Steps, query};
 use config_links::{CondTree, LPredBody, LPredicate, MOST_PREDICATES};
 use config_types::{Operation, PredSpec};
@@ -49,8 +50,8 @@ pub fn combo(alloc: Global, op: Operation, places: &[u32]) -> Result<LPredicate,
 pub fn table(alloc: Global, truth: Truth) -> Result<PredTable, AllocError> {
     let mut table = PredTable::new(alloc, SPEC);
     match truth {
-        Truth::True => table.apply(PredEvent::Start, Seq::new(alloc))?,
-        Truth::False => table.apply(PredEvent::Stop, Seq::new(alloc))?,
+        Truth::True => table.apply(PredEvent::Start, DimKey::new(alloc))?,
+        Truth::False => table.apply(PredEvent::Stop, DimKey::new(alloc))?,
         Truth::Unknown => {}
     }
     Ok(table)

@@ -8,7 +8,7 @@ ghost use Rattle.metric_kinds.specs.Counts.{row_weight};
 ghost use Rattle.count_metric.specs.CountStands.{tally_row, spilled_rows, overflow_row, CountStandsFor, ClosesPart};
 
 use crate::{Closed, CountCell, Producer, ReadsEvents, Row};
-use atom_record::MetricKey;
+use atom_record::{DimKey, MetricKey};
 use bucket_clock::Crossings;
 use dim_table::{Admit, Guarded};
 use indexmap::map::IntoIter;
@@ -116,7 +116,7 @@ fn spilled_row(alloc: Global, start: u64, end: u64, number: u64) -> Row<CountCel
     ensures { result ≡ overflow_row start end number }
 {
     let key = MetricKey {
-        dims: Seq::new(alloc),
+        dims: DimKey::new(alloc),
         slices: Seq::new(alloc),
     };
     let value = CountCell {

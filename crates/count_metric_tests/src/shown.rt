@@ -1,12 +1,12 @@
 //! What a producer hands out, as text.
-use atom_record::{Leaf, MetricKey, Value};
+use atom_record::{DimKey, Leaf, MetricKey, Value};
 use count_metric::{Closed, CountCell, Row};
 use sd_base::Seq;
 use std::alloc::{AllocError, Global};
 
 /// The key with one number.
 pub fn key_of(alloc: Global, number: i32) -> Result<MetricKey, AllocError> {
-    let mut dims = Seq::new(alloc);
+    let mut dims = DimKey::new(alloc);
     dims.push(Leaf::One(Value::Int(number)))?;
     Ok(MetricKey {
         dims,
@@ -17,7 +17,7 @@ pub fn key_of(alloc: Global, number: i32) -> Result<MetricKey, AllocError> {
 /// The empty key.
 pub fn no_key(alloc: Global) -> MetricKey {
     MetricKey {
-        dims: Seq::new(alloc),
+        dims: DimKey::new(alloc),
         slices: Seq::new(alloc),
     }
 }
@@ -48,9 +48,9 @@ fn push_row(text: &mut String, row: &Row<CountCell>) -> Result<(), AllocError> {
 
 /// Puts the number of a key that has one and nothing else, or that the key is empty.
 fn push_key(text: &mut String, key: &MetricKey) -> Result<(), AllocError> {
-    match (key.dims.as_slice(), key.slices.is_empty()) {
-        ([Leaf::One(Value::Int(number))], true) => write!(text, "{number}"),
-        ([], true) => text.push_str("none"),
+    match (key.dims.len(), key.dims.get(0), key.slices.is_empty()) {
+        (1, Some(Leaf::One(Value::Int(number))), true) => write!(text, "{number}"),
+        (0, None, true) => text.push_str("none"),
         _ => text.push_str("another key"),
     }
 }

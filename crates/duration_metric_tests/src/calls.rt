@@ -155,7 +155,7 @@ fn step_of(at: u64, text: &str) -> Option<Do<'_>> {
 
 /// The key with one leaf.
 pub fn key_of(alloc: Global, number: i32) -> Result<DimKey, AllocError> {
-    let mut dims = Seq::new(alloc);
+    let mut dims = DimKey::new(alloc);
     dims.push(Leaf::One(Value::Int(number)))?;
     Ok(dims)
 }
@@ -234,7 +234,7 @@ fn push_inner<P: Timed>(shown: &mut String, producer: &P) -> Result<(), AllocErr
         let Some(key) = producer.key(place) else {
             return shown.push_str("no key ");
         };
-        push_key(shown, key.as_slice())?;
+        push_key(shown, key)?;
         shown.push_str(letter_of(producer.truth(place)))?;
     }
     shown.push_str("; ")

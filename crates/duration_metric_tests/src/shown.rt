@@ -1,5 +1,5 @@
 //! What a report shows, as words: `7:0-10=5` is the row of a key from a start to an end.
-use atom_record::{Leaf, Value};
+use atom_record::{DimKey, Leaf, Value};
 use duration_metric::{Closed, Row};
 use std::alloc::AllocError;
 
@@ -25,22 +25,22 @@ pub fn push_total(text: &mut String, closed: &Closed<u64>) -> Result<(), AllocEr
 }
 
 fn push_row(text: &mut String, row: &Row<u64>) -> Result<(), AllocError> {
-    push_key(text, row.key.dims.as_slice())?;
+    push_key(text, &row.key.dims)?;
     let (start, end, value) = (row.start, row.end, row.value);
     write!(text, ":{start}-{end}={value} ")
 }
 
 /// The numbers that a key is made of.
-pub fn push_key(text: &mut String, leaves: &[Leaf]) -> Result<(), AllocError> {
-    for leaf in leaves {
-        push_leaf(text, leaf)?;
+pub fn push_key(text: &mut String, key: &DimKey) -> Result<(), AllocError> {
+    for place in 0..key.len() {
+        push_leaf(text, key.get(place))?;
     }
     Ok(())
 }
 
-fn push_leaf(text: &mut String, leaf: &Leaf) -> Result<(), AllocError> {
+fn push_leaf(text: &mut String, leaf: Option<&Leaf>) -> Result<(), AllocError> {
     match leaf {
-        Leaf::One(Value::Int(number)) => write!(text, "{number}"),
+        Some(Leaf::One(Value::Int(number))) => write!(text, "{number}"),
         _ => text.push_str("?"),
     }
 }

@@ -14,7 +14,9 @@ pub fn key_of(alloc: Global, set: &FieldSet, atom: &Atom) -> Result<DimKey, Allo
     ensures key { IfOk result (λ key. key ≡ key_of set.now atom.now) }
     ensures leaves { IfOk result (λ key. length key ≡ length set.now.leaves) }
 {
-    let mut key = Seq::with_capacity(alloc, set.leaves.len())?;
+    // An atom has no more values than entries, however many leaves are asked for.
+    let room = set.leaves.len().min(atom.fields.len());
+    let mut key = DimKey::with_capacity(alloc, room)?;
     key_into(alloc, set, atom, &mut key)?;
     Ok(key)
 }

@@ -142,11 +142,11 @@ fn compare_key(
 ) -> Result<(), AllocError> {
     tester.case();
     let mut key = key_of(alloc, set, atom)?;
-    let found = key_text(alloc, key.as_slice())?;
+    let found = key_text(alloc, &key)?;
     tester.same_text("key", row.word("key"), found.as_str().trim())?;
     tester.case();
     key_into(alloc, set, atom, &mut key)?;
-    let again = key_text(alloc, key.as_slice())?;
+    let again = key_text(alloc, &key)?;
     tester.same_text("key again", row.word("key"), again.as_str().trim())
 }
 

@@ -1,6 +1,6 @@
 //! Leaves and keys as text.
 
-use atom_record::{Atom, Leaf, Value};
+use atom_record::{Atom, DimKey, Leaf, Value};
 use config_types::{FieldMatcher, Position};
 use field_select::{FieldSet, LeafPath, SelectError, field_set, leaf_value};
 use std::alloc::{AllocError, Global};
@@ -42,19 +42,19 @@ fn position_text(position: Option<Position>) -> &'static str {
 }
 
 /// The leaves of a key, as `Int(10) - Int(21)+Int(22)`.
-pub fn key_text(alloc: Global, key: &[Leaf]) -> Result<String, AllocError> {
+pub fn key_text(alloc: Global, key: &DimKey) -> Result<String, AllocError> {
     let mut text = String::new(alloc);
-    for leaf in key {
-        push_value(&mut text, leaf)?;
+    for place in 0..key.len() {
+        push_value(&mut text, key.get(place))?;
     }
     Ok(text)
 }
 
-fn push_value(text: &mut String, leaf: &Leaf) -> Result<(), AllocError> {
+fn push_value(text: &mut String, leaf: Option<&Leaf>) -> Result<(), AllocError> {
     match leaf {
-        Leaf::Missing => text.push_str("- "),
-        Leaf::One(value) => write!(text, "{value:?} "),
-        Leaf::Many(values) => push_values(text, values.as_slice()),
+        Some(Leaf::One(value)) => write!(text, "{value:?} "),
+        Some(Leaf::Many(values)) => push_values(text, values.as_slice()),
+        _ => text.push_str("- "),
     }
 }
 

@@ -1,14 +1,14 @@
 //! From bytes to items.
-ghost use Rattle.std.specs.Prelude.{◌≡◌, ℕ, List, ◌∷◌, Result, Ok, Err};
+ghost use Rattle.std.specs.Prelude.{◌≡◌, ℕ, List, ◌∷◌, Result, Ok, Err, IfOk};
 ghost use Rattle.std.specs.Int.{w16, w32, w64};
 ghost use Rattle.sd_base.specs.Reads.{GivesBy, many};
 ghost use Rattle.flat_form.specs.ItemReading.{NoItem, no_item_of, item_uint_at, counted_at, values_at, leaf_at, slice_at, item_at};
 ghost use Rattle.flat_form.specs.ItemRange.{ReadsItems};
 
 use crate::{FlatError, Item, Items};
-use atom_record::{AtomFault, Leaf, Slice, Value, decode_value, parse_atom};
+use atom_record::{AtomFault, DimKey, Leaf, Slice, Value, decode_value, parse_atom};
 use sd_base::{Seq, split_bytes, split_counted, split_u16, split_u32, split_u64};
-use std::alloc::Global;
+use std::alloc::{AllocError, Global};
 
 fn u16_of(bytes: &[u8]) -> Result<(u16, &[u8]), FlatError>
     ensures { GivesBy no_item_of (λ x. (x.0, x.1.now)) result (item_uint_at w16 bytes.now) }
@@ -175,14 +175,25 @@ fn num_of(bytes: &[u8]) -> Result<(Item, &[u8]), FlatError>
     Ok((Item::Num(number), rest))
 }
 
+// The key of these leaves.
+fn key_from(alloc: Global, leaves: Seq<Leaf>) -> Result<DimKey, AllocError>
+    ensures { IfOk result (λ key. key ≡ leaves) }
+{
+    let mut key = DimKey::new(alloc);
+    for leaf in leaves.into_vec() {
+        key.push(leaf)?;
+    }
+    Ok(key)
+}
+
 // What stands after the tag 2: leaves.
 #[tactic(auto, unfolding(crate::specs::ItemReading::item_at))]
 fn dims_of(alloc: Global, bytes: &[u8]) -> Result<(Item, &[u8]), FlatError>
     ensures { GivesBy no_item_of (λ x. (x.0, x.1.now)) result (item_at (2 ∷ bytes.now)) }
 {
     let (count, rest) = u16_of(bytes)?;
-    let (dims, rest) = decode_many::<Leaf>(alloc, usize::from(count), rest)?;
-    Ok((Item::Dims(dims), rest))
+    let (leaves, rest) = decode_many::<Leaf>(alloc, usize::from(count), rest)?;
+    Ok((Item::Dims(key_from(alloc, leaves)?), rest))
 }
 
 // What stands after the tag 3: slices.

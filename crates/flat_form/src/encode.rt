@@ -1,14 +1,15 @@
 //! From items to bytes.
-ghost use Rattle.std.specs.Prelude.{◌≡◌, ℕ, List, [], ◌∷◌, ◌++◌, ◌<◌, ◌^◌, length, IfOk, OnOk, All};
+ghost use Rattle.std.specs.Prelude.{◌≡◌, ℕ, List, [], ◌∷◌, ◌++◌, ◌<◌, ◌^◌, length, get_or, IfOk, OnOk, All};
 ghost use Rattle.std.specs.Int.{w16, w32, w64, to_le_bytes, cast_unsigned};
 ghost use Rattle.std.specs.List.{flat_map};
 ghost use Rattle.atom_record.specs.AtomSpelling.{sized_bytes, payload_of};
 ghost use Rattle.atom_record.specs.AtomSound.{HasNoFault};
-ghost use Rattle.flat_form.specs.ItemSpelling.{spelled_slice, spelled_items};
-ghost use Rattle.flat_form.specs.Savable.{AreSavable};
+ghost use Rattle.atom_record.specs.declared.value.Leaf.TheVariants.{Missing};
+ghost use Rattle.flat_form.specs.ItemSpelling.{spelled_leaf, spelled_slice, spelled_items};
+ghost use Rattle.flat_form.specs.Savable.{AreSavable, IsShortLeaf};
 
 use crate::{Item, Items};
-use atom_record::{Atom, Bytes, Leaf, Slice, Value, encode_atom, encode_value};
+use atom_record::{Atom, Bytes, DimKey, Leaf, Slice, Value, encode_atom, encode_value};
 use sd_base::Seq;
 use std::alloc::{AllocError, Global};
 
@@ -97,6 +98,41 @@ impl Encode for Leaf {
             Leaf::Many(values) => encode_many(values.as_slice(), alloc, out),
         }
     }
+}
+
+// Adds the spelling of the leaf at a place.
+fn encode_leaf(dims: &DimKey, at: usize, alloc: Global, out: &mut Vec<u8>) -> Result<(), AllocError>
+    requires within { at < length dims.now }
+    requires short { IsShortLeaf (get_or dims.now at Missing) }
+    ensures { OnOk result (out.new.items ≡ out.old.items ++ spelled_leaf (get_or dims.now at Missing)) }
+{
+    match dims.get(at) {
+        Some(leaf) => leaf.encode(alloc, out),
+        None => Ok(out.push(0)?),
+    }
+}
+
+// Adds the spellings of all leaves, one after the other.
+fn encode_leaves(dims: &DimKey, alloc: Global, out: &mut Vec<u8>) -> Result<(), AllocError>
+    requires { All IsShortLeaf dims.now }
+    ensures { OnOk result (out.new.items ≡ out.old.items ++ flat_map spelled_leaf dims.now) }
+{
+    for at in 0..dims.len() {
+        encode_leaf(dims, at, alloc, out)?;
+    }
+    Ok(())
+}
+
+// Adds the tag 2, the number of leaves in two bytes, and these.
+fn encode_dims(dims: &DimKey, alloc: Global, out: &mut Vec<u8>) -> Result<(), AllocError>
+    requires count { length dims.now < 2 ^ 16 }
+    requires each { All IsShortLeaf dims.now }
+    ensures { OnOk result (out.new.items
+        ≡ out.old.items ++ 2 ∷ (to_le_bytes w16 (length dims.now) ++ flat_map spelled_leaf dims.now)) }
+{
+    out.push(2)?;
+    put_u16(dims.len() as u16, out)?;
+    encode_leaves(dims, alloc, out)
 }
 
 // Adds a kind of slices and the id of an atom.
@@ -191,7 +227,7 @@ impl Encode for Item {
     fn encode(&self, alloc: Global, out: &mut Vec<u8>) -> Result<(), AllocError> {
         match self {
             Item::Num(number) => put_num(*number, out),
-            Item::Dims(dims) => encode_many(dims.as_slice(), alloc, out),
+            Item::Dims(dims) => encode_dims(dims, alloc, out),
             Item::Slices(slices) => encode_slices(slices.as_slice(), alloc, out),
             Item::AtomItem(atom) => put_atom(alloc, atom, out),
             Item::Chunk(chunk) => put_chunk(chunk.as_slice(), out),

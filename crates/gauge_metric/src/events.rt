@@ -5,7 +5,7 @@ ghost use Rattle.gauge_metric.specs.EventStands.{EventsStandFor};
 
 use crate::memory::Memory;
 use crate::{Closed, Producer, Row};
-use atom_record::{Atom, MetricKey};
+use atom_record::{Atom, DimKey, MetricKey};
 use bucket_clock::Crossings;
 use kept_rows::KeptRows;
 use sd_base::Seq;
@@ -37,7 +37,7 @@ fn row_of(alloc: Global, at: u64, atom: Atom) -> Result<Row<Seq<Atom>>, AllocErr
     let mut value = Seq::new(alloc);
     value.push(atom)?;
     let key = MetricKey {
-        dims: Seq::new(alloc),
+        dims: DimKey::new(alloc),
         slices: Seq::new(alloc),
     };
     Ok(Row {

@@ -1,5 +1,5 @@
 //! Atoms and keys of the rows, and what a producer hands out, as text.
-use atom_record::{Atom, AtomField, Leaf, MetricKey, Value};
+use atom_record::{Atom, AtomField, DimKey, Leaf, MetricKey, Value};
 use gauge_metric::{Closed, Row};
 use sd_base::Seq;
 use std::alloc::{AllocError, Global};
@@ -19,7 +19,7 @@ pub fn atom_of(alloc: Global, number: i32) -> Result<Atom, AllocError> {
 
 /// The key with one number.
 pub fn key_of(alloc: Global, number: i32) -> Result<MetricKey, AllocError> {
-    let mut dims = Seq::new(alloc);
+    let mut dims = DimKey::new(alloc);
     dims.push(Leaf::One(Value::Int(number)))?;
     Ok(MetricKey {
         dims,
@@ -56,9 +56,9 @@ fn push_row(text: &mut String, row: &Row<Seq<Atom>>) -> Result<(), AllocError> {
 
 /// Puts the number of a key that has one and nothing else, or `-` for the key that has nothing.
 fn push_key(text: &mut String, key: &MetricKey) -> Result<(), AllocError> {
-    match (key.dims.as_slice(), key.slices.is_empty()) {
-        ([], true) => text.push_str("-"),
-        ([Leaf::One(Value::Int(number))], true) => write!(text, "{number}"),
+    match (key.dims.len(), key.dims.get(0), key.slices.is_empty()) {
+        (0, None, true) => text.push_str("-"),
+        (1, Some(Leaf::One(Value::Int(number))), true) => write!(text, "{number}"),
         _ => text.push_str("another key"),
     }
 }

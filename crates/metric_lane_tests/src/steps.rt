@@ -24,7 +24,7 @@ pub struct Shown<'a> {
 
 // The key of one number.
 fn key_of(alloc: Global, number: i32) -> Result<MetricKey, AllocError> {
-    let mut dims: DimKey = Seq::new(alloc);
+    let mut dims = DimKey::new(alloc);
     dims.push(Leaf::One(Value::Int(number)))?;
     Ok(MetricKey {
         dims,

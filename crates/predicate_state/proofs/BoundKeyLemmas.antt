@@ -1,19 +1,14 @@
 -- Binds that stand in order name the key of their values.
-use Rattle.std.proofs.Common.{◌≡◌, ℕ, ◌≢◌, zero, suc, ◌+◌, ◌<◌, ◌≤◌, ◌&&◌, ◌==◌, Bool, true, false, not, List, [], ◌∷◌, ◌++◌, length, take, get_or, slice_get, Some, refl, sym, ap, ◌∙◌, arith, append-nil}
-use Rattle.std.specs.Prelude.{fold}
-use Rattle.std.specs.List.{flat_map}
-use Rattle.std.specs.Hash.{HashWrites}
+use Rattle.std.proofs.Common.{◌≡◌, ℕ, ◌≢◌, zero, suc, ◌+◌, ◌<◌, ◌≤◌, ◌&&◌, ◌==◌, Bool, true, false, List, [], ◌∷◌, length, take, get_or, slice_get, Some, refl, sym, ap, ◌∙◌, arith}
 use Rattle.std.proofs.lemmas.Bool.{true≢false}
 use Rattle.std.proofs.lemmas.Bool.Decides.{Decides-eqb}
-use Rattle.std.proofs.lemmas.List.Sums.{fold-append}
-use Rattle.std.proofs.lemmas.List.Concat.{flat_map-append}
-use Rattle.std.proofs.lemmas.List.{length-map, get_or-map, take_more, take_more_same, take_all}
+use Rattle.std.proofs.lemmas.List.{length-map, get_or-map, take_more_same, take_all}
 use Rattle.std.proofs.lemmas.List.Folds.{list_any_at}
+use Rattle.std.proofs.lemmas.Option.{slice_get-get_or, get_or_from_slice_get}
 use Rattle.std.specs.Cmp.Lexicographic.{pointwise_decides}
 use Rattle.atom_record.specs.declared.value.Leaf.{Leaf}
 use Rattle.atom_record.specs.declared.value.Leaf.TheVariants.{Missing}
 use Rattle.atom_record.specs.contracts.value.LeafPartialEq.TheImpl as leaf_test
-use Rattle.atom_record.specs.contracts.value.LeafHash.TheImpl as leaf_hash
 use Rattle.atom_record.specs.Equal.{leaf_exact}
 use Rattle.predicate_state.specs.declared.bind.Bind.{Bind}
 use Rattle.predicate_state.specs.PredicateTable.{PredicateTable, LeafKey, HaveLeaves, same_leaves}
@@ -75,35 +70,25 @@ pub value_read : (binds : List Bind) (at : ℕ) (none : Bind) (missing : Leaf) �
     → (get_or binds at none).value ≡ get_or (bound_key binds) at missing
 value_read binds at none missing within = sym (get_or-map (λ (b : Bind). b.value) binds at none missing within)
 
--- a hasher that is fed one value more
-pub fed_more : {S : Type 0} (write : S → List ℕ → S) (state : S) (key : LeafKey) (at : ℕ) (leaf : Leaf)
-    → at < length key → leaf ≡ get_or key at leaf
-    → fold write state (flat_map leaf_hash.ghosts.hash_input (take (at + 1) key))
-    ≡ fold write (fold write state (flat_map leaf_hash.ghosts.hash_input (take at key)))
-    (leaf_hash.ghosts.hash_input leaf)
-fed_more write state key at leaf within stands =
-    let fed : LeafKey → HashWrites = flat_map leaf_hash.ghosts.hash_input in
-    ap (λ values. fold write state (fed values)) (take_more key at leaf within)
-    ∙ ap (λ (last : Leaf). fold write state (fed (take at key ++ last ∷ []))) (sym stands)
-    ∙ ap (fold write state) (flat_map-append leaf_hash.ghosts.hash_input (take at key) (leaf ∷ []))
-    ∙ fold-append write state (fed (take at key)) (fed (leaf ∷ []))
-    ∙ ap (λ last. fold write (fold write state (fed (take at key))) last)
-    (append-nil (leaf_hash.ghosts.hash_input leaf))
+-- the leaf at a place is what is read there
+pub leaf_read : (key : LeafKey) (at : ℕ) → at < length key
+    → get_or key at Missing ≡ get_or key at (get_or key at Missing)
+leaf_read key at within =
+    let leaf = get_or key at Missing in
+    sym (get_or_from_slice_get key at leaf leaf (slice_get-get_or key at Missing within))
 
--- what a comparison says of two leaves
-pub told_same : (one other : Leaf) (differ : Bool) → differ ≡ not (leaf_test.ghosts.eq one other) → differ ≡ false
-    → one ≡ other
-told_same one other differ is off =
-    (leaf_exact one other).0 (not_not (leaf_test.ghosts.eq one other) (sym is ∙ off))
-  where
-    not_not : (b : Bool) → not b ≡ false → b ≡ true
-    not_not true e = refl
-    not_not false e = absurd (true≢false e)
+-- what a test says of the leaf at a place
+module _ (key : LeafKey) (at : ℕ) (value : Leaf) (test : Bool) (within : at < length key)
+    (told : test ≡ is_leaf (slice_get key at) value) where
+  told_is : test ≡ leaf_test.ghosts.eq (get_or key at Missing) value
+  told_is = told ∙ ap (λ found. is_leaf found value) (slice_get-get_or key at Missing within)
 
-pub told_apart : (one other : Leaf) (differ : Bool) → differ ≡ not (leaf_test.ghosts.eq one other) → differ ≡ true
-    → one ≢ other
-told_apart one other differ is on same =
-    true≢false (sym on ∙ is ∙ ap not ((leaf_exact one other).1 same))
+  pub told_same : test ≡ true → value ≡ get_or key at Missing
+  told_same holds = sym ((leaf_exact (get_or key at Missing) value).0 (sym told_is ∙ holds))
+
+  pub told_apart : test ≡ false → value ≢ get_or key at Missing
+  told_apart fails same =
+      true≢false (sym ((leaf_exact (get_or key at Missing) value).1 (sym same)) ∙ sym told_is ∙ fails)
 
 -- one value more is the same
 pub values_more : (binds : List Bind) (key : LeafKey) (at : ℕ) (bind : Bind) (leaf : Leaf) → at < length binds

@@ -1,7 +1,8 @@
 //! Binds of every leaf, as the key that they ask for.
-ghost use Rattle.std.specs.Prelude.{◌≡◌, IsTrue, ◌↔◌};
+ghost use Rattle.std.specs.Prelude.{◌≡◌, IsTrue, ◌↔◌, slice_get};
 ghost use Rattle.predicate_state.specs.BoundKeys.{AreInOrder, bound_key};
 ghost use Rattle.predicate_state.specs.PredicateTable.{same_leaves};
+ghost use Rattle.predicate_state.specs.PredicateTruths.{is_leaf};
 
 use crate::Bind;
 use atom_record::{DimKey, Leaf};
@@ -29,15 +30,25 @@ pub fn are_in_order(binds: &[Bind], leaves: u32) -> bool
     true
 }
 
+/// Whether a key has this leaf at a place.
+pub fn has_leaf(key: &DimKey, at: usize, leaf: &Leaf) -> bool
+    ensures { result ≡ is_leaf (slice_get key.now at) leaf.now }
+{
+    match key.get(at) {
+        Some(found) => *found == *leaf,
+        None => at < key.len() && Leaf::Missing == *leaf,
+    }
+}
+
 // Whether these are the values of the binds, in order.
-fn has_values(binds: &[Bind], key: &[Leaf]) -> bool
+fn has_values(binds: &[Bind], key: &DimKey) -> bool
     ensures { result ≡ same_leaves (bound_key binds.now) key.now }
 {
     if binds.len() != key.len() {
         return false;
     }
     for at in 0..binds.len() {
-        if binds[at].value != key[at] {
+        if !has_leaf(key, at, &binds[at].value) {
             return false;
         }
     }
@@ -70,6 +81,6 @@ impl Equivalent<DimKey> for BoundKey<'_> {
     ghost respects_eq = { λ bound. key_respects bound.binds.now };
 
     fn equivalent(&self, key: &DimKey) -> bool {
-        has_values(self.binds, key.as_slice())
+        has_values(self.binds, key)
     }
 }

@@ -9,9 +9,9 @@ ghost use Rattle.predicate_state.specs.PredicateStates.{initial_state, with_new_
 ghost use Rattle.predicate_state.specs.PredicateTruths.{default_truth, count_truth, truth_of_count, key_truth, binds_truth, NamesKey, agrees, is_leaf, are_leaves_bound, is_place_bound};
 ghost use Rattle.predicate_state.specs.PredicateTable.{LeafKey, same_leaves, with_state, PredTableStandsFor, AppliesEvent};
 
-use crate::bound::{BoundKey, are_in_order};
+use crate::bound::{BoundKey, are_in_order, has_leaf};
 use crate::{Bind, PredEvent, Truth};
-use atom_record::{DimKey, Leaf};
+use atom_record::DimKey;
 use config_types::PredSpec;
 use dim_table::Guarded;
 use indexmap::Equivalent;
@@ -203,7 +203,7 @@ impl PredTable {
             let Some((key, count)) = self.counts.pair(place) else {
                 return self.judge_absent();
             };
-            if decides(key.as_slice(), *count, binds, is_one) {
+            if decides(key, *count, binds, is_one) {
                 return truth_of(*count);
             }
         }
@@ -270,27 +270,19 @@ fn truth_of(count: u64) -> Truth
 }
 
 // Whether the answer is that of a key: the key agrees with the binds, and is the only one or has a count above 0.
-fn decides(key: &[Leaf], count: u64, binds: &[Bind], is_one: bool) -> bool
+fn decides(key: &DimKey, count: u64, binds: &[Bind], is_one: bool) -> bool
     ensures { result ≡ (agrees binds.now key.now && (is_one || nat_lt 0 count)) }
 {
     has_leaves(key, binds) && (is_one || count > 0)
 }
 
 // Whether a key has what every bind asks for.
-fn has_leaves(key: &[Leaf], binds: &[Bind]) -> bool
+fn has_leaves(key: &DimKey, binds: &[Bind]) -> bool
     ensures { result ≡ agrees binds.now key.now }
 {
-    binds.iter().all(|bind| has_leaf(key, bind))
-}
-
-// Whether a key has what a bind asks for.
-fn has_leaf(key: &[Leaf], bind: &Bind) -> bool
-    ensures { result ≡ is_leaf (slice_get key.now bind.now.place) bind.now.value }
-{
-    match key.get(bind.place as usize) {
-        Some(leaf) => *leaf == bind.value,
-        None => false,
-    }
+    binds
+        .iter()
+        .all(|bind| has_leaf(key, bind.place as usize, &bind.value))
 }
 
 // Whether each of the first so many places is bound.

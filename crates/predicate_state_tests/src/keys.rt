@@ -7,7 +7,7 @@ use std::alloc::{AllocError, Global};
 
 /// The key of a word. What isn't a number is 0.
 pub fn key_of(alloc: Global, word: &str) -> Result<DimKey, AllocError> {
-    let mut key = Seq::new(alloc);
+    let mut key = DimKey::new(alloc);
     if word == "." {
         return Ok(key);
     }
@@ -71,25 +71,25 @@ fn push_entry(text: &mut String, table: &PredTable, place: usize) -> Result<(), 
     let Some((key, count)) = table.entry(place) else {
         return text.push_str("nothing ");
     };
-    push_key(text, key.as_slice())?;
+    push_key(text, key)?;
     write!(text, ":{count} ")
 }
 
-fn push_key(text: &mut String, key: &[Leaf]) -> Result<(), AllocError> {
-    for (place, leaf) in key.iter().enumerate() {
+fn push_key(text: &mut String, key: &DimKey) -> Result<(), AllocError> {
+    for place in 0..key.len() {
         if place > 0 {
             text.push_str(",")?;
         }
-        push_leaf(text, leaf)?;
+        push_leaf(text, key.get(place))?;
     }
     Ok(())
 }
 
-fn push_leaf(text: &mut String, leaf: &Leaf) -> Result<(), AllocError> {
+fn push_leaf(text: &mut String, leaf: Option<&Leaf>) -> Result<(), AllocError> {
     match leaf {
-        Leaf::Missing => text.push_str("-"),
-        Leaf::One(value) => push_value(text, value),
-        Leaf::Many(values) => push_values(text, values.as_slice()),
+        Some(Leaf::One(value)) => push_value(text, value),
+        Some(Leaf::Many(values)) => push_values(text, values.as_slice()),
+        _ => text.push_str("-"),
     }
 }
 

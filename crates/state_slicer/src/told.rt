@@ -65,7 +65,7 @@ pub fn resets_states(atom: &Atom) -> bool
 fn primary_values(alloc: Global, entries: &[AtomField], room: usize) -> Result<DimKey, AllocError>
     ensures { IfOk result (λ key. key ≡ primary_leaves entries.now) }
 {
-    let mut key = Vec::with_capacity(alloc, room)?;
+    let mut key = DimKey::with_capacity(alloc, room)?;
     for entry in entries {
         if !has_flag(entry.flags, PRIMARY) {
             continue;
@@ -73,7 +73,7 @@ fn primary_values(alloc: Global, entries: &[AtomField], room: usize) -> Result<D
         let value = entry.value.duplicate(alloc)?;
         key.push(Leaf::One(value))?;
     }
-    Ok(Seq::from_vec(key))
+    Ok(key)
 }
 
 /// The key of a state atom: the values of its primary entries. It takes no more room than these.

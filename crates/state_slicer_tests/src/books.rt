@@ -1,7 +1,6 @@
 //! Books of states, a step after the other.
 use atom_record::{Atom, AtomFault, DimKey, Leaf, Value, parse_atom};
 use flat_form::{FlatError, rebuild};
-use sd_base::Seq;
 use state_slicer::StateBook;
 use std::alloc::{AllocError, Global};
 use test_tools::{Tester, unsigned};
@@ -119,7 +118,7 @@ fn asked(text: &str) -> Option<(u32, &str, &str)> {
 
 /// The key of numbers with commas between them. The key without a number is a point.
 fn key_of(alloc: Global, word: &str) -> Result<DimKey, AllocError> {
-    let mut key = Seq::new(alloc);
+    let mut key = DimKey::new(alloc);
     if word == "." {
         return Ok(key);
     }

@@ -3,7 +3,7 @@
 //! `with:3=7` tells whether one is built where the number 7 stands at the place 3.
 use super::forms::{Other, change_of, go_on, try_other};
 use super::shown::push_closed;
-use atom_record::{Leaf, MetricKey, Value};
+use atom_record::{DimKey, Leaf, MetricKey, Value};
 use bucket_clock::Crossings;
 use flat_form::Flat;
 use sd_base::Seq;
@@ -54,7 +54,7 @@ fn crossing_of(text: &str) -> Option<Do> {
 
 /// The key with one leaf.
 pub fn key_of(alloc: Global, number: i32) -> Result<MetricKey, AllocError> {
-    let mut dims = Seq::new(alloc);
+    let mut dims = DimKey::new(alloc);
     dims.push(Leaf::One(Value::Int(number)))?;
     Ok(MetricKey {
         dims,

@@ -15,16 +15,16 @@ pub fn push_closed(text: &mut String, closed: &Closed<i64>) -> Result<(), AllocE
 }
 
 fn push_row(text: &mut String, row: &Row<i64>) -> Result<(), AllocError> {
-    for leaf in row.key.dims.as_slice() {
-        push_leaf(text, leaf)?;
+    for place in 0..row.key.dims.len() {
+        push_leaf(text, row.key.dims.get(place))?;
     }
     let (start, end, value) = (row.start, row.end, row.value);
     write!(text, ":{start}-{end}={value} ")
 }
 
-fn push_leaf(text: &mut String, leaf: &Leaf) -> Result<(), AllocError> {
+fn push_leaf(text: &mut String, leaf: Option<&Leaf>) -> Result<(), AllocError> {
     match leaf {
-        Leaf::One(Value::Int(number)) => write!(text, "{number}"),
+        Some(Leaf::One(Value::Int(number))) => write!(text, "{number}"),
         _ => text.push_str("?"),
     }
 }

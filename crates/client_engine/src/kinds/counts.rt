@@ -26,7 +26,7 @@ use crate::groups::{RowShape, groups_of};
 use crate::leaves::leaves_of;
 use crate::moments::comes_by_pull;
 use crate::request::ReportRequest;
-use atom_record::MetricKey;
+use atom_record::{DimKey, MetricKey};
 use condition_links::Steps;
 use config_links::LMetric;
 use count_metric::{CountCell, CountProducer};
@@ -145,7 +145,7 @@ pub fn begin(alloc: Global, base: u64, metric: &LMetric, overflow: bool) -> Coun
     CountLane {
         lane: Lane::new(base, metric.size, producer),
         key: MetricKey {
-            dims: Seq::new(alloc),
+            dims: DimKey::new(alloc),
             slices: Seq::new(alloc),
         },
     }

@@ -1,6 +1,6 @@
 //! Keys of metrics: they are found by what they hold, and copied whole.
 use super::super::asserts::assert_found;
-use atom_record::{CloneKey, DimKey, Leaf, MetricKey, Slice, Value};
+use atom_record::{DimKey, Leaf, MetricKey, Slice, Value};
 use sd_base::Seq;
 use std::alloc::{AllocError, Global};
 use std::collections::HashMap;
@@ -36,7 +36,7 @@ fn push_leaves(alloc: Global, leaves: &mut DimKey, text: &[u8]) -> Result<(), Al
 
 /// One leaf of each form, with this text, so many times.
 fn leaves(alloc: Global, text: &[u8], times: usize) -> Result<DimKey, AllocError> {
-    let mut leaves = Seq::new(alloc);
+    let mut leaves = DimKey::new(alloc);
     for _ in 0..times {
         push_leaves(alloc, &mut leaves, text)?;
     }

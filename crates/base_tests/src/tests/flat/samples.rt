@@ -13,7 +13,7 @@ fn raw(alloc: Global, bytes: &[u8]) -> Result<Value, AllocError> {
 }
 
 // Adds a text.
-fn push_text(alloc: Global, leaves: &mut Seq<Leaf>, bytes: &[u8]) -> Result<(), AllocError> {
+fn push_text(alloc: Global, leaves: &mut DimKey, bytes: &[u8]) -> Result<(), AllocError> {
     let word = text(alloc, bytes)?;
     leaves.push(Leaf::One(word))
 }
@@ -38,7 +38,7 @@ fn push_raw(alloc: Global, values: &mut Seq<Value>, bytes: &[u8]) -> Result<(), 
 }
 
 // Adds many values.
-fn push_many(alloc: Global, leaves: &mut Seq<Leaf>) -> Result<(), AllocError> {
+fn push_many(alloc: Global, leaves: &mut DimKey) -> Result<(), AllocError> {
     let values = many(alloc)?;
     leaves.push(Leaf::Many(values))
 }
@@ -53,7 +53,7 @@ fn push_leaves(alloc: Global, leaves: &mut DimKey) -> Result<(), AllocError> {
 }
 
 pub fn dims(alloc: Global) -> Result<DimKey, AllocError> {
-    let mut leaves = Seq::new(alloc);
+    let mut leaves = DimKey::new(alloc);
     push_leaves(alloc, &mut leaves)?;
     Ok(leaves)
 }

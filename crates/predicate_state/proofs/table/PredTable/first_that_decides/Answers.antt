@@ -12,8 +12,7 @@ returns-then-decides c =
     let binds = c.args.binds.now in
     let row : LeafKey × ℕ = (c.in-Some.key.now, c.in-Some.count.now) in
     let decides : (agrees binds row.0 && (is_one || nat_lt 0 row.1)) ≡ true =
-    ap (λ (k : LeafKey). agrees binds k && (is_one || nat_lt 0 row.1)) (sym c.as_slice.ensures)
-    ∙ sym c.decides.ensures ∙ c.if-decides.true in
+    sym c.decides.ensures ∙ c.if-decides.true in
     rw (← c.self.view_is)
     (c.truth_of.ensures
     ∙ walk_ends is_one c.self.inside.unknown binds rows c.loop-place.place c.loop-place.invariant row
@@ -26,7 +25,6 @@ loop-place-preserved c =
     let binds = c.args.binds.now in
     let row : LeafKey × ℕ = (c.in-Some.key.now, c.in-Some.count.now) in
     let passes : (agrees binds row.0 && (is_one || nat_lt 0 row.1)) ≡ false =
-    ap (λ (k : LeafKey). agrees binds k && (is_one || nat_lt 0 row.1)) (sym c.as_slice.ensures)
-    ∙ sym c.decides.ensures ∙ c.if-decides.false in
+    sym c.decides.ensures ∙ c.if-decides.false in
     walk_on is_one c.self.inside.unknown binds c.self.inside.counts.rows c.loop-place.place c.loop-place.invariant row
     (sym c.in-Some.ensures) passes
