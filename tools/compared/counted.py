@@ -1,6 +1,7 @@
 """Metrics of the atoms of the log as they come: events, counts, pushed values and pushed gauges."""
 from session_text.layout import INT, LONG, REPORT
 
+from compared.activity import Activity
 from compared.atoms import fields_of
 from compared.history import OVERFLOW, Arrival, Row, places_in
 from compared.metrics import Metric, Shown, number_row
@@ -12,8 +13,12 @@ DEFAULT_SAMPLES = 10
 
 
 class Counted(Metric):
-    """A metric to which an atom arrives for which its matcher holds while its condition is true, both after the atom
-    has acted on states and predicates."""
+    """A metric to which an atom arrives for which its matcher holds while it is active and its condition is true, all
+    after the atom has acted on states, predicates and activations."""
+
+    def __init__(self, tree, config):
+        super().__init__(tree, config)
+        self.activity = Activity(tree.get("activations", []))
 
     def contribution(self, atom):
         """What an atom contributes, or None where it doesn't arrive."""
@@ -21,11 +26,17 @@ class Counted(Metric):
 
     def tell(self, atom=None, truths=None):
         arrived = None
-        if atom is not None and truths.holds(self.what) and self.condition.is_true(atom.key):
+        if atom is not None and self.takes(atom, truths):
             contribution = self.contribution(atom)
             if contribution is not None:
                 arrived = ((atom.key(self.fields), self.sliced(atom.key)), contribution)
         self.told.append(arrived)
+
+    def takes(self, atom, truths):
+        """An atom is one that the metric takes, once it has told the activations what it says of them."""
+        at = self.config.steps[-1].at
+        self.activity.tell(at, truths)
+        return truths.holds(self.what) and self.activity.is_active(at) and self.condition.is_true(atom.key)
 
     def arrivals(self, part):
         for place in places_in(part, self.config.steps):

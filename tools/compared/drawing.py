@@ -311,11 +311,21 @@ def draw_mangled(random):
     return content, answered, status
 
 
-def with_overflow(random, content):
-    """The bytes of a configuration with one more metric, which asks for an overflow row, whatever its kind."""
+# Fields of this project's own: an activation of a metric, and an alert.
+ACTIVATION, ALERT = 1010, 1011
+
+
+def with_own(random, content):
+    """The bytes of a configuration with one more metric, which asks for an overflow row or has an activation, whatever its
+    kind; or with one more alert, which may be none."""
+    drawn = random.choice([0, 1, 2])
+    if drawn == 0:
+        return content + message(ALERT, random.choice([b"", number(1, 1), b"\xff"]))
+    own = number(MESSAGES["count"]["overflow"].number, random.choice([0, 1, 2]))
+    if drawn == 1:
+        own = random.choice([message(ACTIVATION, number(1, 1) + number(2, 1)), number(ACTIVATION, 1)])
     field = MESSAGES["config"][random.choice(LISTED)].number
-    overflow = MESSAGES["count"]["overflow"].number
-    return content + message(field, number(1, 2**40) + number(overflow, random.choice([0, 1, 2])))
+    return content + message(field, number(1, 2**40) + own)
 
 
 def draw_check(random):
@@ -325,7 +335,7 @@ def draw_check(random):
     if drawn < 0.2:
         content = mangled(random, content)
     elif drawn < 0.25:
-        content = with_overflow(random, content)
+        content = with_own(random, content)
     line = checked_line(content)
     return content, line.encode(), 0 if line.startswith("ok ") else 1
 

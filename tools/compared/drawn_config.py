@@ -247,15 +247,29 @@ class DrawnConfig:
             self.matchers += matchers
         return self.counted(matchers)
 
+    def activation(self):
+        """What makes a metric active: mostly a new matcher of a number starts it, and another one cancels it."""
+        atom_id, field = self.random.choice(self.atom_ids), FIELDS[0]
+        is_new = self.random.random() < 0.6
+        start = self.new_matcher(atom_id, field, 1) if is_new else self.one_of(self.matchers)
+        cancel = self.some(0.4, lambda: self.new_matcher(atom_id, field, 0) if is_new else self.one_of(self.matchers))
+        return without_none(start=start, ttl=self.random.choice([1, 1, 2, 5, 60, 1_000_000]), cancel=cancel)
+
+    def active(self):
+        """The activations of a metric: mostly none."""
+        number = self.random.choice([0, 0, 0, 1, 1, 2, 3])
+        return {"activations": [self.activation() for _ in range(number)]} if number else {}
+
     def event(self):
         """A metric of events."""
         what, atom_id = self.counted(self.matchers)
-        return {"what": what, **self.common(atom_id)}
+        return {"what": what, **self.common(atom_id), **self.active()}
 
     def count(self):
         """A count, which may ask for an overflow row."""
         what, atom_id = self.counted(self.matchers)
         own = without_none(overflow=self.some(0.6, lambda: self.random.random() < 0.85))
+        own.update(self.active())
         return {"what": what, **self.common(atom_id), **self.keyed(atom_id), **self.sliced(atom_id), **own}
 
     def value(self, pulled=False):
@@ -274,7 +288,7 @@ class DrawnConfig:
             skip_zero=self.some(0.5, lambda: self.random.random() < 0.3),
             zero_base=self.some(0.5, lambda: self.random.random() < 0.8),
         )
-        slices = {} if pulled else self.sliced(atom_id)
+        slices = {} if pulled else {**self.sliced(atom_id), **self.active()}
         return {"what": what, **self.common(atom_id, is_linked=not pulled), **self.keyed(atom_id), **slices, **own}
 
     def gauge(self, pulled=False):
@@ -286,6 +300,7 @@ class DrawnConfig:
         fields = self.fields(atom_id=atom_id if self.random.random() < 0.95 else None)
         kept = self.random.choice([{"include_all": True}, {"fields": fields}, {"include_all": True, "fields": fields}])
         own = without_none(filter=kept, sampling=sampling, samples=samples, trigger=trigger)
+        own.update({} if pulled else self.active())
         return {"what": what, **self.common(atom_id, is_linked=not pulled), **self.keyed(atom_id), **own}
 
     def timed(self):

@@ -1,6 +1,7 @@
 """Random configurations for `check`: first without a fault, and then changed at a few places."""
 from copy import deepcopy
 
+from compared.trees import READ
 from compared.verdict import (
     ALL,
     CHANGE_TO_TRUE,
@@ -9,6 +10,9 @@ from compared.verdict import (
     LAST,
     MAX_SPARSE,
     MOST_KEYS,
+    MOST_PARTS,
+    MOST_SECONDS,
+    MOST_THRESHOLD,
     NOT,
     RANDOM_ONE,
     TESTS,
@@ -29,6 +33,10 @@ DOMAINS = {
     "include_all": (False, True),
     "diff": (False, True),
     "overflow": (False, True),
+    "ttl": (-1, 0, 1, MOST_SECONDS, MOST_SECONDS + 1),
+    "parts": (-1, 0, 1, MOST_PARTS, MOST_PARTS + 1),
+    "threshold": (-1, 0, MOST_THRESHOLD, MOST_THRESHOLD + 1),
+    "refractory": (-1, 0, MOST_SECONDS, MOST_SECONDS + 1),
 }
 SMALL = (-1, 0, 1, 2, 3, 4, 5, 6, 20, 21, 100, 101, 127, 128, 800, 3_000, 3_001)
 NUMBERS = SMALL + (9_999, 10_000, 99_999, 100_000, 149_999, 150_000, 199_999, 200_000, 2**31 - 1)
@@ -36,7 +44,7 @@ NUMBERS = SMALL + (9_999, 10_000, 99_999, 100_000, 149_999, 150_000, 199_999, 20
 ONEOFS = (("simple", "combination"), TESTS)
 
 # How many entities are one too many.
-CROWDS = {"matchers": 801, "predicates": 301, "states": 17, "counts": 101}
+CROWDS = {"matchers": 801, "predicates": 301, "states": 17, "counts": 101, "alerts": 11}
 
 
 def without_none(**fields):
@@ -65,15 +73,20 @@ class Drawn:
                 self.tree[name].append({"id": entity_id, **draw(self.tree[name])})
         self.metrics = 0
         for name, draw in (
-            ("events", self.common),
+            ("events", self.event),
             ("counts", self.count),
             ("values", self.value),
             ("gauges", self.gauge),
             ("durations", self.duration),
         ):
-            number = random.randint(0, 2) if name != "durations" or self.timed() else 0
+            least = 1 if name == "counts" and "alerts" in READ else 0
+            number = random.randint(least, 2) if name != "durations" or self.timed() else 0
             self.tree[name] = [self.metric(draw) for _ in range(number)]
         self.tree["no_report"] = [one for one in range(1, self.metrics + 1) if random.random() < 0.2]
+        counts = [one["id"] for one in self.tree["counts"]]
+        if "alerts" in READ:
+            number = random.choice([0, 1, 1, 2, 2, 3])
+            self.tree["alerts"] = [{"id": one, **self.alert(counts)} for one in range(1, number + 1)]
 
     def named(self, name):
         """The id of some entity of a list, if there is any."""
@@ -161,6 +174,10 @@ class Drawn:
                 links.append({"condition": predicate["id"], "in_what": in_what, "in_condition": in_condition})
         return links
 
+    def event(self):
+        """A metric of the atoms themselves."""
+        return self.with_activations(self.common())
+
     def common(self, what="matchers", among=None):
         """What metrics of all kinds have."""
         condition = some(self.random, 0.6, self.named("predicates"))
@@ -186,7 +203,32 @@ class Drawn:
 
     def count(self):
         """A count, which may ask for an overflow row."""
-        return {**self.sliced(), **without_none(overflow=some(self.random, 0.4, self.random.random() < 0.8))}
+        own = without_none(overflow=some(self.random, 0.4, self.random.random() < 0.8))
+        return self.with_activations({**self.sliced(), **own})
+
+    def alert(self, counts):
+        """What an alert on one of these counts has beside its id."""
+        return {
+            "metric": self.random.choice(counts),
+            "threshold": self.random.choice([0, 3, MOST_THRESHOLD]),
+            "parts": self.random.randint(1, MOST_PARTS),
+            **without_none(refractory=some(self.random, 0.5, self.random.choice([0, MOST_SECONDS]))),
+        }
+
+    def with_activations(self, metric, may_have=True):
+        """A metric that mostly has some activations, if it may have some; now and then one that may not."""
+        if "activations" not in READ or not (may_have or self.random.random() < 0.05):
+            return metric
+        number = self.random.choice([0, 1, 1, 2, 3, 8])
+        return {**metric, "activations": [self.activation() for _ in range(number)]}
+
+    def activation(self):
+        """What makes a metric active."""
+        return without_none(
+            start=self.named("matchers"),
+            ttl=self.random.choice([1, 20, MOST_SECONDS]),
+            cancel=some(self.random, 0.4, self.named("matchers")),
+        )
 
     def is_pulled(self, metric):
         """A metric of a simple matcher of pulled atoms."""
@@ -198,7 +240,9 @@ class Drawn:
         metric = {**self.sliced(), "field": self.fields(1, positions=(None, FIRST, LAST))}
         if self.is_pulled(metric):
             metric = {**metric, "slices": [], "state_links": [], "links": []}
-        return {**metric, **without_none(diff=some(self.random, 0.3, self.is_pulled(metric)))}
+        is_pulled = self.is_pulled(metric)
+        own = without_none(diff=some(self.random, 0.3, is_pulled))
+        return self.with_activations({**metric, **own}, not is_pulled)
 
     def gauge(self):
         """A metric of samples. Of pulled ones it has no links, and may have a trigger."""
@@ -213,7 +257,8 @@ class Drawn:
             del metric["bound"]
         samples = some(self.random, 0.4, self.random.choice([1, 20]))
         kept = without_none(include_all=some(self.random, 0.5, True), fields=self.fields())
-        return {**metric, **without_none(filter=kept, sampling=sampling, samples=samples, trigger=trigger)}
+        own = without_none(filter=kept, sampling=sampling, samples=samples, trigger=trigger)
+        return self.with_activations({**metric, **own}, not self.is_pulled(metric))
 
     def timed(self):
         """The predicates that a duration may time."""
@@ -278,7 +323,7 @@ def draw_tree(random):
     for _ in range(random.choice([0, 1, 1, 2, 3, 5])):
         change(random, tree)
     if random.random() < 0.01:
-        name, most = random.choice(list(CROWDS.items()))
+        name, most = random.choice([(name, most) for name, most in CROWDS.items() if name in tree])
         number = random.choice([most - 1, most])
         tree[name] = (tree[name] * number)[:number] or [{}] * number
     return tree

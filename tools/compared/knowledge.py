@@ -108,9 +108,14 @@ class Condition:
             places = [known.fields.leaves.index(leaf) for leaf in fields_of(link["in_condition"]).leaves]
             self.links.append((link["condition"], fields_of(link["in_what"]), places))
 
-    def is_true(self, leaves_of):
-        """It is true for an atom or a key that has these leaves in the fields of links; without a condition always."""
+    def truth(self, leaves_of):
+        """Its truth for an atom or a key that has these leaves in the fields of links; without a condition it is
+        true."""
         if self.condition is None:
-            return True
+            return TRUE
         wanted = {predicate: dict(zip(places, leaves_of(fields))) for predicate, fields, places in self.links}
-        return self.predicates.truth(self.condition, wanted) == TRUE
+        return self.predicates.truth(self.condition, wanted)
+
+    def is_true(self, leaves_of):
+        """It is true for an atom or a key that has these leaves."""
+        return self.truth(leaves_of) == TRUE

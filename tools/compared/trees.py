@@ -14,6 +14,16 @@ POSITION, OPERATION = (1, 2, 3, 4), (1, 2, 3, 4, 5)
 # The sizes of buckets in seconds, by the number of their unit.
 UNITS = {1: 300, 2: 300, 3: 600, 4: 1_800, 5: 3_600, 6: 10_800, 7: 21_600, 8: 43_200, 9: 86_400, 1000: 1}
 
+# Which of the fields below are read so far: a metric's activations. Alerts are passed over.
+OPEN = ("activations",)
+
+# Those that are read now, their fields, and which messages have them.
+READ = set()
+LATER = {
+    "activations": (Field(1010, "activation", True), ("event", "count", "value", "gauge")),
+    "alerts": (Field(1011, "alert", True), ("config",)),
+}
+
 COMMON = {
     "id": Field(1, INT64),
     "what": Field(2, INT64),
@@ -74,6 +84,14 @@ MESSAGES = {
     "link": {"condition": Field(1, INT64), "in_what": Field(2, "fields"), "in_condition": Field(3, "fields")},
     "state_link": {"atom_id": Field(1, INT32), "in_what": Field(2, "fields"), "in_state": Field(3, "fields")},
     "filter": {"include_all": Field(1, BOOL), "fields": Field(2, "fields")},
+    "activation": {"start": Field(1, INT64), "ttl": Field(2, INT64), "cancel": Field(3, INT64)},
+    "alert": {
+        "id": Field(1, INT64),
+        "metric": Field(2, INT64),
+        "threshold": Field(3, INT64),
+        "parts": Field(4, INT32),
+        "refractory": Field(5, INT64),
+    },
     "event": {**COMMON, "condition": Field(3, INT64), "links": Field(4, "link", True)},
     "count": {
         **COMMON,
@@ -148,6 +166,18 @@ STRICT = {
 # Fields that are taken with any wire type and aren't acted on, and those of the whole that aren't taken at all.
 TAKEN = {"value": (10, 16, 17), "gauge": (10, 13, 14)}
 NOT_TAKEN = {"config": (17,)}
+
+
+def read(names):
+    """From now on these fields are read."""
+    for name in names:
+        field, kinds = LATER[name]
+        READ.add(name)
+        for kind in kinds:
+            MESSAGES[kind][name] = field
+
+
+read(OPEN)
 
 
 def encoded(kind, tree):

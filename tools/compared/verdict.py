@@ -2,12 +2,14 @@
 from compared.atoms import PULLED
 from compared.trees import ONEOFS
 
-MATCHER, PREDICATE, STATE, METRIC = range(1, 5)
+MATCHER, PREDICATE, STATE, METRIC, ALERT = range(1, 6)
 
 LIMITS = {MATCHER: 800, PREDICATE: 300, STATE: 16, METRIC: 100}
 MOST_KEYS, DEFAULT_BOUND = 3_000, 800
 MOST_SAMPLES, DEFAULT_SAMPLES, MOST_ROWS = 100, 10, 16_384
 MOST_ATOM_ID, MOST_FIELD = 2**31 - 1, 127
+MOST_ACTIVATIONS, MOST_SECONDS = 8, 1_000_000
+MOST_ALERTS, MOST_PARTS, MOST_THRESHOLD = 10, 10, 2**62
 
 NOT = 3
 FIRST, LAST, ANY, ALL = range(1, 5)
@@ -82,6 +84,7 @@ class Checked:
             PREDICATE: [("predicate", it) for it in tree.get("predicates", [])],
             STATE: [("state", it) for it in tree.get("states", [])],
             METRIC: metrics,
+            ALERT: [("alert", it) for it in tree.get("alerts", [])],
         }
         self.by_id = {kind: {} for kind in self.kinds}
         for kind, _, entity in self.entities():
@@ -115,6 +118,29 @@ class Checked:
                 rows = bound * (1 if metric.get("sampling", RANDOM_ONE) == RANDOM_ONE else samples)
                 if rows > MOST_ROWS:
                     yield 8, rows
+            yield from self.activation_limits(metric.get("activations", []))
+        yield from self.alert_limits()
+
+    @staticmethod
+    def activation_limits(activations):
+        """1: numbers of a metric's activations."""
+        if len(activations) > MOST_ACTIVATIONS:
+            yield 9, len(activations)
+        for activation in activations:
+            if not within(activation.get("ttl", 1), MOST_SECONDS):
+                yield 10, activation["ttl"]
+
+    def alert_limits(self):
+        """1: numbers of alerts, after all others."""
+        alerts = [alert for _, alert in self.kinds[ALERT]]
+        if len(alerts) > MOST_ALERTS:
+            yield 11, len(alerts)
+        for alert in alerts:
+            if not within(alert.get("parts", 1), MOST_PARTS):
+                yield 12, alert["parts"]
+            for limit, name, most in ((13, "threshold", MOST_THRESHOLD), (14, "refractory", MOST_SECONDS)):
+                if not 0 <= alert.get(name, 0) <= most:
+                    yield limit, alert[name]
 
     def without_id(self):
         """2: entities without an id."""
@@ -156,7 +182,12 @@ class Checked:
 
     def types(self):
         """9: entities that aren't what they should be."""
-        judges = {"matcher": self.matcher, "predicate": self.predicate, "state": self.state}
+        judges = {
+            "matcher": self.matcher,
+            "predicate": self.predicate,
+            "state": self.state,
+            "alert": self.alert,
+        }
         for _, name, entity in self.entities():
             reasons = list(judges[name](entity) if name in judges else self.metric(name, entity))
             if reasons:
@@ -165,6 +196,20 @@ class Checked:
         for wanted in self.tree.get("no_report", []):
             if wanted not in ids:
                 yield 19, wanted
+
+    def alert(self, entity):
+        """Reasons of an alert."""
+        if not {"metric", "threshold", "parts"} <= entity.keys():
+            yield 22
+        kinds = [name for name, metric in self.kinds[METRIC] if metric["id"] == entity.get("metric")]
+        if kinds and kinds != [COUNT]:
+            yield 23
+
+    def unwatched(self):
+        """10: alerts on metrics that aren't there."""
+        for _, alert in self.kinds[ALERT]:
+            if self.named(METRIC, alert["metric"]) is None:
+                yield ALERT, alert["metric"]
 
     @staticmethod
     def body(entity):
@@ -289,6 +334,11 @@ class Checked:
             sampling, has_trigger = metric.get("sampling", RANDOM_ONE), "trigger" in metric
             if (not is_pulled and (sampling == CHANGE_TO_TRUE or has_trigger)) or (has_trigger and sampling != FIRST_N):
                 yield 18
+        activations = metric.get("activations", [])
+        if any(not {"start", "ttl"} <= one.keys() for one in activations):
+            yield 20
+        if is_pulled and activations:
+            yield 21
 
     def faults(self):
         """All faults: the number, the reason and the value, in the order in which they are judged."""
@@ -302,6 +352,7 @@ class Checked:
             (7, lambda: self.cycles(MATCHER)),
             (8, lambda: self.cycles(PREDICATE)),
             (9, self.types),
+            (10, self.unwatched),
         )
         return ((number, reason, value) for number, rule in rules for reason, value in rule())
 
@@ -312,7 +363,8 @@ def matchers_of(name, entity):
         return entity.get("combination", {}).get("children", [])
     if name == "predicate":
         return [entity.get("simple", {}).get(event) for event in ("start", "stop", "stop_all")]
-    return [] if name == DURATION else [entity.get("what"), entity.get("trigger")]
+    own = [] if name == DURATION else [entity.get("what"), entity.get("trigger")]
+    return own + [one.get(signal) for one in entity.get("activations", []) for signal in ("start", "cancel")]
 
 
 def predicates_of(name, entity):
@@ -333,4 +385,4 @@ def line_of(tree):
     checked = Checked(tree)
     for number, reason, value in checked.faults():
         return f"refused link {number} {reason} {value}\n"
-    return "ok " + " ".join(str(len(listed)) for listed in checked.kinds.values()) + "\n"
+    return "ok " + " ".join(str(len(checked.kinds[kind])) for kind in LIMITS) + "\n"

@@ -1,6 +1,7 @@
 """The commands of a session, and the fault at which one ends."""
 import re
 import struct
+from collections import namedtuple
 
 from .layout import INSTALL, REMOVE, REPORT
 
@@ -22,6 +23,33 @@ ATOMS = {
     "7": "has flags that an entry can't have",
     "8": "has another id than its pull",
 }
+
+
+COMMANDS = (INSTALL, REMOVE, REPORT)
+
+# Whose a command is: a client and the id of a configuration.
+Whose = namedtuple("Whose", "client config")
+
+
+def frames_of(session):
+    """The frames of a session's bytes: the kind, whose it is if it is a command, and the bytes. What is no whole
+    frame, or a command without a client, comes with neither."""
+    at = 0
+    while at < len(session):
+        size, kind = struct.unpack_from("<IB", session, at) if len(session) - at >= 5 else (0, None)
+        end = at + 4 + size
+        if size == 0 or end > len(session):
+            yield None, None, session[at:]
+            return
+        is_command = kind in COMMANDS and size >= 13
+        yield kind, Whose(*struct.unpack_from("<iq", session, at + 5)) if is_command else None, session[at:end]
+        at = end
+
+
+def frame(kind, whose, rest=b""):
+    """The bytes of a command."""
+    body = struct.pack("<Biq", kind, *whose) + rest
+    return struct.pack("<I", len(body)) + body
 
 
 def commands(session):

@@ -2,12 +2,13 @@
 program read without a fault of the wire."""
 from .schema import TOP, message_of, messages
 
-MATCHER, PREDICATE, STATE, METRIC = "matcher", "predicate", "state", "metric"
+MATCHER, PREDICATE, STATE, METRIC, ALERT = "matcher", "predicate", "state", "metric", "alert"
 ENTITIES = {
     MATCHER: ["atom_matcher"],
     PREDICATE: ["predicate"],
     STATE: ["state"],
     METRIC: ["event_metric", "count_metric", "value_metric", "gauge_metric", "duration_metric"],
+    ALERT: ["alert"],
 }
 # What a member of a oneof takes the place of.
 ONE_OF = {
@@ -18,8 +19,12 @@ ONE_OF = {
 
 
 def varint_at(content, at):
-    """A number, and where it ends."""
-    value, shift = 0, 0
+    """A number, and where it ends. Most have one byte."""
+    value, shift = content[at], 7
+    at += 1
+    if value < 128:
+        return value, at
+    value &= 127
     while True:
         byte = content[at]
         value |= (byte & 127) << shift
@@ -51,14 +56,34 @@ def payload_end(content, at, kind):
 
 def records(content):
     """The records of a message: their numbers, wire types and payloads."""
-    at = 0
-    while at < len(content):
+    at, size = 0, len(content)
+    while at < size:
         tag, at = varint_at(content, at)
-        kind = tag & 7
-        end = group_end(content, at) if kind == 3 else payload_end(content, at, kind)
-        begin = varint_at(content, at)[1] if kind == 2 else at
+        kind, begin = tag & 7, at
+        if kind == 2:
+            length, begin = varint_at(content, at)
+            end = begin + length
+        elif kind == 0:
+            end = at
+            while content[end] > 127:
+                end += 1
+            end += 1
+        else:
+            end = group_end(content, at) if kind == 3 else payload_end(content, at, kind)
         yield tag >> 3, kind, content[begin:end]
         at = end
+
+
+def is_whole(content):
+    """Whether bytes are records to their end. What is inside of them isn't looked into."""
+    at = 0
+    try:
+        while at < len(content):
+            tag, at = varint_at(content, at)
+            at = group_end(content, at) if tag & 7 == 3 else payload_end(content, at, tag & 7)
+    except IndexError:
+        return False
+    return at == len(content)
 
 
 def signed(value, bits):
@@ -113,3 +138,15 @@ def tree(content, message=TOP):
 def entities(config, kind):
     """The entities of a kind, each with the name of its field, in the order in which they are judged."""
     return [(name, entity) for name in ENTITIES[kind] for entity in config.get(name, [])]
+
+
+# How many seconds a bucket has, by the numbers of TimeUnit; a minute is one for some clients alone.
+BUCKETS = {1: 300, 2: 300, 3: 600, 4: 1800, 5: 3600, 6: 10_800, 7: 21_600, 8: 43_200, 9: 86_400, 1000: 1}
+MINUTE, HOUR = 1, 5
+CLIENTS_OF_MINUTES = (0, 2000)
+
+
+def bucket_size(metric, client):
+    """How many nanoseconds the buckets of a metric have, for a client."""
+    unit = metric.get("bucket", HOUR)
+    return (60 if unit == MINUTE and client in CLIENTS_OF_MINUTES else BUCKETS[unit]) * 10**9

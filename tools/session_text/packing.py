@@ -4,13 +4,16 @@ import re
 import struct
 from collections import namedtuple
 
+from . import spelled
+from .android import encoded
 from .faults import Fault, column_of, echo, shown, within
 from .layout import ATOM, BITS, BOOL, FLAGS, INSTALL, INT, LONG, PULL, RAW, REMOVE, REPORT, STR, TICK, TYPES
-from .protobuf import encoded
 from .reading import is_text, without_mark
 from .words import QUOTED, hex_of, number_of, string_of, time_of, words_of
 
 ENTRY = re.compile(r"([0-9]+)(?:\[([0-9]+)\])?(?:\.([0-9]+))?=([a-z]+):(.*)", re.DOTALL)
+# What is no space in a session, and is one where bytes are split.
+OTHER_SPACE = re.compile(rb"[\v\f]")
 VALUE = re.compile(rf'({QUOTED}|[^",]*)((?:,[^",]*)*)', re.DOTALL)
 
 
@@ -52,7 +55,9 @@ def value_and_flags(text):
 def entry_bytes(word):
     """An entry of an atom, as 1=int:5, 2[1].3=str:"a" or 1=int:2,exclusive."""
     with within(word):
-        return bytes_of_entry(word)
+        content = bytes_of_entry(word)
+    spelled.learn(word, content)
+    return content
 
 
 def bytes_of_entry(word):
@@ -88,6 +93,16 @@ def atoms_of(words, atom_id):
         else:
             raise Fault(f"pull: expected failed alone, or atom before the entries; got {echo(word)}", column_of(word))
     return [payload_bytes(*atom) for atom in atoms]
+
+
+def is_pipe(name):
+    """Whether a name is that of something that is there and no file or folder, as a shell's <(..) is."""
+    return os.path.exists(name) and not os.path.isfile(name) and not os.path.isdir(name)
+
+
+def config_in(content, name):
+    """The configuration that is the content of a pipe: protobuf text where it is text, and else bytes."""
+    return encoded(without_mark(content), name) if is_text(content) else content
 
 
 def config_file(name, folder):
@@ -214,14 +229,23 @@ def pack_lines(content, folder, name):
     """The bytes of each line of a session in text. A fault names the line, and the column where it is known."""
     if b"\0" in content:
         raise Fault(f"{name}: expected a session in text, and it is bytes; tools/session unpack shows them as text")
+    usual = spelled.line_bytes if not OTHER_SPACE.search(content) else lambda _line: None
     parts = []
     for number, line in enumerate(without_mark(content).split(b"\n"), 1):
-        try:
-            parts.append(line_bytes(text_of(line), folder))
-        except Fault as fault:
-            place = f"{number}:{fault.column}" if fault.column else number
-            raise Fault(f"{name}:{place}: {fault}") from None
+        packed = usual(line)
+        if packed is None:
+            packed = unusual_line(line, folder, name, number)
+        parts.append(packed)
     return parts
+
+
+def unusual_line(line, folder, name, number):
+    """The bytes of any line, at its number. A fault tells the place."""
+    try:
+        return line_bytes(text_of(line), folder)
+    except Fault as fault:
+        place = f"{number}:{fault.column}" if fault.column else number
+        raise Fault(f"{name}:{place}: {fault}") from None
 
 
 def pack(content, folder, name):

@@ -2,21 +2,26 @@
 import contextlib
 import fcntl
 import hashlib
+import json
 import os
 import pathlib
 import shutil
-import signal
 import subprocess
 import tempfile
 import time
 from collections import namedtuple
 
 from .faults import Fault
+from .signals import held, pipes_may_break
 from .told import Seconds, tell
 
 TOP = pathlib.Path(__file__).resolve().parents[2]
 CRATE = TOP / "crates" / "statsd"
 PROGRAM = CRATE / "out" / "statsd"
+
+# The program of an archive, and what is said of it there.
+PACKAGED = TOP / "bin" / "statsd"
+ABOUT = PACKAGED.with_name("statsd.json")
 
 # The program without a proof, and the checksum of the sources that it was made from.
 KEPT = TOP / "out" / "unproved" / "statsd"
@@ -74,25 +79,13 @@ def is_kept(wanted):
 
 
 @contextlib.contextmanager
-def uninterrupted():
-    """An interrupt that comes here is one at the end of this."""
-    came = []
-    before = signal.signal(signal.SIGINT, lambda *_: came.append(True))
-    try:
-        yield
-    finally:
-        signal.signal(signal.SIGINT, before)
-    if came:
-        raise KeyboardInterrupt
-
-
-@contextlib.contextmanager
 def started(words, **how):
-    """A program at work. It is ended with this, also where this is interrupted."""
+    """A program at work. It is ended with this, also where this is interrupted. An interrupt of the terminal comes
+    to this alone, so that a program which has others at work hears of it by being ended, and ends these."""
     ran = None
     try:
-        with uninterrupted():
-            ran = subprocess.Popen(words, **how)
+        with held():
+            ran = subprocess.Popen(words, start_new_session=True, **how)
         yield ran
     finally:
         if ran and ran.poll() is None:
@@ -104,7 +97,7 @@ def answered(program, words, content):
     """What a program answers to some input."""
     try:
         pipes = {"stdin": subprocess.PIPE, "stdout": subprocess.PIPE, "stderr": subprocess.PIPE}
-        with started([program, *words], **pipes) as ran, Seconds("the program is at work"):
+        with pipes_may_break(), started([program, *words], **pipes) as ran, Seconds("the program is at work"):
             written, note = ran.communicate(content)
     except OSError as error:
         raise Fault(f"expected a program at {program}: {error.strerror}") from None
@@ -114,7 +107,7 @@ def answered(program, words, content):
 def checked(ran, program):
     """A run that ended by itself. A program that was stopped has another status; one without a proof also stops where
     it would do what a proof excludes."""
-    if 0 <= ran.status <= 6:
+    if 0 <= ran.status <= 7:
         return ran
     said = [line for line in ran.note.splitlines() if line.isprintable() and line.strip()]
     raise Fault(f"{program} stopped with status {ran.status}: {said[-1][:200] if said else 'it says nothing'}")
@@ -161,6 +154,18 @@ def build(room, made):
 
 
 def keep_program():
+    """Builds the program without a proof, and keeps it."""
+    try:
+        build_once()
+    except OSError as error:
+        name = KEPT.parent.relative_to(TOP)
+        raise Fault(
+            f"expected a folder {name} that can be written, to keep a program in: {error.strerror};"
+            " --program FILE takes a built one"
+        ) from None
+
+
+def build_once():
     """Builds the program without a proof, unless somebody else has just done it."""
     KEPT.parent.mkdir(parents=True, exist_ok=True)
     with open(KEPT.with_name("lock"), "wb") as lock:
@@ -189,13 +194,31 @@ def unproved(why):
     return KEPT
 
 
+def want_of(program):
+    """That there is no program in a place, and how to get one."""
+    name = KEPT.relative_to(TOP)
+    return (
+        f"no program at {program}: .ci/run builds the proved one, and {name} is one without a proof, where"
+        " tools/session run has kept it"
+    )
+
+
+def packaged():
+    """The program of an archive. Says that it isn't proved, where it isn't."""
+    if not json.loads(ABOUT.read_text(encoding="utf-8"))["proved"]:
+        tell("the program of this archive answers, which was built without a proof")
+    return PACKAGED
+
+
 def chosen(program=None):
-    """The program to run: the one that is given, the proved one, or one without a proof."""
+    """The program to run: the one that is given, that of the archive, the proved one, or one without a proof."""
     if program:
         given = os.path.abspath(program)
         if not (os.path.isfile(given) and os.access(given, os.X_OK)):
             raise Fault(f"expected a program at {given}, and there is none that can be run")
         return given
+    if PACKAGED.is_file():
+        return packaged()
     why = want_of_proof()
     return unproved(why) if why else PROGRAM
 

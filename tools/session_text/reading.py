@@ -20,7 +20,6 @@ def is_text(content):
     return bool(text) and not any(char < " " and char not in "\t\r\n" for char in text)
 
 
-
 class Cursor:
     """A place in bytes, which moves on as they are read. What isn't there is a Fault."""
 

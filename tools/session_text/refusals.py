@@ -1,10 +1,20 @@
 """Why a configuration is refused, in words, with the part that is at fault. docs/CONFIGURATION.md has the numbers."""
-from .config import ENTITIES, MATCHER, METRIC, PREDICATE, STATE, entities, tree
+from . import android, causes, passed
+from .config import ALERT, MATCHER, METRIC, PREDICATE, STATE, entities, tree
 from .schema import path_words
 
-LIMIT, NO_ID, TWICE, NO_MATCHER, NO_PREDICATE, NO_STATE, MATCHER_CYCLE, PREDICATE_CYCLE, NOT_RIGHT = range(1, 10)
-KINDS = {1: MATCHER, 2: PREDICATE, 3: STATE, 4: METRIC}
-MOST = {1: 800, 2: 300, 3: 16, 4: 100}
+LIMIT, NO_ID, TWICE, NO_MATCHER, NO_PREDICATE, NO_STATE = range(1, 7)
+MATCHER_CYCLE, PREDICATE_CYCLE, NOT_RIGHT, NO_METRIC = range(7, 11)
+KINDS = {1: MATCHER, 2: PREDICATE, 3: STATE, 4: METRIC, 5: ALERT}
+# How many entities of a kind there may be, by the reason that there are more.
+MOST = {1: (MATCHER, 800), 2: (PREDICATE, 300), 3: (STATE, 16), 4: (METRIC, 100), 11: (ALERT, 10)}
+MOST_ACTIVATIONS = 8
+# The numbers of alerts and what they may be, by the reason that one isn't that.
+ALERT_NUMBERS = {
+    12: ("parts", "from 1 to 10"),
+    13: ("threshold", "from 0 to 2^62"),
+    14: ("refractory_seconds", "from 0 to 1,000,000"),
+}
 NOT = 3
 
 CAUSES = {
@@ -37,6 +47,10 @@ REASONS = {
     17: "is a gauge that neither includes all fields nor names one",
     18: "has a sampling_type or a trigger that such a gauge can't have",
     19: "is named by no_report_metric and isn't there",
+    20: "has an activation without start or ttl_seconds",
+    21: "is pulled and has activations",
+    22: "has no metric, no threshold or no parts",
+    23: "is on a metric that isn't a count",
 }
 
 
@@ -59,7 +73,9 @@ def matchers_of(field, entity):
         simple = entity.get("simple_predicate", {})
         return [(event, simple[event]) for event in ("start", "stop", "stop_all") if event in simple]
     places = [] if field == "duration_metric" else ["what", "trigger_event"]
-    return [(place, entity[place]) for place in places if place in entity]
+    found = [(place, entity[place]) for place in places if place in entity]
+    signals = [(signal, one) for one in entity.get("activation", []) for signal in ("start", "cancel")]
+    return found + [(f"activation.{signal}", one[signal]) for signal, one in signals if signal in one]
 
 
 def predicates_of(field, entity):
@@ -76,10 +92,16 @@ def states_of(_field, entity):
     return [("slice_by_state", one) for one in entity.get("slice_by_state", [])]
 
 
+def metrics_of(_field, entity):
+    """The id of the metric that an alert names, with where."""
+    return [("metric", entity["metric"])] if "metric" in entity else []
+
+
 NAMES = {
     NO_MATCHER: (MATCHER, matchers_of),
     NO_PREDICATE: (PREDICATE, predicates_of),
     NO_STATE: (STATE, states_of),
+    NO_METRIC: (METRIC, metrics_of),
 }
 
 
@@ -118,8 +140,11 @@ def cycle_words(config, kind, begin):
 
 def limit_words(config, reason, value):
     """Which number is past its limit."""
-    if reason in KINDS:
-        return f"{value} {KINDS[reason]}s, and there may be {MOST[reason]}"
+    if reason in MOST:
+        kind, most = MOST[reason]
+        return f"{value} {kind}s, and there may be {most}"
+    if reason in ALERT_NUMBERS:
+        return alert_words(config, reason, value)
     for _, one in entities(config, PREDICATE):
         if reason == 5 and one.get("simple_predicate", {}).get("bound") == value:
             return f"predicate {named(one)}: bound {value}, and it may be from 1 to 3,000"
@@ -130,6 +155,20 @@ def limit_words(config, reason, value):
             return f"metric {named(one)}: max_num_gauge_atoms_per_bucket {value}, and it may be from 1 to 100"
         if field == "gauge_metric" and reason == 8 and rows_of(one) == value:
             return f"metric {named(one)}: its bound times the samples of a key is {value}, and may be 16,384"
+        activations = one.get("activation", [])
+        if reason == 9 and len(activations) == value:
+            return f"metric {named(one)}: {value} activations, and there may be {MOST_ACTIVATIONS}"
+        if reason == 10 and any(activation.get("ttl_seconds") == value for activation in activations):
+            return f"metric {named(one)}: activation.ttl_seconds {value}, and it may be from 1 to 1,000,000"
+    return f"the number {value} is past its limit"
+
+
+def alert_words(config, reason, value):
+    """Which number of an alert is past its limit."""
+    name, may_be = ALERT_NUMBERS[reason]
+    for _, one in entities(config, ALERT):
+        if one.get(name) == value:
+            return f"alert {named(one)}: {name} {value}, and it may be {may_be}"
     return f"the number {value} is past its limit"
 
 
@@ -165,6 +204,8 @@ AT_FAULT = {
     3: ([MATCHER, STATE], has_bad_atom),
     4: ([MATCHER], None),
     5: ([PREDICATE, METRIC], None),
+    22: ([ALERT], None),
+    23: ([ALERT], None),
 }
 
 
@@ -181,7 +222,7 @@ def wrong_words(config, reason, value):
     if reason == 19:
         return f"metric {value} {why}"
     kinds = kinds_at_fault(config, reason, value) or ["the entity"]
-    return f"{' or '.join(f'{kind} {value}' for kind in kinds)} {why}"
+    return f"{' or '.join(f'{kind} {value}' for kind in kinds)} {why}{causes.cause(config, reason, value)}"
 
 
 def link_words(content, number, reason, value):
@@ -205,15 +246,20 @@ def wire_words(cause, offset):
     return f"at byte {offset}: {CAUSES.get(cause, f'cause {cause}')}"
 
 
-def unsupported_words(path):
-    """A record that isn't supported in words."""
+def unsupported_words(path, content=b""):
+    """A record that isn't supported in words, with the entity that has it, where the configuration is at hand."""
     words = path_words(path)
     if path == [17]:
-        return "metric_activation (17) isn't supported"
+        return f"metric_activation (17) isn't supported{passed.own_words('metric_activation')}"
     place = f" of {'.'.join(words[:-1])}" if words[:-1] else ""
     if words[-1].isdigit():
-        return f"field {words[-1]}{place} isn't supported"
-    return f"{words[-1]}{place} has another wire type than it may have, or a number that it may not have"
+        return (
+            f"field {words[-1]}{place} isn't supported{android.refused_words(path)}{causes.owner_words(content, path)}"
+        )
+    return (
+        f"{words[-1]}{place} has another wire type than it may have, or a number that it may not have"
+        f"{causes.owner_words(content, path)}"
+    )
 
 
 def found_lines(line, content):
@@ -225,7 +271,7 @@ def found_lines(line, content):
     if what == "wire":
         return ["  " + wire_words(*map(int, numbers))]
     if what == "unsupported":
-        return ["  " + unsupported_words([int(number) for number in numbers[0].split(".")])]
+        return ["  " + unsupported_words([int(number) for number in numbers[0].split(".")], content)]
     if what == "link":
         return ["  " + link_words(content, *map(int, numbers))]
     return []

@@ -1,4 +1,5 @@
 """Replies as text."""
+import contextlib
 import struct
 
 from . import protobuf, refusals
@@ -46,10 +47,10 @@ def wire(cursor, _config):
     return f"wire {cause} {offset}", [refusals.wire_words(cause, offset)]
 
 
-def unsupported(cursor, _config):
+def unsupported(cursor, config):
     """A record that isn't supported, and below it in words. Each has a path."""
     path = [cursor.number("I") for _ in range(cursor.number("B"))]
-    return f"unsupported {'.'.join(map(str, path))}", [refusals.unsupported_words(path)]
+    return f"unsupported {'.'.join(map(str, path))}", [refusals.unsupported_words(path, config or b"")]
 
 
 def link(cursor, config):
@@ -69,55 +70,88 @@ def refusal(cursor, config):
     return REFUSALS[kind](cursor, config)
 
 
-def report_lines(content):
-    """A report by protoc, indented; in hexadecimal where protoc isn't here."""
-    if not protobuf.is_here():
-        return ["  (no protoc here) " + content.hex()]
-    return ["  " + line for line in protobuf.decoded(content).splitlines()]
-
-
-def reply_lines(content, config):
-    """One reply, with the configuration that was to be installed, if it is at hand."""
+def reply_words(content, config):
+    """What is told of one reply but for its report, with the configuration that was to be installed, if it is at
+    hand: its line, the lines below, and the bytes of its report, or None."""
     cursor = Cursor(content)
     kind = cursor.number("B")
     if kind not in NAMES:
         raise Fault(f"expected a kind of replies, 1, 3 or 5 to 9, got {kind}")
-    words, more = [NAMES[kind], *client_words(cursor)], []
+    words, more, report = [NAMES[kind], *client_words(cursor)], [], None
     if kind == REFUSED:
         word, told = refusal(cursor, config)
         words.append(word)
         more = ["  " + line for line in told]
     elif kind in WITH_REPORT:
-        more = report_lines(cursor.rest())
+        report = cursor.rest()
     elif kind == CLIENT_FULL:
         words.append(str(cursor.number("I")))
     if not cursor.is_done():
         raise Fault("expected the end of the reply, and bytes are left")
-    return [" ".join(words), *more]
+    return [" ".join(words), *more], report
 
 
-def is_front(content):
-    """Bytes may be a reply or the front of one: its length and its kind are such as replies have."""
-    if len(content) < 8:
-        return not is_text(content)
-    size = struct.unpack_from("<Q", content)[0]
-    return LEAST <= size < TOO_MUCH and (len(content) == 8 or content[8] in NAMES)
+def is_front(content, at):
+    """Bytes from a place on may be a reply or the front of one: its length and its kind are such as replies have."""
+    if len(content) - at < 8:
+        return not is_text(content[at:])
+    size = struct.unpack_from("<Q", content, at)[0]
+    return LEAST <= size < TOO_MUCH and (len(content) == at + 8 or content[at + 8] in NAMES)
+
+
+def bodies(content):
+    """Where each reply is, and its bytes after the length. A front of a reply, as a failed write leaves it, is the last
+    one, with None in place of its bytes."""
+    at = 0
+    while at < len(content):
+        if not is_front(content, at):
+            raise Fault(f"expected replies, and at byte {at} is none: a reply begins with its length and its kind")
+        size = struct.unpack_from("<Q", content, at)[0] if len(content) - at >= 8 else len(content)
+        if size > len(content) - at - 8:
+            yield at, None
+            return
+        yield at, content[at + 8 : at + 8 + size]
+        at += 8 + size
+
+
+def reports_lines(reports):
+    """Each report by protoc, indented; in hexadecimal where protoc isn't here. Each stands at its place in the
+    replies."""
+    if not protobuf.is_here():
+        return [["  (no protoc here) " + report.hex()] for _, report in reports]
+    try:
+        return protobuf.decoded([report for _, report in reports])
+    except Fault:
+        return [one_report(at, report) for at, report in reports]
+
+
+def one_report(at, report):
+    """One report by protoc, which may be the one that is at fault."""
+    with of_reply(at):
+        return protobuf.decoded([report])[0]
+
+
+@contextlib.contextmanager
+def of_reply(at):
+    """A fault that is met here is one of the reply at a place."""
+    try:
+        yield
+    except Fault as fault:
+        raise Fault(f"the reply at {at}: {fault}") from None
 
 
 def replies_lines(content, configs=()):
-    """All replies, with the configurations of their commands, if they are at hand. A front of a reply, as a failed
-    write leaves it, is one line of bytes."""
-    lines, at, number = [], 0, 0
-    while at < len(content):
-        left = content[at:]
-        if not is_front(left):
-            raise Fault(f"expected replies, and at byte {at} is none: a reply begins with its length and its kind")
-        size = struct.unpack_from("<Q", left)[0] if len(left) >= 8 else len(left)
-        if size > len(left) - 8:
-            return [*lines, "cut " + left.hex()]
-        try:
-            lines += reply_lines(left[8 : 8 + size], configs[number] if number < len(configs) else None)
-        except Fault as fault:
-            raise Fault(f"the reply at {at}: {fault}") from None
-        at, number = at + 8 + size, number + 1
-    return lines
+    """All replies, with the configurations of their commands, if they are at hand. A front of a reply is one line of
+    bytes."""
+    told, reports = [], []
+    for number, (at, body) in enumerate(bodies(content)):
+        if body is None:
+            told.append((["cut " + content[at:].hex()], None))
+            break
+        with of_reply(at):
+            lines, report = reply_words(body, configs[number] if number < len(configs) else None)
+        told.append((lines, report))
+        if report is not None:
+            reports.append((at, report))
+    shown = iter(reports_lines(reports))
+    return [line for lines, report in told for line in [*lines, *(next(shown) if report is not None else [])]]

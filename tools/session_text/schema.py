@@ -12,24 +12,42 @@ TOP = "StatsdConfig"
 TOKEN = re.compile(
     r"(?P<open>message|enum|oneof)\s+(?P<opened>\w+)\s*\{|(?P<close>\})"
     r"|(?P<how>optional\s+|repeated\s+|)(?P<type>\w+)\s+(?P<name>\w+)\s*=\s*(?P<number>\d+)"
+    r"|(?P<label>\w+)\s*=\s*(?P<value>\d+)"
 )
 
 
-@functools.lru_cache(maxsize=None)
-def messages():
-    """The fields of each message by their numbers. A message within another is called by its own name after that of the
-    other, with a point between them."""
+def tokens():
+    """The tokens of the schema that stand in messages and enumerations: each with the kind of what it stands in, and
+    the name of that, which has the names of the messages around it in front, with points between them."""
     text = re.sub(r"//.*", "", (PROTO / "statsd_config.proto").read_text(encoding="utf-8"))
-    found, inside = {}, []
+    inside = []
     for token in TOKEN.finditer(text):
         if token["open"]:
             inside.append((token["open"], token["opened"]))
         elif token["close"]:
             inside.pop()
-        elif inside and inside[-1][0] != "enum":
-            message = ".".join(name for kind, name in inside if kind == "message")
+        elif inside:
+            yield inside[-1][0], ".".join(name for kind, name in inside if kind != "oneof"), token
+
+
+@functools.lru_cache(maxsize=None)
+def messages():
+    """The fields of each message by their numbers."""
+    found = {}
+    for kind, message, token in tokens():
+        if kind != "enum" and token["name"]:
             field = Field(token["name"], token["type"], token["how"].startswith("repeated"))
             found.setdefault(message, {})[int(token["number"])] = field
+    return found
+
+
+@functools.lru_cache(maxsize=None)
+def enums():
+    """The names of each enumeration by their numbers."""
+    found = {}
+    for kind, enum, token in tokens():
+        if kind == "enum" and token["label"]:
+            found.setdefault(enum, {})[int(token["value"])] = token["label"]
     return found
 
 

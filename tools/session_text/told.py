@@ -4,14 +4,18 @@ import sys
 import threading
 import time
 
-NAME = "tools/" + os.path.basename(sys.argv[0] or "session")
+CALLED = os.path.abspath(sys.argv[0] or "session")
+IS_TOOL = os.path.dirname(CALLED) == os.path.dirname(os.path.dirname(os.path.abspath(__file__)))
+# What speaks: a script of this folder, or a program of people who import this.
+NAME = ("tools/" if IS_TOOL else "") + os.path.basename(CALLED)
 # Where nobody watches, long work is told of at these steps.
 STEP = 30
 
 
 def tell(line):
-    """Says something."""
-    print(f"{NAME}: {line}", file=sys.stderr, flush=True)
+    """Says something, where somebody can hear it."""
+    if sys.stderr is not None:
+        print(f"{NAME}: {line}", file=sys.stderr, flush=True)
 
 
 class Seconds:
@@ -31,7 +35,7 @@ class Seconds:
 
     def show(self):
         """Shows the seconds until all is done."""
-        is_watched, is_shown = sys.stderr.isatty(), False
+        is_watched, is_shown = sys.stderr is not None and sys.stderr.isatty(), False
         while not self.is_done.wait(1):
             seconds = round(time.monotonic() - self.begin)
             if is_watched and seconds >= 3:

@@ -83,7 +83,7 @@ def escape_of(escape):
     if escape in ESCAPES:
         return ESCAPES[escape]
     if len(escape) == 1:
-        raise Fault(rf'string: expected \n, \t, \r, \", \\ or \xHH with two digits; got \{escape}')
+        raise Fault(rf"string: expected \n, \t, \r, \", \\ or \xHH with two digits; got \{escape}")
     return bytes([int(escape[1:], 16)])
 
 

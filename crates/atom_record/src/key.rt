@@ -1,7 +1,7 @@
 //! Keys of dimensions, in which a leaf that an atom doesn't have takes no memory.
-ghost use Rattle.std.specs.Prelude.{◌≡◌, [], ◌∷◌, ◌++◌, ◌<◌, true, nat_lt, length, Some, IfSome, IfOk, OnOk, OnErr, slice_get};
+ghost use Rattle.std.specs.Prelude.{◌≡◌, [], ◌∷◌, ◌++◌, ◌<◌, true, false, nat_lt, length, Some, IfSome, IfOk, OnOk, OnErr, slice_get};
 ghost use Rattle.std.specs.Option.{option_copied};
-ghost use Rattle.atom_record.specs.declared.value.Leaf.TheVariants.{One};
+ghost use Rattle.atom_record.specs.declared.value.Leaf.TheVariants.{One, Missing};
 
 use crate::value::MISSING;
 use crate::{Leaf, Value};
@@ -135,14 +135,18 @@ impl DimKey {
         self.count = 0;
     }
 
-    /// Adds a leaf at the end.
+    /// Adds a leaf at the end. A missing leaf takes no memory, and is turned down only where the count of leaves stands
+    /// at its type's end.
     #[inline(always)]
     pub fn push(&mut self, leaf: Leaf) -> Result<(), AllocError>
         ensures added { OnOk result (self.new ≡ self.old ++ leaf ∷ []) }
+        ensures missing { leaf ≡ Missing → OnErr result (length self.old ≡ usize.MAX) }
         ensures err { OnErr result (self.new ≡ self.old) }
     {
         let place = self.count;
-        let count = place.checked_add(1).ok_or(AllocError)?;
+        let Some(count) = place.checked_add(1) else {
+            return Err(AllocError);
+        };
         if let Leaf::Missing = leaf {
             self.count = count;
             return Ok(());
@@ -152,10 +156,12 @@ impl DimKey {
         Ok(())
     }
 
-    /// Writes a number over the one leaf of a key, if that is a number of the same kind. Whether it did.
+    /// Writes a number over the one leaf of a key, if that is a number of the same kind. Whether it did; if not, the key
+    /// stays as it was.
     #[inline(always)]
     pub fn set_number(&mut self, value: &Value) -> bool
-        ensures { result ≡ true → self.new ≡ One value.now ∷ [] }
+        ensures number { result ≡ true → self.new ≡ One value.now ∷ [] }
+        ensures untouched { result ≡ false → self.new ≡ self.old }
     {
         if self.count != 1 || self.present.len() != 1 {
             return false;

@@ -1,4 +1,5 @@
-//! Streams, atoms, sessions and replies by their bytes; the flat form, clocks and tables. There is nothing here but tests.
+//! Streams, atoms, sessions and replies by their bytes; the flat form, clocks and tables. There is nothing here but
+//! tests.
 #![tactic(auto)]
 
 #[cfg(test)]

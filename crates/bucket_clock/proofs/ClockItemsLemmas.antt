@@ -39,7 +39,7 @@ pub clock_fails : (items : List Item) (place : ℕ) (e : FlatError) → Builds I
 clock_fails items place e fails = laws.form_fails IsForm form_items IsClock clock_items form as_form form_valid items
     place e fails
 
--- for callers: a clock has 256 bytes at most
-pub clock_size : (clock : Times) → IsClock clock → length (spelled_items (clock_items clock)) ≤ 256
+-- for callers: a clock has 36 bytes at most
+pub clock_size : (clock : Times) → IsClock clock → length (spelled_items (clock_items clock)) ≤ 36
 clock_size clock valid =
-    let most = bytes_bounded (clock_items clock) 4 0 (clock_bounded clock valid) (omega arith) in omega (arith, most)
+    let most = bytes_bounded (clock_items clock) 4 0 (clock_bounded clock valid) in omega (arith, most)

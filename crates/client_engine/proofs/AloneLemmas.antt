@@ -1,13 +1,15 @@
 -- A step that leaves a metric alone asks nothing of its producer, and so a lane takes a run of such steps by the frame
 -- that stands for it.
-use Rattle.std.proofs.Common.{◌≡◌, ℕ, Bool, false, ◌&&◌, List, [], ◌∷◌, ◌++◌, Option, Some, None, if◌then◌else◌, refl, sym, ap, ◌∙◌}
+use Rattle.std.proofs.Common.{◌≡◌, ℕ, Bool, false, ◌&&◌, List, [], ◌∷◌, ◌++◌, Option, Some, None, if◌then◌else◌, refl, sym, ap, subst, ◌∙◌, append_assoc, append-nil}
 use Rattle.std.specs.Prelude.{is_some}
 use Rattle.std.specs.Option.{option_map, option_and_then}
 use Rattle.atom_record.specs.declared.log.LogFrame.{LogFrame}
 use Rattle.atom_record.specs.declared.log.LogFrame.TheVariants.{Tick, AtomAt, Pull}
 use Rattle.bucket_meaning.specs.Ends.{Moment}
+use Rattle.config_links.specs.OwnMatchers.{kind_matchers}
 use Rattle.config_links.specs.declared.linked.LKind.TheVariants as kinds
 use Rattle.config_links.specs.declared.linked.LMetric.{LMetric}
+use Rattle.config_links.specs.declared.linked.Linked.{Linked}
 use Rattle.config_types.specs.declared.metric.Aggregation.{Aggregation}
 use Rattle.config_types.specs.declared.parameters.PredSpec.{PredSpec}
 use Rattle.field_select.specs.declared.leaf.FieldSet.{FieldSet}
@@ -32,7 +34,7 @@ use Rattle.metric_producer.specs.declared.row.Row.{Row}
 use Rattle.metric_lane.specs.LaneStands.{GetsFrame}
 use Rattle.metric_lane.specs.declared.lane.Lane.{Lane}
 use Rattle.metric_lane.proofs.LaneRunLemmas.{run_logs}
-use Rattle.metric_meaning.specs.Arrivals.{arriving_by, holds_in, atom_key}
+use Rattle.metric_meaning.specs.Arrivals.{arriving_by, is_active_in, holds_in, atom_key}
 use Rattle.metric_meaning.specs.Histories.{What, Logged, Reported, Step, Installation, truth_at, moment_of}
 use Rattle.metric_meaning.specs.PushedGaugeSteps.{keyed_sample}
 use Rattle.metric_meaning.specs.PushedValueSteps.{keyed_integer}
@@ -63,7 +65,12 @@ use Rattle.metric_calls.proofs.LongestCallsLemmas.{longest_ask_well}
 use Rattle.metric_calls.proofs.InnerToldLemmas.{quiet_event, quiet_changes}
 use Rattle.metric_calls.proofs.QuietStepsLemmas.{tick_quiet, pull_quiet}
 use Rattle.client_engine.specs.Along.{Along}
-use Rattle.client_engine.specs.CaughtUp.{LeavesAlone, AllLeaveAlone, MayCatchUp, TakesRun}
+use Rattle.client_engine.specs.CaughtUp.{LeavesAlone, AllLeaveAlone, MayCatchUp, TakesRun, TrackTakesRun}
+use Rattle.client_engine.specs.Activity.{ActsAlong}
+use Rattle.client_engine.specs.TrackStands.{LaneAlong}
+use Rattle.client_engine.specs.declared.lanes.MetricLane.{MetricLane}
+use Rattle.client_engine.specs.declared.track.Track.{Track}
+use Rattle.metric_activation.specs.declared.timer.Timer.{Timer}
 use Rattle.client_engine.specs.CountsAlong.{CountLane, CountsAlong}
 use Rattle.client_engine.specs.ValuesAlong.{ValueLane, ValuesAlong}
 use Rattle.client_engine.specs.PulledValuesAlong.{PulledValueLane, PulledValuesAlong}
@@ -73,10 +80,12 @@ use Rattle.client_engine.specs.EventsAlong.{EventLane, EventsAlong}
 use Rattle.client_engine.specs.SumsAlong.{SumLane, SumsAlong}
 use Rattle.client_engine.specs.LongestAlong.{LongestLane, LongestAlong}
 use Rattle.client_engine.specs.Touchers.{one_holds, tells_one}
-use Rattle.client_engine.specs.Waking.{wakers, told_slices}
+use Rattle.client_engine.specs.Waking.{told_touchers, wakers, told_slices}
+use Rattle.client_engine.proofs.ActivityLemmas.{tick_stays, atom_stays, pull_stays}
 use Rattle.client_engine.proofs.RunLemmas.{AsksNothing, nothing_asked, along_run}
 use Rattle.client_engine.proofs.SleepingLemmas.{alone, duration_untouched, pulled_untouched, gauge_untouched}
 use Rattle.client_engine.proofs.UntouchedLemmas.{nothing_changes}
+use Rattle.client_engine.proofs.WakersLemmas.{told_off, kind_off, starting_off}
 
 module _ (installed : Installation) (metric : LMetric) where
   -- where nothing is asked at a frame, a step that leaves a metric alone is one at which nothing is
@@ -93,16 +102,18 @@ module _ (installed : Installation) (metric : LMetric) where
     of_what (Logged frame) leaves none = none frame refl
     of_what (Reported include_current) leaves none = absurd leaves
 
-  -- nothing arrives at a metric that only its own matcher wakes
-  none_comes : (scene : Scene) (step : Step) → wakers installed.linked.predicates metric ≡ metric.what ∷ []
+  -- nothing arrives at a metric that gets the atoms of its own matcher
+  none_comes : (scene : Scene) (step : Step) → kind_matchers metric.what metric.kind ≡ metric.what ∷ []
       → LeavesAlone installed.linked metric step → arriving_by scene metric step ≡ None
   none_comes scene step own leaves = of_what step.what leaves where
     of_what : (what : What) → let s : Step = record step { what = what } in LeavesAlone installed.linked metric s
         → arriving_by scene metric s ≡ None
     of_what (Logged (Tick at)) leaves = refl
     of_what (Logged (AtomAt at atom)) leaves =
-        ap (λ b. if b && holds_in scene metric (atom_reading atom) then Some atom else None)
-        (alone (truth_at metric.what step.truths) (sym (ap (one_holds step.truths) own) ∙ leaves.0))
+        ap (λ b. if b && (is_active_in scene metric step.at && holds_in scene metric (atom_reading atom))
+        then Some atom else None)
+        (alone (truth_at metric.what step.truths)
+        (sym (ap (one_holds step.truths) own) ∙ kind_off installed.linked.predicates metric step.truths leaves.0))
     of_what (Logged (Pull at id outcome)) leaves = refl
     of_what (Reported include_current) leaves = absurd leaves
 
@@ -116,7 +127,7 @@ module _ (installed : Installation) (metric : LMetric) where
         none_at (count_asking installed metric overflow) before step leaves
         (λ frame at. ap (λ atom. coming step.at (option_map (atom_key scene metric) atom))
         (none_comes scene step
-        (ap (λ kind. wakers installed.linked.predicates (record metric { kind = kind })) is) leaves))
+        (ap (kind_matchers metric.what) is) leaves))
 
     values_none : (source : ValueLeaf) (aggregation : Aggregation)
         → metric.kind ≡ kinds.PushedValue source.atom_id source.leaf aggregation
@@ -126,14 +137,14 @@ module _ (installed : Installation) (metric : LMetric) where
         (λ frame at. ap (λ atom. coming step.at (option_map keyed_int (option_and_then (keyed_integer scene metric source)
         atom)))
         (none_comes scene step
-        (ap (λ kind. wakers installed.linked.predicates (record metric { kind = kind })) is) leaves))
+        (ap (kind_matchers metric.what) is) leaves))
 
     events_none : metric.kind ≡ kinds.Event → AsksNothing (event_asking installed metric) before step
     events_none is =
         none_at (event_asking installed metric) before step leaves
         (λ frame at. ap (coming step.at)
         (none_comes scene step
-        (ap (λ kind. wakers installed.linked.predicates (record metric { kind = kind })) is) leaves))
+        (ap (kind_matchers metric.what) is) leaves))
 
     gauges_none : (fields : Option FieldSet) (samples : ℕ) → metric.kind ≡ kinds.PushedGauge fields samples
         → AsksNothing (pushed_gauge_asking installed metric fields samples) before step
@@ -142,7 +153,7 @@ module _ (installed : Installation) (metric : LMetric) where
         (λ frame at. ap (λ atom. coming step.at (option_map handed_sample (option_map (keyed_sample scene metric fields)
         atom)))
         (none_comes scene step
-        (ap (λ kind. wakers installed.linked.predicates (record metric { kind = kind })) is) leaves))
+        (ap (kind_matchers metric.what) is) leaves))
 
   -- a pulled metric is told nothing
   told_none : {Params Event X K C R : Type 0} (way : Way X K C R) (params : Params) (telling : Telling Event)
@@ -270,8 +281,11 @@ module _ (metric : LMetric) (moment : Moment) where
             before step leaves (λ off.
             ap (λ kind. is_touched installed.linked.predicates (record metric { kind = kind }) step.truths) has.values
             ∙ pulled_untouched installed.linked.predicates metric step.truths
-            (sym (ap (λ kind. one_holds step.truths (wakers installed.linked.predicates (record metric { kind = kind })))
-            has.values) ∙ off))) steps run leave may has.along;
+            (sym (ap (λ kind. one_holds step.truths (kind_matchers metric.what kind)) has.values)
+            ∙ kind_off installed.linked.predicates metric step.truths off)
+            (sym (ap (λ kind. one_holds step.truths
+            (told_touchers installed.linked.predicates (record metric { kind = kind }))) has.values)
+            ∙ told_off installed.linked.predicates metric step.truths off))) steps run leave may has.along;
       }
 
   pub pulled_gauges_run : (old new : PulledGaugeLane) → GetsFrame pulled_gauges.pulled_law old new moment
@@ -290,8 +304,11 @@ module _ (metric : LMetric) (moment : Moment) where
             (gauge_telling metric has.fields has.trigger) before step leaves (λ off.
             ap (λ kind. is_touched installed.linked.predicates (record metric { kind = kind }) step.truths) has.gauge
             ∙ gauge_untouched installed.linked.predicates metric step.truths has.trigger
-            (sym (ap (λ kind. one_holds step.truths (wakers installed.linked.predicates (record metric { kind = kind })))
-            has.gauge) ∙ off))) steps run leave may has.along;
+            (sym (ap (λ kind. one_holds step.truths (kind_matchers metric.what kind)) has.gauge)
+            ∙ kind_off installed.linked.predicates metric step.truths off)
+            (sym (ap (λ kind. one_holds step.truths
+            (told_touchers installed.linked.predicates (record metric { kind = kind }))) has.gauge)
+            ∙ told_off installed.linked.predicates metric step.truths off))) steps run leave may has.along;
       }
 
   pub sums_run : (old new : SumLane) → GetsFrame sum_law old new moment
@@ -309,8 +326,9 @@ module _ (metric : LMetric) (moment : Moment) where
             (λ off.
             ap (λ kind. is_touched installed.linked.predicates (record metric { kind = kind }) step.truths) has.sums
             ∙ duration_untouched installed.linked.predicates metric step.truths
-            (sym (ap (λ kind. one_holds step.truths (wakers installed.linked.predicates (record metric { kind = kind })))
-            has.sums) ∙ off))
+            (sym (ap (λ kind. one_holds step.truths
+            (told_touchers installed.linked.predicates (record metric { kind = kind }))) has.sums)
+            ∙ told_off installed.linked.predicates metric step.truths off))
             (ap (λ kind. told_slices (record metric { kind = kind })) has.sums)) steps run leave may has.along;
       }
 
@@ -329,7 +347,35 @@ module _ (metric : LMetric) (moment : Moment) where
             (λ off.
             ap (λ kind. is_touched installed.linked.predicates (record metric { kind = kind }) step.truths) has.longest
             ∙ duration_untouched installed.linked.predicates metric step.truths
-            (sym (ap (λ kind. one_holds step.truths (wakers installed.linked.predicates (record metric { kind = kind })))
-            has.longest) ∙ off))
+            (sym (ap (λ kind. one_holds step.truths
+            (told_touchers installed.linked.predicates (record metric { kind = kind }))) has.longest)
+            ∙ told_off installed.linked.predicates metric step.truths off))
             (ap (λ kind. told_slices (record metric { kind = kind })) has.longest)) steps run leave may has.along;
       }
+
+-- a book stands for what it did and a run that leaves its metric alone
+acts_run : (linked : Linked) (metric : LMetric) (acts : List Timer) (steps run : List Step)
+    → AllLeaveAlone linked run metric → ActsAlong metric steps acts → ActsAlong metric (steps ++ run) acts
+acts_run linked metric acts steps [] leave along =
+    subst (λ all. ActsAlong metric all acts) (sym (append-nil steps)) along
+acts_run linked metric acts steps (step ∷ run) leave along =
+    subst (λ all. ActsAlong metric all acts) (append_assoc steps (step ∷ []) run)
+    (acts_run linked metric acts (steps ++ step ∷ []) run leave.1 (of_what step.what leave.0)) where
+      of_what : (what : What) → let s : Step = record step { what = what } in LeavesAlone linked metric s
+          → ActsAlong metric (steps ++ s ∷ []) acts
+      of_what (Logged (Tick at)) leaves = tick_stays metric steps acts along step.at at step.truths
+      of_what (Logged (AtomAt at atom)) leaves =
+          atom_stays metric steps acts along step.at at atom step.truths
+          (starting_off linked.predicates metric step.truths leaves.0)
+      of_what (Logged (Pull at id outcome)) leaves = pull_stays metric steps acts along step.at at id outcome step.truths
+      of_what (Reported include_current) leaves = absurd leaves
+
+-- so a metric takes a run that leaves it alone where its lane does
+pub track_run : (moment : Moment) (metric : LMetric) (old new : MetricLane) (acts : List Timer)
+    → TakesRun (LaneAlong metric) metric moment old new
+    → TrackTakesRun moment (record { metric = metric; lane = old; acts = acts })
+    (record { metric = metric; lane = new; acts = acts })
+track_run moment metric old new acts takes installed steps run has leave may = record {
+  lane = takes installed steps run has.lane leave may;
+  acts = acts_run installed.linked metric acts steps run leave has.acts;
+}

@@ -13,55 +13,57 @@ use Rattle.gauge_metric.specs.PulledStands as pulled_gauges
 use Rattle.gauge_metric.specs.EventStands.{event_law}
 use Rattle.duration_metric.specs.SumStands.{sum_law}
 use Rattle.duration_metric.specs.SparseStands.{sparse_law}
+use Rattle.metric_lane.specs.LaneClock.{NoEndBefore}
 use Rattle.metric_lane.proofs.LaneStandsLemmas.{frame_before_end}
 use Rattle.metric_meaning.specs.Histories.{Step, Installation}
 use Rattle.metric_meaning.specs.PredicateSteps.{tables_after}
 use Rattle.client_engine.specs.Asleep.{IsCaughtUp}
-use Rattle.client_engine.specs.CaughtUp.{AllLeaveAlone, MayCatchUp, TrackTakesRun, AllTakeRun}
+use Rattle.client_engine.specs.CaughtUp.{AllLeaveAlone, MayCatchUp, TakesRun, TrackTakesRun, AllTakeRun}
 use Rattle.client_engine.specs.Known.{KnowsAfter}
 use Rattle.client_engine.specs.Running.{Running, linked_of}
 use Rattle.client_engine.specs.Tracks.{metric_in, AllStandFor}
-use Rattle.client_engine.specs.TrackStands.{TrackStandsFor}
-use Rattle.client_engine.specs.Woken.{IsDue, AllDue}
-use Rattle.client_engine.specs.declared.track.MetricLane.{MetricLane}
-use Rattle.client_engine.specs.declared.track.MetricLane.TheVariants.{Counts, Values, PulledValues, Gauges, PulledGauges, Events, Sums, Longest}
+use Rattle.client_engine.specs.TrackStands.{LaneAlong, TrackStandsFor}
+use Rattle.client_engine.specs.Woken.{clock_of_lane, IsDue, AllDue}
+use Rattle.client_engine.specs.declared.lanes.MetricLane.{MetricLane}
+use Rattle.client_engine.specs.declared.lanes.MetricLane.TheVariants.{Counts, Values, PulledValues, Gauges, PulledGauges, Events, Sums, Longest}
 use Rattle.client_engine.specs.declared.track.Track.{Track}
-use Rattle.client_engine.proofs.AloneLemmas.{counts_run, values_run, pulled_values_run, gauges_run, pulled_gauges_run, events_run, sums_run, longest_run}
+use Rattle.client_engine.proofs.AloneLemmas.{counts_run, values_run, pulled_values_run, gauges_run, pulled_gauges_run, events_run, sums_run, longest_run, track_run}
 use Rattle.client_engine.proofs.TracksLemmas.{map-set_same, same_here}
 use Rattle.client_engine.proofs.UntouchingLemmas.{run_leaves_alone, run_tables, run_reports_none}
 
--- a metric takes a run where it does with the lane that it has
-pub track_takes : (moment : Moment) (track : Track) (old new : MetricLane) → track.lane ≡ old
-    → TrackTakesRun moment (record track { lane = old }) (record track { lane = new })
-    → TrackTakesRun moment track (record track { lane = new })
-track_takes moment track old new is takes =
-    subst (λ lane. TrackTakesRun moment (record track { lane = lane }) (record track { lane = new })) (sym is) takes
+-- a lane takes a run where it does as it was found
+pub lane_takes : (metric : LMetric) (moment : Moment) (old found new : MetricLane) → old ≡ found
+    → TakesRun (LaneAlong metric) metric moment found new → TakesRun (LaneAlong metric) metric moment old new
+lane_takes metric moment old found new is takes =
+    subst (λ lane. TakesRun (LaneAlong metric) metric moment lane new) (sym is) takes
 
--- a metric of any kind none of whose buckets ends before a time takes a run for which an earlier frame stands, as it is
+-- the lane of a metric of any kind none of whose buckets ends before a time takes a run for which an earlier frame
+-- stands, as it is
+lane_stays : (moment : Moment) (time : ℕ) → moment.at < time → (metric : LMetric) (lane : MetricLane)
+    → NoEndBefore time (clock_of_lane lane) → TakesRun (LaneAlong metric) metric moment lane lane
+lane_stays moment time early metric (Counts lane) later =
+    counts_run metric moment lane lane (frame_before_end count_law lane moment time later early)
+lane_stays moment time early metric (Values lane) later =
+    values_run metric moment lane lane (frame_before_end pushed_law lane moment time later early)
+lane_stays moment time early metric (PulledValues lane) later =
+    pulled_values_run metric moment lane lane (frame_before_end pulled_values.pulled_law lane moment time later early)
+lane_stays moment time early metric (Gauges lane) later =
+    gauges_run metric moment lane lane (frame_before_end gauge_law lane moment time later early)
+lane_stays moment time early metric (PulledGauges lane) later =
+    pulled_gauges_run metric moment lane lane (frame_before_end pulled_gauges.pulled_law lane moment time later early)
+lane_stays moment time early metric (Events lane) later =
+    events_run metric moment lane lane (frame_before_end event_law lane moment time later early)
+lane_stays moment time early metric (Sums lane) later =
+    sums_run metric moment lane lane (frame_before_end sum_law lane moment time later early)
+lane_stays moment time early metric (Longest lane) later =
+    longest_run metric moment lane lane (frame_before_end sparse_law lane moment time later early)
+
+-- and so does the metric
 pub track_stays : (moment : Moment) (time : ℕ) → moment.at < time → (track : Track) → IsDue time track
     → TrackTakesRun moment track track
-track_stays moment time early track due = of_lane track.lane due where
-  metric : LMetric
-  metric = track.metric
-
-  of_lane : (lane : MetricLane) → IsDue time (record track { lane = lane })
-      → TrackTakesRun moment (record track { lane = lane }) (record track { lane = lane })
-  of_lane (Counts lane) later =
-      counts_run metric moment lane lane (frame_before_end count_law lane moment time later early)
-  of_lane (Values lane) later =
-      values_run metric moment lane lane (frame_before_end pushed_law lane moment time later early)
-  of_lane (PulledValues lane) later =
-      pulled_values_run metric moment lane lane (frame_before_end pulled_values.pulled_law lane moment time later early)
-  of_lane (Gauges lane) later =
-      gauges_run metric moment lane lane (frame_before_end gauge_law lane moment time later early)
-  of_lane (PulledGauges lane) later =
-      pulled_gauges_run metric moment lane lane (frame_before_end pulled_gauges.pulled_law lane moment time later early)
-  of_lane (Events lane) later =
-      events_run metric moment lane lane (frame_before_end event_law lane moment time later early)
-  of_lane (Sums lane) later =
-      sums_run metric moment lane lane (frame_before_end sum_law lane moment time later early)
-  of_lane (Longest lane) later =
-      longest_run metric moment lane lane (frame_before_end sparse_law lane moment time later early)
+track_stays moment time early track due =
+    track_run moment track.metric track.lane track.lane track.acts
+    (lane_stays moment time early track.metric track.lane due)
 
 -- a metric is left alone where all are
 left_here : (installed : Installation) (run : List Step) (tracks : List Track) (place : ℕ) (none : Track)

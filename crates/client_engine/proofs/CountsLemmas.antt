@@ -17,13 +17,13 @@ use Rattle.session_frames.specs.FrameReading.{log_time}
 use Rattle.metric_lane.specs.LaneStands.{LaneHas, LogsEvent, GetsReport}
 use Rattle.metric_meaning.specs.Histories.{Installation, moment_of}
 use Rattle.metric_meaning.specs.Scenes.{Scene}
-use Rattle.metric_meaning.specs.Arrivals.{atom_key}
+use Rattle.metric_meaning.specs.Arrivals.{is_active_in, atom_key}
 use Rattle.metric_meaning.specs.CountSteps.{arrival_by}
 use Rattle.metric_calls.specs.CountCalls.{count_params, count_asking}
 use Rattle.metric_meaning.specs.Reports.{metric_tree}
 use Rattle.metric_calls.proofs.CountCallsLemmas.{counts_agree, counts_ask_well}
 use Rattle.client_engine.specs.Handed.{Handed, IsOfScene}
-use Rattle.client_engine.specs.NextSteps.{logged_step, TakesFrame, TakesReport}
+use Rattle.client_engine.specs.NextSteps.{logged_step, TakesWhile, TakesReport}
 use Rattle.client_engine.specs.CountsAlong.{CountLane, CountsAlong, counts_shown_by}
 use Rattle.client_engine.proofs.AlongLemmas.{along_begins, along_reports}
 use Rattle.client_engine.proofs.ArrivingLemmas.{IsOfArrivals, arrivals_log}
@@ -59,16 +59,17 @@ counts_arrive installed metric overflow = record {
 
 -- a lane of counts takes one more frame of the log, which is shown so
 pub counts_log : (given : Handed) (metric : LMetric) (shown : LogFrame) (truths : List Bool) (old new : CountLane)
-    (key : Option MetricKey)
-    → ((scene : Scene) → IsOfScene given scene → key ≡ arrival_by scene metric (logged_step shown truths))
+    (key : Option MetricKey) (active : Bool)
+    → ((scene : Scene) → IsOfScene given scene → active ≡ is_active_in scene metric (log_time shown)
+    → key ≡ arrival_by scene metric (logged_step shown truths))
     → LogsEvent count_law old new (moment_of shown (log_time shown)) key
-    → TakesFrame (CountsAlong metric) given shown truths old new
-counts_log given metric shown truths old new key is logs installed steps frame has may = record {
+    → TakesWhile (CountsAlong metric) active metric given shown truths old new
+counts_log given metric shown truths old new key active is logs installed steps frame active_is has may = record {
   overflow = has.overflow;
   counts = has.counts;
   along = arrivals_log (count_asking installed metric has.overflow) count_law installed metric
       (λ scene. option_map (atom_key scene metric)) (counts_arrive installed metric has.overflow)
-      given shown frame truths old new key steps is logs has.along may;
+      given shown frame truths old new key steps active active_is is logs has.along may;
 }
 
 -- what a lane of counts hands out is what a report shows of the metric

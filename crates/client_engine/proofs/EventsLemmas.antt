@@ -13,12 +13,12 @@ use Rattle.session_frames.specs.FrameReading.{log_time}
 use Rattle.metric_lane.specs.LaneStands.{LaneHas, LogsEvent, GetsReport}
 use Rattle.metric_meaning.specs.Histories.{Installation, moment_of}
 use Rattle.metric_meaning.specs.Scenes.{Scene}
-use Rattle.metric_meaning.specs.Arrivals.{arriving_by}
+use Rattle.metric_meaning.specs.Arrivals.{is_active_in, arriving_by}
 use Rattle.metric_meaning.specs.Reports.{metric_tree}
 use Rattle.metric_calls.specs.EventCalls.{event_asking}
 use Rattle.metric_calls.proofs.EventCallsLemmas.{events_agree, events_ask_well}
 use Rattle.client_engine.specs.Handed.{Handed, IsOfScene}
-use Rattle.client_engine.specs.NextSteps.{logged_step, TakesFrame, TakesReport}
+use Rattle.client_engine.specs.NextSteps.{logged_step, TakesWhile, TakesReport}
 use Rattle.client_engine.specs.EventsAlong.{EventLane, EventsAlong, events_shown_by}
 use Rattle.client_engine.proofs.AlongLemmas.{along_begins, along_reports}
 use Rattle.client_engine.proofs.ArrivingLemmas.{IsOfArrivals, arrivals_log}
@@ -46,14 +46,15 @@ events_arrive installed metric = record {
 
 -- a lane of events takes one more frame of the log, which is shown so
 pub events_log : (given : Handed) (metric : LMetric) (shown : LogFrame) (truths : List Bool) (old new : EventLane)
-    (atom : Option Atom)
-    → ((scene : Scene) → IsOfScene given scene → atom ≡ arriving_by scene metric (logged_step shown truths))
+    (atom : Option Atom) (active : Bool)
+    → ((scene : Scene) → IsOfScene given scene → active ≡ is_active_in scene metric (log_time shown)
+    → atom ≡ arriving_by scene metric (logged_step shown truths))
     → LogsEvent event_law old new (moment_of shown (log_time shown)) atom
-    → TakesFrame (EventsAlong metric) given shown truths old new
-events_log given metric shown truths old new atom is logs installed steps frame has may = record {
+    → TakesWhile (EventsAlong metric) active metric given shown truths old new
+events_log given metric shown truths old new atom active is logs installed steps frame active_is has may = record {
   events = has.events;
   along = arrivals_log (event_asking installed metric) event_law installed metric (λ scene found. found)
-      (events_arrive installed metric) given shown frame truths old new atom steps is logs has.along may;
+      (events_arrive installed metric) given shown frame truths old new atom steps active active_is is logs has.along may;
 }
 
 -- what a lane of events hands out is what a report shows of the metric

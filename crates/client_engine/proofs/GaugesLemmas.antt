@@ -21,16 +21,18 @@ use Rattle.metric_producer.specs.LaneCalls.{coming}
 use Rattle.metric_producer.specs.Moves.{Moves}
 use Rattle.metric_lane.specs.LaneStands.{LaneHas, GetsFrame, GetsCall, GetsCalls, GetsReport}
 use Rattle.metric_lane.proofs.LaneStepsLemmas.{event_logs}
+use Rattle.bucket_meaning.specs.Ends.{Moment}
+use Rattle.metric_meaning.specs.ActivationSteps.{is_active_after}
 use Rattle.metric_meaning.specs.Histories.{Step, Installation, moment_of, log_after}
 use Rattle.metric_meaning.specs.Scenes.{Scene, scene_after}
-use Rattle.metric_meaning.specs.Arrivals.{arriving_by, atom_key}
+use Rattle.metric_meaning.specs.Arrivals.{is_active_in, arriving_by, atom_key}
 use Rattle.metric_meaning.specs.Samples.{sample_of}
 use Rattle.metric_meaning.specs.PushedGaugeSteps.{keyed_sample}
 use Rattle.metric_meaning.specs.Reports.{metric_tree}
 use Rattle.metric_calls.specs.PushedGaugeCalls.{gauge_params, handed_sample, sample_by, pushed_gauge_asking}
 use Rattle.metric_calls.proofs.PushedGaugeCallsLemmas.{pushed_gauges_agree, pushed_gauges_ask_well}
 use Rattle.client_engine.specs.Handed.{Handed, IsOfScene}
-use Rattle.client_engine.specs.NextSteps.{logged_step, with_logged, TakesFrame, TakesReport}
+use Rattle.client_engine.specs.NextSteps.{logged_step, with_logged, TakesWhile, TakesReport}
 use Rattle.client_engine.specs.GaugesAlong.{GaugeLane, GaugesAlong, GetsSample, gauges_shown_by}
 use Rattle.client_engine.proofs.AlongLemmas.{along_begins, along_logs, along_reports}
 use Rattle.client_engine.proofs.ShownLemmas.{shown_moment, shown_arriving}
@@ -58,14 +60,15 @@ sampled_from metric fields scene found = option_map handed_sample (option_map (k
 -- a lane of a gauge takes one more frame of the log, which is shown so: what it crosses, and then the sample of the
 -- atom that arrives, if one does
 pub gauges_log : (given : Handed) (metric : LMetric) (shown : LogFrame) (truths : List Bool)
-    (old middle new : GaugeLane)
+    (old middle new : GaugeLane) (active : Bool)
     → GetsFrame gauge_law old middle (moment_of shown (log_time shown))
-    → ((scene : Scene) → IsOfScene given scene → (fields : Option FieldSet) (samples : ℕ)
+    → ((scene : Scene) → IsOfScene given scene → active ≡ is_active_in scene metric (log_time shown)
+    → (fields : Option FieldSet) (samples : ℕ)
     → metric.kind ≡ kinds.PushedGauge fields samples
     → GetsCalls gauge_law middle new (coming (log_time shown)
     (sample_by scene metric fields (logged_step shown truths))))
-    → TakesFrame (GaugesAlong metric) given shown truths old new
-gauges_log given metric shown truths old middle new crosses gets installed steps frame has may =
+    → TakesWhile (GaugesAlong metric) active metric given shown truths old new
+gauges_log given metric shown truths old middle new active crosses gets installed steps frame active_is has may =
     let step = logged_step frame truths in
     let scene = scene_after installed (with_logged steps frame truths) in
     let log = log_after installed steps in
@@ -78,7 +81,8 @@ gauges_log given metric shown truths old middle new crosses gets installed steps
     let moment : moment_of shown (log_time shown) ≡ moment_of frame (log_time frame) =
     ap (λ f. moment_of f (log_time f)) may.shown_is ∙ shown_moment log frame in
     let logs = event_logs gauge_law old middle new (moment_of shown (log_time shown)) sample crosses
-    (gets scene may.found has.fields has.samples has.gauge) in
+    (gets scene may.found (active_is ∙ ap (is_active_after metric (with_logged steps frame truths))
+    (sym (ap (λ (m : Moment). m.at) moment))) has.fields has.samples has.gauge) in
     record {
       fields = has.fields;
       samples = has.samples;

@@ -10,6 +10,7 @@ use Rattle.config_links.specs.declared.linked.Linked.{Linked}
 use Rattle.config_links.specs.declared.linked.LMatcher.{LMatcher}
 use Rattle.config_links.specs.declared.linked.LMatcher.TheVariants as linked_matchers
 use Rattle.config_links.specs.declared.linked.LState.{LState}
+use Rattle.config_links.specs.declared.linked.LAlert.{LAlert}
 use Rattle.config_links.specs.declared.linked.LMetric.{LMetric}
 use Rattle.config_links.specs.declared.linked.LPredicate.{LPredicate}
 use Rattle.config_links.specs.declared.linked.LPredBody.{LPredBody}
@@ -25,7 +26,7 @@ use Rattle.metric_meaning.specs.Reports.{report_of, last_report}
 use Rattle.metric_meaning.proofs.PredicateStepsLemmas.{tables_after-idle}
 use Rattle.report_writer.specs.declared.tree.MetricTree.{MetricTree}
 use Rattle.report_writer.specs.declared.tree.ReportTree.{ReportTree}
-use Rattle.client_engine.specs.NextSteps.{logged_step, reported_step, with_logged, bare_step, ComeInTime, MayLog, MayReport, TakesFrame, requested_tree, last_from}
+use Rattle.client_engine.specs.NextSteps.{logged_step, reported_step, with_logged, MayLog, MayReport, TakesFrame, requested_tree}
 use Rattle.client_engine.specs.Known.{Known, KnowsAfter, KnowsStep, drops_in}
 use Rattle.client_engine.specs.Handed.{BookOfStates, Handed, handed}
 use Rattle.client_engine.specs.Questions.{questions_of}
@@ -83,17 +84,22 @@ log_after-push installed steps frame truths =
     ∙ sym (append_assoc installed.opening (logged_frames steps) (frame ∷ []))
 
 -- the configuration of these
-abbrev linked_with : List LMatcher → List LState → List LPredicate → List LMetric → Linked
-linked_with matchers states predicates metrics =
-    record { matchers = matchers; predicates = predicates; states = states; metrics = metrics }
+abbrev linked_with : List LMatcher → List LState → List LAlert → List LPredicate → List LMetric → Linked
+linked_with matchers states alerts predicates metrics = record {
+  matchers = matchers;
+  predicates = predicates;
+  states = states;
+  metrics = metrics;
+  alerts = alerts;
+}
 
 -- it stays where its predicates and its metrics do
-pub linked_stays : (matchers : List LMatcher) (states : List LState) (now old : List LPredicate)
+pub linked_stays : (matchers : List LMatcher) (states : List LState) (alerts : List LAlert) (now old : List LPredicate)
     (metrics_now metrics_old : List LMetric) → now ≡ old → metrics_now ≡ metrics_old
-    → linked_with matchers states now metrics_now ≡ linked_with matchers states old metrics_old
-linked_stays matchers states now old metrics_now metrics_old predicates metrics =
-    ap (λ ps. linked_with matchers states ps metrics_now) predicates
-    ∙ ap (linked_with matchers states old) metrics
+    → linked_with matchers states alerts now metrics_now ≡ linked_with matchers states alerts old metrics_old
+linked_stays matchers states alerts now old metrics_now metrics_old predicates metrics =
+    ap (λ ps. linked_with matchers states alerts ps metrics_now) predicates
+    ∙ ap (linked_with matchers states alerts old) metrics
 
 -- whatever history an instance stands for, a frame that may come next after it comes in time to its metrics, and what is
 -- handed with it is what is found then
@@ -283,21 +289,23 @@ sound_kept linked sound =
 -- the configuration of an instance of a sound one
 pub linked_whole : (linked : Linked) (it : Running) → it.matchers ≡ linked.matchers
     → it.known.predicates ≡ linked.predicates → it.states ≡ linked.states
-    → map metric_in it.tracks ≡ linked.metrics → linked_of it ≡ linked
-linked_whole linked it matchers predicates states metrics =
+    → map metric_in it.tracks ≡ linked.metrics → it.alerts ≡ linked.alerts → linked_of it ≡ linked
+linked_whole linked it matchers predicates states metrics alerts =
     ap (λ ms. record (linked_of it) { matchers = ms }) matchers
-    ∙ ap (λ ps. record linked { predicates = ps; states = it.states; metrics = map metric_in it.tracks }) predicates
-    ∙ ap (λ ss. record linked { states = ss; metrics = map metric_in it.tracks }) states
-    ∙ ap (λ ms. record linked { metrics = ms }) metrics
+    ∙ ap (λ ps. record (linked_of it) { matchers = linked.matchers; predicates = ps }) predicates
+    ∙ ap (λ ss. record linked { states = ss; metrics = map metric_in it.tracks; alerts = it.alerts }) states
+    ∙ ap (λ ms. record linked { metrics = ms; alerts = it.alerts }) metrics
+    ∙ ap (λ alerts. record linked { alerts = alerts }) alerts
 
 -- an instance of a sound configuration, to which nothing has happened yet
 pub fresh : (linked : Linked) (opening : Opening) (it : Running) → it.matchers ≡ linked.matchers
-    → it.known.predicates ≡ linked.predicates → it.states ≡ linked.states → it.base ≡ opening.base
+    → it.known.predicates ≡ linked.predicates → it.states ≡ linked.states → it.alerts ≡ linked.alerts
+    → it.base ≡ opening.base
     → it.last ≡ opening.base → opening.matchers.now ≡ linked.matchers → KnowsAfter [] it.known
     → AreNew opening it.known linked.metrics it.tracks → IsSoundConfig linked → (log : List LogFrame)
     → PullBookStandsFor opening.pulls.now log → IsFresh linked opening.base log it
-fresh linked opening it matchers predicates states base_is last_is matchers_are knows are sound log pulls = record {
-  linked = linked_whole linked it matchers predicates states are.metrics_are;
+fresh linked opening it matchers predicates states alerts base_is last_is matchers_are knows are sound log pulls = record {
+  linked = linked_whole linked it matchers predicates states are.metrics_are alerts;
   base = base_is;
   last = last_is;
   in_time = tt;

@@ -1,5 +1,5 @@
 -- Predicates and their tables, one by one: lemmas on `specs/KeptPredicates.antt` and `specs/Known.antt`.
-use Rattle.std.proofs.Common.{◌≡◌, ℕ, zero, suc, ◌+◌, ◌<◌, ◌≤◌, ◌||◌, Bool, true, false, List, [], ◌∷◌, ◌++◌, length, map, get_or, set, take, drop, replicate, refl, sym, ap, subst, ◌∙◌, append_assoc, arith, inl, inr}
+use Rattle.std.proofs.Common.{◌≡◌, ℕ, zero, suc, ◌+◌, ◌<◌, ◌≤◌, ◌||◌, Bool, true, false, List, [], ◌∷◌, ◌++◌, length, map, get_or, set, drop, replicate, refl, sym, ap, subst, ◌∙◌, append_assoc, arith, inl, inr}
 use Rattle.std.specs.Prelude.{Option, Some, None, IfSome}
 use Rattle.std.specs.List.{range_with_len}
 use Rattle.std.proofs.lemmas.Bool.{cases_Bool, cases_eq, true≢false}
@@ -29,7 +29,7 @@ use Rattle.metric_meaning.proofs.PredicateStepsLemmas.{table_after-push, tables_
 use Rattle.client_engine.specs.Known.{Known, KnowsStep, drops_in}
 use Rattle.client_engine.specs.NextSteps.{logged_step}
 use Rattle.client_engine.specs.Lists.{is_in, AreListed, places_under}
-use Rattle.client_engine.specs.Marks.{IsMarked, AreAllMarked}
+use Rattle.client_engine.specs.Marks.{AreAllMarked}
 use Rattle.client_engine.specs.KeptPredicates.{HaveTheirSpecs, CanBeKept, AreKept, AreActedOn, tables_with, acting_matchers}
 use Rattle.client_engine.proofs.ListsLemmas.{none_hold}
 use Rattle.client_engine.proofs.MarksLemmas.{get_or_any, marked_within}

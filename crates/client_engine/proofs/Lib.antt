@@ -5,7 +5,9 @@ pub mod ListsLemmas
 pub mod MarksLemmas
 pub mod KeptPredicatesLemmas
 pub mod TouchersLemmas
+pub mod WakersLemmas
 pub mod ShownLemmas
+pub mod ActivityLemmas
 pub mod SliceLemmas
 pub mod StateDropsLemmas
 pub mod AlongLemmas
@@ -31,6 +33,7 @@ pub mod ChangesLemmas
 pub mod SumsLemmas
 pub mod InTimeLemmas
 pub mod LongestLemmas
+pub mod TrackLemmas
 pub mod TracksLemmas
 pub mod SleepingLemmas
 pub mod WokenLemmas

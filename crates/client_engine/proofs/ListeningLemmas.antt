@@ -1,10 +1,6 @@
 -- Metrics in the lists of what wakes them: those in no list that is found sleep.
-use Rattle.std.proofs.Common.{◌≡◌, ℕ, zero, suc, ◌+◌, ◌<◌, ◌≤◌, ◌==◌, ◌||◌, Bool, true, false, if◌then◌else◌, List, [], ◌∷◌, ◌++◌, length, map, set, take, get_or, slice_get, All, refl, sym, ap, subst, ◌∙◌, append_assoc, append-nil, arith, inl, inr}
-use Rattle.std.specs.List.{flat_map, list_any, range_with_len}
-use Rattle.std.proofs.lemmas.Bool.{cases_Bool, cases_lt, cases_eq, true≢false, false≢true}
-use Rattle.std.proofs.lemmas.Bool.Decides.{Decides-eqb}
-use Rattle.std.proofs.lemmas.List.{length-append, length-set, get_or-set_same, get_or-set_other, get_or_append_left, get_or_past, take_more}
-use Rattle.std.proofs.lemmas.List.Folds.{list_any-append, list_any_none, list_any_at}
+use Rattle.std.proofs.Common.{◌≡◌, ℕ, ◌||◌, Bool, List, [], ◌∷◌, map, get_or, refl, sym, ap, ◌∙◌}
+use Rattle.std.specs.List.{list_any}
 use Rattle.atom_record.specs.declared.log.LogFrame.{LogFrame}
 use Rattle.atom_record.specs.declared.log.LogFrame.TheVariants.{Tick, AtomAt, Pull}
 use Rattle.config_links.specs.declared.linked.LMetric.{LMetric}
@@ -12,9 +8,8 @@ use Rattle.config_links.specs.declared.linked.LPredicate.{LPredicate}
 use Rattle.config_links.specs.declared.linked.LSlice.{LSlice}
 use Rattle.config_links.specs.declared.linked.LState.{LState}
 use Rattle.metric_meaning.specs.Histories.{truth_at}
-use Rattle.client_engine.specs.Touchers.{one_holds, tells_one}
 use Rattle.client_engine.specs.Lists.{is_in, places_under}
-use Rattle.client_engine.specs.Waking.{wakers, told_slices, told_states, Listens, is_told_at, places_woken, SleepsThrough, OthersSleep}
+use Rattle.client_engine.specs.Waking.{wakers, told_slices, told_states, Listens, is_told_at, places_woken, OthersSleep}
 use Rattle.client_engine.proofs.ListsLemmas.{is_in-append, neither_first, neither_second, none_hold}
 use Rattle.client_engine.specs.declared.listeners.Listeners.{Listeners}
 

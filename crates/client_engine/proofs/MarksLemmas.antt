@@ -2,7 +2,6 @@
 use Rattle.std.proofs.Common.{◌≡◌, ℕ, zero, suc, ◌<◌, ◌≤◌, Bool, true, false, List, [], ◌∷◌, length, set, get_or, take, ◌+◌, sym, subst, refl, ◌∙◌, arith, inl, inr}
 use Rattle.std.proofs.lemmas.Bool.{cases_eq, cases_lt, true≢false, false≢true}
 use Rattle.std.proofs.lemmas.List.{length-set, get_or-set_same, get_or-set_other, get_or_past, take_all}
-use Rattle.client_engine.specs.Lists.{is_in}
 use Rattle.client_engine.specs.Marks.{IsMarked, KeepsMarks, AreAllMarked}
 use Rattle.client_engine.proofs.ListsLemmas.{in_one_more}
 

@@ -1,5 +1,5 @@
 -- A metric that sleeps through a frame, which isn't a pull and ends none of its buckets, is as it was.
-use Rattle.std.proofs.Common.{◌≡◌, ℕ, ◌<◌, ◌≤◌, Bool, true, false, ◌&&◌, ◌||◌, List, [], ◌∷◌, ◌++◌, length, get_or, slice_get, Option, Some, None, if◌then◌else◌, refl, sym, ap, subst, ◌∙◌, append-nil, arith, inl, inr}
+use Rattle.std.proofs.Common.{◌≡◌, ℕ, ◌<◌, Bool, true, false, ◌&&◌, ◌||◌, List, [], ◌∷◌, ◌++◌, length, get_or, slice_get, Option, Some, None, if◌then◌else◌, refl, sym, ap, subst, ◌∙◌, append-nil, inl, inr}
 use Rattle.std.specs.List.{list_any}
 use Rattle.std.specs.Option.{option_map_or, option_map, option_and_then}
 use Rattle.std.proofs.lemmas.Bool.{cases_lt, true≢false}
@@ -9,11 +9,10 @@ use Rattle.std.proofs.lemmas.Option.{slice_get_past, slice_get_read}
 use Rattle.atom_record.specs.declared.atom.Atom.{Atom}
 use Rattle.atom_record.specs.declared.log.LogFrame.{LogFrame}
 use Rattle.atom_record.specs.declared.log.LogFrame.TheVariants.{Tick, AtomAt, Pull}
-use Rattle.bucket_meaning.specs.Ends.{Moment}
+use Rattle.config_links.specs.OwnMatchers.{place_named, kind_matchers}
 use Rattle.config_links.specs.declared.linked.LKind.TheVariants as kinds
 use Rattle.config_links.specs.declared.linked.LMetric.{LMetric}
 use Rattle.config_links.specs.declared.linked.LPredicate.{LPredicate}
-use Rattle.config_types.specs.declared.parameters.PredSpec.{PredSpec}
 use Rattle.count_metric.specs.CountStands.{count_law}
 use Rattle.value_metric.specs.PushedStands.{pushed_law}
 use Rattle.value_metric.specs.PulledStands as pulled_values
@@ -30,16 +29,15 @@ use Rattle.metric_lane.specs.declared.lane.Lane.{Lane}
 use Rattle.metric_lane.proofs.LaneStandsLemmas.{frame_before_end}
 use Rattle.metric_lane.proofs.LaneStepsLemmas.{event_logs}
 use Rattle.session_frames.specs.FrameReading.{log_time}
-use Rattle.metric_meaning.specs.Arrivals.{arriving_by, holds_in}
+use Rattle.metric_meaning.specs.ActivationSteps.{is_active_after}
+use Rattle.metric_meaning.specs.Arrivals.{arriving_by, is_active_in, holds_in}
 use Rattle.metric_meaning.specs.Readings.{atom_reading}
 use Rattle.metric_meaning.specs.PushedValueSteps.{keyed_integer}
-use Rattle.metric_meaning.specs.CountSteps.{arrival_by}
 use Rattle.metric_meaning.specs.Arrivals.{atom_key}
-use Rattle.metric_meaning.specs.Histories.{Step, Installation, truth_at, moment_of}
+use Rattle.metric_meaning.specs.Histories.{truth_at, moment_of, log_after}
 use Rattle.metric_meaning.specs.PredicateSteps.{named_truth}
 use Rattle.metric_meaning.specs.Scenes.{Scene}
-use Rattle.metric_meaning.specs.Touched.{names_atom_itself, timed_predicate, acts_below, is_touched}
-use Rattle.metric_meaning.specs.ValueLeaves.{ValueLeaf}
+use Rattle.metric_meaning.specs.Touched.{acts_below, is_touched}
 use Rattle.metric_calls.specs.PulledValueCalls.{value_telling}
 use Rattle.metric_calls.specs.PulledGaugeCalls.{gauge_telling}
 use Rattle.metric_calls.specs.ValueCalls.{keyed_int}
@@ -51,14 +49,14 @@ use Rattle.client_engine.specs.PulledGaugesAlong.{PulledGaugeLane, PulledGaugesA
 use Rattle.client_engine.specs.EventsAlong.{EventLane, EventsAlong}
 use Rattle.client_engine.specs.SumsAlong.{SumLane, SumsAlong}
 use Rattle.client_engine.specs.LongestAlong.{LongestLane, LongestAlong}
-use Rattle.client_engine.specs.Handed.{Handed, IsOfScene}
-use Rattle.client_engine.specs.NextSteps.{logged_step, TakesFrame}
-use Rattle.client_engine.specs.Touchers.{place_named, all_touchers, one_holds, tells_one}
-use Rattle.client_engine.specs.TrackStands.{TrackStandsFor}
-use Rattle.client_engine.specs.Waking.{touchers_named, wakers, told_slices, SleepsThrough}
-use Rattle.client_engine.specs.Woken.{IsDue}
-use Rattle.client_engine.specs.declared.track.MetricLane.{MetricLane}
-use Rattle.client_engine.specs.declared.track.MetricLane.TheVariants.{Counts, Values, PulledValues, Gauges, PulledGauges, Events, Sums, Longest}
+use Rattle.client_engine.specs.Handed.{Handed}
+use Rattle.client_engine.specs.NextSteps.{logged_step, with_logged, TakesFrame}
+use Rattle.client_engine.specs.Touchers.{all_touchers, one_holds, tells_one}
+use Rattle.client_engine.specs.TrackStands.{LaneAlong, TrackStandsFor}
+use Rattle.client_engine.specs.Waking.{touchers_named, told_touchers, wakers, told_slices, SleepsThrough}
+use Rattle.client_engine.specs.Woken.{clock_of_lane, IsDue}
+use Rattle.client_engine.specs.declared.lanes.MetricLane.{MetricLane}
+use Rattle.client_engine.specs.declared.lanes.MetricLane.TheVariants.{Counts, Values, PulledValues, Gauges, PulledGauges, Events, Sums, Longest}
 use Rattle.client_engine.specs.declared.track.Track.{Track}
 use Rattle.client_engine.proofs.CountsLemmas.{counts_log}
 use Rattle.client_engine.proofs.ValuesLemmas.{values_log}
@@ -70,7 +68,9 @@ use Rattle.client_engine.proofs.SnapshotsToldLemmas.{tick_told, atom_untold}
 use Rattle.client_engine.proofs.SumsLemmas.{sums_pass, sums_untouched}
 use Rattle.client_engine.proofs.LongestLemmas.{longest_pass, longest_untouched}
 use Rattle.client_engine.proofs.MarksLemmas.{get_or_any}
+use Rattle.client_engine.proofs.ActivityLemmas.{acts_sleep}
 use Rattle.client_engine.proofs.TouchersLemmas.{found_hold, none_below, named_holds}
+use Rattle.client_engine.proofs.WakersLemmas.{told_off, kind_off}
 
 -- the matchers that touch what is named hold exactly where the atom acts below it
 pub touchers_named_hold : (predicates : List LPredicate) (truths : List Bool) (root : Option ℕ)
@@ -99,20 +99,14 @@ module _ (scene : Scene) (metric : LMetric) (truths : List Bool) where
       → None ≡ arriving_by scene metric (logged_step shown truths)
   none_arrives (Tick at) off = refl
   none_arrives (AtomAt at atom) off =
-      ap (λ b. if b && holds_in scene metric (atom_reading atom) then Some atom else None) (sym (off at atom refl))
+      ap (λ b. if b && (is_active_in scene metric at && holds_in scene metric (atom_reading atom)) then Some atom else None)
+      (sym (off at atom refl))
   none_arrives (Pull at id outcome) off = refl
 
 -- nothing follows
 or_false : (b : Bool) → (b || false) ≡ b
 or_false true = refl
 or_false false = refl
-
--- the same three, in another order
-three : (what trigger condition : Bool) → ((what || trigger) || (condition || false)) ≡ (what || (trigger || condition))
-three true trigger condition = refl
-three false true condition = refl
-three false false true = refl
-three false false false = refl
 
 -- the only one isn't
 pub alone : (first : Bool) → (first || false) ≡ false → first ≡ false
@@ -137,32 +131,29 @@ module _ (predicates : List LPredicate) (metric : LMetric) (truths : List Bool) 
       ∙ off
 
   -- where neither what is counted holds nor a matcher that touches the condition, a pulled metric isn't touched
-  pub pulled_untouched : one_holds truths (metric.what ∷ touchers_named predicates metric.condition) ≡ false
+  pub pulled_untouched : one_holds truths (metric.what ∷ []) ≡ false
+      → one_holds truths (touchers_named predicates metric.condition) ≡ false
       → (truth_at metric.what truths || (acts_below predicates truths metric.condition || acts_below predicates truths None))
       ≡ false
-  pulled_untouched off =
-      let condition = acts_below predicates truths metric.condition in
-      ap (λ b. truth_at metric.what truths || (condition || b)) (none_below predicates truths)
-      ∙ ap (λ b. truth_at metric.what truths || b) (or_false condition)
-      ∙ ap (λ b. truth_at metric.what truths || b) (sym (touchers_named_hold predicates truths metric.condition))
-      ∙ off
+  pulled_untouched own off =
+      let what = truth_at metric.what truths in
+      ap (λ b. what || (acts_below predicates truths metric.condition || b)) (none_below predicates truths)
+      ∙ ap (λ b. what || b) (or_false (acts_below predicates truths metric.condition)
+      ∙ sym (touchers_named_hold predicates truths metric.condition) ∙ off)
+      ∙ own
 
   -- nor where its trigger doesn't hold either
-  pub gauge_untouched : (trigger : Option ℕ)
-      → one_holds truths (metric.what ∷ (place_named trigger ++ touchers_named predicates metric.condition)) ≡ false
+  pub gauge_untouched : (trigger : Option ℕ) → one_holds truths (metric.what ∷ place_named trigger) ≡ false
+      → one_holds truths (touchers_named predicates metric.condition) ≡ false
       → ((truth_at metric.what truths || named_truth trigger truths)
       || (acts_below predicates truths metric.condition || acts_below predicates truths None)) ≡ false
-  gauge_untouched trigger off =
+  gauge_untouched trigger own off =
       let what = truth_at metric.what truths in
-      let condition = acts_below predicates truths metric.condition in
-      ap (λ b. (what || named_truth trigger truths) || (condition || b)) (none_below predicates truths)
-      ∙ three what (named_truth trigger truths) condition
-      ∙ ap (λ b. what || (b || condition)) (sym (named_holds trigger truths))
-      ∙ ap (λ b. what || (one_holds truths (place_named trigger) || b))
-      (sym (touchers_named_hold predicates truths metric.condition))
-      ∙ ap (λ b. what || b)
-      (sym (list_any-append holds (place_named trigger) (touchers_named predicates metric.condition)))
-      ∙ off
+      let named = named_truth trigger truths in
+      ap (λ b. (what || named) || (acts_below predicates truths metric.condition || b)) (none_below predicates truths)
+      ∙ ap (λ b. (what || named) || b) (or_false (acts_below predicates truths metric.condition)
+      ∙ sym (touchers_named_hold predicates truths metric.condition) ∙ off)
+      ∙ or_false (what || named) ∙ ap (λ b. what || b) (sym (named_holds trigger truths)) ∙ own
 
 -- A metric, what is handed to it with a frame that is shown so, and a time before which none of its buckets ends.
 module _ (given : Handed) (metric : LMetric) (shown : LogFrame) (truths : List Bool) (time : ℕ)
@@ -189,46 +180,51 @@ module _ (given : Handed) (metric : LMetric) (shown : LogFrame) (truths : List B
       × (tells_one given.states atom.id (told_slices metric) ≡ false)
   asleep at atom is = subst (λ f. SleepsThrough given.known.predicates given.states f truths metric) is sleeps
 
-  -- so nothing arrives at one that only its own matcher wakes
-  arrives_none : (scene : Scene) → wakers given.known.predicates metric ≡ metric.what ∷ []
+  -- so nothing arrives at one that gets the atoms of its own matcher
+  arrives_none : (scene : Scene) → kind_matchers metric.what metric.kind ≡ metric.what ∷ []
       → None ≡ arriving_by scene metric (logged_step shown truths)
   arrives_none scene own =
       none_arrives scene metric truths shown
       (λ at atom is. alone (truth_at metric.what truths)
-      (sym (ap (one_holds truths) own) ∙ (asleep at atom is).0))
+      (sym (ap (one_holds truths) own) ∙ kind_off given.known.predicates metric truths (asleep at atom is).0))
 
   counts_sleep : (lane : CountLane) → NoEndBefore time lane.clock
       → TakesFrame (CountsAlong metric) given shown truths lane lane
   counts_sleep lane later installed steps frame has =
       counts_log given metric shown truths lane lane None
-      (λ scene found. ap (option_map (atom_key scene metric)) (arrives_none scene
-      (ap (λ kind. wakers given.known.predicates (record metric { kind = kind })) has.counts)))
-      (logs_none count_law lane later) installed steps frame has
+      (is_active_after metric (with_logged steps frame truths) (log_time frame))
+      (λ scene found active. ap (option_map (atom_key scene metric)) (arrives_none scene
+      (ap (kind_matchers metric.what) has.counts)))
+      (logs_none count_law lane later) installed steps frame refl has
 
   values_sleep : (lane : ValueLane) → NoEndBefore time lane.clock
       → TakesFrame (ValuesAlong metric) given shown truths lane lane
   values_sleep lane later installed steps frame has =
       values_log given metric shown truths lane lane None
-      (λ scene found source aggregation kind.
+      (is_active_after metric (with_logged steps frame truths) (log_time frame))
+      (λ scene found active source aggregation kind.
       ap (λ atom. option_map keyed_int (option_and_then (keyed_integer scene metric source) atom))
-      (arrives_none scene (ap (λ kind. wakers given.known.predicates (record metric { kind = kind })) kind)))
-      (logs_none pushed_law lane later) installed steps frame has
+      (arrives_none scene (ap (kind_matchers metric.what) kind)))
+      (logs_none pushed_law lane later) installed steps frame refl has
 
   events_sleep : (lane : EventLane) → NoEndBefore time lane.clock
       → TakesFrame (EventsAlong metric) given shown truths lane lane
   events_sleep lane later installed steps frame has =
       events_log given metric shown truths lane lane None
-      (λ scene found. arrives_none scene
-      (ap (λ kind. wakers given.known.predicates (record metric { kind = kind })) has.events))
-      (logs_none event_law lane later) installed steps frame has
+      (is_active_after metric (with_logged steps frame truths) (log_time frame))
+      (λ scene found active. arrives_none scene
+      (ap (kind_matchers metric.what) has.events))
+      (logs_none event_law lane later) installed steps frame refl has
 
   gauges_sleep : (lane : GaugeLane) → NoEndBefore time lane.clock
       → TakesFrame (GaugesAlong metric) given shown truths lane lane
-  gauges_sleep lane later =
-      gauges_log given metric shown truths lane lane lane (crosses_none gauge_law lane later)
-      (λ scene found fields samples kind. none_sampled lane (log_time shown) scene metric fields
+  gauges_sleep lane later installed steps frame has =
+      gauges_log given metric shown truths lane lane lane
+      (is_active_after metric (with_logged steps frame truths) (log_time frame)) (crosses_none gauge_law lane later)
+      (λ scene found active fields samples kind. none_sampled lane (log_time shown) scene metric fields
       (logged_step shown truths)
-      (arrives_none scene (ap (λ kind. wakers given.known.predicates (record metric { kind = kind })) kind)))
+      (arrives_none scene (ap (kind_matchers metric.what) kind)))
+      installed steps frame refl has
 
 -- The kinds whose frames are told apart.
 module _ (given : Handed) (metric : LMetric) (truths : List Bool) (time : ℕ) where
@@ -250,8 +246,10 @@ module _ (given : Handed) (metric : LMetric) (truths : List Bool) (time : ℕ) w
       lane at atom refl
       (ap (λ kind. is_touched given.known.predicates (record metric { kind = kind }) truths) values
       ∙ pulled_untouched given.known.predicates metric truths
-      (sym (ap (λ kind. one_holds truths (wakers given.known.predicates (record metric { kind = kind }))) values)
-      ∙ sleeps.0)))
+      (sym (ap (λ kind. one_holds truths (kind_matchers metric.what kind)) values)
+      ∙ kind_off given.known.predicates metric truths sleeps.0)
+      (sym (ap (λ kind. one_holds truths (told_touchers given.known.predicates (record metric { kind = kind }))) values)
+      ∙ told_off given.known.predicates metric truths sleeps.0)))
   pulled_values_sleep (Pull at id outcome) early no_pull sleeps lane later = absurd (true≢false no_pull)
 
   pulled_gauges_sleep : (shown : LogFrame) → log_time shown < time → (moment_of shown (log_time shown)).is_pull ≡ false
@@ -272,8 +270,10 @@ module _ (given : Handed) (metric : LMetric) (truths : List Bool) (time : ℕ) w
       found lane at atom refl
       (ap (λ kind. is_touched given.known.predicates (record metric { kind = kind }) truths) gauge
       ∙ gauge_untouched given.known.predicates metric truths trigger
-      (sym (ap (λ kind. one_holds truths (wakers given.known.predicates (record metric { kind = kind }))) gauge)
-      ∙ sleeps.0)))
+      (sym (ap (λ kind. one_holds truths (kind_matchers metric.what kind)) gauge)
+      ∙ kind_off given.known.predicates metric truths sleeps.0)
+      (sym (ap (λ kind. one_holds truths (told_touchers given.known.predicates (record metric { kind = kind }))) gauge)
+      ∙ told_off given.known.predicates metric truths sleeps.0)))
   pulled_gauges_sleep (Pull at id outcome) early no_pull sleeps lane later = absurd (true≢false no_pull)
 
   sums_sleep : (shown : LogFrame) → log_time shown < time → (moment_of shown (log_time shown)).is_pull ≡ false
@@ -288,8 +288,9 @@ module _ (given : Handed) (metric : LMetric) (truths : List Bool) (time : ℕ) w
       (crosses_none given metric (AtomAt at atom) truths time early no_pull sleeps sum_law lane later) at atom refl
       (ap (λ kind. is_touched given.known.predicates (record metric { kind = kind }) truths) has.sums
       ∙ duration_untouched given.known.predicates metric truths
-      (sym (ap (λ kind. one_holds truths (wakers given.known.predicates (record metric { kind = kind }))) has.sums)
-      ∙ sleeps.0))
+      (sym (ap (λ kind. one_holds truths (told_touchers given.known.predicates (record metric { kind = kind })))
+      has.sums)
+      ∙ told_off given.known.predicates metric truths sleeps.0))
       (sym (ap (λ kind. tells_one given.states atom.id (told_slices (record metric { kind = kind }))) has.sums)
       ∙ sleeps.1)
       installed steps frame has
@@ -307,29 +308,44 @@ module _ (given : Handed) (metric : LMetric) (truths : List Bool) (time : ℕ) w
       (crosses_none given metric (AtomAt at atom) truths time early no_pull sleeps sparse_law lane later) at atom refl
       (ap (λ kind. is_touched given.known.predicates (record metric { kind = kind }) truths) has.longest
       ∙ duration_untouched given.known.predicates metric truths
-      (sym (ap (λ kind. one_holds truths (wakers given.known.predicates (record metric { kind = kind }))) has.longest)
-      ∙ sleeps.0))
+      (sym (ap (λ kind. one_holds truths (told_touchers given.known.predicates (record metric { kind = kind })))
+      has.longest)
+      ∙ told_off given.known.predicates metric truths sleeps.0))
       (sym (ap (λ kind. tells_one given.states atom.id (told_slices (record metric { kind = kind }))) has.longest)
       ∙ sleeps.1)
       installed steps frame has
   longest_sleep (Pull at id outcome) early no_pull sleeps lane later = absurd (true≢false no_pull)
 
--- a metric of any kind that sleeps through a frame is as it was
+-- the lane of a metric of any kind that sleeps through a frame is as it was
+lane_sleeps : (given : Handed) (shown : LogFrame) (truths : List Bool) (time : ℕ) → log_time shown < time
+    → (moment_of shown (log_time shown)).is_pull ≡ false → (metric : LMetric)
+    → SleepsThrough given.known.predicates given.states shown truths metric → (lane : MetricLane)
+    → NoEndBefore time (clock_of_lane lane) → TakesFrame (LaneAlong metric) given shown truths lane lane
+lane_sleeps given shown truths time early no_pull metric sleeps (Counts lane) later =
+    counts_sleep given metric shown truths time early no_pull sleeps lane later
+lane_sleeps given shown truths time early no_pull metric sleeps (Values lane) later =
+    values_sleep given metric shown truths time early no_pull sleeps lane later
+lane_sleeps given shown truths time early no_pull metric sleeps (PulledValues lane) later =
+    pulled_values_sleep given metric truths time shown early no_pull sleeps lane later
+lane_sleeps given shown truths time early no_pull metric sleeps (Gauges lane) later =
+    gauges_sleep given metric shown truths time early no_pull sleeps lane later
+lane_sleeps given shown truths time early no_pull metric sleeps (PulledGauges lane) later =
+    pulled_gauges_sleep given metric truths time shown early no_pull sleeps lane later
+lane_sleeps given shown truths time early no_pull metric sleeps (Events lane) later =
+    events_sleep given metric shown truths time early no_pull sleeps lane later
+lane_sleeps given shown truths time early no_pull metric sleeps (Sums lane) later =
+    sums_sleep given metric truths time shown early no_pull sleeps lane later
+lane_sleeps given shown truths time early no_pull metric sleeps (Longest lane) later =
+    longest_sleep given metric truths time shown early no_pull sleeps lane later
+
+-- and so is the metric with its book
 pub track_sleeps : (given : Handed) (shown : LogFrame) (truths : List Bool) (time : ℕ) → log_time shown < time
     → (moment_of shown (log_time shown)).is_pull ≡ false → (track : Track)
     → SleepsThrough given.known.predicates given.states shown truths track.metric → IsDue time track
     → TakesFrame TrackStandsFor given shown truths track track
-track_sleeps given shown truths time early no_pull track sleeps due = of_lane track.lane due where
-  metric : LMetric
-  metric = track.metric
-
-  of_lane : (lane : MetricLane) → IsDue time (record track { lane = lane })
-      → TakesFrame TrackStandsFor given shown truths (record track { lane = lane }) (record track { lane = lane })
-  of_lane (Counts lane) later = counts_sleep given metric shown truths time early no_pull sleeps lane later
-  of_lane (Values lane) later = values_sleep given metric shown truths time early no_pull sleeps lane later
-  of_lane (PulledValues lane) later = pulled_values_sleep given metric truths time shown early no_pull sleeps lane later
-  of_lane (Gauges lane) later = gauges_sleep given metric shown truths time early no_pull sleeps lane later
-  of_lane (PulledGauges lane) later = pulled_gauges_sleep given metric truths time shown early no_pull sleeps lane later
-  of_lane (Events lane) later = events_sleep given metric shown truths time early no_pull sleeps lane later
-  of_lane (Sums lane) later = sums_sleep given metric truths time shown early no_pull sleeps lane later
-  of_lane (Longest lane) later = longest_sleep given metric truths time shown early no_pull sleeps lane later
+track_sleeps given shown truths time early no_pull track sleeps due installed steps frame has may = record {
+  lane = lane_sleeps given shown truths time early no_pull track.metric sleeps track.lane due installed steps frame
+      has.lane may;
+  acts = acts_sleep given.known.predicates given.states track.metric shown truths sleeps (log_after installed steps)
+      steps frame may.shown_is track.acts has.acts;
+}

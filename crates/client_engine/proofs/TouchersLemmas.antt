@@ -16,10 +16,11 @@ use Rattle.config_links.specs.declared.linked.LPredBody.{LPredBody}
 use Rattle.config_links.specs.declared.linked.LPredBody.TheVariants.{Simple, Combo}
 use Rattle.config_links.specs.LinkScopes.{named_predicates}
 use Rattle.config_links.specs.MetricLinks.{is_reached}
+use Rattle.config_links.specs.OwnMatchers.{place_named, predicate_matchers}
 use Rattle.metric_meaning.specs.Histories.{truth_at}
 use Rattle.metric_meaning.specs.PredicateSteps.{named_truth}
 use Rattle.metric_meaning.specs.Touched.{acts_on, acts_at, acts_below}
-use Rattle.client_engine.specs.Touchers.{place_named, own_matchers, matchers_found, matchers_below, touchers, all_touchers, one_holds}
+use Rattle.client_engine.specs.Touchers.{matchers_found, matchers_below, touchers, all_touchers, one_holds}
 
 -- a matcher that is named holds
 pub named_holds : (place : Option ℕ) (truths : List Bool) → one_holds truths (place_named place) ≡ named_truth place truths
@@ -31,10 +32,10 @@ named_holds (Some place) truths = or_false (truth_at place truths) where
 
 -- one of the matchers of a predicate holds exactly where the atom acts on it
 pub own_holds : (predicate : LPredicate) (truths : List Bool)
-    → one_holds truths (own_matchers predicate.body) ≡ acts_on truths predicate
+    → one_holds truths (predicate_matchers predicate.body) ≡ acts_on truths predicate
 own_holds predicate truths = of_body predicate.body where
   of_body : (body : LPredBody)
-      → one_holds truths (own_matchers body) ≡ acts_on truths (record predicate { body = body })
+      → one_holds truths (predicate_matchers body) ≡ acts_on truths (record predicate { body = body })
   of_body (Combo op children) = refl
   of_body (Simple start stop stop_all dims spec) =
       let holds = λ (matcher : ℕ). truth_at matcher truths in

@@ -14,13 +14,12 @@ use Rattle.config_links.specs.declared.linked.LMatcher.{LMatcher}
 use Rattle.config_links.specs.declared.linked.LMatcher.TheVariants as linked_matchers
 use Rattle.config_links.specs.declared.linked.LMetric.{LMetric}
 use Rattle.config_links.specs.declared.linked.LPredicate.{LPredicate}
-use Rattle.config_links.specs.declared.linked.LPredBody.{LPredBody}
-use Rattle.config_links.specs.declared.linked.LPredBody.TheVariants.{Simple, Combo}
 use Rattle.config_links.specs.declared.linked.LSlice.{LSlice}
 use Rattle.config_links.specs.declared.linked.LState.{LState}
 use Rattle.config_links.specs.declared.linked.Linked.{Linked}
 use Rattle.config_links.specs.MetricLinks.{is_reached}
-use Rattle.heard_ids.specs.Hearing.{matched_id, is_heard, heeded_place, heeded_by_body, heeded_by_kind, heeded_matchers, truth_listed, some_holds}
+use Rattle.config_links.specs.OwnMatchers.{predicate_matchers, metric_matchers}
+use Rattle.heard_ids.specs.Hearing.{matched_id, is_heard, heeded_matchers, truth_listed, some_holds}
 use Rattle.metric_meaning.specs.Histories.{What, Logged, Reported, Step, truth_at}
 use Rattle.metric_meaning.specs.PredicateSteps.{events_at, table_with, table_after, tables_after}
 use Rattle.metric_meaning.specs.Reports.{last_report}
@@ -30,8 +29,8 @@ use Rattle.metric_meaning.proofs.PredicateStepsLemmas.{table_after-push}
 use Rattle.metric_calls.specs.SnapshotCalls.{means_pull, is_told_of}
 use Rattle.client_engine.specs.Asleep.{IsUntouching, AreUntouching}
 use Rattle.client_engine.specs.CaughtUp.{LeavesAlone, AllLeaveAlone}
-use Rattle.client_engine.specs.Touchers.{place_named, own_matchers, one_holds, is_told_by, tells_one}
-use Rattle.client_engine.specs.Waking.{touchers_named, wakers, told_slices}
+use Rattle.client_engine.specs.Touchers.{one_holds, is_told_by, tells_one}
+use Rattle.client_engine.specs.Waking.{touchers_named, told_touchers, wakers, told_slices}
 use Rattle.client_engine.proofs.InstanceLemmas.{reported_or, last_report-push}
 use Rattle.client_engine.proofs.KeptPredicatesLemmas.{no_events}
 use Rattle.client_engine.proofs.SleepingLemmas.{touchers_named_hold}
@@ -95,43 +94,27 @@ some_is_one truths (place ∷ places) =
     ap (λ b. b || some_holds truths places) (listed_there place truths)
     ∙ ap (λ b. truth_at place truths || b) (some_is_one truths places)
 
--- a matcher that is heeded where one is named
-heeded_is_named : (place : Option ℕ) → heeded_place place ≡ place_named place
-heeded_is_named None = refl
-heeded_is_named (Some place) = refl
-
--- a predicate heeds its own matchers
-heeded_are_own : (body : LPredBody) → heeded_by_body body ≡ own_matchers body
-heeded_are_own (Simple start stop stop_all dims spec) =
-    ap (λ l. l ++ (heeded_place stop ++ heeded_place start)) (heeded_is_named stop_all)
-    ∙ ap (λ l. place_named stop_all ++ (l ++ heeded_place start)) (heeded_is_named stop)
-    ∙ ap (λ l. place_named stop_all ++ (place_named stop ++ l)) (heeded_is_named start)
-heeded_are_own (Combo op children) = refl
-
 module _ (linked : Linked) (truths : List Bool) (off : some_holds truths (heeded_matchers linked) ≡ false) where
   abbrev holds : ℕ → Bool
   holds matcher = truth_at matcher truths
 
   abbrev of_predicate : LPredicate → List ℕ
-  of_predicate predicate = heeded_by_body predicate.body
-
-  abbrev of_metric : LMetric → List ℕ
-  of_metric metric = heeded_by_kind metric.what metric.kind
+  of_predicate predicate = predicate_matchers predicate.body
 
   none_holds : (one_holds truths (flat_map of_predicate linked.predicates)
-      || one_holds truths (flat_map of_metric linked.metrics)) ≡ false
+      || one_holds truths (flat_map metric_matchers linked.metrics)) ≡ false
   none_holds =
-      sym (list_any-append holds (flat_map of_predicate linked.predicates) (flat_map of_metric linked.metrics))
+      sym (list_any-append holds (flat_map of_predicate linked.predicates) (flat_map metric_matchers linked.metrics))
       ∙ sym (some_is_one truths (heeded_matchers linked)) ∙ off
 
   -- the atom acts on no predicate
   pub acts_on_none : All (λ predicate. acts_on truths predicate ≡ false) linked.predicates
   acts_on_none k none within =
       let predicate = get_or linked.predicates k none in
-      sym (own_holds predicate truths) ∙ ap (one_holds truths) (sym (heeded_are_own predicate.body))
+      sym (own_holds predicate truths)
       ∙ none_given holds of_predicate linked.predicates
       (first_off (one_holds truths (flat_map of_predicate linked.predicates))
-      (one_holds truths (flat_map of_metric linked.metrics)) none_holds) k none within
+      (one_holds truths (flat_map metric_matchers linked.metrics)) none_holds) k none within
 
   -- so it acts below no root
   acts_below_none : (root : Option ℕ) → acts_below linked.predicates truths root ≡ false
@@ -151,39 +134,38 @@ module _ (linked : Linked) (truths : List Bool) (off : some_holds truths (heeded
   touchers_off : (root : Option ℕ) → one_holds truths (touchers_named linked.predicates root) ≡ false
   touchers_off root = touchers_named_hold linked.predicates truths root ∙ acts_below_none root
 
-  -- and none of the matchers holds that wake a metric, where none does that the metric heeds
-  wakers_off : (metric : LMetric) → one_holds truths (of_metric metric) ≡ false
+  -- and none of the matchers holds that wake a metric, where none of its own does
+  wakers_off : (metric : LMetric) → one_holds truths (metric_matchers metric) ≡ false
       → one_holds truths (wakers linked.predicates metric) ≡ false
-  wakers_off metric quiet = of_kind metric.kind quiet where
-    of_kind : (kind : LKind) → one_holds truths (heeded_by_kind metric.what kind) ≡ false
-        → one_holds truths (wakers linked.predicates (record metric { kind = kind })) ≡ false
-    of_kind (kinds.Count overflow) quiet = quiet
-    of_kind (kinds.PushedValue atom_id leaf aggregation) quiet = quiet
-    of_kind (kinds.PulledValue atom_id leaf spec) quiet =
-        both_off truths (metric.what ∷ []) (touchers_named linked.predicates metric.condition) quiet
-        (touchers_off metric.condition)
-    of_kind (kinds.PushedGauge fields samples) quiet = quiet
-    of_kind (kinds.PulledGauge fields samples mode trigger) quiet =
-        both_off truths (metric.what ∷ place_named trigger) (touchers_named linked.predicates metric.condition)
-        (ap (λ l. one_holds truths (metric.what ∷ l)) (sym (heeded_is_named trigger)) ∙ quiet)
-        (touchers_off metric.condition)
-    of_kind kinds.Event quiet = quiet
-    of_kind (kinds.SumDuration spec) quiet =
-        both_off truths (touchers_named linked.predicates metric.condition)
-        (touchers_named linked.predicates (Some metric.what)) (touchers_off metric.condition)
-        (touchers_off (Some metric.what))
-    of_kind (kinds.MaxSparse spec) quiet =
-        both_off truths (touchers_named linked.predicates metric.condition)
-        (touchers_named linked.predicates (Some metric.what)) (touchers_off metric.condition)
-        (touchers_off (Some metric.what))
+  wakers_off metric quiet =
+      both_off truths (metric_matchers metric) (told_touchers linked.predicates metric) quiet
+      (of_kind metric.kind) where
+        timed_off : one_holds truths
+            (touchers_named linked.predicates metric.condition
+            ++ touchers_named linked.predicates (Some metric.what)) ≡ false
+        timed_off =
+            both_off truths (touchers_named linked.predicates metric.condition)
+            (touchers_named linked.predicates (Some metric.what)) (touchers_off metric.condition)
+            (touchers_off (Some metric.what))
+
+        of_kind : (kind : LKind)
+            → one_holds truths (told_touchers linked.predicates (record metric { kind = kind })) ≡ false
+        of_kind (kinds.Count overflow) = refl
+        of_kind (kinds.PushedValue atom_id leaf aggregation) = refl
+        of_kind (kinds.PulledValue atom_id leaf spec) = touchers_off metric.condition
+        of_kind (kinds.PushedGauge fields samples) = refl
+        of_kind (kinds.PulledGauge fields samples mode trigger) = touchers_off metric.condition
+        of_kind kinds.Event = refl
+        of_kind (kinds.SumDuration spec) = timed_off
+        of_kind (kinds.MaxSparse spec) = timed_off
 
   -- so it is of each metric of the configuration
   pub wakes_none : All (λ metric. one_holds truths (wakers linked.predicates metric) ≡ false) linked.metrics
   wakes_none k none within =
       wakers_off (get_or linked.metrics k none)
-      (none_given holds of_metric linked.metrics
+      (none_given holds metric_matchers linked.metrics
       (second_off (one_holds truths (flat_map of_predicate linked.predicates))
-      (one_holds truths (flat_map of_metric linked.metrics)) none_holds) k none within)
+      (one_holds truths (flat_map metric_matchers linked.metrics)) none_holds) k none within)
 
 module _ (linked : Linked) (id : ℕ) (unheard : is_heard linked id ≡ false) where
   abbrev same : ℕ → Bool

@@ -19,13 +19,13 @@ use Rattle.metric_lane.specs.LaneStands.{LaneHas, LogsEvent, GetsReport}
 use Rattle.metric_meaning.specs.Histories.{Step, Installation, moment_of}
 use Rattle.metric_meaning.specs.Scenes.{Scene}
 use Rattle.metric_meaning.specs.ValueLeaves.{ValueLeaf, integer_in}
-use Rattle.metric_meaning.specs.Arrivals.{arriving_by, atom_key}
+use Rattle.metric_meaning.specs.Arrivals.{is_active_in, arriving_by, atom_key}
 use Rattle.metric_meaning.specs.PushedValueSteps.{keyed_integer, value_arrival_by}
 use Rattle.metric_calls.specs.ValueCalls.{value_params, keyed_int, value_asking}
 use Rattle.metric_meaning.specs.Reports.{metric_tree}
 use Rattle.metric_calls.proofs.ValueCallsLemmas.{values_agree, values_ask_well}
 use Rattle.client_engine.specs.Handed.{Handed, IsOfScene}
-use Rattle.client_engine.specs.NextSteps.{logged_step, TakesFrame, TakesReport}
+use Rattle.client_engine.specs.NextSteps.{logged_step, TakesWhile, TakesReport}
 use Rattle.client_engine.specs.ValuesAlong.{ValueLane, value_kind_at, ValuesAlong, values_shown_by}
 use Rattle.client_engine.proofs.AlongLemmas.{along_begins, along_reports}
 use Rattle.client_engine.proofs.ArrivingLemmas.{IsOfArrivals, arrivals_log}
@@ -58,21 +58,22 @@ values_arrive installed metric source aggregation = record {
 
 -- a lane of values takes one more frame of the log, which is shown so
 pub values_log : (given : Handed) (metric : LMetric) (shown : LogFrame) (truths : List Bool) (old new : ValueLane)
-    (keyed : Option KeyedInt)
-    → ((scene : Scene) → IsOfScene given scene → (source : ValueLeaf) (aggregation : Aggregation)
+    (keyed : Option KeyedInt) (active : Bool)
+    → ((scene : Scene) → IsOfScene given scene → active ≡ is_active_in scene metric (log_time shown)
+    → (source : ValueLeaf) (aggregation : Aggregation)
     → metric.kind ≡ value_kind_at source aggregation
     → keyed ≡ option_map keyed_int (value_arrival_by scene metric source (logged_step shown truths)))
     → LogsEvent pushed_law old new (moment_of shown (log_time shown)) keyed
-    → TakesFrame (ValuesAlong metric) given shown truths old new
-values_log given metric shown truths old new keyed is logs installed steps frame has may = record {
+    → TakesWhile (ValuesAlong metric) active metric given shown truths old new
+values_log given metric shown truths old new keyed active is logs installed steps frame active_is has may = record {
   source = has.source;
   aggregation = has.aggregation;
   values = has.values;
   along = arrivals_log (value_asking installed metric has.source has.aggregation) pushed_law installed metric
       (λ scene found. option_map keyed_int (option_and_then (keyed_integer scene metric has.source) found))
       (values_arrive installed metric has.source has.aggregation)
-      given shown frame truths old new keyed steps
-      (λ scene found. is scene found has.source has.aggregation has.values) logs has.along may;
+      given shown frame truths old new keyed steps active active_is
+      (λ scene found now. is scene found now has.source has.aggregation has.values) logs has.along may;
 }
 
 -- what a lane of values hands out is what a report shows of the metric

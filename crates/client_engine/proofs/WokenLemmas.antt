@@ -1,9 +1,9 @@
 -- A frame comes to the metrics that it wakes, one by one, and the others sleep through it.
 use Rattle.std.proofs.Common.{◌≡◌, ℕ, zero, suc, ◌+◌, ◌≤◌, ◌<◌, Bool, true, false, if◌then◌else◌, List, [], ◌∷◌, length, set, get_or, map, All, replicate, Option, Some, None, refl, sym, ap, subst, ◌∙◌, arith, inl, inr}
 use Rattle.std.specs.List.{sum_by}
-use Rattle.std.proofs.lemmas.Bool.{cases_Bool, cases_eq, cases_lt, true≢false}
+use Rattle.std.proofs.lemmas.Bool.{cases_Bool, cases_eq, true≢false}
 use Rattle.std.proofs.lemmas.List.Sums.{sum_by-cons}
-use Rattle.std.proofs.lemmas.List.{length-set, length-map, length-replicate, get_or-replicate, get_or-set_same, get_or-set_other, get_or-map, get_or_past}
+use Rattle.std.proofs.lemmas.List.{length-set, length-map, length-replicate, get_or-replicate, get_or-set_same, get_or-set_other, get_or-map}
 use Rattle.std.proofs.lemmas.List.Elements.{All-get_or}
 use Rattle.atom_record.specs.declared.log.LogFrame.{LogFrame}
 use Rattle.atom_record.specs.declared.log.LogFrame.TheVariants.{Tick, AtomAt, Pull}
@@ -18,7 +18,7 @@ use Rattle.client_engine.specs.Questions.{metric_questions, questions_of}
 use Rattle.client_engine.specs.Tracks.{metric_in, AllStandFor}
 use Rattle.client_engine.specs.TrackStands.{TrackStandsFor}
 use Rattle.client_engine.specs.Lists.{is_in}
-use Rattle.client_engine.specs.Marks.{IsMarked, AreAllMarked}
+use Rattle.client_engine.specs.Marks.{AreAllMarked}
 use Rattle.client_engine.specs.Waking.{SleepsThrough, OthersSleep}
 use Rattle.client_engine.specs.Woken.{clock_of_lane, IsDue, AllDue, sum_marked, marked_questions, AreWoken}
 use Rattle.client_engine.specs.declared.track.Track.{Track}

@@ -5,12 +5,12 @@ use Rattle.link_graph.specs.Links.{AreInRange, HasNoCycle}
 use Rattle.config_links.specs.declared.linked.LPredicate.{LPredicate}
 use Rattle.config_links.specs.declared.linked.LPredBody.{LPredBody}
 use Rattle.config_links.specs.LinkScopes.{body_dims}
+use Rattle.config_links.specs.OwnMatchers.{predicate_matchers}
 use Rattle.config_links.specs.SoundConfig.{most_predicates, IsBound}
 use Rattle.condition_links.specs.Conditions.{predicate_names}
 use Rattle.predicate_state.specs.PredicateTable.{PredicateTable}
 use Rattle.metric_meaning.specs.PredicateSteps.{table_spec, table_with, atom_events}
 use Rattle.client_engine.specs.Marks.{IsMarked}
-use Rattle.client_engine.specs.Touchers.{own_matchers}
 
 -- a table's keys have as many leaves as the predicate's dimensions
 abbrev pub HasItsLeaves : LPredBody → Type 0
@@ -52,7 +52,7 @@ tables_with truths atom (predicate ∷ predicates) (table ∷ tables) =
 
 -- the matchers whose atoms act on a predicate
 abbrev pub acting_matchers : LPredicate → List ℕ
-acting_matchers predicate = own_matchers predicate.body
+acting_matchers predicate = predicate_matchers predicate.body
 
 -- An atom acted on the predicates that are marked, and the other tables are as they were.
 pub record AreActedOn (truths : List Bool) (atom : Atom) (predicates : List LPredicate)

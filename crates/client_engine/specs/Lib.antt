@@ -28,6 +28,7 @@ pub mod DurationsShown
 pub mod SumsAlong
 pub mod LongestAlong
 pub mod SoundMetrics
+pub mod Activity
 pub mod TrackStands
 pub mod Tracks
 pub mod Running

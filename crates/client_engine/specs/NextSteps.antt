@@ -6,6 +6,7 @@ use Rattle.session_frames.specs.FrameReading.{log_time}
 use Rattle.metric_producer.specs.LaneCalls.{LaneStep, AreTimely, last_of}
 use Rattle.metric_calls.specs.LaneSteps.{lane_step}
 use Rattle.metric_meaning.specs.Histories.{Logged, Reported, Step, Installation, log_after}
+use Rattle.metric_meaning.specs.ActivationSteps.{is_active_after}
 use Rattle.metric_meaning.specs.ShownFrames.{shown_as}
 use Rattle.metric_meaning.specs.Scenes.{scene_after}
 use Rattle.metric_meaning.specs.Reports.{metric_tree}
@@ -65,6 +66,13 @@ module _ {A : Type 0} (stands : Installation → List Step → A → Type 0) whe
   abbrev pub TakesFrame : Handed → LogFrame → List Bool → A → A → Type 0
   TakesFrame given shown truths old new =
       (installed : Installation) (steps : List Step) (frame : LogFrame) → stands installed steps old
+      → MayLog installed steps given shown frame truths → stands installed (with_logged steps frame truths) new
+
+  -- the same of a frame at which a metric is active or isn't, as is said
+  abbrev pub TakesWhile : Bool → LMetric → Handed → LogFrame → List Bool → A → A → Type 0
+  TakesWhile active metric given shown truths old new =
+      (installed : Installation) (steps : List Step) (frame : LogFrame)
+      → active ≡ is_active_after metric (with_logged steps frame truths) (log_time frame) → stands installed steps old
       → MayLog installed steps given shown frame truths → stands installed (with_logged steps frame truths) new
 
   -- whatever steps the old one stood for, the new one stands for those and a report, which shows this metric so

@@ -5,7 +5,7 @@ use Rattle.config_links.specs.declared.linked.LMetric.{LMetric}
 use Rattle.config_links.specs.declared.linked.LKind.TheVariants as kinds
 use Rattle.duration_metric.specs.declared.change.InnerEvent.{InnerEvent}
 use Rattle.duration_metric.specs.declared.change.InnerDelta.{InnerDelta}
-use Rattle.duration_metric.specs.declared.sum.SumProducer.{SumProducer}
+use Rattle.duration_metric.specs.SumParts.{Summing}
 use Rattle.duration_metric.specs.SumStands.{sum_law}
 use Rattle.metric_lane.specs.declared.lane.Lane.{Lane}
 use Rattle.metric_meaning.specs.Histories.{Step, Installation}
@@ -14,7 +14,7 @@ use Rattle.client_engine.specs.Along.{Along}
 
 -- a lane of a producer of sums
 abbrev pub SumLane : Type 0
-SumLane = Lane SumProducer InnerEvent InnerDelta ℕ
+SumLane = Lane Summing InnerEvent InnerDelta ℕ
 
 -- The metric sums durations, its inner keys are kept as it says, and the lane collects for it, after these steps of what
 -- was installed. What the last step told of each inner key is in the calls that the lane's producer got.

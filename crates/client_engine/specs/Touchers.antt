@@ -1,29 +1,18 @@
 -- The matchers that touch a predicate, and the atoms that change a state of a metric: for private clauses.
-use Rattle.std.specs.Prelude.{ℕ, ◌==◌, Bool, false, List, [], ◌∷◌, ◌++◌, length, map, slice_get, Option, Some, None, if◌then◌else◌}
+use Rattle.std.specs.Prelude.{ℕ, ◌==◌, Bool, false, List, [], length, map, slice_get, Option, Some, None, if◌then◌else◌}
 use Rattle.std.specs.List.{flat_map, list_any, range_with_len}
 use Rattle.std.specs.Option.{option_map_or}
 use Rattle.config_links.specs.declared.linked.LPredicate.{LPredicate}
-use Rattle.config_links.specs.declared.linked.LPredBody.{LPredBody}
-use Rattle.config_links.specs.declared.linked.LPredBody.TheVariants.{Simple, Combo}
 use Rattle.config_links.specs.declared.linked.LSlice.{LSlice}
 use Rattle.config_links.specs.declared.linked.LState.{LState}
 use Rattle.config_links.specs.MetricLinks.{is_reached}
+use Rattle.config_links.specs.OwnMatchers.{predicate_matchers}
 use Rattle.metric_meaning.specs.Histories.{truth_at}
 
--- the place that is named, if one is
-abbrev pub place_named : Option ℕ → List ℕ
-place_named None = []
-place_named (Some place) = place ∷ []
-
--- the matchers that start or stop a predicate; a combination has none of its own
-abbrev pub own_matchers : LPredBody → List ℕ
-own_matchers (Simple start stop stop_all dims spec) = place_named stop_all ++ (place_named stop ++ place_named start)
-own_matchers (Combo op children) = []
-
--- those of the predicate that is found at a place
+-- the matchers of the predicate that is found at a place
 abbrev pub matchers_found : Option LPredicate → List ℕ
 matchers_found None = []
-matchers_found (Some predicate) = own_matchers predicate.body
+matchers_found (Some predicate) = predicate_matchers predicate.body
 
 -- those of the predicate at a place, if it is the one at the root or is reached from it
 abbrev pub matchers_below : List LPredicate → ℕ → ℕ → List ℕ

@@ -1,17 +1,18 @@
 -- Which metrics an atom wakes: those of which it can change something. One that it doesn't wake, and none of whose
 -- buckets ends with it, is as it was. For private clauses.
-use Rattle.std.specs.Prelude.{◌≡◌, ℕ, ◌<◌, Bool, false, List, [], ◌∷◌, ◌++◌, length, map, get_or, slice_get, Option, Some, None}
+use Rattle.std.specs.Prelude.{◌≡◌, ℕ, ◌<◌, Bool, false, List, [], ◌++◌, length, map, get_or, slice_get, Option, Some, None}
 use Rattle.atom_record.specs.declared.log.LogFrame.{LogFrame}
-use Rattle.atom_record.specs.declared.log.LogFrame.TheVariants.{Tick, AtomAt, Pull}
+use Rattle.atom_record.specs.declared.log.LogFrame.TheVariants.{AtomAt, Pull}
 use Rattle.config_links.specs.declared.linked.LKind.{LKind}
 use Rattle.config_links.specs.declared.linked.LKind.TheVariants.{PulledValue, PulledGauge, SumDuration, MaxSparse}
 use Rattle.config_links.specs.declared.linked.LMetric.{LMetric}
 use Rattle.config_links.specs.declared.linked.LPredicate.{LPredicate}
 use Rattle.config_links.specs.declared.linked.LSlice.{LSlice}
 use Rattle.config_links.specs.declared.linked.LState.{LState}
+use Rattle.config_links.specs.OwnMatchers.{metric_matchers}
 use Rattle.metric_meaning.specs.Histories.{truth_at}
 use Rattle.client_engine.specs.Lists.{is_in, AreListed, places_under}
-use Rattle.client_engine.specs.Touchers.{place_named, all_touchers, one_holds, is_told_by, tells_one}
+use Rattle.client_engine.specs.Touchers.{all_touchers, one_holds, is_told_by, tells_one}
 use Rattle.client_engine.specs.declared.listeners.Listeners.{Listeners}
 
 -- the matchers that touch the predicate that is named, if one is
@@ -19,17 +20,21 @@ abbrev pub touchers_named : List LPredicate → Option ℕ → List ℕ
 touchers_named predicates None = []
 touchers_named predicates (Some root) = get_or (all_touchers predicates) root []
 
--- The matchers whose atoms can change something of a metric. One that gets atoms asks for its condition when one comes,
--- so that what acts on the condition alone changes nothing of it.
-abbrev pub wakers : List LPredicate → LMetric → List ℕ
-wakers predicates metric = of_kind metric.kind where
+-- The matchers that touch the predicates of which a metric is told each change: the condition of one that is pulled,
+-- and of a duration also the predicate that it times. One that gets atoms asks for its condition when one comes, so
+-- that what acts on the condition alone changes nothing of it.
+abbrev pub told_touchers : List LPredicate → LMetric → List ℕ
+told_touchers predicates metric = of_kind metric.kind where
   of_kind : LKind → List ℕ
-  of_kind (PulledValue atom_id leaf spec) = metric.what ∷ touchers_named predicates metric.condition
-  of_kind (PulledGauge fields samples mode trigger) =
-      metric.what ∷ (place_named trigger ++ touchers_named predicates metric.condition)
+  of_kind (PulledValue atom_id leaf spec) = touchers_named predicates metric.condition
+  of_kind (PulledGauge fields samples mode trigger) = touchers_named predicates metric.condition
   of_kind (SumDuration spec) = touchers_named predicates metric.condition ++ touchers_named predicates (Some metric.what)
   of_kind (MaxSparse spec) = touchers_named predicates metric.condition ++ touchers_named predicates (Some metric.what)
-  of_kind _ = metric.what ∷ []
+  of_kind _ = []
+
+-- the matchers whose atoms can change something of a metric: its own, and those that touch what it is told of
+abbrev pub wakers : List LPredicate → LMetric → List ℕ
+wakers predicates metric = metric_matchers metric ++ told_touchers predicates metric
 
 -- the slices by which a change of a state is told: those of a duration
 abbrev pub told_slices : LMetric → List LSlice

@@ -12,8 +12,8 @@ use Rattle.client_engine.specs.Questions.{questions_of}
 use Rattle.client_engine.specs.Tracks.{metric_in, AllStandFor}
 use Rattle.client_engine.specs.TrackStands.{TrackStandsFor}
 use Rattle.client_engine.specs.Marks.{AreAllMarked, IsMarked}
-use Rattle.client_engine.specs.declared.track.MetricLane.{MetricLane}
-use Rattle.client_engine.specs.declared.track.MetricLane.TheVariants.{Counts, Values, PulledValues, Gauges, PulledGauges, Events, Sums, Longest}
+use Rattle.client_engine.specs.declared.lanes.MetricLane.{MetricLane}
+use Rattle.client_engine.specs.declared.lanes.MetricLane.TheVariants.{Counts, Values, PulledValues, Gauges, PulledGauges, Events, Sums, Longest}
 use Rattle.client_engine.specs.declared.track.Track.{Track}
 
 -- the clock of a lane

@@ -1,10 +1,11 @@
 //! The atom that arrives at a metric with a frame of the log, and its key.
-ghost use Rattle.std.specs.Prelude.{◌≡◌, ◌≤◌, ◌+◌, List, None, length, OnOk, IfOk};
+ghost use Rattle.std.specs.Prelude.{◌≡◌, ◌≤◌, ◌+◌, true, List, None, length, OnOk, IfOk};
 ghost use Rattle.std.specs.Option.{option_copied};
 ghost use Rattle.atom_record.specs.declared.log.LogFrame.{LogFrame};
 ghost use Rattle.config_links.specs.SoundConfig.{MayBeWithin};
 ghost use Rattle.state_slicer.specs.StateBooks.{StateBookStandsFor};
-ghost use Rattle.metric_meaning.specs.Arrivals.{arriving_by, metric_key};
+ghost use Rattle.metric_meaning.specs.Arrivals.{arriving_by, is_active_in, metric_key};
+ghost use Rattle.session_frames.specs.FrameReading.{log_time};
 ghost use Rattle.metric_meaning.specs.Readings.{atom_reading};
 ghost use Rattle.metric_meaning.specs.Scenes.{Scene};
 ghost use Rattle.metric_meaning.specs.StateSlices.{named_slices};
@@ -27,24 +28,29 @@ use state_slicer::StateBook;
 use std::alloc::{AllocError, Global};
 use std::sync::ledger::Ledger;
 
-/// The atom that arrives at a metric, if one does, whatever the metric makes of it. Where the metric has no condition,
-/// nothing is asked of predicates.
+/// The atom that arrives at a metric, if one does, whatever the metric makes of it. Where the metric isn't active or has
+/// no condition, nothing is asked of predicates.
 #[inline(always)]
 pub fn arriving<'a, L: Ledger>(
     alloc: Global,
     metric: &LMetric,
+    is_active: bool,
     brought: &Brought<'a>,
     conditions: &mut Conditions,
     asks: &mut Steps<L>,
 ) -> Result<Option<&'a Atom>, AllocError>
     requires within { MayBeWithin (length conditions.old.predicates) metric.now.condition }
     ensures atom { (scene : Scene) → IsOfScene (handed_with conditions.old brought.now) scene
+        → is_active ≡ is_active_in scene metric.now (log_time brought.now.frame.now)
         → IfOk result (λ found. option_copied found
         ≡ arriving_by scene metric.now (brought_step brought.now)) }
     ensures known { conditions.new ≡ conditions.old }
     ensures asks { asks.new ≤ asks.old
         + arrival_questions brought.now.frame.now brought.now.matched.now metric.now }
 {
+    if !is_active {
+        return Ok(None);
+    }
     match metric.condition {
         None => Ok(plain_arriving(metric, brought)),
         Some(_) => arriving_on_condition(alloc, metric, brought, conditions, asks),
@@ -62,6 +68,7 @@ fn arriving_on_condition<'a, L: Ledger>(
 ) -> Result<Option<&'a Atom>, AllocError>
     requires within { MayBeWithin (length conditions.old.predicates) metric.now.condition }
     ensures atom { (scene : Scene) → IsOfScene (handed_with conditions.old brought.now) scene
+        → true ≡ is_active_in scene metric.now (log_time brought.now.frame.now)
         → IfOk result (λ found. option_copied found
         ≡ arriving_by scene metric.now (brought_step brought.now)) }
     ensures known { conditions.new ≡ conditions.old }
@@ -84,7 +91,7 @@ fn arriving_on_condition<'a, L: Ledger>(
 #[inline(always)]
 fn plain_arriving<'a>(metric: &LMetric, brought: &Brought<'a>) -> Option<&'a Atom>
     requires { metric.now.condition ≡ None }
-    ensures { (scene : Scene)
+    ensures { (scene : Scene) → true ≡ is_active_in scene metric.now (log_time brought.now.frame.now)
         → option_copied result ≡ arriving_by scene metric.now (brought_step brought.now) }
 {
     let LogFrame::AtomAt { atom, .. } = brought.frame else {

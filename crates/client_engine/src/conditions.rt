@@ -14,7 +14,7 @@ ghost use Rattle.client_engine.specs.Waking.{touchers_named};
 
 use crate::asked::{Asked, InnerKey, ask_all};
 use crate::inner::key_event;
-use crate::lists::add_matched;
+use crate::lists::find_matched;
 use crate::marks::no_marks;
 use crate::tables::{Act, act_on_each, drops_of, new_tables};
 use crate::touchers::{
@@ -116,8 +116,7 @@ impl Conditions {
         }
         match frame {
             LogFrame::AtomAt { atom, .. } => {
-                self.acting.clear();
-                add_matched(self.actors.as_slice(), matched, &mut self.acting)?;
+                find_matched(self.actors.as_slice(), matched, &mut self.acting)?;
                 self.marks.fill(false);
                 act_on_each(
                     alloc,

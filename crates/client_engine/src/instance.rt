@@ -15,7 +15,7 @@ use crate::state_drops::{dropped_atoms, state_drops};
 use crate::tracks::Tracks;
 use atom_record::LogFrame;
 use condition_links::Steps;
-use config_links::{LMatcher, LState, Linked};
+use config_links::{LAlert, LMatcher, LState, Linked};
 use pull_book::PullBook;
 use report_writer::ReportTree;
 use sd_base::Seq;
@@ -34,7 +34,7 @@ pub struct LogView<'a> {
 }
 
 /// An installed configuration: its matchers, its predicates with what they know, its states, its metrics with their
-/// lanes, and when it was installed and last reported.
+/// lanes, its alerts, and when it was installed and last reported.
 #[derive(Drop)]
 pub struct Instance {
     alloc: Global,
@@ -42,6 +42,7 @@ pub struct Instance {
     conditions: Conditions,
     states: Seq<LState>,
     tracks: Tracks,
+    alerts: Seq<LAlert>,
     listeners: Listeners,
     base: u64,
     last: u64,
@@ -66,6 +67,7 @@ impl Model for Instance {
       known = it.conditions;
       states = it.states;
       tracks = it.tracks.list.items;
+      alerts = it.alerts;
       base = it.base;
       last = it.last;
     } };
@@ -106,6 +108,7 @@ impl Instance {
             predicates,
             states,
             metrics,
+            alerts,
         } = linked;
         let mut conditions = Conditions::new(alloc, predicates)?;
         let opening = Opening {
@@ -121,6 +124,7 @@ impl Instance {
             conditions,
             states,
             tracks,
+            alerts,
             listeners,
             base,
             last: base,

@@ -1,6 +1,7 @@
 //! One installed configuration: what it makes of the log, and what its reports show.
 #![tactic(auto)]
 
+mod activity;
 mod arriving;
 mod asked;
 mod brought;
@@ -12,6 +13,7 @@ mod instance;
 mod integers;
 mod key_room;
 mod kinds;
+mod lanes;
 mod leaves;
 mod listeners;
 mod lists;

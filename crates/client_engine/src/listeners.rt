@@ -1,14 +1,13 @@
 //! Which metrics an atom can change something of: listed when the configuration is installed, under the matchers and the
 //! states by which it would.
 ghost use Rattle.std.specs.Prelude.{◌≡◌, ◌++◌, map, OnOk, IfOk};
-ghost use Rattle.client_engine.specs.Touchers.{place_named};
 ghost use Rattle.client_engine.specs.Tracks.{metric_in};
 ghost use Rattle.client_engine.specs.Lists.{places_under};
-ghost use Rattle.client_engine.specs.Waking.{wakers, told_states, Listens, places_woken, is_told_at};
+ghost use Rattle.client_engine.specs.Waking.{told_touchers, wakers, told_states, Listens, places_woken, is_told_at};
 
 use crate::brought::Brought;
 use crate::conditions::Conditions;
-use crate::lists::{add_if, add_matched, list_under};
+use crate::lists::{add_if, find_matched, list_under};
 use crate::track::Track;
 use atom_record::LogFrame;
 use config_links::{LKind, LMetric, LSlice, LState};
@@ -58,11 +57,11 @@ impl Listeners {
         ensures found { OnOk result (self.new.woken.items ≡ places_woken self.old brought.now.states.now
             brought.now.frame.now brought.now.matched.now) }
     {
-        self.woken.clear();
         let LogFrame::AtomAt { atom, .. } = brought.frame else {
+            self.woken.clear();
             return Ok(());
         };
-        add_matched(self.by_matcher.as_slice(), brought.matched, &mut self.woken)?;
+        find_matched(self.by_matcher.as_slice(), brought.matched, &mut self.woken)?;
         add_told(
             self.by_state.as_slice(),
             brought.states,
@@ -79,7 +78,7 @@ impl Listeners {
     }
 }
 
-// The matchers whose atoms can change something of a metric.
+// The matchers whose atoms can change something of a metric: its own, and those that touch what it is told of.
 fn wakers_of(
     alloc: Global,
     metric: &LMetric,
@@ -87,37 +86,35 @@ fn wakers_of(
 ) -> Result<Vec<u32>, AllocError>
     ensures { IfOk result (λ list. list.items ≡ wakers conditions.now.predicates metric.now) }
 {
-    let mut list = Vec::new(alloc);
+    let mut own = Seq::new(alloc);
+    metric.add_matchers(&mut own)?;
+    let mut list = own.into_vec();
+    add_told_touchers(&mut list, metric, conditions)?;
+    Ok(list)
+}
+
+// Adds the matchers that touch the predicates of which a metric is told each change.
+fn add_told_touchers(
+    list: &mut Vec<u32>,
+    metric: &LMetric,
+    conditions: &Conditions,
+) -> Result<(), AllocError>
+    ensures { OnOk result (list.new.items
+        ≡ list.old.items ++ told_touchers conditions.now.predicates metric.now) }
+{
     match &metric.kind {
-        LKind::PulledValue { .. } => {
-            list.push(metric.what)?;
-            list.extend_from_slice(conditions.touchers_of(metric.condition))?;
-        }
-        LKind::PulledGauge { trigger, .. } => {
-            list.push(metric.what)?;
-            add_named(&mut list, *trigger)?;
-            list.extend_from_slice(conditions.touchers_of(metric.condition))?;
+        LKind::PulledValue { .. } | LKind::PulledGauge { .. } => {
+            list.extend_from_slice(conditions.touchers_of(metric.condition))
         }
         LKind::SumDuration { .. } | LKind::MaxSparse { .. } => {
             list.extend_from_slice(conditions.touchers_of(metric.condition))?;
-            list.extend_from_slice(conditions.touchers_of(Some(metric.what)))?;
+            list.extend_from_slice(conditions.touchers_of(Some(metric.what)))
         }
         LKind::Count { .. }
         | LKind::PushedValue { .. }
         | LKind::PushedGauge { .. }
-        | LKind::Event => list.push(metric.what)?,
+        | LKind::Event => Ok(()),
     }
-    Ok(list)
-}
-
-// Adds a place, if one is named.
-fn add_named(list: &mut Vec<u32>, place: Option<u32>) -> Result<(), AllocError>
-    ensures { OnOk result (list.new.items ≡ list.old.items ++ place_named place) }
-{
-    if let Some(place) = place {
-        list.push(place)?;
-    }
-    Ok(())
 }
 
 // The states whose atoms can change something of a metric.

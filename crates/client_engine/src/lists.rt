@@ -49,9 +49,23 @@ fn make_room(alloc: Global, lists: &mut Vec<Seq<usize>>, key: usize) -> Result<(
     Ok(())
 }
 
-/// Adds the places under the matchers that hold.
+/// Finds the places under the matchers that hold, in the room of what was found before.
 #[inline(always)]
-pub fn add_matched(
+pub fn find_matched(
+    lists: &[Seq<usize>],
+    matched: &[bool],
+    found: &mut Vec<usize>,
+) -> Result<(), AllocError>
+    ensures { OnOk result
+        (found.new.items ≡ places_under lists.now (λ matcher. truth_at matcher matched.now)) }
+{
+    found.clear();
+    add_matched(lists, matched, found)
+}
+
+// Adds the places under the matchers that hold.
+#[inline(always)]
+fn add_matched(
     lists: &[Seq<usize>],
     matched: &[bool],
     woken: &mut Vec<usize>,

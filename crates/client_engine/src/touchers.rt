@@ -2,13 +2,14 @@
 //! when the configuration is installed.
 ghost use Rattle.std.specs.Prelude.{◌≡◌, ◌≤◌, ◌<◌, ◌==◌, ◌||◌, ◌++◌, [], length, if◌then◌else◌, OnOk, IfOk};
 ghost use Rattle.link_graph.specs.Links.{AreInRange};
+ghost use Rattle.config_links.specs.OwnMatchers.{predicate_matchers};
 ghost use Rattle.config_links.specs.SoundConfig.{most_predicates};
 ghost use Rattle.condition_links.specs.Conditions.{predicate_names};
 ghost use Rattle.metric_meaning.specs.Histories.{truth_at};
 ghost use Rattle.metric_meaning.specs.Touched.{names_atom_itself, timed_predicate};
 ghost use Rattle.client_engine.specs.KeptPredicates.{acting_matchers};
 ghost use Rattle.client_engine.specs.Lists.{AreListed};
-ghost use Rattle.client_engine.specs.Touchers.{place_named, own_matchers, touchers, all_touchers, one_holds};
+ghost use Rattle.client_engine.specs.Touchers.{touchers, all_touchers, one_holds};
 
 use crate::lists::list_under;
 use crate::matched::{is_true_at, is_true_if_named};
@@ -76,34 +77,12 @@ fn is_below(marks: &[bool], root: u32, place: u32) -> bool
 // Adds the matchers that start or stop a predicate, if it is one of those that are looked for.
 fn add_matchers(list: &mut Seq<u32>, body: &LPredBody, below: bool) -> Result<(), AllocError>
     ensures { OnOk result
-        (list.new ≡ list.old ++ (if below then own_matchers body.now else [])) }
+        (list.new ≡ list.old ++ (if below then predicate_matchers body.now else [])) }
 {
-    if !below {
-        return Ok(());
-    }
-    match body {
-        LPredBody::Simple {
-            start,
-            stop,
-            stop_all,
-            dims: _,
-            spec: _,
-        } => {
-            add_named(list, *stop_all)?;
-            add_named(list, *stop)?;
-            add_named(list, *start)
-        }
-        LPredBody::Combo { .. } => Ok(()),
-    }
-}
-
-// Adds a place, if one is named.
-fn add_named(list: &mut Seq<u32>, place: Option<u32>) -> Result<(), AllocError>
-    ensures { OnOk result (list.new ≡ list.old ++ place_named place) }
-{
-    match place {
-        Some(place) => list.push(place),
-        None => Ok(()),
+    if below {
+        body.add_matchers(list)
+    } else {
+        Ok(())
     }
 }
 

@@ -1,4 +1,4 @@
-//! A metric of a configuration, and the lane that collects for it.
+//! A metric of a configuration, the lane that collects for it, and what atoms said of its activations.
 ghost use Rattle.std.specs.Prelude.{◌≡◌, ◌<◌, [], ◌∷◌, length, All, OnOk, IfOk};
 ghost use Rattle.bucket_clock.specs.Clock.{frame_at};
 ghost use Rattle.bucket_meaning.specs.Limits.{time_limit};
@@ -12,52 +12,29 @@ ghost use Rattle.client_engine.specs.Bringing.{TakesBrought};
 ghost use Rattle.client_engine.specs.CaughtUp.{TrackTakesRun};
 ghost use Rattle.client_engine.specs.Opens.{IsOpeningOf};
 ghost use Rattle.client_engine.specs.Finding.{MayAsk, CanBeMatched};
-ghost use Rattle.client_engine.specs.TrackStands.{LaneAlong, TrackStandsFor};
+ghost use Rattle.client_engine.specs.TrackStands.{TrackStandsFor};
 ghost use Rattle.client_engine.specs.Tracks.{CanBeTracked};
 ghost use Rattle.client_engine.specs.Woken.{IsDue};
 
+use crate::activity::{book_of, hear};
 use crate::brought::Brought;
 use crate::conditions::Conditions;
-use crate::kinds::counts::CountLane;
-use crate::kinds::{counts, events, gauges, longest, pulled_gauges, pulled_values, sums, values};
+use crate::lanes::{MetricLane, lane_of};
 use crate::opening::Opening;
 use crate::request::ReportRequest;
 use condition_links::Steps;
-use config_links::{LKind, LMetric};
-use duration_metric::{MaxProducer, SumProducer};
-use gauge_metric::{EventProducer, PulledGauge, PushedGauge};
-use metric_lane::Lane;
+use config_links::LMetric;
+use metric_activation::ActBook;
 use report_writer::MetricTree;
 use std::alloc::{AllocError, Global};
 use std::sync::ledger::Ledger;
-use value_metric::{PulledValue, PushedValue};
 
-/// The lane of a metric, by its kind.
-#[derive(Drop)]
-pub enum MetricLane {
-    /// Of a metric that counts.
-    Counts(CountLane),
-    /// Of a metric of pushed values.
-    Values(Lane<PushedValue>),
-    /// Of a metric of pulled values.
-    PulledValues(Lane<PulledValue>),
-    /// Of a pushed gauge.
-    Gauges(Lane<PushedGauge>),
-    /// Of a pulled gauge.
-    PulledGauges(Lane<PulledGauge>),
-    /// Of a metric of events.
-    Events(Lane<EventProducer>),
-    /// Of a metric that sums durations.
-    Sums(Lane<SumProducer>),
-    /// Of a metric of longest durations.
-    Longest(Lane<MaxProducer>),
-}
-
-/// A metric and its lane.
+/// A metric, its lane, and the book of its activations.
 #[derive(Drop)]
 pub struct Track {
     pub metric: LMetric,
     pub lane: MetricLane,
+    pub acts: ActBook,
 }
 
 impl Track {
@@ -79,10 +56,11 @@ impl Track {
         ensures known { conditions.new ≡ conditions.old }
     {
         let lane = lane_of(alloc, &metric, opening, conditions)?;
-        Ok(Track { metric, lane })
+        let acts = book_of(alloc, &metric)?;
+        Ok(Track { metric, lane, acts })
     }
 
-    /// A frame of the log comes.
+    /// A frame of the log comes. The book of activations hears it before it is asked whether the metric is active.
     pub fn log<L: Ledger>(
         &mut self,
         alloc: Global,
@@ -99,23 +77,9 @@ impl Track {
         ensures asks { AsksFew TrackStandsFor (self.old.metric ∷ [])
             conditions.old brought.now self.old asks.old asks.new }
     {
-        let Track { metric, lane } = self;
-        match lane {
-            MetricLane::Counts(lane) => counts::log(lane, alloc, metric, brought, conditions, asks),
-            MetricLane::Values(lane) => values::log(lane, alloc, metric, brought, conditions, asks),
-            MetricLane::PulledValues(lane) => {
-                pulled_values::log(lane, alloc, metric, brought, conditions, asks)
-            }
-            MetricLane::Gauges(lane) => gauges::log(lane, alloc, metric, brought, conditions, asks),
-            MetricLane::PulledGauges(lane) => {
-                pulled_gauges::log(lane, alloc, metric, brought, conditions, asks)
-            }
-            MetricLane::Events(lane) => events::log(lane, alloc, metric, brought, conditions, asks),
-            MetricLane::Sums(lane) => sums::log(lane, alloc, metric, brought, conditions, asks),
-            MetricLane::Longest(lane) => longest::log(
-                lane, alloc, metric, brought, conditions, asks,
-            ),
-        }
+        let Track { metric, lane, acts } = self;
+        let is_active = hear(acts, metric, brought);
+        lane.log(alloc, metric, is_active, brought, conditions, asks)
     }
 
     /// The one frame comes that stands for a run which leaves the metric alone: the lane crosses what that crosses.
@@ -123,32 +87,14 @@ impl Track {
         ensures metric { self.new.metric ≡ self.old.metric }
         ensures takes { OnOk result (TrackTakesRun (frame_at at is_pull) self.old self.new) }
     {
-        match &mut self.lane {
-            MetricLane::Counts(lane) => lane.cross(at, is_pull),
-            MetricLane::Values(lane) => lane.cross(at, is_pull),
-            MetricLane::PulledValues(lane) => lane.cross(at, is_pull),
-            MetricLane::Gauges(lane) => lane.cross(at, is_pull),
-            MetricLane::PulledGauges(lane) => lane.cross(at, is_pull),
-            MetricLane::Events(lane) => lane.cross(at, is_pull),
-            MetricLane::Sums(lane) => lane.cross(at, is_pull),
-            MetricLane::Longest(lane) => lane.cross(at, is_pull),
-        }
+        self.lane.cross(at, is_pull)
     }
 
     /// A time before which none of its buckets ends, in nanoseconds.
     pub fn next_end(&self) -> u64
         ensures { IsDue result self.now }
     {
-        match &self.lane {
-            MetricLane::Counts(lane) => lane.next_end(),
-            MetricLane::Values(lane) => lane.next_end(),
-            MetricLane::PulledValues(lane) => lane.next_end(),
-            MetricLane::Gauges(lane) => lane.next_end(),
-            MetricLane::PulledGauges(lane) => lane.next_end(),
-            MetricLane::Events(lane) => lane.next_end(),
-            MetricLane::Sums(lane) => lane.next_end(),
-            MetricLane::Longest(lane) => lane.next_end(),
-        }
+        self.lane.next_end()
     }
 
     /// A report, and what it shows of the metric.
@@ -163,65 +109,6 @@ impl Track {
             self.old.metric base request self.old self.new) }
         ensures writable { IfOk result IsWritableMetric }
     {
-        let Track { metric, lane } = self;
-        match lane {
-            MetricLane::Counts(lane) => counts::report(lane, alloc, metric, base, request),
-            MetricLane::Values(lane) => values::report(lane, alloc, metric, base, request),
-            MetricLane::PulledValues(lane) => {
-                pulled_values::report(lane, alloc, metric, base, request)
-            }
-            MetricLane::Gauges(lane) => gauges::report(lane, alloc, metric, base, request),
-            MetricLane::PulledGauges(lane) => {
-                pulled_gauges::report(lane, alloc, metric, base, request)
-            }
-            MetricLane::Events(lane) => events::report(lane, alloc, metric, base, request),
-            MetricLane::Sums(lane) => sums::report(lane, alloc, metric, base, request),
-            MetricLane::Longest(lane) => longest::report(lane, alloc, metric, base, request),
-        }
-    }
-}
-
-// The lane of a metric, by its kind, which begins where it is installed.
-fn lane_of(
-    alloc: Global,
-    metric: &LMetric,
-    opening: &Opening<'_>,
-    conditions: &mut Conditions,
-) -> Result<MetricLane, AllocError>
-    requires fits { opening.now.base < time_limit }
-    requires tracked { CanBeTracked metric.now }
-    requires within { MayBeWithin (length conditions.old.predicates) metric.now.condition }
-    requires askable { All MayAsk opening.now.matchers.now }
-    ensures stands { IfOk result (λ lane. (installed : Installation)
-        → IsOpeningOf installed opening.now conditions.old → IsSoundIn installed.linked metric.now
-        → LaneAlong metric.now installed [] lane) }
-    ensures known { conditions.new ≡ conditions.old }
-{
-    let base = opening.base;
-    match &metric.kind {
-        LKind::Count { overflow } => {
-            Ok(MetricLane::Counts(counts::begin(alloc, base, metric, *overflow)))
-        }
-        LKind::PushedValue { agg, .. } => {
-            Ok(MetricLane::Values(values::begin(alloc, base, metric, *agg)))
-        }
-        LKind::PulledValue { spec, .. } => {
-            let lane = pulled_values::begin(alloc, metric, *spec, opening, conditions)?;
-            Ok(MetricLane::PulledValues(lane))
-        }
-        LKind::PushedGauge { samples, .. } => {
-            Ok(MetricLane::Gauges(gauges::begin(alloc, base, metric, *samples)))
-        }
-        LKind::PulledGauge { samples, mode, .. } => {
-            let lane = pulled_gauges::begin(alloc, metric, *samples, *mode, opening, conditions)?;
-            Ok(MetricLane::PulledGauges(lane))
-        }
-        LKind::Event => Ok(MetricLane::Events(events::begin(alloc, base, metric))),
-        LKind::SumDuration { spec } => {
-            Ok(MetricLane::Sums(sums::begin(alloc, base, metric, *spec)))
-        }
-        LKind::MaxSparse { spec } => {
-            Ok(MetricLane::Longest(longest::begin(alloc, base, metric, *spec)))
-        }
+        self.lane.report(alloc, &self.metric, base, request)
     }
 }

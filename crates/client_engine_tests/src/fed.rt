@@ -23,7 +23,8 @@ const MOST_BASE: u64 = 1_000;
 /// The most bytes of a row's configuration.
 const MOST_BYTES: usize = 1_000;
 
-/// An instance and the states that the log gave. There is none before its install, and after want of memory it is of no use.
+/// An instance and the states that the log gave. There is none before its install, and after want of memory it is of
+/// no use.
 #[derive(Drop)]
 pub struct Fed {
     alloc: Global,

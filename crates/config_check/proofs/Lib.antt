@@ -1,2 +1,1 @@
-pub mod ChecksLemmas
 mod Worked

@@ -8,14 +8,15 @@ use Rattle.link_graph.specs.Ids.{reaches_by_id}
 use Rattle.link_rules.specs.Cycles.{cycle_fault}
 use Rattle.link_rules.specs.EntityIds.{no_id_fault, duplicate_id_fault, matcher_ids, predicate_ids, state_ids, metric_ids}
 use Rattle.link_rules.specs.EntityLimits.{limit_fault}
-use Rattle.link_rules.specs.EntityNames.{unknown_matcher_fault, unknown_predicate_fault, unknown_state_fault}
+use Rattle.link_rules.specs.EntityNames.{unknown_matcher_fault, unknown_predicate_fault, unknown_state_fault, unknown_metric_fault}
 use Rattle.link_rules.specs.LinkFaults.{fault}
 use Rattle.link_rules.specs.LinkRules.{rule_fault, id_fault, reference_fault, name_fault}
 use Rattle.config_links.specs.LinkMetrics.{bad_rest}
+use Rattle.config_links.specs.MetricActivations.{bad_activations}
 use Rattle.config_links.specs.MetricKinds.{bad_kind}
 use Rattle.config_links.specs.MetricLinks.{bad_links}
 use Rattle.config_links.specs.MetricSlices.{bad_times, bad_slices}
-use Rattle.config_links.specs.Verdict.{verdict, linked_form, bad_type_fault, bad_part_fault, bad_metric_fault, matchers_linked, predicates_linked, states_linked, metrics_linked}
+use Rattle.config_links.specs.Verdict.{verdict, linked_form, bad_type_fault, bad_part_fault, bad_metric_fault, bad_alert_fault, matchers_linked, predicates_linked, states_linked, metrics_linked}
 use Rattle.config_decode.specs.Walk as whole
 use Rattle.config_decode.specs.Walk.{walk_of}
 use Rattle.config_decode.specs.Config.{config_of}
@@ -27,10 +28,11 @@ use Rattle.config_check.specs.FindingLines.{finding_line}
 -- a count: {7: {1: 1, 2: {1: 5}}, 3: {1: 100, 2: 1}}
 a_count : finding_of least_bytes ≡ Sound (record { matchers = 1; predicates = 0; states = 0; metrics = 1 })
 unfolding finding_of verdict rule_fault id_fault reference_fault name_fault cycle_fault bad_type_fault bad_part_fault
-    bad_metric_fault bad_links bad_rest bad_times bad_slices bad_kind matchers_linked predicates_linked states_linked
+    bad_metric_fault bad_alert_fault bad_links bad_rest bad_times bad_slices bad_kind bad_activations
+    matchers_linked predicates_linked states_linked
     metrics_linked linked_form limit_fault
     no_id_fault duplicate_id_fault matcher_ids predicate_ids state_ids metric_ids unknown_matcher_fault
-    unknown_predicate_fault unknown_state_fault reaches_by_id first_place
+    unknown_predicate_fault unknown_state_fault unknown_metric_fault reaches_by_id first_place
 a_count = ap finding_on least_config
 
 a_count_line : finding_line (Sound (record { matchers = 1; predicates = 0; states = 0; metrics = 1 }))
@@ -46,10 +48,11 @@ an_overflow : finding_of overflow_bytes ≡ Sound (record { matchers = 1; predic
 unfolding finding_of config_of walk_of whole.walk_in inside_at walk_from walk_turns field_at field_with tag_at tag_of
     varint_at taken_at
     verdict rule_fault id_fault reference_fault name_fault cycle_fault bad_type_fault bad_part_fault
-    bad_metric_fault bad_links bad_rest bad_times bad_slices bad_kind matchers_linked predicates_linked states_linked
+    bad_metric_fault bad_alert_fault bad_links bad_rest bad_times bad_slices bad_kind bad_activations
+    matchers_linked predicates_linked states_linked
     metrics_linked linked_form limit_fault
     no_id_fault duplicate_id_fault matcher_ids predicate_ids state_ids metric_ids unknown_matcher_fault
-    unknown_predicate_fault unknown_state_fault reaches_by_id first_place
+    unknown_predicate_fault unknown_state_fault unknown_metric_fault reaches_by_id first_place
 an_overflow = refl
 
 -- a metric of another kind has none
@@ -71,10 +74,11 @@ a_cycle : finding_of cycle_bytes ≡ Unlinked (fault 7 0 (pos 2))
 unfolding finding_of config_of walk_of whole.walk_in inside_at walk_from walk_turns field_at field_with tag_at tag_of
     varint_at taken_at
     verdict rule_fault id_fault reference_fault name_fault cycle_fault bad_type_fault bad_part_fault
-    bad_metric_fault bad_links bad_rest bad_times bad_slices bad_kind matchers_linked predicates_linked states_linked
+    bad_metric_fault bad_alert_fault bad_links bad_rest bad_times bad_slices bad_kind bad_activations
+    matchers_linked predicates_linked states_linked
     limit_fault
     no_id_fault duplicate_id_fault matcher_ids predicate_ids state_ids metric_ids unknown_matcher_fault
-    unknown_predicate_fault unknown_state_fault reaches_by_id first_place
+    unknown_predicate_fault unknown_state_fault unknown_metric_fault reaches_by_id first_place
 a_cycle = refl
 
 a_cycle_line : finding_line (Unlinked (fault 7 0 (pos 2))) ≡ codes "refused link 7 0 2\n"

@@ -1,7 +1,10 @@
 -- What a check takes of its input, and what it writes.
-use Rattle.std.specs.Prelude.{◌≡◌, ℕ, ◌≤◌, ◌⊎◌, List, [], length, Result, Ok, Err}
-use Rattle.sd_io.specs.States.{Input, Ports}
-use Rattle.sd_io.specs.Causes.{Gains, GainsFront, IsAtEnd, Rose, Takes}
+use Rattle.std.specs.Prelude.{◌≡◌, ℕ, List, [], Result, Ok, Err}
+use Rattle.sd_io.specs.States.{Ports}
+use Rattle.sd_io.specs.Causes.{Gains, GainsFront, Rose, Takes}
+use Rattle.sd_io.specs.Fronts.{IsFrontTaken}
+use Rattle.sd_io.specs.declared.front.FrontError.{FrontError}
+use Rattle.sd_io.specs.declared.front.FrontError.TheVariants as front
 use Rattle.config_check.specs.declared.error.CheckError.{CheckError}
 use Rattle.config_check.specs.declared.error.CheckError.TheVariants.{Read, Write, Memory}
 use Rattle.config_check.specs.declared.finding.Finding.{Finding}
@@ -12,14 +15,14 @@ use Rattle.config_check.specs.FindingLines.{finding_line}
 abbrev pub most_taken : ℕ
 most_taken = 262145
 
--- A configuration was taken whole: the input to its end, or as many bytes as are taken at most.
-pub record IsConfigTaken (taken : List ℕ) (input : Input) : Type 0 where
-  pub within : length taken ≤ most_taken
-  pub whole : (length taken ≡ most_taken) ⊎ IsAtEnd input.left
+-- why a check ended before it began to judge: its input wasn't read whole
+abbrev pub check_error : FrontError → CheckError
+check_error front.Read = Read
+check_error front.Memory = Memory
 
 -- The output failed: a front of the line of what is found of the bytes taken was written, and the fault was counted.
 pub record IsLineCutShort (taken : List ℕ) (old new : Ports) : Type 0 where
-  pub is_taken : IsConfigTaken taken new.input
+  pub is_taken : IsFrontTaken most_taken taken new.input
   pub written : GainsFront old.output new.output (finding_line (finding_of taken))
   pub rose : Rose old.output.faults new.output.faults
 
@@ -27,7 +30,7 @@ pub record IsLineCutShort (taken : List ℕ) (old new : Ports) : Type 0 where
 -- of the input or the output was counted there
 abbrev pub CheckOutcome : List ℕ → Ports → Ports → Result Finding CheckError → Type 0
 CheckOutcome taken old new (Ok finding) =
-    IsConfigTaken taken new.input × (finding ≡ finding_of taken)
+    IsFrontTaken most_taken taken new.input × (finding ≡ finding_of taken)
     × Gains old.output new.output (finding_line finding)
 CheckOutcome taken old new (Err Write) = IsLineCutShort taken old new
 CheckOutcome taken old new (Err Read) = Gains old.output new.output [] × Rose old.input.faults new.input.faults

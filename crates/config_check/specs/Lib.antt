@@ -1,4 +1,3 @@
 pub mod Findings
 pub mod FindingLines
 pub mod Checks
-pub mod Broken

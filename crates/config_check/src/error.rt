@@ -1,8 +1,8 @@
 //! Why a check ended before its line was written.
 ghost use Rattle.std.specs.Prelude.{◌≡◌};
 
-use sd_io::{ReadFailed, WriteFailed};
-use std::alloc::{AllocError, AllocFailed};
+use sd_io::{FrontError, WriteFailed};
+use std::alloc::AllocError;
 use thiserror::Error;
 
 /// Why nothing was told of a configuration.
@@ -19,13 +19,16 @@ pub enum CheckError {
     Memory,
 }
 
-impl From<ReadFailed> for CheckError {
-    ghost use Rattle.config_check.specs.declared.error.CheckError.TheVariants.{Read};
+impl From<FrontError> for CheckError {
+    ghost use Rattle.config_check.specs.Checks.{check_error};
 
-    ghost from_gives = { λ _ e. e ≡ Read };
+    ghost from_gives = { λ front e. e ≡ check_error front };
 
-    fn from(_: ReadFailed) -> CheckError {
-        CheckError::Read
+    fn from(front: FrontError) -> CheckError {
+        match front {
+            FrontError::Read => CheckError::Read,
+            FrontError::Memory => CheckError::Memory,
+        }
     }
 }
 

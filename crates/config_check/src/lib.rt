@@ -6,7 +6,6 @@ mod error;
 mod finding;
 mod judging;
 mod line;
-mod reading;
 
 pub use check::check_config;
 pub use error::CheckError;

@@ -27,6 +27,7 @@ tree_with matchers counts = record {
   gauges = [];
   durations = [];
   no_report = [];
+  alerts = [];
 }
 
 -- a matcher of this id, which matches the atoms of an id
@@ -39,7 +40,7 @@ atom_matcher id atom_id = record {
 -- a metric of this id, which counts what a matcher matches
 abbrev pub plain_count : ℤ → ℤ → CountDef
 plain_count id what = record {
-  common = record { id = Some id; what = Some what; condition = None; links = [] };
+  common = record { id = Some id; what = Some what; condition = None; links = []; activations = [] };
   sliced = record { dims = None; bucket = None; bound = None; slices = []; state_links = [] };
   overflow = false;
 }
@@ -47,7 +48,7 @@ plain_count id what = record {
 -- a metric that counts, of which nothing else is said than whether it has an overflow
 abbrev unnamed_count : Bool → CountDef
 unnamed_count overflow = record {
-  common = record { id = None; what = None; condition = None; links = [] };
+  common = record { id = None; what = None; condition = None; links = []; activations = [] };
   sliced = record { dims = None; bucket = None; bound = None; slices = []; state_links = [] };
   overflow = overflow;
 }
@@ -228,7 +229,7 @@ field_1_of_5 = roll-FieldMatcher (record {
 -- this metric, with or without an overflow
 abbrev pub count_by_field_1 : Bool → CountDef
 count_by_field_1 overflow = record {
-  common = record { id = Some (pos 100); what = Some (pos 1); condition = None; links = [] };
+  common = record { id = Some (pos 100); what = Some (pos 1); condition = None; links = []; activations = [] };
   sliced = record {
     dims = Some field_1_of_5;
     bucket = Some Cts;
@@ -274,10 +275,31 @@ activation_of_count_bytes =
     ∷ 26 ∷ 11 ∷ 8 ∷ 100 ∷ 16 ∷ 1
     ∷ 146 ∷ 63 ∷ 4 ∷ 8 ∷ 2 ∷ 16 ∷ 1 ∷ []
 
-pub activation_of_count_config : config_of activation_of_count_bytes ≡ Err (Unsupported (3 ∷ 1010 ∷ []))
+-- this metric, which the second matcher starts for one second
+abbrev started_count : CountDef
+started_count = record {
+  common = record {
+    id = Some (pos 100);
+    what = Some (pos 1);
+    condition = None;
+    links = [];
+    activations = record { start = Some (pos 2); ttl = Some (pos 1); cancel = None } ∷ [];
+  };
+  sliced = record { dims = None; bucket = None; bound = None; slices = []; state_links = [] };
+  overflow = false;
+}
+
+pub activation_of_count_config : config_of activation_of_count_bytes
+    ≡ Ok (tree_with (atom_matcher (pos 1) (pos 5) ∷ atom_matcher (pos 2) (pos 6) ∷ []) (started_count ∷ []))
 unfolding config_of walk_of whole.walk_in inside_at
     walk_from walk_turns field_at field_with tag_at tag_of varint_at taken_at
 activation_of_count_config = refl
+
+-- the same of a duration, which has none: {6: {1010: {1: 2, 2: 1}}}
+activation_of_duration : config_of (50 ∷ 7 ∷ 146 ∷ 63 ∷ 4 ∷ 8 ∷ 2 ∷ 16 ∷ 1 ∷ []) ≡ Err (Unsupported (6 ∷ 1010 ∷ []))
+unfolding config_of walk_of whole.walk_in inside_at
+    walk_from walk_turns field_at field_with tag_at tag_of varint_at taken_at
+activation_of_duration = refl
 
 -- a value metric that has an overflow: {4: {1: 100, 2: 1, 1002: 1}}
 abbrev pub overflow_of_value_bytes : List ℕ

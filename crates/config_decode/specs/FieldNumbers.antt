@@ -41,6 +41,10 @@ config_metric_activation = 17
 abbrev pub config_state : ℕ
 config_state = 21
 
+-- `StatsdConfig.alert`, which is this project's own
+abbrev pub config_alert : ℕ
+config_alert = 1011
+
 -- a matcher: `AtomMatcher.id`
 abbrev pub matcher_id : ℕ
 matcher_id = 1
@@ -240,6 +244,42 @@ metric_what = 2
 -- how many keys a metric with buckets or a simple predicate holds
 abbrev pub key_bound : ℕ
 key_bound = 1001
+
+-- what makes a metric active, unless it is one of durations
+abbrev pub metric_activation : ℕ
+metric_activation = 1010
+
+-- an activation: `Activation.start`
+abbrev pub activation_start : ℕ
+activation_start = 1
+
+-- `Activation.ttl_seconds`
+abbrev pub activation_ttl : ℕ
+activation_ttl = 2
+
+-- `Activation.cancel`
+abbrev pub activation_cancel : ℕ
+activation_cancel = 3
+
+-- an alert: `Alert.id`
+abbrev pub alert_id : ℕ
+alert_id = 1
+
+-- `Alert.metric`
+abbrev pub alert_metric : ℕ
+alert_metric = 2
+
+-- `Alert.threshold`
+abbrev pub alert_threshold : ℕ
+alert_threshold = 3
+
+-- `Alert.parts`
+abbrev pub alert_parts : ℕ
+alert_parts = 4
+
+-- `Alert.refractory_seconds`
+abbrev pub alert_refractory : ℕ
+alert_refractory = 5
 
 -- an event metric: `EventMetric.condition`
 abbrev pub event_condition : ℕ

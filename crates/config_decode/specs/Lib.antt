@@ -4,6 +4,7 @@ pub mod Walk
 pub mod Values
 pub mod Tree
 pub mod Metrics
+pub mod Alerts
 pub mod ConfigFault
 pub mod Config
 pub mod Short

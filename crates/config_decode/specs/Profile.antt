@@ -19,10 +19,10 @@ use Rattle.config_decode.specs.declared.scalar.InitialValue.TheVariants as initi
 use Rattle.config_decode.specs.declared.scalar.Runs.{Runs}
 use Rattle.config_decode.specs.declared.scalar.Runs.TheVariants as runs
 use Rattle.config_decode.specs.declared.profile.Kind.{Kind}
-use Rattle.config_decode.specs.declared.profile.Kind.TheVariants.{Config, Matcher, SimpleMatcher, FieldTest, Tuple, Texts, Combo, Predicate, SimplePredicate, FieldMatcher, Link, StateLink, State, StateMap, Group, Filter, Event, Count, Value, Gauge, Duration}
+use Rattle.config_decode.specs.declared.profile.Kind.TheVariants.{Config, Matcher, SimpleMatcher, FieldTest, Tuple, Texts, Combo, Predicate, SimplePredicate, FieldMatcher, Link, StateLink, State, StateMap, Group, Filter, Event, Count, Value, Gauge, Duration, Activation, Alert}
 use Rattle.config_decode.specs.declared.profile.Shape.{Shape}
 use Rattle.config_decode.specs.declared.profile.Shape.TheVariants.{Number, Numbers, Text, Message, BucketUnit, ValueAggregation, GaugeSampling, Ignored, Refused}
-use Rattle.config_decode.specs.FieldNumbers.{config_event_metric, config_count_metric, config_value_metric, config_gauge_metric, config_duration_metric, config_atom_matcher, config_predicate, config_no_report_metric, config_metric_activation, config_state, matcher_id, matcher_simple, matcher_combination, combination_operation, combination_operand, simple_matcher_atom_id, simple_matcher_test, test_field, test_position, test_eq_bool, test_eq_string, test_eq_int, test_lt_int, test_gt_int, test_lte_int, test_gte_int, test_matches_tuple, test_eq_any_string, test_neq_any_string, tuple_test, strings_str_value, predicate_id, predicate_simple, predicate_combination, simple_predicate_start, simple_predicate_stop, simple_predicate_count_nesting, simple_predicate_stop_all, simple_predicate_initial_value, simple_predicate_dimensions, leaf_field, leaf_position, leaf_child, condition_link_condition, condition_link_fields_in_what, condition_link_fields_in_condition, state_link_atom_id, state_link_fields_in_what, state_link_fields_in_state, state_id, state_atom_id, state_map, state_map_group, state_group_id, state_group_value, filter_include_all, filter_fields, metric_id, metric_what, key_bound, event_condition, event_links, count_condition, count_dimensions, count_bucket, count_links, count_slice_by_state, count_state_link, count_overflow, value_field, value_condition, value_dimensions, value_bucket, value_links, value_aggregation_type, value_min_bucket_size, value_use_absolute_value_on_reset, value_use_diff, value_direction, value_skip_zero_diff_output, value_use_zero_default_base, value_max_pull_delay, value_split_bucket, value_slice_by_state, value_state_link, gauge_fields_filter, gauge_condition, gauge_dimensions, gauge_bucket, gauge_links, gauge_sampling_type, gauge_min_bucket_size, gauge_max_num_atoms, gauge_trigger_event, gauge_max_pull_delay, gauge_split_bucket, duration_condition, duration_links, duration_aggregation_type, duration_dimensions, duration_bucket, duration_slice_by_state, duration_state_link}
+use Rattle.config_decode.specs.FieldNumbers.{config_event_metric, config_count_metric, config_value_metric, config_gauge_metric, config_duration_metric, config_atom_matcher, config_predicate, config_no_report_metric, config_metric_activation, config_state, config_alert, matcher_id, matcher_simple, matcher_combination, combination_operation, combination_operand, simple_matcher_atom_id, simple_matcher_test, test_field, test_position, test_eq_bool, test_eq_string, test_eq_int, test_lt_int, test_gt_int, test_lte_int, test_gte_int, test_matches_tuple, test_eq_any_string, test_neq_any_string, tuple_test, strings_str_value, predicate_id, predicate_simple, predicate_combination, simple_predicate_start, simple_predicate_stop, simple_predicate_count_nesting, simple_predicate_stop_all, simple_predicate_initial_value, simple_predicate_dimensions, leaf_field, leaf_position, leaf_child, condition_link_condition, condition_link_fields_in_what, condition_link_fields_in_condition, state_link_atom_id, state_link_fields_in_what, state_link_fields_in_state, state_id, state_atom_id, state_map, state_map_group, state_group_id, state_group_value, filter_include_all, filter_fields, metric_id, metric_what, key_bound, metric_activation, activation_start, activation_ttl, activation_cancel, alert_id, alert_metric, alert_threshold, alert_parts, alert_refractory, event_condition, event_links, count_condition, count_dimensions, count_bucket, count_links, count_slice_by_state, count_state_link, count_overflow, value_field, value_condition, value_dimensions, value_bucket, value_links, value_aggregation_type, value_min_bucket_size, value_use_absolute_value_on_reset, value_use_diff, value_direction, value_skip_zero_diff_output, value_use_zero_default_base, value_max_pull_delay, value_split_bucket, value_slice_by_state, value_state_link, gauge_fields_filter, gauge_condition, gauge_dimensions, gauge_bucket, gauge_links, gauge_sampling_type, gauge_min_bucket_size, gauge_max_num_atoms, gauge_trigger_event, gauge_max_pull_delay, gauge_split_bucket, duration_condition, duration_links, duration_aggregation_type, duration_dimensions, duration_bucket, duration_slice_by_state, duration_state_link}
 
 -- which entries of a repeated field are meant
 abbrev pub position_of : ℕ → Option Position
@@ -96,7 +96,11 @@ runs_of number =
     else if number == 2 then Some runs.MaxSparse
     else None
 
--- The fields of each message, a row a field. The id of the whole has no place in the tree, and activations come later.
+-- what stands in the alerts of the whole; it will be `Message Alert` where they are acted on
+abbrev pub alerts : Shape
+alerts = Ignored
+
+-- The fields of each message, a row a field. The id of the whole has no place in the tree.
 abbrev pub profile_rows : Kind → List (ℕ × Shape)
 profile_rows Config =
     (config_event_metric, Message Event)
@@ -109,6 +113,7 @@ profile_rows Config =
     ∷ (config_no_report_metric, Numbers)
     ∷ (config_metric_activation, Refused)
     ∷ (config_state, Message State)
+    ∷ (config_alert, alerts)
     ∷ []
 profile_rows Matcher =
     (matcher_id, Number)
@@ -193,6 +198,7 @@ profile_rows Event =
     ∷ (metric_what, Number)
     ∷ (event_condition, Number)
     ∷ (event_links, Message Link)
+    ∷ (metric_activation, Message Activation)
     ∷ []
 profile_rows Count =
     (metric_id, Number)
@@ -205,6 +211,7 @@ profile_rows Count =
     ∷ (count_state_link, Message StateLink)
     ∷ (key_bound, Number)
     ∷ (count_overflow, Number)
+    ∷ (metric_activation, Message Activation)
     ∷ []
 profile_rows Value =
     (metric_id, Number)
@@ -226,6 +233,7 @@ profile_rows Value =
     ∷ (value_slice_by_state, Numbers)
     ∷ (value_state_link, Message StateLink)
     ∷ (key_bound, Number)
+    ∷ (metric_activation, Message Activation)
     ∷ []
 profile_rows Gauge =
     (metric_id, Number)
@@ -242,6 +250,7 @@ profile_rows Gauge =
     ∷ (gauge_max_pull_delay, Ignored)
     ∷ (gauge_split_bucket, Ignored)
     ∷ (key_bound, Number)
+    ∷ (metric_activation, Message Activation)
     ∷ []
 profile_rows Duration =
     (metric_id, Number)
@@ -254,6 +263,18 @@ profile_rows Duration =
     ∷ (duration_slice_by_state, Numbers)
     ∷ (duration_state_link, Message StateLink)
     ∷ (key_bound, Number)
+    ∷ []
+profile_rows Activation =
+    (activation_start, Number)
+    ∷ (activation_ttl, Number)
+    ∷ (activation_cancel, Number)
+    ∷ []
+profile_rows Alert =
+    (alert_id, Number)
+    ∷ (alert_metric, Number)
+    ∷ (alert_threshold, Number)
+    ∷ (alert_parts, Number)
+    ∷ (alert_refractory, Number)
     ∷ []
 
 -- what stands in a field that has no row

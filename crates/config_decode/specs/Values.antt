@@ -4,7 +4,10 @@ use Rattle.std.specs.Int.{w32, w64, cast_signed}
 use Rattle.std.specs.List.{filter, filter_map, list_any, list_all, last_or, flat_map}
 use Rattle.proto_wire.specs.Fields.{BodyOf, Varint, Bytes, FieldOf}
 use Rattle.proto_wire.specs.WireReading.{walk_from}
-use Rattle.config_decode.specs.Profile.{low_half}
+use Rattle.config_decode.specs.declared.profile.Kind.{Kind}
+use Rattle.config_decode.specs.declared.profile.Shape.{Shape}
+use Rattle.config_decode.specs.declared.profile.Shape.TheVariants.{Message}
+use Rattle.config_decode.specs.Profile.{low_half, shape_of}
 use Rattle.config_decode.specs.Walk.{packed_at}
 
 -- The records of a message. That they are whole and not too deep was judged before, by the walk.
@@ -95,6 +98,13 @@ int32_fields number fields = scalars int32_of number fields
 -- each message of a repeated field, as its records
 abbrev pub messages : ℕ → List FieldOf → List (List FieldOf)
 messages number fields = map records_of (payloads number fields)
+
+-- the same of a field that the profile lists as one of messages; any other has none
+abbrev pub listed_messages : Kind → ℕ → List FieldOf → List (List FieldOf)
+listed_messages kind number fields = by_shape (shape_of kind number) where
+  by_shape : Shape → List (List FieldOf)
+  by_shape (Message inner) = messages number fields
+  by_shape _ = []
 
 -- the records of all these payloads, read as one
 abbrev pub records_of_all : List (List ℕ) → List FieldOf

@@ -1,6 +1,7 @@
 //! A decoder of configurations: from the bytes of a `StatsdConfig` to the tree of what it says.
 #![tactic(auto)]
 
+mod alert;
 mod decoder;
 mod fault;
 mod field_matcher;

@@ -6,11 +6,12 @@ ghost use Rattle.config_decode.specs.Values as values;
 
 use crate::message::Message;
 use crate::numbers;
+use crate::profile::Kind;
 use crate::scalar::Runs;
-use crate::tree::{FromMessage, optional, repeated};
+use crate::tree::{FromMessage, listed, optional, repeated};
 use config_types::{
-    Aggregation, Common, CountDef, Direction, DurationDef, EventDef, FieldMatcher, GaugeDef,
-    LinkDef, SamplingType, Sliced, StateLinkDef, ValueDef,
+    ActivationDef, Aggregation, Common, CountDef, Direction, DurationDef, EventDef, FieldMatcher,
+    GaugeDef, LinkDef, SamplingType, Sliced, StateLinkDef, ValueDef,
 };
 use sd_base::Seq;
 use std::alloc::{AllocError, Global};
@@ -43,20 +44,36 @@ impl FromMessage for StateLinkDef {
     }
 }
 
-// What every metric has, where the condition and the links have these numbers.
+impl FromMessage for ActivationDef {
+    ghost use Rattle.config_decode.specs.Metrics.{activation_of};
+
+    ghost tree = { activation_of };
+
+    fn from_message(_alloc: Global, message: &Message<'_>) -> Result<ActivationDef, AllocError> {
+        Ok(ActivationDef {
+            start: message.read_scalar(numbers::ACTIVATION_START),
+            ttl: message.read_scalar(numbers::ACTIVATION_TTL),
+            cancel: message.read_scalar(numbers::ACTIVATION_CANCEL),
+        })
+    }
+}
+
+// What a metric of every kind has, where the condition and the links have these numbers.
 fn common(
     alloc: Global,
     message: &Message<'_>,
+    kind: Kind,
     condition: u32,
     links: u32,
 ) -> Result<Common, AllocError>
-    ensures { IfOk result (λ read. read ≡ metrics.common_of condition links message.now) }
+    ensures { IfOk result (λ read. read ≡ metrics.common_of kind condition links message.now) }
 {
     Ok(Common {
         id: message.read_scalar(numbers::METRIC_ID),
         what: message.read_scalar(numbers::METRIC_WHAT),
         condition: message.read_scalar(condition),
         links: repeated(alloc, message, links)?,
+        activations: listed(alloc, message, kind, numbers::METRIC_ACTIVATION)?,
     })
 }
 
@@ -107,6 +124,7 @@ impl FromMessage for EventDef {
         let common = common(
             alloc,
             message,
+            Kind::Event,
             numbers::EVENT_CONDITION,
             numbers::EVENT_LINKS,
         )?;
@@ -127,6 +145,7 @@ impl FromMessage for CountDef {
             common: common(
                 alloc,
                 message,
+                Kind::Count,
                 numbers::COUNT_CONDITION,
                 numbers::COUNT_LINKS,
             )?,
@@ -169,6 +188,7 @@ impl FromMessage for ValueDef {
             common: common(
                 alloc,
                 message,
+                Kind::Value,
                 numbers::VALUE_CONDITION,
                 numbers::VALUE_LINKS,
             )?,
@@ -226,6 +246,7 @@ impl FromMessage for GaugeDef {
             common: common(
                 alloc,
                 message,
+                Kind::Gauge,
                 numbers::GAUGE_CONDITION,
                 numbers::GAUGE_LINKS,
             )?,
@@ -253,6 +274,7 @@ impl FromMessage for DurationDef {
             common: common(
                 alloc,
                 message,
+                Kind::Duration,
                 numbers::DURATION_CONDITION,
                 numbers::DURATION_LINKS,
             )?,

@@ -21,6 +21,9 @@ pub const CONFIG_METRIC_ACTIVATION: u32 = 17;
 
 pub const CONFIG_STATE: u32 = 21;
 
+/// This project's own.
+pub const CONFIG_ALERT: u32 = 1011;
+
 // A matcher, `AtomMatcher`.
 pub const MATCHER_ID: u32 = 1;
 
@@ -137,6 +140,27 @@ pub const METRIC_WHAT: u32 = 2;
 
 // How many keys a metric with buckets or a simple predicate holds.
 pub const KEY_BOUND: u32 = 1001;
+
+/// What makes a metric active, unless it is one of durations.
+pub const METRIC_ACTIVATION: u32 = 1010;
+
+// What makes a metric active, `Activation`.
+pub const ACTIVATION_START: u32 = 1;
+
+pub const ACTIVATION_TTL: u32 = 2;
+
+pub const ACTIVATION_CANCEL: u32 = 3;
+
+// An alert, `Alert`.
+pub const ALERT_ID: u32 = 1;
+
+pub const ALERT_METRIC: u32 = 2;
+
+pub const ALERT_THRESHOLD: u32 = 3;
+
+pub const ALERT_PARTS: u32 = 4;
+
+pub const ALERT_REFRACTORY: u32 = 5;
 
 // An event metric, `EventMetric`.
 pub const EVENT_CONDITION: u32 = 3;

@@ -48,6 +48,9 @@ pub enum Kind {
     Gauge,
     /// A `DurationMetric`.
     Duration,
+    /// What makes a metric active.
+    Activation,
+    Alert,
 }
 
 /// What stands in a field.
@@ -76,7 +79,10 @@ pub enum Shape {
 /// A field: its number, and what stands in it.
 type Row = (u32, Shape);
 
-const CONFIG: [Row; 10] = [
+/// What stands in the alerts of the whole. It will be `Message(Kind::Alert)` where they are acted on.
+const ALERTS: Shape = Shape::Ignored;
+
+const CONFIG: [Row; 11] = [
     (numbers::CONFIG_EVENT_METRIC, Shape::Message(Kind::Event)),
     (numbers::CONFIG_COUNT_METRIC, Shape::Message(Kind::Count)),
     (numbers::CONFIG_VALUE_METRIC, Shape::Message(Kind::Value)),
@@ -90,6 +96,7 @@ const CONFIG: [Row; 10] = [
     (numbers::CONFIG_NO_REPORT_METRIC, Shape::Numbers),
     (numbers::CONFIG_METRIC_ACTIVATION, Shape::Refused),
     (numbers::CONFIG_STATE, Shape::Message(Kind::State)),
+    (numbers::CONFIG_ALERT, ALERTS),
 ];
 
 const MATCHER: [Row; 3] = [
@@ -200,14 +207,15 @@ const FILTER: [Row; 2] = [
     (numbers::FILTER_FIELDS, Shape::Message(Kind::FieldMatcher)),
 ];
 
-const EVENT: [Row; 4] = [
+const EVENT: [Row; 5] = [
     (numbers::METRIC_ID, Shape::Number),
     (numbers::METRIC_WHAT, Shape::Number),
     (numbers::EVENT_CONDITION, Shape::Number),
     (numbers::EVENT_LINKS, Shape::Message(Kind::Link)),
+    (numbers::METRIC_ACTIVATION, Shape::Message(Kind::Activation)),
 ];
 
-const COUNT: [Row; 10] = [
+const COUNT: [Row; 11] = [
     (numbers::METRIC_ID, Shape::Number),
     (numbers::METRIC_WHAT, Shape::Number),
     (numbers::COUNT_CONDITION, Shape::Number),
@@ -221,9 +229,10 @@ const COUNT: [Row; 10] = [
     (numbers::COUNT_STATE_LINK, Shape::Message(Kind::StateLink)),
     (numbers::KEY_BOUND, Shape::Number),
     (numbers::COUNT_OVERFLOW, Shape::Number),
+    (numbers::METRIC_ACTIVATION, Shape::Message(Kind::Activation)),
 ];
 
-const VALUE: [Row; 19] = [
+const VALUE: [Row; 20] = [
     (numbers::METRIC_ID, Shape::Number),
     (numbers::METRIC_WHAT, Shape::Number),
     (numbers::VALUE_FIELD, Shape::Message(Kind::FieldMatcher)),
@@ -246,9 +255,10 @@ const VALUE: [Row; 19] = [
     (numbers::VALUE_SLICE_BY_STATE, Shape::Numbers),
     (numbers::VALUE_STATE_LINK, Shape::Message(Kind::StateLink)),
     (numbers::KEY_BOUND, Shape::Number),
+    (numbers::METRIC_ACTIVATION, Shape::Message(Kind::Activation)),
 ];
 
-const GAUGE: [Row; 14] = [
+const GAUGE: [Row; 15] = [
     (numbers::METRIC_ID, Shape::Number),
     (numbers::METRIC_WHAT, Shape::Number),
     (numbers::GAUGE_FIELDS_FILTER, Shape::Message(Kind::Filter)),
@@ -266,6 +276,7 @@ const GAUGE: [Row; 14] = [
     (numbers::GAUGE_MAX_PULL_DELAY, Shape::Ignored),
     (numbers::GAUGE_SPLIT_BUCKET, Shape::Ignored),
     (numbers::KEY_BOUND, Shape::Number),
+    (numbers::METRIC_ACTIVATION, Shape::Message(Kind::Activation)),
 ];
 
 const DURATION: [Row; 10] = [
@@ -285,6 +296,20 @@ const DURATION: [Row; 10] = [
         Shape::Message(Kind::StateLink),
     ),
     (numbers::KEY_BOUND, Shape::Number),
+];
+
+const ACTIVATION: [Row; 3] = [
+    (numbers::ACTIVATION_START, Shape::Number),
+    (numbers::ACTIVATION_TTL, Shape::Number),
+    (numbers::ACTIVATION_CANCEL, Shape::Number),
+];
+
+const ALERT: [Row; 5] = [
+    (numbers::ALERT_ID, Shape::Number),
+    (numbers::ALERT_METRIC, Shape::Number),
+    (numbers::ALERT_THRESHOLD, Shape::Number),
+    (numbers::ALERT_PARTS, Shape::Number),
+    (numbers::ALERT_REFRACTORY, Shape::Number),
 ];
 
 impl Kind {
@@ -314,6 +339,8 @@ impl Kind {
             Kind::Value => &VALUE,
             Kind::Gauge => &GAUGE,
             Kind::Duration => &DURATION,
+            Kind::Activation => &ACTIVATION,
+            Kind::Alert => &ALERT,
         }
     }
 

@@ -5,6 +5,7 @@ ghost use Rattle.proto_wire.specs.Fields.{FieldOf};
 ghost use Rattle.config_decode.specs.Values as values;
 
 use crate::message::Message;
+use crate::profile::{Kind, Shape};
 use sd_base::Seq;
 use std::alloc::{AllocError, Global};
 
@@ -54,6 +55,22 @@ pub fn repeated<T: FromMessage>(
 {
     let messages = message.read_messages(alloc, number)?;
     read_all(alloc, messages.as_slice())
+}
+
+/// The same of a field of such a message, if the profile lists it as one of messages. Any other says nothing.
+pub fn listed<T: FromMessage>(
+    alloc: Global,
+    message: &Message<'_>,
+    kind: Kind,
+    number: u32,
+) -> Result<Seq<T>, AllocError>
+    ensures { IfOk result (λ read.
+        read ≡ map T.tree (values.listed_messages kind number message.now)) }
+{
+    match kind.shape(number) {
+        Shape::Message(_) => repeated(alloc, message, number),
+        _ => Ok(Seq::new(alloc)),
+    }
 }
 
 // What each of these messages says.

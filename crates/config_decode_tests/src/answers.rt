@@ -19,6 +19,7 @@ const LISTS: &[&str] = &[
     "gauges",
     "durations",
     "no_report",
+    "alerts",
 ];
 
 /// What is read, or why the bytes are refused.

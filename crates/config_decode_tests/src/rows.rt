@@ -11,7 +11,7 @@ pub struct Configurations;
 
 impl Table for Configurations {
     fn marks(&self) -> &'static str {
-        "config matchers predicates states events counts values gauges durations no_report items fault bucket \
+        "config matchers predicates states events counts values gauges durations no_report alerts items fault bucket \
         message depth entered fields varints number rest put written of text"
     }
 

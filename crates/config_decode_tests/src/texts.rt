@@ -10,6 +10,7 @@ use std::fmt::Debug;
 const SHORT: &[(&str, &str)] = &[
     ("Seq { items: ", ""),
     ("] }", "]"),
+    (", activations: [] }", " }"),
     (
         "common: Common { id: None, what: None, condition: None, links: [] }, sliced: Sliced { dims: None, \
         bucket: None, bound: None, slices: [], state_links: [] }",
@@ -57,6 +58,7 @@ pub fn list_text(alloc: Global, tree: &Config, list: &str) -> Result<String, All
         "values" => items(alloc, &tree.values),
         "gauges" => items(alloc, &tree.gauges),
         "durations" => items(alloc, &tree.durations),
+        "alerts" => items(alloc, &tree.alerts),
         _ => items(alloc, &tree.no_report),
     }
 }

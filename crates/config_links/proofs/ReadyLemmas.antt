@@ -21,7 +21,7 @@ use Rattle.link_rules.specs.declared.entities.Kind.TheVariants.{Gauge}
 use Rattle.link_rules.specs.declared.fault.LinkFault.{LinkFault}
 use Rattle.link_rules.specs.declared.known.Ids.{Ids}
 use Rattle.link_rules.specs.declared.limits.Limit.TheVariants.{MetricBound, Samples, BucketSamples}
-use Rattle.link_rules.specs.EntityLimits.{limit_fault, limits, count_limit, number_limit, default_samples, number_or, samples_by, bound_or_default, samples_limit, samples_of, metric_limit}
+use Rattle.link_rules.specs.EntityLimits.{limit_fault, limits, count_limit, number_limit, default_samples, number_or, samples_by, bound_or_default, samples_limit, samples_of, activations_limit, metric_limit}
 use Rattle.link_rules.specs.EntityIds.{no_id_fault, duplicate_id_fault, set_ids, id_of_predicate, matcher_ids, predicate_ids, place_in}
 use Rattle.link_rules.specs.EntityNames.{first_unknown, predicates_of_predicate, unknown_predicates, unknown_predicate_fault, unknown_matcher_fault, unknown_state_fault}
 use Rattle.link_rules.specs.LinkFaults.{fault, unknown_predicate, predicate_kind}
@@ -60,12 +60,21 @@ few_by_kind (Gauge gauge) bound h = samples_fit gauge.sampling gauge.max_samples
     h).0
 few_by_kind _ bound h = tt
 
+-- the limits of a metric, one by one
+abbrev pub metric_limits : Metric → List (Option LinkFault)
+metric_limits metric =
+    number_limit MetricBound metric.sliced.bound
+    ∷ samples_limit (bound_or_default metric.sliced.bound) metric.kind
+    ∷ activations_limit metric.common.activations
+    ∷ []
+
+pub metric_parts : (metric : Metric) → metric_limit metric ≡ None
+    → AllByRecursion (λ (limit : Option LinkFault). limit ≡ None) (metric_limits metric)
+metric_parts metric h = none_of (metric_limits metric) h
+
 few_of : (metric : Metric) → metric_limit metric ≡ None → TakesFew metric.kind
 few_of metric h = few_by_kind metric.kind (bound_or_default metric.sliced.bound)
-    (none_of
-    (number_limit MetricBound metric.sliced.bound
-    ∷ samples_limit (bound_or_default metric.sliced.bound) metric.kind ∷ [])
-    h).1.0
+    (metric_parts metric h).1.0
 
 all_few : (metrics : List Metric) → AllByRecursion (λ metric. metric_limit metric ≡ None) metrics
     → AllByRecursion (λ (metric : Metric). TakesFew metric.kind) metrics
@@ -73,7 +82,7 @@ all_few [] h = tt
 all_few (metric ∷ metrics) h = (few_of metric h.0, all_few metrics h.1)
 
 -- the limits have no fault
-no_limit_fault : (entities : Entities) → rule_fault entities ≡ None → limit_fault entities ≡ None
+pub no_limit_fault : (entities : Entities) → rule_fault entities ≡ None → limit_fault entities ≡ None
 unfolding rule_fault id_fault
 no_limit_fault entities h =
     (none_of (limit_fault entities ∷ no_id_fault entities ∷ duplicate_id_fault entities ∷ [])

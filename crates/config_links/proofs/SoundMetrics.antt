@@ -3,7 +3,7 @@ use Rattle.std.proofs.Common.{◌≡◌, ℕ, ◌<◌, ◌≤◌, ◌*◌, Bool,
 use Rattle.std.specs.Prelude.{ℤ, pos}
 use Rattle.std.specs.Ordering.{int_eq}
 use Rattle.std.specs.Option.{option_map, unwrap_or}
-use Rattle.std.specs.List.{AllByRecursion, list_all}
+use Rattle.std.specs.List.{AllByRecursion, list_all, list_any, flat_map}
 use Rattle.std.proofs.lemmas.List.Elements.{All-from_recursion}
 use Rattle.field_select.specs.declared.leaf.FieldSet.{FieldSet}
 use Rattle.link_rules.specs.declared.entities.Metric.{Metric}
@@ -13,11 +13,12 @@ use Rattle.link_rules.specs.declared.entities.GaugeParts.{GaugeParts}
 use Rattle.link_rules.specs.declared.entities.ValueParts.{ValueParts}
 use Rattle.link_rules.specs.EntityIds.{place_in}
 use Rattle.link_rules.specs.declared.limits.Limit.TheVariants.{MetricBound, Samples, BucketSamples}
-use Rattle.link_rules.specs.EntityLimits.{bound_or_default, samples_of, number_limit, count_limit, samples_limit, metric_limit}
-use Rattle.link_rules.specs.EntityNames.{first_unknown, matchers_of_metric, predicates_of_metric, states_of_metric, link_condition}
+use Rattle.link_rules.specs.EntityLimits.{bound_or_default, samples_of, number_limit, count_limit, samples_limit, activations_limit, metric_limit}
+use Rattle.link_rules.specs.EntityNames.{first_unknown, matchers_of_activation, matchers_of_metric, predicates_of_metric, states_of_metric, link_condition}
 use Rattle.link_rules.proofs.LinkFaultLemmas.{none_of}
 use Rattle.config_links.specs.declared.linked.Linked.{Linked}
 use Rattle.config_links.specs.declared.linked.LMetric.{LMetric}
+use Rattle.config_links.specs.declared.linked.LAlert.{LAlert}
 use Rattle.config_links.specs.declared.scope.Scope.{Scope}
 use Rattle.config_links.specs.declared.sets.LinkSets.{LinkSets}
 use Rattle.config_links.specs.declared.sets.StateLinkSets.{StateLinkSets}
@@ -28,27 +29,15 @@ use Rattle.config_links.specs.MetricTrees.{metric_stands, metric_sets, own_tree,
 use Rattle.config_links.specs.MetricLinks.{is_even, is_asked, are_asked, is_bound, linked_link, linked_links, link_reasons, bad_links}
 use Rattle.config_links.specs.MetricSlices.{fit_states, fits_state, fit_slices, may_be_sliced, sliced_atoms, linked_slice, is_pulled_kind, time_reasons, bad_times, slice_reasons, bad_slices}
 use Rattle.config_links.specs.MetricKinds.{kind_reasons, bad_kind, value_form, gauge_form, duration_form, linked_kind, timed_spec, first_leaf, trigger_place, sampled_fields, may_sample}
+use Rattle.config_links.specs.MetricActivations.{is_half, activation_reasons, bad_activations}
 use Rattle.config_links.specs.LinkMetrics.{what_id, metric_parts, what_place, bucket_size, bucket_bound, bad_rest, bad_metric, linked_metric}
 use Rattle.config_links.specs.SoundConfig.{MayBeWithin, IsBound, IsSize, IsPulledAt, IsValueField, IsFilter, AreSamples, IsSoundDuration, IsSoundKind, IsSoundMetric}
 use Rattle.config_links.proofs.SoundParts.{holds, left_holds, right_holds, no_test, set_is_sound, bound_fits}
-use Rattle.config_links.proofs.SoundNames.{Known, MayBeKnown, place_below, names_known, is_zero, nothing_found}
+use Rattle.config_links.proofs.SoundNames.{Known, MayBeKnown, may_known, may_be_within, place_below, names_known, is_zero, nothing_found}
 use Rattle.config_links.proofs.SoundLinks.{links_sound, links_apart}
 use Rattle.config_links.proofs.SoundSlices.{has_sets, slices_sound, slices_apart}
+use Rattle.config_links.proofs.SoundActivations.{activations_sound, few_activations, may_be_active}
 use Rattle.config_links.proofs.SoundKinds.{size_fits, value_field, filter_sound, samples_fit, product_fits, mode_fits, may_sample_parts, first_or, second_fails, pulled_at, duration_sound}
-
--- a name that is there, and is known
-may_known : (known : List ℤ) (what : Option ℤ) → MayBeKnown known what → is_none what ≡ false
-    → Known known (unwrap_or what (pos 0))
-may_known known None may has = absurd (cc)
-may_known known (Some id) may has = may
-
--- the place of a name that is known, where it is there
-pub may_be_within : (known : List ℤ) (count : ℕ) → length known ≤ count → (name : Option ℤ) → MayBeKnown known name
-    → MayBeWithin count (option_map (place_in known) name)
-may_be_within known count few None may = tt
-may_be_within known count few (Some id) may =
-    let below : place_in known id < length known = place_below (int_eq id) known may in
-    omega (arith, below, few)
 
 all_some_known : (known ids : List ℤ) → AllByRecursion (MayBeKnown known) (map Some ids)
     → AllByRecursion (Known known) ids
@@ -96,14 +85,20 @@ module _ (linked : Linked) (metric : LMetric) where
   duration_by true spec size timed no_slices = (size, timed, no_slices refl)
   duration_by false spec size timed no_slices = (size, timed)
 
-module _ (scope : Scope) (metrics : List LMetric)
+module _ (scope : Scope) (metrics : List LMetric) (alerts : List LAlert)
     (some : length scope.ids.matchers ≤ length scope.matchers)
     (many : length scope.ids.predicates ≤ length scope.predicates)
     (several : length scope.ids.states ≤ length scope.states)
     (uid : ℤ) (no_report : List ℤ) where
   -- the configuration with these metrics
   abbrev pub whole : Linked
-  whole = record { matchers = scope.matchers; predicates = scope.predicates; states = scope.states; metrics = metrics }
+  whole = record {
+    matchers = scope.matchers;
+    predicates = scope.predicates;
+    states = scope.states;
+    metrics = metrics;
+    alerts = alerts;
+  }
 
   -- a metric of this kind
   abbrev of_kind : Metric → Kind → Metric
@@ -112,11 +107,27 @@ module _ (scope : Scope) (metrics : List LMetric)
   abbrev made : Metric → Kind → LMetric
   made def kind = linked_metric scope uid no_report (of_kind def kind)
 
+  -- what a metric's activations name
+  abbrev signals : Metric → List (Option ℤ)
+  signals def = flat_map matchers_of_activation def.common.activations
+
   -- a metric of atoms counts what a matcher passes
-  what_of_atoms : (def : Metric) → first_unknown scope.ids.matchers (def.common.what ∷ []) ≡ None
+  what_of_atoms : (def : Metric) → first_unknown scope.ids.matchers (def.common.what ∷ signals def) ≡ None
       → is_none def.common.what ≡ false → Known scope.ids.matchers (what_id def)
   what_of_atoms def starts has =
-      may_known scope.ids.matchers def.common.what (names_known scope.ids.matchers (def.common.what ∷ []) starts).0 has
+      may_known scope.ids.matchers def.common.what
+      (names_known scope.ids.matchers (def.common.what ∷ signals def) starts).0 has
+
+  -- the matchers that activations name are known
+  signals_known : (def : Metric) (kind : Kind)
+      → first_unknown scope.ids.matchers (matchers_of_metric (of_kind def kind)) ≡ None
+      → AllByRecursion (MayBeKnown scope.ids.matchers) (signals def)
+  signals_known def Event names = (names_known scope.ids.matchers (def.common.what ∷ signals def) names).1
+  signals_known def (Count overflow) names = (names_known scope.ids.matchers (def.common.what ∷ signals def) names).1
+  signals_known def (Value value) names = (names_known scope.ids.matchers (def.common.what ∷ signals def) names).1
+  signals_known def (Gauge gauge) names =
+      (names_known scope.ids.matchers (def.common.what ∷ gauge.trigger ∷ signals def) names).1.1
+  signals_known def (Duration max_sparse) names = names_known scope.ids.matchers (signals def) names
 
   place_here : (what : ℤ) → Known scope.ids.matchers what → place_in scope.ids.matchers what < length scope.matchers
   place_here what known =
@@ -164,7 +175,7 @@ module _ (scope : Scope) (metrics : List LMetric)
       (λ is. no_slices (metric_sets def).state_links def.sliced.slices (not (names_pulled scope (what_id def)))
       (left_holds ((length def.sliced.slices == 0) || not (names_pulled scope (what_id def))) _ fit) (ap not is))
   kind_sound def (Gauge gauge) starts names has limit own tests times fit =
-      let each = names_known scope.ids.matchers (def.common.what ∷ gauge.trigger ∷ []) starts in
+      let each = names_known scope.ids.matchers (def.common.what ∷ gauge.trigger ∷ signals def) starts in
       let known = may_known scope.ids.matchers def.common.what each.0 has in
       let set = set_or_none gauge.fields in
       let limits = none_of
@@ -225,17 +236,22 @@ module _ (scope : Scope) (metrics : List LMetric)
       × AllByRecursion (λ (row : Reason × Bool). row.1 ≡ false) (slice_reasons scope def (metric_parts scope def))
       × AllByRecursion (λ (row : Reason × Bool). row.1 ≡ false)
       (kind_reasons (is_pulled_kind scope def.kind (what_id def)) (length def.common.links) def.kind)
-  unfolding bad_rest bad_times bad_slices bad_kind
+      × AllByRecursion (λ (row : Reason × Bool). row.1 ≡ false)
+      (activation_reasons (is_pulled_kind scope def.kind (what_id def)) def.common.activations)
+  unfolding bad_rest bad_times bad_slices bad_kind bad_activations
   rest_parts def none =
       let parts = none_of
       (bad_times scope def (metric_parts scope def)
       ∷ bad_slices scope def (metric_parts scope def)
       ∷ bad_kind def.common (is_pulled_kind scope def.kind (what_id def)) def.kind
+      ∷ bad_activations def.common (is_pulled_kind scope def.kind (what_id def))
       ∷ []) none in (
         no_test def.common.id (time_reasons scope def.kind (metric_parts scope def)) parts.0,
         no_test def.common.id (slice_reasons scope def (metric_parts scope def)) parts.1.0,
         no_test def.common.id (kind_reasons (is_pulled_kind scope def.kind (what_id def)) (length def.common.links)
             def.kind) parts.1.1.0,
+        no_test def.common.id (activation_reasons (is_pulled_kind scope def.kind (what_id def))
+            def.common.activations) parts.1.1.1.0,
       )
 
   -- a metric whose names are known, whose numbers are within their limits, and of which no reason holds
@@ -251,8 +267,11 @@ module _ (scope : Scope) (metrics : List LMetric)
       let tests = link_tests def parts.0 in
       let rest = rest_parts def parts.1.0 in
       let limits = none_of
-      (number_limit MetricBound def.sliced.bound ∷ samples_limit (bound_or_default def.sliced.bound) def.kind ∷ [])
+      (number_limit MetricBound def.sliced.bound ∷ samples_limit (bound_or_default def.sliced.bound) def.kind
+      ∷ activations_limit def.common.activations ∷ [])
       limit in
+      let matchers = scope.ids.matchers in
+      let defs = def.common.activations in
       let sets = (metric_sets def).links in
       let state_sets = (metric_sets def).state_links in
       let stands : metric_stands def ≡ true = holds (metric_stands def) tests.0 in
@@ -289,6 +308,11 @@ module _ (scope : Scope) (metrics : List LMetric)
         slices = slices_sound scope several state_sets def.kind def.sliced.slices known_states has_set;
         atoms = slices_apart scope several state_sets def.kind def.sliced.slices known_states (nothing_found _ no_two);
         kind = kind_sound def def.kind starts names tests.1.1.1.1.0 limits.1.0 own rest.2 rest.0 slices;
+        few_activations = few_activations matchers defs def.kind limits.1.1.0;
+        activations = activations_sound matchers (length scope.matchers) some def.kind defs
+            (signals_known def def.kind starts) rest.3.0 limits.1.1.0;
+        active = may_be_active matchers defs scope def.kind (what_id def) (bound_or_default def.sliced.bound)
+            rest.3.1.0;
       }
 
   metrics_by : (defs : List Metric)

@@ -1,8 +1,8 @@
 -- What stands at the place of an id that is known, and what a name of a metric leads to.
 use Rattle.std.proofs.Common.{◌≡◌, ◌≢◌, ℕ, zero, suc, ◌<◌, ◌≤◌, Bool, true, false, not, ◌&&◌, ◌||◌, ◌+◌, ◌==◌, cond, List, [], ◌∷◌, map, length, get_or, Option, Some, None, is_none, is_some, slice_get, if◌then◌else◌, nat_lt, AllPairs, refl, sym, ap, ◌∙◌, subst, arith}
-use Rattle.std.specs.Prelude.{ℤ}
+use Rattle.std.specs.Prelude.{ℤ, pos}
 use Rattle.std.specs.Ordering.{int_eq}
-use Rattle.std.specs.Option.{option_and_then, unwrap_or}
+use Rattle.std.specs.Option.{option_map, option_and_then, unwrap_or}
 use Rattle.std.specs.List.{AllByRecursion, list_any, list_all, position_or_len, find}
 use Rattle.std.proofs.lemmas.Bool.{ltb-true, ltb-false}
 use Rattle.std.proofs.lemmas.Option.{slice_get_within}
@@ -13,6 +13,7 @@ use Rattle.distinct.proofs.PlaceLemmas.{found_at}
 use Rattle.link_rules.specs.EntityIds.{id_place, place_in}
 use Rattle.link_rules.specs.EntityNames.{first_unknown}
 use Rattle.link_rules.proofs.CycleLemmas.{stands_at}
+use Rattle.config_links.specs.SoundConfig.{MayBeWithin}
 
 -- an id is one of these
 abbrev pub Known : List ℤ → ℤ → Type 0
@@ -144,6 +145,20 @@ names_known known (None ∷ names) h = (tt, names_known known names h)
 names_known known (Some id ∷ names) h =
     let both = known_step (list_any (int_eq id) known) id (first_unknown known names) h in
     (both.0, names_known known names both.1)
+
+-- a name that is there, and is known
+pub may_known : (known : List ℤ) (what : Option ℤ) → MayBeKnown known what → is_none what ≡ false
+    → Known known (unwrap_or what (pos 0))
+may_known known None may has = absurd (cc)
+may_known known (Some id) may has = may
+
+-- the place of a name that is known, where it is there
+pub may_be_within : (known : List ℤ) (count : ℕ) → length known ≤ count → (name : Option ℤ) → MayBeKnown known name
+    → MayBeWithin count (option_map (place_in known) name)
+may_be_within known count few None may = tt
+may_be_within known count few (Some id) may =
+    let below : place_in known id < length known = place_below (int_eq id) known may in
+    omega (arith, below, few)
 
 -- a number of which it is said that it is 0, or isn't
 pub not_zero : (count : ℕ) → not (count == 0) ≡ true → 1 ≤ count

@@ -95,7 +95,7 @@ set_is_sound (Some tree) is = record {
 }
 set_is_sound None is = record { fields = none_is_set; atom = λ some. absurd (omega arith) }
 
-limit_step : (within : Bool) (found : LinkFault) → (if within then None else Some found) ≡ None → within ≡ true
+pub limit_step : (within : Bool) (found : LinkFault) → (if within then None else Some found) ≡ None → within ≡ true
 limit_step true found h = refl
 limit_step false found h = absurd (cc)
 

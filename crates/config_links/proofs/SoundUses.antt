@@ -17,7 +17,7 @@ use Rattle.config_links.specs.declared.linked.LPredBody.TheVariants as linked_bo
 use Rattle.config_links.specs.declared.linked.Linked.{Linked}
 use Rattle.config_links.specs.LinkReasons.{takes_children}
 use Rattle.config_links.specs.LinkScopes.{body_children, named_predicates}
-use Rattle.config_links.specs.SoundConfig.{AreWithin, named_matchers, IsSoundMatcher, IsSoundBody, IsSoundPredicate, IsSoundState, IsSoundMetric, IsSoundConfig}
+use Rattle.config_links.specs.SoundConfig.{AreWithin, named_matchers, IsSoundMatcher, IsSoundBody, IsSoundPredicate, IsSoundState, IsSoundMetric, IsSoundAlert, IsSoundConfig}
 use Rattle.config_links.specs.SoundLaws.{AreSoundAtPlaces, ReferencesEnd, HaveChildren, HaveTheirLeaves}
 use Rattle.config_links.proofs.SoundNames.{not_zero}
 
@@ -33,6 +33,7 @@ sound_at_places linked sound = record {
       (IsSoundPredicate (length linked.matchers) (length linked.predicates)) linked.predicates sound.predicates;
   state = at_place IsSoundState linked.states sound.states;
   metric = at_place (IsSoundMetric linked) linked.metrics sound.metrics;
+  alert = at_place (IsSoundAlert linked.metrics) linked.alerts sound.alerts;
 }
 
 none_in : (y : ℕ) → Contains [] y → ⊥

@@ -1,10 +1,13 @@
 pub mod LinkReasons
 pub mod LinkedForm
+pub mod OwnMatchers
 pub mod LinkScopes
 pub mod MetricTrees
 pub mod MetricLinks
 pub mod MetricSlices
 pub mod MetricKinds
+pub mod MetricActivations
+pub mod LinkAlerts
 pub mod LinkMetrics
 pub mod Verdict
 pub mod SoundConfig

@@ -14,11 +14,13 @@ use Rattle.link_rules.specs.EntityIds.{place_in}
 use Rattle.link_rules.specs.EntityLimits.{bound_or_default}
 use Rattle.config_links.specs.declared.linked.LMetric.{LMetric}
 use Rattle.config_links.specs.declared.metrics.MetricParts.{MetricParts}
+use Rattle.config_links.specs.declared.metrics.MetricRest.{MetricRest}
 use Rattle.config_links.specs.declared.scope.Scope.{Scope}
 use Rattle.config_links.specs.MetricTrees.{metric_sets}
 use Rattle.config_links.specs.MetricLinks.{bad_links, condition_place, linked_links}
 use Rattle.config_links.specs.MetricSlices.{bad_times, bad_slices, linked_slices, is_pulled_kind}
 use Rattle.config_links.specs.MetricKinds.{bad_kind, linked_kind}
+use Rattle.config_links.specs.MetricActivations.{bad_activations, linked_activations}
 
 -- the id of what a metric counts or times
 abbrev pub what_id : Metric → ℤ
@@ -52,12 +54,21 @@ bucket_bound _ bound = bound_or_default bound
 abbrev pub is_shown : List ℤ → ℤ → Bool
 is_shown no_report id = not (list_any (λ hidden. int_eq hidden id) no_report)
 
--- the fault of what a metric times, of its slices, or of its kind
+-- what is linked of a metric with these parts
+abbrev pub metric_rest : Scope → Metric → MetricParts → MetricRest
+metric_rest scope metric parts = record {
+  slices = linked_slices scope metric.kind parts.state_links metric.sliced.slices;
+  kind = linked_kind scope parts.what (bound_or_default metric.sliced.bound) metric.kind;
+  activations = linked_activations scope.ids.matchers metric.kind metric.common.activations;
+}
+
+-- the fault of what a metric times, of its slices, of its kind, or of its activations
 unfoldable pub bad_rest : Scope → Metric → MetricParts → Option LinkFault
 bad_rest scope metric parts = first_of
     (bad_times scope metric parts
     ∷ bad_slices scope metric parts
     ∷ bad_kind metric.common (is_pulled_kind scope metric.kind parts.what) metric.kind
+    ∷ bad_activations metric.common (is_pulled_kind scope metric.kind parts.what)
     ∷ [])
 
 -- the least reason of a metric: of its trees and links, and then of the rest
@@ -77,6 +88,7 @@ metric_with scope uid no_report metric parts = record {
   bound = bucket_bound metric.kind metric.sliced.bound;
   slices = linked_slices scope metric.kind parts.state_links metric.sliced.slices;
   kind = linked_kind scope parts.what (bound_or_default metric.sliced.bound) metric.kind;
+  activations = linked_activations scope.ids.matchers metric.kind metric.common.activations;
 }
 
 -- a metric of a client, where reports don't show metrics of these ids

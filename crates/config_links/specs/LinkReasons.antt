@@ -19,7 +19,7 @@ use Rattle.field_select.specs.WellFormed.{is_well_formed, set_of}
 use Rattle.link_rules.specs.declared.fault.LinkFault.{LinkFault}
 use Rattle.link_rules.specs.LinkFaults.{fault, first_reason}
 use Rattle.config_links.specs.declared.reasons.Reason.{Reason}
-use Rattle.config_links.specs.declared.reasons.Reason.TheVariants.{NoBody, BadCombination, NoAtom, BadTest, BadFields, UnevenLink, LinkNotAsked, LinkOutside, NoWhat, NotTimed, TimedOutside, BadStateLink, BadSlices, NoValue, BadDiff, PulledLinks, NoFilter, BadSampling, UnknownHidden}
+use Rattle.config_links.specs.declared.reasons.Reason.TheVariants.{NoBody, BadCombination, NoAtom, BadTest, BadFields, UnevenLink, LinkNotAsked, LinkOutside, NoWhat, NotTimed, TimedOutside, BadStateLink, BadSlices, NoValue, BadDiff, PulledLinks, NoFilter, BadSampling, UnknownHidden, BadActivation, PulledActivation, BadAlert, NotCounted}
 
 -- an entity isn't what it should be; the value is its id
 abbrev pub bad_type : ℕ
@@ -46,6 +46,10 @@ reason_number PulledLinks = 16
 reason_number NoFilter = 17
 reason_number BadSampling = 18
 reason_number UnknownHidden = 19
+reason_number BadActivation = 20
+reason_number PulledActivation = 21
+reason_number BadAlert = 22
+reason_number NotCounted = 23
 
 -- the fault of an entity of this id for a reason
 abbrev pub type_fault : Option ℤ → Reason → LinkFault

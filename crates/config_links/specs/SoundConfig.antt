@@ -1,6 +1,7 @@
 -- What holds of every linked configuration.
 use Rattle.std.specs.Prelude.{◌≡◌, ◌≢◌, ℕ, ◌*◌, ◌<◌, ◌≤◌, Bool, true, false, List, [], map, length, Option, Some, None, slice_get, AllPairs}
 use Rattle.std.specs.List.{All}
+use Rattle.config_types.specs.AlertSpecs.{IsAlertSpec}
 use Rattle.config_types.specs.declared.parameters.PredSpec.{PredSpec}
 use Rattle.config_types.specs.declared.parameters.Sampling.{Sampling}
 use Rattle.config_types.specs.declared.parameters.Sampling.TheVariants.{AtStart, AtChange, AtTrigger}
@@ -9,7 +10,7 @@ use Rattle.field_select.specs.declared.leaf.FieldSet.{FieldSet}
 use Rattle.field_select.specs.declared.leaf.LeafPath.{LeafPath}
 use Rattle.field_select.specs.FieldSets.{IsLeaf, IsFieldSet, is_all}
 use Rattle.link_graph.specs.Links.{HasNoCycle}
-pub use Rattle.link_rules.specs.EntityLimits.{most_matchers, most_predicates, most_states, most_metrics, most_bound, most_samples, most_bucket_samples}
+pub use Rattle.link_rules.specs.EntityLimits.{most_matchers, most_predicates, most_states, most_metrics, most_bound, most_samples, most_bucket_samples, most_activations, most_alerts}
 use Rattle.config_links.specs.declared.linked.LMatcher.{LMatcher}
 use Rattle.config_links.specs.declared.linked.LMatcher.TheVariants as linked_matchers
 use Rattle.config_links.specs.declared.linked.LPredicate.{LPredicate}
@@ -18,6 +19,8 @@ use Rattle.config_links.specs.declared.linked.LPredBody.TheVariants as linked_bo
 use Rattle.config_links.specs.declared.linked.LState.{LState}
 use Rattle.config_links.specs.declared.linked.LSlice.{LSlice}
 use Rattle.config_links.specs.declared.linked.LLink.{LLink}
+use Rattle.config_links.specs.declared.linked.LActivation.{LActivation}
+use Rattle.config_links.specs.declared.linked.LAlert.{LAlert}
 use Rattle.config_links.specs.declared.linked.LMetric.{LMetric}
 use Rattle.config_links.specs.declared.linked.LKind.{LKind}
 use Rattle.config_links.specs.declared.linked.LKind.TheVariants as kinds
@@ -180,6 +183,24 @@ IsSoundKind linked metric (kinds.SumDuration spec) = IsSize metric.size × IsSou
 IsSoundKind linked metric (kinds.MaxSparse spec) =
     IsSize metric.size × IsSoundDuration linked metric spec × (metric.slices ≡ [])
 
+-- how long an activation lasts, in nanoseconds: up to a million seconds
+abbrev pub IsLifetime : ℕ → Type 0
+IsLifetime ttl = IsFromOne 1000000000000000 ttl
+
+-- an activation, where there are so many matchers
+pub record IsSoundActivation (count : ℕ) (activation : LActivation) : Type 0 where
+  pub starts : activation.start < count
+  pub cancels : MayBeWithin count activation.cancel
+  pub lasts : IsLifetime activation.ttl
+
+-- a metric that acts on what was pulled, or on times, has no activations
+abbrev pub MayBeActive : LKind → List LActivation → Type 0
+MayBeActive (kinds.PulledValue atom_id leaf spec) activations = activations ≡ []
+MayBeActive (kinds.PulledGauge fields samples mode trigger) activations = activations ≡ []
+MayBeActive (kinds.SumDuration spec) activations = activations ≡ []
+MayBeActive (kinds.MaxSparse spec) activations = activations ≡ []
+MayBeActive _ activations = Unit {0}
+
 -- a metric of a configuration
 pub record IsSoundMetric (linked : Linked) (metric : LMetric) : Type 0 where
   pub condition : MayBeWithin (length linked.predicates) metric.condition
@@ -191,6 +212,24 @@ pub record IsSoundMetric (linked : Linked) (metric : LMetric) : Type 0 where
   pub atoms : AllPairs (λ (slice later : LSlice). slice_atom linked.states slice ≢ slice_atom linked.states later)
       metric.slices
   pub kind : IsSoundKind linked metric metric.kind
+  pub few_activations : length metric.activations ≤ most_activations
+  pub activations : All (IsSoundActivation (length linked.matchers)) metric.activations
+  pub active : MayBeActive metric.kind metric.activations
+
+-- an alert may watch a metric of this kind: it counts atoms
+abbrev pub MayBeWatched : LKind → Type 0
+MayBeWatched (kinds.Count overflow) = Unit {0}
+MayBeWatched _ = ⊥
+
+-- an alert: the metric that it watches is there and counts atoms, and its numbers are in their ranges, with the bound
+-- of that metric
+pub record IsSoundAlert (metrics : List LMetric) (alert : LAlert) : Type 0 where
+  pub within : alert.metric < length metrics
+  pub watched : LMetric
+  pub is : slice_get metrics alert.metric ≡ Some watched
+  pub counts : MayBeWatched watched.kind
+  pub bound : alert.spec.bound ≡ watched.bound
+  pub spec : IsAlertSpec alert.spec
 
 -- a configuration: each entity is sound, there are as few as may be, no combination is below itself, and no two of a
 -- kind have the same id
@@ -199,11 +238,14 @@ pub record IsSoundConfig (linked : Linked) : Type 0 where
   pub few_predicates : length linked.predicates ≤ most_predicates
   pub few_states : length linked.states ≤ most_states
   pub few_metrics : length linked.metrics ≤ most_metrics
+  pub few_alerts : length linked.alerts ≤ most_alerts
   pub matchers : All (IsSoundMatcher (length linked.matchers)) linked.matchers
   pub predicates : All (IsSoundPredicate (length linked.matchers) (length linked.predicates)) linked.predicates
   pub states : All IsSoundState linked.states
   pub metrics : All (IsSoundMetric linked) linked.metrics
+  pub alerts : All (IsSoundAlert linked.metrics) linked.alerts
   pub matchers_end : HasNoCycle (map named_matchers linked.matchers)
   pub predicates_end : HasNoCycle (map named_predicates linked.predicates)
   pub predicate_ids : AllPairs (λ (one later : LPredicate). one.id ≢ later.id) linked.predicates
   pub metric_ids : AllPairs (λ (one later : LMetric). one.id ≢ later.id) linked.metrics
+  pub alert_ids : AllPairs (λ (one later : LAlert). one.id ≢ later.id) linked.alerts

@@ -11,9 +11,10 @@ use Rattle.config_links.specs.declared.linked.LPredicate.{LPredicate}
 use Rattle.config_links.specs.declared.linked.LPredBody.TheVariants as linked_bodies
 use Rattle.config_links.specs.declared.linked.LState.{LState}
 use Rattle.config_links.specs.declared.linked.LMetric.{LMetric}
+use Rattle.config_links.specs.declared.linked.LAlert.{LAlert}
 use Rattle.config_links.specs.declared.linked.Linked.{Linked}
 use Rattle.config_links.specs.LinkScopes.{named_predicates}
-use Rattle.config_links.specs.SoundConfig.{named_matchers, IsSoundMatcher, IsSoundPredicate, IsSoundState, IsSoundMetric}
+use Rattle.config_links.specs.SoundConfig.{named_matchers, IsSoundMatcher, IsSoundPredicate, IsSoundState, IsSoundMetric, IsSoundAlert}
 
 -- what stands at a place is sound
 pub record AreSoundAtPlaces (linked : Linked) : Type 0 where
@@ -23,6 +24,7 @@ pub record AreSoundAtPlaces (linked : Linked) : Type 0 where
       → IsSoundPredicate (length linked.matchers) (length linked.predicates) predicate
   pub state : (at : ℕ) (state : LState) → slice_get linked.states at ≡ Some state → IsSoundState state
   pub metric : (at : ℕ) (metric : LMetric) → slice_get linked.metrics at ≡ Some metric → IsSoundMetric linked metric
+  pub alert : (at : ℕ) (alert : LAlert) → slice_get linked.alerts at ≡ Some alert → IsSoundAlert linked.metrics alert
 
 -- references lead to places that are there, and no list of them is as long as there are places
 pub record ReferencesEnd (linked : Linked) : Type 0 where

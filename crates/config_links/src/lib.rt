@@ -1,6 +1,8 @@
 //! A configuration whose references are places in config order, and what an entity of one can't be.
 #![tactic(auto)]
 
+mod activations;
+mod alerts;
 mod asked;
 mod kinds;
 mod laws;
@@ -10,6 +12,7 @@ mod links;
 mod matchers;
 mod metrics;
 mod nodes;
+mod own_matchers;
 mod predicates;
 mod reasons;
 mod scope;
@@ -24,7 +27,7 @@ pub use laws::{
 };
 pub use link_rules::{LinkError, LinkFault, MOST_PREDICATES};
 pub use linked::{
-    CondTree, LGroup, LKind, LLink, LMatcher, LMetric, LPredBody, LPredicate, LSlice, LState,
-    Linked,
+    CondTree, LActivation, LAlert, LGroup, LKind, LLink, LMatcher, LMetric, LPredBody, LPredicate,
+    LSlice, LState, Linked,
 };
 pub use linker::link;

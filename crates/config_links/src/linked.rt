@@ -1,6 +1,8 @@
 //! A configuration whose references are places in config order.
 
-use config_types::{Aggregation, DiffSpec, Operation, PredSpec, Sampling, SimpleMatcher};
+use config_types::{
+    Aggregation, AlertSpec, DiffSpec, Operation, PredSpec, Sampling, SimpleMatcher,
+};
 use field_select::{FieldSet, LeafPath};
 use sd_base::Seq;
 
@@ -12,6 +14,7 @@ pub struct Linked {
     pub states: Seq<LState>,
     /// All metrics: event, count, value, gauge and duration metrics, in this order.
     pub metrics: Seq<LMetric>,
+    pub alerts: Seq<LAlert>,
 }
 
 /// How a matcher says which atoms it means.
@@ -97,6 +100,17 @@ pub struct LSlice {
     pub in_what: Option<FieldSet>,
 }
 
+/// What makes a metric active for a while.
+#[derive(Clone, Copy, Debug)]
+pub struct LActivation {
+    /// The place of the matcher whose atoms begin it.
+    pub start: u32,
+    /// How long it lasts, in nanoseconds.
+    pub ttl: u64,
+    /// The place of the matcher whose atoms end it before its time.
+    pub cancel: Option<u32>,
+}
+
 /// A metric.
 #[derive(Debug, Drop)]
 pub struct LMetric {
@@ -117,6 +131,8 @@ pub struct LMetric {
     /// The states by which it is sliced, in the order in which the configuration names them.
     pub slices: Seq<LSlice>,
     pub kind: LKind,
+    /// It counts while one of these is alive, and always where there is none.
+    pub activations: Seq<LActivation>,
 }
 
 /// What a metric makes of what it counts. It is pulled where its `what` is a simple matcher of an atom that is pulled.
@@ -162,4 +178,14 @@ pub enum LKind {
     MaxSparse {
         spec: PredSpec,
     },
+}
+
+/// An alert on a metric that counts.
+#[derive(Clone, Copy, Debug)]
+pub struct LAlert {
+    pub id: i64,
+    /// The place of the metric whose counts it watches.
+    pub metric: u32,
+    /// What it watches for; its bound is the metric's.
+    pub spec: AlertSpec,
 }

@@ -6,26 +6,37 @@ ghost use Rattle.link_rules.specs.declared.entities.Metric.{Metric};
 ghost use Rattle.link_rules.specs.LinkFaults.{Links};
 ghost use Rattle.link_rules.specs.LinkRules.{ids_in, rule_fault};
 ghost use Rattle.config_links.specs.LinkedForm.{linked_matcher, linked_predicate, linked_state};
+ghost use Rattle.config_links.specs.LinkAlerts.{linked_alert, IsPatient};
 ghost use Rattle.config_links.specs.LinkMetrics.{linked_metric};
 ghost use Rattle.config_links.specs.LinkScopes.{named_predicates};
+ghost use Rattle.config_links.specs.MetricActivations.{AreBrief};
 ghost use Rattle.config_links.specs.MetricKinds.{TakesFew};
 ghost use Rattle.config_links.specs.SoundConfig.{IsSoundConfig};
-ghost use Rattle.config_links.specs.Verdict.{verdict, linked_form, entities_linked, bad_part_fault, bad_metric_fault, bad_type_fault, hidden_fault};
+ghost use Rattle.config_links.specs.Verdict.{verdict, linked_form, entities_linked, bad_part_fault, hidden_fault, scoped_fault, late_fault, judged};
 
+use crate::alerts::alerts_in;
 use crate::matchers::matchers_in;
 use crate::metrics::metrics_in;
 use crate::predicates::predicates_in;
 use crate::reasons::{BAD_TYPE, Reason};
 use crate::scope::Scope;
 use crate::states::states_in;
-use crate::{LMatcher, LMetric, LPredicate, LState, Linked};
-use config_types::{Config, MatcherDef, PredicateDef, StateDef};
+use crate::{LAlert, LMatcher, LMetric, LPredicate, LState, Linked};
+use config_types::{AlertDef, Config, MatcherDef, PredicateDef, StateDef};
 use link_rules::{
     Entities, Ids, Known, LinkError, LinkFault, Metric, checked_ids, find_unknown_child, gather,
-    refuse,
+    judge_watched, refuse,
 };
 use sd_base::Seq;
 use std::alloc::Global;
+
+// What is linked once all else is: the metrics and alerts, and the ids of metrics that no report shows.
+#[derive(Drop)]
+struct Scoped {
+    metrics: Seq<Metric>,
+    alerts: Seq<AlertDef>,
+    no_report: Seq<i64>,
+}
 
 // The linked matchers, predicates and states, or the first reason of these.
 #[tactic(auto, unfolding(crate::specs::Verdict::bad_part_fault))]
@@ -60,32 +71,42 @@ fn judge_hidden(known: &Known, no_report: &[i64]) -> Option<LinkFault>
     })
 }
 
-// The linked metrics, or the first reason of these and of those that no report shows.
+// The linked metrics and alerts, or the first reason of these and of metrics that no report shows, or the first alert
+// on no metric.
 #[tactic(auto, unfolding(crate::specs::Verdict::bad_metric_fault))]
-fn last_in(
+fn scoped_in(
     alloc: Global,
     scope: &Scope,
     uid: i32,
-    no_report: &[i64],
-    metrics: &[Metric],
-) -> Result<Seq<LMetric>, LinkError>
+    scoped: &Scoped,
+) -> Result<(Seq<LMetric>, Seq<LAlert>), LinkError>
     requires in_range { AreInRange (map named_predicates scope.now.predicates) }
-    requires few { All (λ (metric : Metric). TakesFew metric.kind) metrics.now }
+    requires few { All (λ (metric : Metric). TakesFew metric.kind) scoped.now.metrics }
+    requires brief { All (λ (metric : Metric). AreBrief metric.common.activations) scoped.now.metrics }
+    requires patient { All IsPatient scoped.now.alerts }
     ensures { Links result
-        (bad_metric_fault scope.now scope.now.ids.metrics metrics.now no_report.now)
-        (map (linked_metric scope.now uid no_report.now) metrics.now) }
+        (scoped_fault scope.now scoped.now.metrics scoped.now.alerts scoped.now.no_report) (
+          map (linked_metric scope.now uid scoped.now.no_report) scoped.now.metrics,
+          map (linked_alert scope.now.ids.metrics scoped.now.metrics) scoped.now.alerts,
+        ) }
 {
+    let known = &scope.ids.metrics;
+    let no_report = scoped.no_report.as_slice();
+    let metrics = scoped.metrics.as_slice();
+    let alerts = scoped.alerts.as_slice();
     let linked = metrics_in(alloc, scope, uid, no_report, metrics)?;
-    refuse(judge_hidden(&scope.ids.metrics, no_report))?;
-    Ok(linked)
+    let watches = alerts_in(alloc, known, metrics, alerts)?;
+    refuse(judge_hidden(known, no_report))?;
+    refuse(judge_watched(known, alerts))?;
+    Ok((linked, watches))
 }
 
 // The linked entities, or the first reason.
-#[tactic(auto, using(crate::proofs::ReadyLemmas::few_samples), unfolding(crate::specs::Verdict::bad_type_fault))]
+#[tactic(auto, using(crate::proofs::ReadyLemmas::few_samples, crate::proofs::BriefLemmas::brief_activations, crate::proofs::BriefLemmas::patient_alerts), unfolding(crate::specs::Verdict::late_fault))]
 fn entities_in(alloc: Global, ids: Ids, entities: Entities, uid: i32) -> Result<Linked, LinkError>
     requires ids { ids ≡ ids_in entities }
     requires ready { rule_fault entities ≡ None }
-    ensures { Links result (bad_type_fault entities) (entities_linked entities uid) }
+    ensures { Links result (late_fault entities) (entities_linked entities uid) }
 {
     let (matchers, predicates, states) = parts_in(
         alloc,
@@ -100,26 +121,25 @@ fn entities_in(alloc: Global, ids: Ids, entities: Entities, uid: i32) -> Result<
         predicates,
         states,
     };
-    let no_report = entities.no_report;
-    let metrics = last_in(
-        alloc,
-        &scope,
-        uid,
-        no_report.as_slice(),
-        entities.metrics.as_slice(),
-    )?;
+    let scoped = Scoped {
+        metrics: entities.metrics,
+        alerts: entities.alerts,
+        no_report: entities.no_report,
+    };
+    let (metrics, alerts) = scoped_in(alloc, &scope, uid, &scoped)?;
     Ok(Linked {
         matchers: scope.matchers,
         predicates: scope.predicates,
         states: scope.states,
         metrics,
+        alerts,
     })
 }
 
 // The configuration, linked, or its first fault.
-#[tactic(auto, unfolding(crate::specs::Verdict::verdict, crate::specs::Verdict::linked_form))]
+#[tactic(auto, unfolding(crate::specs::Verdict::linked_form))]
 fn linked_config(alloc: Global, config: Config, uid: i32) -> Result<Linked, LinkError>
-    ensures { Links result (verdict config) (linked_form config uid) }
+    ensures { Links result (judged config) (linked_form config uid) }
 {
     let entities = gather(alloc, config)?;
     let ids = checked_ids(alloc, &entities)?;

@@ -8,11 +8,12 @@ ghost use Rattle.config_links.specs.LinkScopes.{named_predicates};
 ghost use Rattle.config_links.specs.MetricLinks.{bad_links};
 ghost use Rattle.config_links.specs.LinkReasons.{set_or_none};
 ghost use Rattle.config_links.specs.MetricTrees.{own_tree};
-ghost use Rattle.link_rules.specs.EntityLimits.{bound_or_default};
-ghost use Rattle.config_links.specs.MetricSlices.{linked_slices};
-ghost use Rattle.config_links.specs.MetricKinds.{linked_kind, TakesFew};
+ghost use Rattle.config_links.specs.MetricSlices.{is_pulled_kind};
+ghost use Rattle.config_links.specs.MetricKinds.{TakesFew};
+ghost use Rattle.config_links.specs.MetricActivations.{AreBrief};
 ghost use Rattle.config_links.specs.LinkMetrics as words;
 
+use crate::activations::activations_in;
 use crate::asked::judge_conditions;
 use crate::kinds::kind_in;
 use crate::links::{are_even, links_in};
@@ -21,7 +22,7 @@ use crate::reasons::{Reason, make_fault, place_of_option};
 use crate::scope::Scope;
 use crate::sets::{StateLinkSets, sets_in};
 use crate::slices::{refuse_times, slices_in};
-use crate::{LKind, LLink, LMetric, LSlice};
+use crate::{LActivation, LKind, LLink, LMetric, LSlice};
 use config_types::{TimeUnit, bucket_nanos};
 use field_select::FieldSet;
 use link_rules::{Kind, LinkError, Metric};
@@ -36,6 +37,14 @@ pub struct MetricParts {
     pub dims: FieldSet,
     pub links: Seq<LLink>,
     pub state_links: Seq<StateLinkSets>,
+}
+
+/// What is linked of a metric with its parts.
+#[derive(Debug, Drop)]
+pub struct MetricRest {
+    pub slices: Seq<LSlice>,
+    pub kind: LKind,
+    pub activations: Seq<LActivation>,
 }
 
 // The sets, links and name of a metric, and the set of its kind, or what its trees and links can't be.
@@ -110,16 +119,12 @@ fn metric_of(
     no_report: &[i64],
     metric: &Metric,
     parts: MetricParts,
-    rest: (Seq<LSlice>, LKind),
+    rest: MetricRest,
 ) -> LMetric
-    requires slices { rest.0 ≡ linked_slices scope.now metric.now.kind
-        parts.state_links metric.now.sliced.slices }
-    requires kind { rest.1 ≡ linked_kind scope.now parts.what
-        (bound_or_default metric.now.sliced.bound) metric.now.kind }
+    requires { rest ≡ words.metric_rest scope.now metric.now parts }
     ensures { result ≡ words.metric_with scope.now uid no_report.now metric.now parts }
 {
     let id = metric.common.id.unwrap_or(0);
-    let (slices, kind) = rest;
     LMetric {
         id,
         shown: !no_report.contains(&id),
@@ -129,12 +134,23 @@ fn metric_of(
         dims: parts.dims,
         size: measure_bucket(uid, &metric.kind, metric.sliced.bucket),
         bound: bound_bucket(&metric.kind, metric.sliced.bound),
-        slices,
-        kind,
+        slices: rest.slices,
+        kind: rest.kind,
+        activations: rest.activations,
     }
 }
 
-// The slices and the kind of a metric with these parts, or what they can't be.
+// Whether a metric acts on what was pulled.
+fn is_pulled(scope: &Scope, kind: &Kind, what: i64) -> bool
+    ensures { result ≡ is_pulled_kind scope.now kind.now what }
+{
+    match kind {
+        Kind::Value(_) | Kind::Gauge(_) => scope.is_of_pulled_atom(what),
+        _ => false,
+    }
+}
+
+// The slices, the kind and the activations of a metric with these parts, or what they can't be.
 #[tactic(auto, unfolding(crate::specs::LinkMetrics::bad_rest))]
 fn rest_of(
     alloc: Global,
@@ -142,19 +158,24 @@ fn rest_of(
     metric: &Metric,
     parts: &MetricParts,
     own: FieldSet,
-) -> Result<(Seq<LSlice>, LKind), LinkError>
+) -> Result<MetricRest, LinkError>
     requires own { own ≡ set_or_none (own_tree metric.now.kind) }
     requires few { TakesFew metric.now.kind }
-    ensures { Links result (words.bad_rest scope.now metric.now parts.now) (
-      linked_slices scope.now metric.now.kind parts.now.state_links metric.now.sliced.slices,
-      linked_kind scope.now parts.now.what (bound_or_default metric.now.sliced.bound)
-          metric.now.kind,
-    ) }
+    requires brief { AreBrief metric.now.common.activations }
+    ensures { Links result (words.bad_rest scope.now metric.now parts.now)
+        (words.metric_rest scope.now metric.now parts.now) }
 {
     refuse_times(alloc, scope, metric, parts)?;
     let slices = slices_in(alloc, scope, metric, parts)?;
     let kind = kind_in(scope, metric, parts.what, own)?;
-    Ok((slices, kind))
+    let pulled = is_pulled(scope, &metric.kind, parts.what);
+    let matchers = &scope.ids.matchers;
+    let activations = activations_in(alloc, matchers, &metric.common, &metric.kind, pulled)?;
+    Ok(MetricRest {
+        slices,
+        kind,
+        activations,
+    })
 }
 
 // A metric, linked, or its least reason.
@@ -167,6 +188,7 @@ fn metric_in(
 ) -> Result<LMetric, LinkError>
     requires in_range { AreInRange (map named_predicates scope.now.predicates) }
     requires few { TakesFew metric.now.kind }
+    requires brief { AreBrief metric.now.common.activations }
     ensures { Links result (words.bad_metric scope.now metric.now)
         (words.linked_metric scope.now uid no_report.now metric.now) }
 {
@@ -185,6 +207,7 @@ pub fn metrics_in(
 ) -> Result<Seq<LMetric>, LinkError>
     requires in_range { AreInRange (map named_predicates scope.now.predicates) }
     requires few { All (λ (metric : Metric). TakesFew metric.kind) metrics.now }
+    requires brief { All (λ (metric : Metric). AreBrief metric.common.activations) metrics.now }
     ensures { Links result (first_in (words.bad_metric scope.now) metrics.now)
         (map (words.linked_metric scope.now uid no_report.now) metrics.now) }
 {

@@ -57,6 +57,14 @@ pub enum Reason {
     BadSampling,
     /// A metric that no report shows isn't there.
     UnknownHidden,
+    /// An activation doesn't say what begins it, or how long it lasts.
+    BadActivation,
+    /// A metric of pulled atoms has activations.
+    PulledActivation,
+    /// An alert doesn't say which metric it watches, what a count has to pass, or over how many parts.
+    BadAlert,
+    /// An alert is on a metric that doesn't count.
+    NotCounted,
 }
 
 impl Reason {
@@ -84,6 +92,10 @@ impl Reason {
             Reason::NoFilter => 17,
             Reason::BadSampling => 18,
             Reason::UnknownHidden => 19,
+            Reason::BadActivation => 20,
+            Reason::PulledActivation => 21,
+            Reason::BadAlert => 22,
+            Reason::NotCounted => 23,
         }
     }
 }

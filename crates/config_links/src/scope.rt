@@ -19,12 +19,12 @@ pub struct Scope {
     pub states: Seq<LState>,
 }
 
-// The id of an atom as a number, or 0.
-fn read_atom_id(id: Option<i32>) -> u32
-    ensures { result ≡ number_or_zero id }
+/// A number that is set and isn't negative, or 0.
+pub fn read_number(number: Option<i32>) -> u32
+    ensures { result ≡ number_or_zero number }
 {
-    match id {
-        Some(id) if id > 0 => id as u32,
+    match number {
+        Some(number) if number > 0 => number as u32,
         _ => 0,
     }
 }
@@ -85,7 +85,7 @@ impl Scope {
             return false;
         };
         match self.matchers.get(place as usize) {
-            Some(LMatcher::Simple(simple)) => is_pulled(read_atom_id(simple.atom_id)),
+            Some(LMatcher::Simple(simple)) => is_pulled(read_number(simple.atom_id)),
             _ => false,
         }
     }

@@ -1,7 +1,9 @@
 //! What a configuration is linked to, or why it is refused.
+use super::additions::{add_alerts, with_activations};
 use super::texts::{fault_text, list_text};
 use config_decode::decode;
 use config_links::{LinkError, Linked, link};
+use config_types::Config;
 use std::alloc::{AllocError, Global};
 use test_tools::{Row, Table, Tester, signed};
 
@@ -12,14 +14,14 @@ const MAX_INPUT: usize = 1_000_000;
 const CLIENT: &str = "10";
 
 /// The lists of a linked configuration.
-const LISTS: &[&str] = &["matchers", "predicates", "states", "metrics"];
+const LISTS: &[&str] = &["matchers", "predicates", "states", "metrics", "alerts"];
 
 /// The table of configurations.
 pub struct Links;
 
 impl Table for Links {
     fn marks(&self) -> &'static str {
-        "config client fault linked matchers predicates states metrics"
+        "config active alert client fault linked matchers predicates states metrics alerts"
     }
 
     fn run(&self, alloc: Global, tester: &mut Tester, row: &Row<'_>) -> Result<(), AllocError> {
@@ -36,7 +38,7 @@ fn client_of(row: &Row<'_>) -> Option<i32> {
     i32::try_from(signed(row.line("client").unwrap_or(CLIENT))?).ok()
 }
 
-/// Links the configuration of these bytes, and compares what is answered.
+/// Links the configuration of these bytes with what the row adds to it, and compares what is answered.
 fn run_bytes(
     alloc: Global,
     tester: &mut Tester,
@@ -47,22 +49,33 @@ fn run_bytes(
     let Some(uid) = client_of(row) else {
         return tester.differs("no client", row.word("client"));
     };
-    match answer(alloc, bytes, uid) {
-        Some(Ok(linked)) => compare_linked(alloc, tester, row, &linked),
-        Some(Err(fault)) => compare_fault(alloc, tester, row, &fault),
-        None => tester.differs("the configuration isn't read", ""),
+    let Some(tree) = tree_of(alloc, tester, row, bytes)? else {
+        return tester.differs("the configuration isn't read", "");
+    };
+    match link(alloc, tree, uid) {
+        Ok(linked) => compare_linked(alloc, tester, row, &linked),
+        Err(fault) => compare_fault(alloc, tester, row, &fault),
     }
 }
 
-/// What a client's configuration is linked to, if it is read.
-fn answer(alloc: Global, bytes: &[u8], uid: i32) -> Option<Result<Linked, LinkError>> {
+/// The tree of a row, if its bytes are read.
+fn tree_of(
+    alloc: Global,
+    tester: &mut Tester,
+    row: &Row<'_>,
+    bytes: &[u8],
+) -> Result<Option<Config>, AllocError> {
     if bytes.len() > MAX_INPUT {
-        return None;
+        return Ok(None);
     }
-    match decode(alloc, bytes) {
-        Ok(config) => Some(link(alloc, config, uid)),
-        Err(_) => None,
-    }
+    let Ok(tree) = decode(alloc, bytes) else {
+        return Ok(None);
+    };
+    let active = row.text(alloc, "active")?;
+    let mut tree = with_activations(alloc, tester, tree, active.as_str())?;
+    let alerts = row.text(alloc, "alert")?;
+    add_alerts(alloc, tester, &mut tree.alerts, alerts.as_str())?;
+    Ok(Some(tree))
 }
 
 fn compare_fault(

@@ -1,6 +1,7 @@
 //! Configurations, and what they are linked to or why they are refused: the rows of a table on standard input.
 #![tactic(auto)]
 
+mod additions;
 mod answers;
 mod texts;
 

@@ -15,10 +15,12 @@ fn items<T: Debug>(alloc: Global, list: &Seq<T>) -> Result<String, AllocError> {
     plain(alloc, text.as_str())
 }
 
-/// A text in which a list is its items alone, without the name of its type.
+/// A text in which a list is its items alone, without the name of its type, and a metric without activations ends
+/// before them.
 fn plain(alloc: Global, text: &str) -> Result<String, AllocError> {
     let begun = text.replace(alloc, "Seq { items: ", "")?;
-    begun.as_str().replace(alloc, "] }", "]")
+    let ended = begun.as_str().replace(alloc, "] }", "]")?;
+    ended.as_str().replace(alloc, ", activations: [] }", " }")
 }
 
 /// A list of a linked configuration, by its name.
@@ -27,6 +29,7 @@ pub fn list_text(alloc: Global, linked: &Linked, list: &str) -> Result<String, A
         "matchers" => items(alloc, &linked.matchers),
         "predicates" => items(alloc, &linked.predicates),
         "states" => items(alloc, &linked.states),
+        "alerts" => items(alloc, &linked.alerts),
         _ => items(alloc, &linked.metrics),
     }
 }

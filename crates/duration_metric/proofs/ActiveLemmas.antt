@@ -1,8 +1,7 @@
 -- The active keys: as a walk over the inner keys finds them, and as the calls tell of them.
-use Rattle.std.proofs.Common.{◌≡◌, ℕ, ◌+◌, ◌≤◌, Bool, true, false, ◌||◌, nat_lt, if◌then◌else◌, List, [], ◌∷◌, ◌++◌, map, length, take, zero, suc, Option, Some, None, ⊎_elim, refl, sym, ap, subst, ◌∙◌, arith, append-nil}
-use Rattle.std.specs.List.{flat_map, last_or, IsDistinct, AllByRecursion}
+use Rattle.std.proofs.Common.{◌≡◌, ℕ, ◌+◌, ◌≤◌, Bool, true, false, nat_lt, if◌then◌else◌, List, [], ◌∷◌, ◌++◌, map, length, Option, Some, None, refl, ap, ◌∙◌, arith, append-nil}
+use Rattle.std.specs.List.{flat_map, last_or, IsDistinct}
 use Rattle.std.specs.Option.{unwrap_or}
-use Rattle.std.proofs.lemmas.Bool.{cases_Bool, false≢true}
 use Rattle.std.proofs.lemmas.List.{length-append}
 use Rattle.sd_base.specs.Outputs.{outputs}
 use Rattle.sd_base.proofs.OutputsLemmas.{outputs-push}
@@ -118,41 +117,3 @@ since-other spec calls call none =
     (outputs-push (active_told spec) calls call
     ∙ ap (λ l. outputs (active_told spec) calls ++ l) none
     ∙ append-nil (outputs (active_told spec) calls))
-
--- what holds of all of a list holds of its last
-at_last : (P : MetricKey → Type 0) (keys : List MetricKey) (key : MetricKey) → AllByRecursion P (keys ++ key ∷ []) → P key
-at_last P [] key all = all.0
-at_last P (first ∷ keys) key all = at_last P keys key all.1
-
--- a key that stands among those before it
-last_twice : (seen : List MetricKey) (key : MetricKey) → is_among is_same_key key seen ≡ true
-    → ¬ IsDistinct is_same_key (seen ++ key ∷ [])
-unfolding IsDistinct
-last_twice [] key among distinct = absurd (false≢true among)
-last_twice (first ∷ seen) key among distinct = ⊎_elim
-    (λ (same : is_same_key first key ≡ true).
-    absurd (false≢true (sym (at_last (λ other. is_same_key first other ≡ false) seen key distinct.0) ∙ same)))
-    (λ (other : is_same_key first key ≡ false).
-    last_twice seen key (sym (ap (λ b. b || is_among is_same_key key seen) other) ∙ among) distinct.1)
-    (cases_Bool (is_same_key first key))
-
--- what holds of all holds of all that are taken
-all_taken : (P : MetricKey → Type 0) (n : ℕ) (keys : List MetricKey) → AllByRecursion P keys
-    → AllByRecursion P (take n keys)
-all_taken P zero keys all = tt
-all_taken P (suc n) [] all = tt
-all_taken P (suc n) (first ∷ keys) all = (all.0, all_taken P n keys all.1)
-
--- the first of some distinct keys are distinct
-distinct_taken : (n : ℕ) (keys : List MetricKey) → IsDistinct is_same_key keys → IsDistinct is_same_key (take n keys)
-unfolding IsDistinct
-distinct_taken zero keys distinct = tt
-distinct_taken (suc n) [] distinct = tt
-distinct_taken (suc n) (first ∷ keys) distinct =
-    (all_taken (λ other. is_same_key first other ≡ false) n keys distinct.0, distinct_taken n keys distinct.1)
-
--- a key that stands among those before it makes the list one with a repeat
-pub stands_twice : (keys : List MetricKey) (n : ℕ) (seen : List MetricKey) (key : MetricKey)
-    → take n keys ≡ seen ++ key ∷ [] → is_among is_same_key key seen ≡ true → ¬ IsDistinct is_same_key keys
-stands_twice keys n seen key taken among distinct =
-    last_twice seen key among (subst (IsDistinct is_same_key) taken (distinct_taken n keys distinct))

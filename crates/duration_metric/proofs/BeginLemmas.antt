@@ -17,7 +17,7 @@ use Rattle.dim_table.proofs.KeyLemmas.{Contains-from_place, is_among-from_Contai
 use Rattle.metric_kinds.specs.Keys.{is_same_key}
 use Rattle.metric_kinds.specs.Runs.{newly}
 use Rattle.duration_metric.specs.declared.sum.Span.{Span}
-use Rattle.duration_metric.specs.SumSteps.{begun, BeginsRun, BeginsOut, HasSpans, HasBegun, BeginsAll}
+use Rattle.duration_metric.specs.SumSteps.{begun, BeginsRun, BeginsOut, HasSpans, HasBegun, BeginsAll, KeepsKeys}
 
 -- the keys of rows by key
 pub keys_of-spans : (span : MetricKey → Span) (ks : List MetricKey) → keys_of (map (λ key. (key, span key)) ks) ≡ ks
@@ -250,3 +250,43 @@ begins_newly old new before now fresh at is begins bound span seen lost is_fresh
     let both = among_newly key before now (subst (λ ks. is_among is_same_key key ks ≡ true) is there) in
     is_fresh key unseen both.0 both.1)
     has)
+
+-- a key that has a row keeps one where a row more comes
+among_push : (key : MetricKey) (rows : List (MetricKey × Span)) (row : MetricKey × Span)
+    → is_among is_same_key key (keys_of rows) ≡ true → is_among is_same_key key (keys_of (rows ++ row ∷ [])) ≡ true
+among_push key [] row among = absurd (true≢false (sym among))
+among_push key (first ∷ rows) row among =
+    by (is_same_key first.0 key) (is_among is_same_key key (keys_of rows))
+    (is_among is_same_key key (keys_of (rows ++ row ∷ []))) among (among_push key rows row) where
+      by : (b c d : Bool) → (b || c) ≡ true → (c ≡ true → d ≡ true) → (b || d) ≡ true
+      by true c d one next = refl
+      by false c d one next = next one
+
+-- and where a key is admitted, or turned away
+keeps_admitted : (old new : Table MetricKey Span) (key : MetricKey) (at : ℕ) (answer : Admit)
+    → Admits old new key (begun at) answer → KeepsKeys old new
+keeps_admitted old new key at (At place) admits other among = ⊎_elim
+    (λ (there : IsThere old new key place).
+    subst (λ (t : Table MetricKey Span). is_among is_same_key other (keys t) ≡ true) (sym there.same) among)
+    (λ (added : IsNew old new key (begun at) place).
+    subst (λ (t : Table MetricKey Span). is_among is_same_key other (keys t) ≡ true) (sym added.added)
+    (among_push other old.rows (key, begun at) among))
+    admits
+keeps_admitted old new key at Full away other among =
+    subst (λ (t : Table MetricKey Span). is_among is_same_key other (keys t) ≡ true) (sym away.added) among
+
+-- and where the key for which a row counts begins
+pub keeps_more : (first old new : Table MetricKey Span) (outs : List MetricKey) (at : ℕ) → KeepsKeys first old
+    → BeginsOut old new outs at → KeepsKeys first new
+keeps_more first old new outs at so_far begins other among =
+    let was = so_far other among in
+    ⊎_elim
+    (λ (same : (outs ≡ []) × (new ≡ old)).
+    subst (λ (t : Table MetricKey Span). is_among is_same_key other (keys t) ≡ true) (sym same.1) was)
+    (λ (one : (key : MetricKey) × (outs ≡ key ∷ []) × BeginsRun old new [] key at). ⊎_elim
+    (λ (active : (is_among is_same_key one.0 [] ≡ true) × (new ≡ old)).
+    subst (λ (t : Table MetricKey Span). is_among is_same_key other (keys t) ≡ true) (sym active.1) was)
+    (λ (admits : (is_among is_same_key one.0 [] ≡ false) × (answer : Admit)
+    × Admits old new one.0 (begun at) answer). keeps_admitted old new one.0 at admits.1 admits.2 other was)
+    one.2)
+    begins

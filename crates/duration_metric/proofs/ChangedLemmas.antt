@@ -110,6 +110,12 @@ module _ (is_active : MetricKey → Bool) (at : ℕ) where
       ∙ ap (λ (t : Table MetricKey Span). record t { rows = map (row_among more is_active at) t.rows }) is
       ∙ ap (λ rows. record first { rows = rows }) (rows_twice some more first.rows)
 
+  -- so each key that had a row has one
+  pub steps_keys : (old new : Table MetricKey Span) (some : List MetricKey) → StepsSome old new some is_active at
+      → IsDistinct is_same_key (keys_of old.rows) → keys old ≡ keys new
+  steps_keys old new some steps once =
+      sym (ap (λ (t : Table MetricKey Span). keys_of t.rows) (steps once) ∙ keys_stay some old.rows)
+
   rows_stay : (rows : List (MetricKey × Span)) → map (row_among [] is_active at) rows ≡ rows
   rows_stay [] = refl
   rows_stay (row ∷ rows) = ap (λ l. row ∷ l) (rows_stay rows)

@@ -17,8 +17,8 @@ use Rattle.duration_metric.specs.declared.inner.Known.{Known}
 use Rattle.duration_metric.specs.declared.inner.Inner.{Inner}
 use Rattle.duration_metric.specs.declared.inner.InnerTable.{InnerTable}
 use Rattle.duration_metric.specs.InnerStands.{row_count, state_in, AreKnown, ChangesTo, SetsCount, ListsKey}
-use Rattle.duration_metric.specs.Tallies.{row_tallied, left_key, IsTallied}
-use Rattle.duration_metric.proofs.TallyLemmas.{other_count, lists_more, takes_tallied, clears_tallied}
+use Rattle.duration_metric.specs.Tallies.{how_often, row_tallied, left_key, counted_in, AreSteady}
+use Rattle.duration_metric.proofs.TallyLemmas.{set_steady, other_counts, lists_counts, lists_steady, takes_counts, filter_steady, clears_counts, none_steady}
 
 -- the keys with their counts are the keys
 pub keys_of-counts : (rows : List (LeafKey × Inner)) → keys_of (map row_count rows) ≡ keys_of rows
@@ -117,8 +117,11 @@ sets_count old new place count was at is =
       known_are = λ known absent all.
           subst (λ (t : InnerTable). AreKnown known t.keys.rows) (sym is)
           (known-set known old.keys.rows place was now at refl all);
-      tally_is = λ settled tally right. subst (λ (t : InnerTable). IsTallied t tally) (sym is)
-          (other_count old place count was at tally right);
+      counts_are = λ key.
+          let same = ap (λ (t : InnerTable). counted_in t key) is in
+          omega (arith, same, other_counts old place count was at key);
+      steady_is = λ settled steady. subst (λ (t : InnerTable). AreSteady t.touched t.keys.rows) (sym is)
+          (set_steady old.keys.rows old.touched place now steady);
     }
 
 -- a key is taken out, and what the tally counted for it is put down
@@ -137,8 +140,9 @@ takes_out exact old new key distinct is = record {
   known_are = λ known absent all.
       subst (λ (t : InnerTable). AreKnown known t.keys.rows) (sym is)
       (known-filter known (λ row. not (same_leaves key row.0)) old.keys.rows all);
-  tally_is = λ settled tally right. subst (λ (t : InnerTable). IsTallied t tally) (sym is)
-      (takes_tallied exact old key distinct settled.none_touched tally right);
+  counts_are = λ out. ap (λ (t : InnerTable). counted_in t out) is ∙ takes_counts exact old key distinct out;
+  steady_is = λ settled steady. subst (λ (t : InnerTable). AreSteady t.touched t.keys.rows) (sym is)
+      (filter_steady (λ row. not (same_leaves key row.0)) old.keys.rows old.touched settled.none_touched steady);
 }
 
 -- all keys are, and none is unknown any more
@@ -154,8 +158,9 @@ takes_all old new is = record {
   bound_is = ap (λ (t : InnerTable). t.keys.bound) is;
   state_is = ap state_in is;
   known_are = λ known absent all. subst (λ (t : InnerTable). AreKnown known t.keys.rows) (sym is) tt;
-  tally_is = λ settled tally right. subst (λ (t : InnerTable). IsTallied t tally) (sym is)
-      (clears_tallied old false tally right);
+  counts_are = λ out. ap (λ (t : InnerTable). counted_in t out) is ∙ clears_counts old out;
+  steady_is = λ settled steady. subst (λ (t : InnerTable). AreSteady t.touched t.keys.rows) (sym is)
+      (none_steady old.touched);
 }
 
 -- a new key is listed, of which nothing was told, or it is counted
@@ -182,8 +187,10 @@ lists_key old new table key count (At place) absent admits is = ⊎_elim
       known_are = λ known none all.
           subst (λ (t : InnerTable). AreKnown known t.keys.rows) (sym new_is)
           (known-push known old.keys.rows row all (sym (none key absent)));
-      tally_is = λ settled tally right. subst (λ (t : InnerTable). IsTallied t tally) (sym new_is)
-          (lists_more old key count tally right);
+      counts_are = λ out. ap (λ (t : InnerTable). counted_in t out) new_is
+          ∙ ap (λ l. how_often out l + how_often out old.gone) (lists_counts old.keys.rows key count);
+      steady_is = λ settled steady. subst (λ (t : InnerTable). AreSteady t.touched t.keys.rows) (sym new_is)
+          (lists_steady old.keys.rows old.touched key count steady);
     })
     admits
 lists_key old new table key count Full absent away is =
@@ -199,8 +206,8 @@ lists_key old new table key count Full absent away is =
           ∙ sym (ap (λ b. if b then record (state_in old) { counts = (state_in old).counts ++ (key, count) ∷ [] }
           else record (state_in old) { dropped = count_in_u64 (old.keys.dropped + 1) }) full);
       known_are = λ known none all. subst (λ (t : InnerTable). AreKnown known t.keys.rows) (sym new_is) all;
-      tally_is = λ settled tally right. subst (λ (t : InnerTable). IsTallied t tally) (sym new_is)
-          (record { all = right.all; steady = right.steady });
+      counts_are = λ out. ap (λ (t : InnerTable). counted_in t out) new_is;
+      steady_is = λ settled steady. subst (λ (t : InnerTable). AreSteady t.touched t.keys.rows) (sym new_is) steady;
     }
 
 -- a state by another word for it

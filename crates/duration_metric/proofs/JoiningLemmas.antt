@@ -18,10 +18,10 @@ use Rattle.metric_kinds.specs.Runs.{Active}
 use Rattle.duration_metric.specs.declared.inner.InnerTable.{InnerTable}
 use Rattle.duration_metric.specs.declared.sparse.MaxProducer.{MaxProducer}
 use Rattle.duration_metric.specs.declared.sparse_keys.SparseKeys.{SparseKeys}
-use Rattle.duration_metric.specs.declared.sum.SumProducer.{SumProducer}
 use Rattle.duration_metric.specs.InnerKeys.{DurationParams, DurationCall, duration_demands, inner_state, inner_keys, last_known}
 use Rattle.duration_metric.specs.InnerStands.{InnersStandFor}
 use Rattle.duration_metric.specs.SumCalls.{active_since, sum_collecting}
+use Rattle.duration_metric.specs.SumParts.{Summing}
 use Rattle.duration_metric.specs.SumStands.{HoldsSums, HasSums, sum_law}
 use Rattle.duration_metric.specs.SparseCalls.{running_time, sparse_collecting}
 use Rattle.duration_metric.specs.SparseEntries.{RowStands, KeysStand}
@@ -120,14 +120,14 @@ module _ (params : DurationParams) where
   come_to calls = standing_of (duration_demands params) calls
 
   -- what a producer of sums has after calls that tell the same and come as far
-  sums_alike : (it : SumProducer) (calls others : List DurationCall) (books : Books (Active MetricKey))
+  sums_alike : (it : Summing) (calls others : List DurationCall) (books : Books (Active MetricKey))
       → TellAlike params.spec calls others → come_to calls ≡ come_to others
       → HasSums it params calls books → HasSums it params others books
   sums_alike it calls others books alike comes has =
       let bound = params.spec.bound in
       record {
         inner = inners_alike params.spec it.inner calls others alike has.inner;
-        tally = has.tally;
+        steady = has.steady;
         counted = λ key. ap (is_among is_same_key key) (sym alike.active) ∙ has.counted key;
         settled = λ none.
             let was = has.settled (ap (λ (s : Standing). s.owed) comes ∙ none) in (was.0, was.1 ∙ alike.active);

@@ -33,9 +33,9 @@ use Rattle.duration_metric.specs.declared.inner.Inner.{Inner}
 use Rattle.duration_metric.specs.declared.inner.InnerTable.{InnerTable}
 use Rattle.duration_metric.specs.InnerKeys.{DurationCall, key_events, known_by, known_at, KeySeen, inner_state, inner_keys, told_to, key_seen, last_known, told_truth, says, was_told}
 use Rattle.duration_metric.specs.InnerStands.{state_in, kept_spec, AreKnown, InnersStandFor, ActsOn, TakesEvent, TakesDelta, TellsOne, TellsAll, told, with_other}
-use Rattle.duration_metric.specs.Tallies.{IsTallied}
+use Rattle.duration_metric.specs.Tallies.{counted_in, AreSteady}
 use Rattle.duration_metric.proofs.InnerLemmas.{keys_of-counts, counts-same}
-use Rattle.duration_metric.proofs.TallyLemmas.{after_set, releases}
+use Rattle.duration_metric.proofs.TallyLemmas.{after_set, releases_counts, set_steady}
 
 -- whether two inner keys are the same is decided
 pub leaves_exact : (one other : LeafKey) → Decides (same_leaves one other) (one ≡ other)
@@ -351,7 +351,9 @@ module _ (first old new : InnerTable) (changes : List InnerChange) (change : Inn
             (λ (other : (¬ (place ≡ change.place)) × (slice_get old.keys.rows place ≡ Some row)).
             untold known place row other.1 other.0 all)
             (after_set old.keys.rows change.place place now row there)));
-        tally_is = λ tally right. releases old new change.place was now at refl is tally (tells.tally_is tally right);
+        counts_are = λ key. releases_counts old new change.place was now at refl is key ∙ tells.counts_are key;
+        steady_is = λ steady. subst (λ (t : InnerTable). AreSteady t.touched t.keys.rows) (sym is)
+            (set_steady old.keys.rows old.touched change.place now (tells.steady_is steady));
       }
 
   -- where no row is, none is told of
@@ -370,8 +372,9 @@ module _ (first old new : InnerTable) (changes : List InnerChange) (change : Inn
         (λ place row there. untold known place row there
         (λ e. no_row old.keys.rows change.place row none (subst (λ p. slice_get old.keys.rows p ≡ Some row) e there))
         all));
-    tally_is = λ tally right.
-        subst (λ (t : InnerTable). IsTallied t tally) (sym is) (tells.tally_is tally right);
+    counts_are = λ key. ap (λ (t : InnerTable). counted_in t key) is ∙ tells.counts_are key;
+    steady_is = λ steady.
+        subst (λ (t : InnerTable). AreSteady t.touched t.keys.rows) (sym is) (tells.steady_is steady);
   } where
     no_row : (rows : List (LeafKey × Inner)) (place : ℕ) (row : LeafKey × Inner)
         → slice_get (values_of rows) place ≡ None → slice_get rows place ≡ Some row → ⊥
@@ -396,7 +399,8 @@ tells_none it = record {
   known_are = λ known all. known_where known
       (λ key. last_or (known key) (known_at [] (position (same_leaves key) (keys it.keys)))) it.keys.rows
       (λ key among. nothing (known key) (position (same_leaves key) (keys it.keys))) all;
-  tally_is = λ tally right. right;
+  counts_are = λ key. refl;
+  steady_is = λ steady. steady;
 } where
   nothing : (known : Option Known) (place : Option ℕ) → known ≡ last_or known (known_at [] place)
   nothing known None = refl

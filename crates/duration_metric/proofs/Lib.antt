@@ -1,5 +1,7 @@
 pub mod TallyLemmas
 pub mod TallyStepLemmas
+pub mod ZerosLemmas
+pub mod RaiseLemmas
 pub mod InnerLemmas
 pub mod KnownLemmas
 pub mod ActiveLemmas
@@ -12,6 +14,7 @@ pub mod BegunLemmas
 pub mod ReleaseLemmas
 pub mod ChangedLemmas
 pub mod InnerBoundLemmas
+pub mod SumTallyLemmas
 pub mod SumMovesLemmas
 pub mod SumTurnLemmas
 pub mod SumToldLemmas

@@ -22,7 +22,7 @@ use Rattle.metric_kinds.specs.Runs.{Active, newly}
 use Rattle.metric_kinds.specs.Durations.{sum_kind, active_edges}
 use Rattle.metric_kinds.proofs.FullBuckets.{active_from, full_parts, after_full, none_dropped_first, full_books, full_rows}
 use Rattle.duration_metric.specs.declared.sum.Span.{Span}
-use Rattle.duration_metric.specs.declared.sum.SumProducer.{SumProducer}
+use Rattle.duration_metric.specs.SumParts.{Summing}
 use Rattle.duration_metric.specs.SumStands.{span_of, span_row, whole_row, whole_rows, HoldsSums}
 use Rattle.duration_metric.specs.SumSteps.{HasSpans, HasBegun, BeginsAll, ClosesRows}
 use Rattle.duration_metric.proofs.ActiveLemmas.{firsts_stable}
@@ -99,7 +99,7 @@ module _ (old new : Table MetricKey Span) (bound : ℕ) (outs keys : List Metric
       ap keys_of opened.rows ∙ keys_of-spans span (admitted is_same_key bound keys)
       ∙ sym same_keys ∙ ap (admitted is_same_key bound) (newly-none outs) ∙ all_admitted ∙ firsts_are
 
-module _ (old mid : SumProducer) (kept : Keeping (Row ℕ)) (new : Table MetricKey Span) (end size n stop bound : ℕ)
+module _ (old mid : Summing) (kept : Keeping (Row ℕ)) (new : Table MetricKey Span) (end size n stop bound : ℕ)
     (keys outs : List MetricKey) (last others : ℕ) (books : Books (Active MetricKey)) (stops : stop ≡ end + n * size)
     (closes : ClosesRows old mid end) (adds : AddsRows row_weight mid.kept kept (whole_rows end size n keys))
     (begins : BeginsAll mid.table new [] outs stop) (firsts_are : firsts is_same_key [] outs ≡ keys)
@@ -132,13 +132,13 @@ module _ (old mid : SumProducer) (kept : Keeping (Row ℕ)) (new : Table MetricK
   -- the active keys begin anew
   jumped_begun : HasSpans new bound (span_of (opening ∷ [])) keys others
   jumped_begun =
-      let table = ap (λ (it : SumProducer). it.table) closes.same in
+      let table = ap (λ (it : Summing). it.table) closes.same in
       opened mid.table new bound outs keys stop others holds.few firsts_are begins
       (ap (λ (t : Table MetricKey Span). t.rows) table)
       (ap (λ (t : Table MetricKey Span). t.bound) table ∙ holds.bound_is)
       (ap (λ (t : Table MetricKey Span). t.dropped) table ∙ holds.dropped)
 
-  abbrev jumped_it : SumProducer
+  abbrev jumped_it : Summing
   jumped_it = record mid { start = stop; kept = kept; table = new }
 
   abbrev jumped_books : ℕ → ℕ → Books (Active MetricKey)

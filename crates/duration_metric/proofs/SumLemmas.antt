@@ -22,11 +22,11 @@ use Rattle.metric_kinds.specs.Counts.{row_weight}
 use Rattle.metric_kinds.specs.Durations.{sum_kind, active_edges}
 use Rattle.duration_metric.specs.declared.inner.InnerTable.{InnerTable}
 use Rattle.duration_metric.specs.declared.sum.Span.{Span}
-use Rattle.duration_metric.specs.declared.sum.SumProducer.{SumProducer}
 use Rattle.duration_metric.specs.InnerKeys.{DurationParams, DurationCall, duration_demands}
 use Rattle.duration_metric.specs.InnerStands.{InnersStandFor}
 use Rattle.duration_metric.specs.SumCalls.{active_since}
-use Rattle.duration_metric.specs.Tallies.{how_often, tally_at, is_counted, row_out, row_tallied, CountsSame, IsTallied, IsSettled}
+use Rattle.duration_metric.specs.Tallies.{how_often, row_out, row_tallied, counted_in, AreSteady, IsSettled}
+use Rattle.duration_metric.specs.SumParts.{Summing}
 use Rattle.duration_metric.specs.SumStands.{span_of, whole_rows, HoldsSums, SumStandsFor, sum_law}
 use Rattle.duration_metric.specs.SumSteps.{active_in, BeginsAll, ClosesRows, Opens}
 use Rattle.duration_metric.proofs.KnownLemmas.{takes_other}
@@ -35,16 +35,8 @@ use Rattle.duration_metric.proofs.InnerBoundLemmas.{same_drops}
 use Rattle.duration_metric.proofs.SumMovesLemmas.{standing-push, moves_by, counted_on}
 use Rattle.duration_metric.proofs.SumJumpLemmas.{opened_keys, jumps, jumps_dropped}
 
--- the tally of inner keys that stay is as right as before
-same_tally : (old new : SumProducer) → new.inner ≡ old.inner → CountsSame old.tally new.tally
-    → IsTallied old.inner (tally_at old.tally) → IsTallied new.inner (tally_at new.tally)
-same_tally old new inner counts right =
-    let same : tally_at old.tally ≡ tally_at new.tally = λ i key. sym (counts key) i in
-    subst (λ (t : InnerTable). IsTallied t (tally_at new.tally)) (sym inner)
-    (subst (IsTallied old.inner) same right)
-
 -- a report cut the open part
-pub cuts : (old mid new : SumProducer) (at : ℕ) → ClosesRows old mid at → Opens mid new
+pub cuts : (old mid new : Summing) (at : ℕ) → ClosesRows old mid at → Opens mid new
     → Moves sum_law old new (CutAt at)
 cuts old mid new at closes opens = moves_by old new (CutAt at)
     (λ params calls books has may.
@@ -53,16 +45,14 @@ cuts old mid new at closes opens = moves_by old new (CutAt at)
     let now = calls ++ call ∷ [] in
     let keys = active_since spec calls in
     let standing = standing-push params calls call in
-    let start : mid.start ≡ at = ap (λ (it : SumProducer). it.start) closes.same in
+    let start : mid.start ≡ at = ap (λ (it : Summing). it.start) closes.same in
     let outs = flat_map row_out mid.inner.keys.rows in
     let are : firsts is_same_key [] outs ≡ keys =
-    ap (λ (it : SumProducer). active_in it.inner.keys.rows) closes.same ∙ (has.settled may.0.settled).1 in
-    let counts : CountsSame old.tally new.tally =
-    λ key. ap (λ (it : SumProducer). tally_at it.tally key) opens.same ∙ closes.counts key in
-    let inner : new.inner ≡ old.inner = ap (λ (it : SumProducer). it.inner) (opens.same ∙ ap (λ (it : SumProducer).
+    ap (λ (it : Summing). active_in it.inner.keys.rows) closes.same ∙ (has.settled may.0.settled).1 in
+    let inner : new.inner ≡ old.inner = ap (λ (it : Summing). it.inner) (opens.same ∙ ap (λ (it : Summing).
     record it { table = new.table }) closes.same) in
-    let reported : new.reported ≡ old.reported = ap (λ (it : SumProducer). it.reported) (opens.same ∙ ap (λ (it :
-    SumProducer). record it { table = new.table }) closes.same) in
+    let reported : new.reported ≡ old.reported = ap (λ (it : Summing). it.reported) (opens.same ∙ ap (λ (it :
+    Summing). record it { table = new.table }) closes.same) in
     let begins : BeginsAll mid.table new.table [] outs at =
     subst (BeginsAll mid.table new.table [] outs) start opens.begins in
     let none : AddsRows row_weight mid.kept mid.kept [] =
@@ -81,9 +71,9 @@ cuts old mid new at closes opens = moves_by old new (CutAt at)
     record {
       inner = subst (λ (t : InnerTable). InnersStandFor t spec now) (sym inner)
           (takes_other old.inner spec calls call refl (λ key. refl) has.inner);
-      tally = same_tally old new inner counts has.tally;
-      counted = counted_on new.tally spec calls call refl
-          (λ key. has.counted key ∙ ap (nat_lt 0) (sym (counts key)));
+      steady = subst (λ (t : InnerTable). AreSteady t.touched t.keys.rows) (sym inner) has.steady;
+      counted = counted_on new.inner spec calls call refl
+          (λ key. has.counted key ∙ ap (λ (t : InnerTable). nat_lt 0 (counted_in t key)) (sym inner));
       settled = λ none. (
         subst IsSettled (sym inner) (has.settled may.0.settled).0,
         ap (λ (t : InnerTable). active_in t.keys.rows) inner ∙ (has.settled may.0.settled).1
@@ -103,11 +93,11 @@ cuts old mid new at closes opens = moves_by old new (CutAt at)
       holds = subst (λ (s : Standing). HoldsSums new spec.bound (active_since spec now) s.last has.others result)
           (sym standing)
           (subst (λ ks. HoldsSums new spec.bound ks at has.others result) (sym (since-other spec calls call refl))
-          (subst (λ (it : SumProducer). HoldsSums it spec.bound keys at has.others result) new_is holds));
+          (subst (λ (it : Summing). HoldsSums it spec.bound keys at has.others result) new_is holds));
     })
 
 -- ends of buckets were crossed
-pub crosses : (old mid part : SumProducer) (kept : Keeping (Row ℕ)) (start : ℕ) (crossings : Crossings)
+pub crosses : (old mid part : Summing) (kept : Keeping (Row ℕ)) (start : ℕ) (crossings : Crossings)
     → ClosesRows old mid crossings.first_end → (last_end crossings < 2 ^ 63 → start ≡ last_end crossings)
     → Opens (record mid { start = start }) part
     → (last_end crossings < 2 ^ 63 → AddsRows row_weight part.kept kept
@@ -117,7 +107,7 @@ crosses old mid part kept start crossings closes is_last opens adds =
     moves_by old (record part { kept = kept }) (Crossed crossings)
     (λ params calls books has may.
     let spec = params.spec in
-    let new : SumProducer = record part { kept = kept } in
+    let new : Summing = record part { kept = kept } in
     let demands = duration_demands params in
     let call : DurationCall = Crossed crossings in
     let now = calls ++ call ∷ [] in
@@ -130,15 +120,13 @@ crosses old mid part kept start crossings closes is_last opens adds =
     let standing = standing-push params calls call in
     let outs = flat_map row_out mid.inner.keys.rows in
     let are : firsts is_same_key [] outs ≡ keys =
-    ap (λ (it : SumProducer). active_in it.inner.keys.rows) closes.same ∙ (has.settled may.0.settled).1 in
-    let counts : CountsSame old.tally new.tally =
-    λ key. ap (λ (it : SumProducer). tally_at it.tally key) opens.same ∙ closes.counts key in
+    ap (λ (it : Summing). active_in it.inner.keys.rows) closes.same ∙ (has.settled may.0.settled).1 in
     let inner : new.inner ≡ old.inner =
-    ap (λ (it : SumProducer). it.inner) opens.same ∙ ap (λ (it : SumProducer). it.inner) closes.same in
+    ap (λ (it : Summing). it.inner) opens.same ∙ ap (λ (it : Summing). it.inner) closes.same in
     let reported : new.reported ≡ old.reported =
-    ap (λ (it : SumProducer). it.reported) opens.same ∙ ap (λ (it : SumProducer). it.reported) closes.same in
+    ap (λ (it : Summing). it.reported) opens.same ∙ ap (λ (it : Summing). it.reported) closes.same in
     let begins : BeginsAll mid.table part.table [] outs start = opens.begins in
-    let table = ap (λ (it : SumProducer). it.table) closes.same in
+    let table = ap (λ (it : Summing). it.table) closes.same in
     let shown : keys_of part.table.rows ≡ keys =
     opened_keys mid.table part.table spec.bound outs keys start has.others has.holds.few are begins
     (ap (λ (t : Table MetricKey Span). t.rows) table)
@@ -147,7 +135,7 @@ crosses old mid part kept start crossings closes is_last opens adds =
     let added : AddsRows row_weight mid.kept kept (whole_rows first size n keys) =
     subst (λ ks. AddsRows row_weight mid.kept kept (whole_rows first size n ks)) shown
     (subst (λ k. AddsRows row_weight k kept (whole_rows first size n (keys_of part.table.rows)))
-    (ap (λ (it : SumProducer). it.kept) opens.same) (adds fits)) in
+    (ap (λ (it : Summing). it.kept) opens.same) (adds fits)) in
     let sized : 0 < size = omega (arith, may.0.sized, may.0.answer.size) in
     let later : (standing_of demands calls).last ≤ first =
     omega (arith, has.in_bucket may.0.sized, may.0.answer.first_end) in
@@ -161,9 +149,9 @@ crosses old mid part kept start crossings closes is_last opens adds =
     record {
       inner = subst (λ (t : InnerTable). InnersStandFor t spec now) (sym inner)
           (takes_other old.inner spec calls call refl (λ key. refl) has.inner);
-      tally = same_tally old new inner counts has.tally;
-      counted = counted_on new.tally spec calls call refl
-          (λ key. has.counted key ∙ ap (nat_lt 0) (sym (counts key)));
+      steady = subst (λ (t : InnerTable). AreSteady t.touched t.keys.rows) (sym inner) has.steady;
+      counted = counted_on new.inner spec calls call refl
+          (λ key. has.counted key ∙ ap (λ (t : InnerTable). nat_lt 0 (counted_in t key)) (sym inner));
       settled = λ none. (
         subst IsSettled (sym inner) (has.settled may.0.settled).0,
         ap (λ (t : InnerTable). active_in t.keys.rows) inner ∙ (has.settled may.0.settled).1
@@ -185,17 +173,17 @@ crosses old mid part kept start crossings closes is_last opens adds =
           (subst (λ ks. HoldsSums new spec.bound ks (last_end crossings) has.others result)
           (sym (since-other spec calls call refl))
           (subst (λ at. HoldsSums new spec.bound keys at has.others result) stops
-          (subst (λ (it : SumProducer). HoldsSums it spec.bound keys start has.others result)
-          (sym (ap (λ (it : SumProducer). record it { kept = kept }) opens.same)) holds)));
+          (subst (λ (it : Summing). HoldsSums it spec.bound keys start has.others result)
+          (sym (ap (λ (it : Summing). record it { kept = kept }) opens.same)) holds)));
     })
 
 -- what was kept was handed out
-pub took : (it : SumProducer) (kept : Keeping (Row ℕ)) (table : Table MetricKey Span) (reported : ℕ)
+pub took : (it : Summing) (kept : Keeping (Row ℕ)) (table : Table MetricKey Span) (reported : ℕ)
     → ((weigh : Row ℕ → ℕ) → IsKept weigh [] kept) → table ≡ record it.table { dropped = 0 }
     → reported ≡ it.inner.keys.dropped
     → Moves sum_law it (record it { kept = kept; table = table; reported = reported }) Took
 took it kept table reported none left is =
-    let new : SumProducer = record it { kept = kept; table = table; reported = reported } in
+    let new : Summing = record it { kept = kept; table = table; reported = reported } in
     moves_by it new Took
     (λ params calls books has may.
     let spec = params.spec in
@@ -203,8 +191,8 @@ took it kept table reported none left is =
     let standing = standing-push params calls Took in
     record {
       inner = takes_other it.inner spec calls Took refl (λ key. refl) has.inner;
-      tally = has.tally;
-      counted = counted_on it.tally spec calls Took refl has.counted;
+      steady = has.steady;
+      counted = counted_on it.inner spec calls Took refl has.counted;
       settled = λ none. (
         (has.settled may.0).0,
         (has.settled may.0).1 ∙ sym (since-other spec calls Took refl),
@@ -234,24 +222,21 @@ took it kept table reported none left is =
     })
 
 -- a producer of no calls
-pub starts : (it : SumProducer) (params : DurationParams) → InnersStandFor it.inner params.spec []
+pub starts : (it : Summing) (params : DurationParams) → InnersStandFor it.inner params.spec []
     → it.table ≡ record { rows = []; bound = params.spec.bound; dropped = 0 } → it.start ≡ params.base
-    → it.tally ≡ [] → ((weigh : Row ℕ → ℕ) → IsKept weigh [] it.kept) → it.reported ≡ 0 → IsSettled it.inner
+    → ((weigh : Row ℕ → ℕ) → IsKept weigh [] it.kept) → it.reported ≡ 0 → IsSettled it.inner
     → it.inner.keys.rows ≡ [] → SumStandsFor it params []
 unfolding IsDistinct
-starts it params inner table start tally kept reported settled empty =
+starts it params inner table start kept reported settled empty =
     let none = same_drops it.inner params.spec [] inner in
     record {
       inner = inner;
-      tally = record {
-        all = λ key.
-            let none = ap (λ t. tally_at t key) tally in
-            let rows = ap (λ l. how_often key (flat_map row_tallied l)) empty in
-            let gone = ap (how_often key) settled.none_gone in
-            omega (arith, none, rows, gone);
-        steady = λ at row there passes. absurd (none-some row (sym (ap (λ l. slice_get l at) empty) ∙ there));
-      };
-      counted = λ key. sym (ap (λ t. is_counted t key) tally);
+      steady = λ at row there passes. absurd (none-some row (sym (ap (λ l. slice_get l at) empty) ∙ there));
+      counted = λ key.
+          let rows = ap (λ l. how_often key (flat_map row_tallied l)) empty in
+          let gone = ap (how_often key) settled.none_gone in
+          let none : counted_in it.inner key ≡ 0 = omega (arith, rows, gone) in
+          ap (nat_lt 0) (sym none);
       settled = λ none. (settled, ap active_in empty);
       others = 0;
       reported = omega (arith, reported);

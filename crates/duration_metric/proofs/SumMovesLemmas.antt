@@ -1,5 +1,5 @@
 -- What a call makes of a producer of sums: one that an event makes, and what is common to all.
-use Rattle.std.proofs.Common.{◌≡◌, ℕ, ◌+◌, ◌-◌, ◌≤◌, List, [], ◌∷◌, ◌++◌, Result, Ok, Err, OnOk, refl, sym, ap, subst, ◌∙◌, arith}
+use Rattle.std.proofs.Common.{◌≡◌, ℕ, ◌+◌, ◌-◌, ◌≤◌, nat_lt, List, [], ◌∷◌, ◌++◌, Result, Ok, Err, OnOk, refl, sym, ap, subst, ◌∙◌, arith}
 use Rattle.std.proofs.lemmas.Option.{none-some}
 use Rattle.atom_record.specs.declared.value.MetricKey.{MetricKey}
 use Rattle.bucket_meaning.specs.Guard.{is_among}
@@ -20,11 +20,11 @@ use Rattle.metric_kinds.specs.Runs.{Active}
 use Rattle.metric_kinds.specs.Durations.{sum_kind}
 use Rattle.duration_metric.specs.declared.change.InnerEvent.{InnerEvent}
 use Rattle.duration_metric.specs.declared.inner.InnerTable.{InnerTable}
-use Rattle.duration_metric.specs.declared.sum.SumProducer.{SumProducer}
 use Rattle.duration_metric.specs.InnerKeys.{DurationParams, DurationCall, duration_demands, inner_state}
 use Rattle.duration_metric.specs.InnerStands.{TakesEvent}
 use Rattle.duration_metric.specs.SumCalls.{active_told, active_since, sum_collecting}
-use Rattle.duration_metric.specs.Tallies.{tally_at, is_counted, KeepsTally}
+use Rattle.duration_metric.specs.Tallies.{counted_in, KeepsCounts, KeepsSteady}
+use Rattle.duration_metric.specs.SumParts.{Summing}
 use Rattle.duration_metric.specs.SumStands.{HoldsSums, HasSums, sum_law}
 use Rattle.duration_metric.proofs.KnownLemmas.{inner_state-got}
 use Rattle.duration_metric.proofs.ActiveLemmas.{since-other}
@@ -38,7 +38,7 @@ standing-push params calls call =
     standing_from-append (duration_demands params) (first_standing (duration_demands params)) calls (call ∷ [])
 
 -- where an object holds the books after the marks of a call, it stands for the calls with this one
-pub moves_by : (old new : SumProducer) (call : DurationCall)
+pub moves_by : (old new : Summing) (call : DurationCall)
     → ((params : DurationParams) (calls : List DurationCall) (books : Books (Active MetricKey))
     → HasSums old params calls books → IsAdmitted (duration_demands params) calls call
     → HasSums new params (calls ++ call ∷ [])
@@ -50,7 +50,7 @@ moves_by old new call step params calls has may =
     (step params calls (books_by (calls_mean sum_collecting) params calls) has may)
 
 -- what a producer holds beside its inner keys stays, whatever these are, and with more drops
-pub holds_on : (it : SumProducer) (inner : InnerTable) (bound : ℕ) (keys : List MetricKey) (last at others n : ℕ)
+pub holds_on : (it : Summing) (inner : InnerTable) (bound : ℕ) (keys : List MetricKey) (last at others n : ℕ)
     (books : Books (Active MetricKey)) → last ≤ at → HoldsSums it bound keys last others books
     → HoldsSums (record it { inner = inner }) bound keys at others (record books { dropped = n })
 holds_on it inner bound keys last at others n books later holds = record {
@@ -68,25 +68,26 @@ holds_on it inner bound keys last at others n books later holds = record {
   missing = holds.missing;
 }
 
--- which keys the tally has stays with another call
-pub counted_on : (tally : List (MetricKey × ℕ)) (spec : PredSpec) (calls : List DurationCall) (call : DurationCall)
+-- for which keys inner keys are counted stays with another call
+pub counted_on : (inner : InnerTable) (spec : PredSpec) (calls : List DurationCall) (call : DurationCall)
     → active_told spec calls call ≡ []
-    → ((key : MetricKey) → is_among is_same_key key (active_since spec calls) ≡ is_counted tally key)
-    → (key : MetricKey) → is_among is_same_key key (active_since spec (calls ++ call ∷ [])) ≡ is_counted tally key
-counted_on tally spec calls call none counted key =
+    → ((key : MetricKey) → is_among is_same_key key (active_since spec calls) ≡ nat_lt 0 (counted_in inner key))
+    → (key : MetricKey)
+    → is_among is_same_key key (active_since spec (calls ++ call ∷ [])) ≡ nat_lt 0 (counted_in inner key)
+counted_on inner spec calls call none counted key =
     ap (is_among is_same_key key) (since-other spec calls call none) ∙ counted key
 
--- what two facts of a success make
-pub on_ok_both : {T E : Type 0} {A B C : Type 0} (result : Result T E) → (A → B → C) → OnOk result A → OnOk result B
-    → OnOk result C
-on_ok_both (Ok x) f one other = f one other
-on_ok_both (Err e) f one other = tt
+-- what three facts of a success make
+pub on_ok_three : {T E : Type 0} {A B C D : Type 0} (result : Result T E) → (A → B → C → D) → OnOk result A
+    → OnOk result B → OnOk result C → OnOk result D
+on_ok_three (Ok x) f one other last = f one other last
+on_ok_three (Err e) f one other last = tt
 
 -- an event came
-pub got : (it : SumProducer) (inner : InnerTable) (at : ℕ) (event : InnerEvent)
-    → TakesEvent it.inner inner event → KeepsTally it.inner inner
+pub got : (it : Summing) (inner : InnerTable) (at : ℕ) (event : InnerEvent)
+    → TakesEvent it.inner inner event → KeepsCounts it.inner inner → KeepsSteady it.inner inner
     → Moves sum_law it (record it { inner = inner }) (Got at event)
-got it inner at event takes keeps = moves_by it (record it { inner = inner }) (Got at event)
+got it inner at event takes counts steady = moves_by it (record it { inner = inner }) (Got at event)
     (λ params calls books has may.
     let spec = params.spec in
     let demands = duration_demands params in
@@ -105,8 +106,8 @@ got it inner at event takes keeps = moves_by it (record it { inner = inner }) (G
     (sym (lost_books (drops sum_kind spec.bound) more books))
     (record {
       inner = stands;
-      tally = keeps (has.settled may.0.settled).0 (tally_at it.tally) has.tally;
-      counted = counted_on it.tally spec calls call refl has.counted;
+      steady = steady (has.settled may.0.settled).0 has.steady;
+      counted = counted_on inner spec calls call refl (λ key. has.counted key ∙ ap (nat_lt 0) (sym (counts key)));
       settled = λ none. absurd (none-some at (sym none ∙ ap (λ (s : Standing). s.owed) standing));
       others = has.others;
       reported = omega (arith, was, is, grows, has.reported);

@@ -23,13 +23,13 @@ use Rattle.duration_metric.specs.declared.change.InnerDelta.{InnerDelta}
 use Rattle.duration_metric.specs.declared.inner.Inner.{Inner}
 use Rattle.duration_metric.specs.declared.inner.InnerTable.{InnerTable}
 use Rattle.duration_metric.specs.declared.sum.Span.{Span}
-use Rattle.duration_metric.specs.declared.sum.SumProducer.{SumProducer}
 use Rattle.duration_metric.specs.InnerKeys.{DurationParams, DurationCall, duration_demands, last_known}
 use Rattle.duration_metric.specs.InnerStands.{InnersStandFor, TakesDelta}
 use Rattle.duration_metric.specs.SumCalls.{active_after, active_since}
-use Rattle.duration_metric.specs.Tallies.{row_out, how_often, tally_at, is_counted, row_tallied, CountsSame, AreSteady, IsTallied}
+use Rattle.duration_metric.specs.Tallies.{row_out, how_often, tally_at, is_counted, row_tallied, CountsSame, CountsAll, KeepsCounts, AreSteady, IsTallied}
+use Rattle.duration_metric.specs.SumParts.{Summing}
 use Rattle.duration_metric.specs.SumStands.{HoldsSums, HasSums, sum_law}
-use Rattle.duration_metric.specs.SumSteps.{active_in, outs_at, fresh_at, CountsRight, StepsSome, BeginsAll, fresh_in, Recounts, ReleasesPlaces, LowersAll}
+use Rattle.duration_metric.specs.SumSteps.{active_in, outs_at, fresh_at, StepsSome, BeginsAll, fresh_in, Recounts, ReleasesPlaces, LowersAll}
 use Rattle.duration_metric.proofs.KnownLemmas.{inner_state-other}
 use Rattle.duration_metric.proofs.ActiveLemmas.{active_is, few_active, active_once, since-learned}
 use Rattle.duration_metric.proofs.BeginLemmas.{begins_newly}
@@ -37,17 +37,17 @@ use Rattle.duration_metric.proofs.CountedLemmas.{fresh_found}
 use Rattle.duration_metric.proofs.RecountLemmas.{steady_sorted}
 use Rattle.duration_metric.proofs.TallyLemmas.{steady_outs, how_often-among}
 use Rattle.duration_metric.proofs.InnerBoundLemmas.{same_drops, few_listed}
+use Rattle.duration_metric.proofs.SumTallyLemmas.{lowered_counts, left_counts}
 use Rattle.duration_metric.proofs.SumMovesLemmas.{standing-push, moves_by}
 use Rattle.duration_metric.proofs.SumTurnLemmas.{turned_by}
 use Rattle.duration_metric.proofs.ChangedLemmas.{StepsAll, steps_changed}
 use Rattle.duration_metric.proofs.SpanLemmas.{first_fails, second_fails, newly_among}
 
--- other inner keys and another tally, and the rest as it is
-other_inner : (it : SumProducer) (inner : InnerTable) (tally : List (MetricKey × ℕ)) (bound : ℕ)
-    (keys : List MetricKey) (last others : ℕ) (books : Books (Active MetricKey))
-    → HoldsSums it bound keys last others books
-    → HoldsSums (record it { inner = inner; tally = tally }) bound keys last others books
-other_inner it inner tally bound keys last others books holds = record {
+-- other inner keys, and the rest as it is
+other_inner : (it : Summing) (inner : InnerTable) (bound : ℕ) (keys : List MetricKey) (last others : ℕ)
+    (books : Books (Active MetricKey)) → HoldsSums it bound keys last others books
+    → HoldsSums (record it { inner = inner }) bound keys last others books
+other_inner it inner bound keys last others books holds = record {
   bound_is = holds.bound_is;
   start = holds.start;
   came_last = holds.came_last;
@@ -70,17 +70,16 @@ same_state unknown counts_are dropped_is =
     λ i. record { unknown = unknown; counts = counts_are i; dropped = dropped_is i }
 
 -- what a condition makes of the inner keys and of the tally
-module _ (it : SumProducer) (inner : InnerTable) (rows last : Table LeafKey Inner)
-    (raised lowered left : List (MetricKey × ℕ)) (places : List ℕ) (tolds fresh : List MetricKey)
+module _ (it : Summing) (inner : InnerTable) (rows last : Table LeafKey Inner)
+    (tally raised lowered left : List (MetricKey × ℕ)) (places : List ℕ) (tolds fresh : List MetricKey)
     (params : DurationParams) (calls : List DurationCall) (at : ℕ) (delta : InnerDelta)
-    (takes : TakesDelta it.inner inner delta)
-    (keeps : (tally : MetricKey → ℕ) → IsTallied it.inner tally → IsTallied inner tally)
-    (finds : IsTallied inner (tally_at it.tally) → fresh ≡ fresh_in (tally_at it.tally) (active_in inner.keys.rows))
+    (takes : TakesDelta it.inner inner delta) (right : IsTallied inner (tally_at tally))
+    (finds : IsTallied inner (tally_at tally) → fresh ≡ fresh_in (tally_at tally) (active_in inner.keys.rows))
     (order : IsPermutation inner.touched places)
-    (recounts : Recounts inner.keys rows it.tally raised places [])
+    (recounts : Recounts inner.keys rows tally raised places [])
     (lowers : LowersAll raised lowered inner.gone)
     (releases : ReleasesPlaces rows last lowered left places [] tolds)
-    (stood : InnersStandFor it.inner params.spec calls) (right : IsTallied it.inner (tally_at it.tally)) where
+    (stood : InnersStandFor it.inner params.spec calls) where
   abbrev spec : PredSpec
   spec = params.spec
 
@@ -92,9 +91,6 @@ module _ (it : SumProducer) (inner : InnerTable) (rows last : Table LeafKey Inne
 
   abbrev new_inner : InnerTable
   new_inner = record inner { touched = []; gone = []; keys = last }
-
-  told_right : IsTallied inner (tally_at it.tally)
-  told_right = keeps (tally_at it.tally) right
 
   active_now : active ≡ active_after spec told
   active_now = active_is inner spec told (takes spec calls at stood)
@@ -113,18 +109,19 @@ module _ (it : SumProducer) (inner : InnerTable) (rows last : Table LeafKey Inne
 
   new_steady : AreSteady [] last.rows
   new_steady =
-      let before = steady_sorted inner.touched places inner.keys.rows order told_right.steady in
+      let before = steady_sorted inner.touched places inner.keys.rows order right.steady in
       (releases.steady (recounts.steady places before)
       (recounts.looked (λ place row there free. inl (before place row there free)))).0
 
   -- the tally counts the inner keys, and nothing else
   mid_counts : (key : MetricKey) → tally_at lowered key ≡ how_often key (flat_map row_tallied rows.rows)
-  mid_counts = lowers (λ key. how_often key (flat_map row_tallied rows.rows))
-      (recounts.tally_is inner.gone told_right.all)
+  mid_counts = lowered_counts inner.keys rows last tally raised lowered left inner.gone tolds places right.all recounts
+      lowers
 
   new_counts : (key : MetricKey) → tally_at left key ≡ how_often key (flat_map row_tallied last.rows)
   new_counts key =
-      let all = releases.tally_is (λ other. omega (arith, mid_counts other)) key in
+      let all = left_counts inner.keys rows last tally raised lowered left inner.gone tolds places right.all recounts
+      lowers releases key in
       omega (arith, all)
 
   new_tally : IsTallied new_inner (tally_at left)
@@ -140,30 +137,30 @@ module _ (it : SumProducer) (inner : InnerTable) (rows last : Table LeafKey Inne
       ∙ ap (nat_lt 0) (sym (new_counts key))
 
   -- and those that begin weren't active before
-  fresh_is : ((key : MetricKey) → is_among is_same_key key (active_since spec calls) ≡ is_counted it.tally key)
+  fresh_is : ((key : MetricKey) → is_among is_same_key key (active_since spec calls) ≡ is_counted tally key)
       → fresh ≡ newly is_same_key (active_since spec calls) active
   fresh_is counted =
-      let same : newly is_same_key (active_since spec calls) active ≡ fresh_in (tally_at it.tally) active =
+      let same : newly is_same_key (active_since spec calls) active ≡ fresh_in (tally_at tally) active =
       λ i. filter (λ key. not (counted key i)) active in
-      finds told_right ∙ sym same
+      finds right ∙ sym same
 
   -- a key that isn't gone, and wasn't told of a touched row, is counted at least as often as it was
   not_fewer : (key : MetricKey) → is_among is_same_key key inner.gone ≡ false → is_among is_same_key key tolds ≡ false
-      → tally_at it.tally key ≤ tally_at left key
+      → tally_at tally key ≤ tally_at left key
   not_fewer key stays other =
       let none : nat_lt 0 (how_often key inner.gone) ≡ false = how_often-among key inner.gone ∙ stays in
       let no_more : how_often key inner.gone ≡ 0 = grind (arith, none) in
       omega (
         arith,
         no_more,
-        recounts.tally_is inner.gone told_right.all key,
+        recounts.tally_is inner.gone right.all key,
         mid_counts key,
         recounts.grows key,
         releases.same key other,
       )
 
   -- a key that is neither, nor begins, is as active as it was
-  as_before : ((key : MetricKey) → is_among is_same_key key (active_since spec calls) ≡ is_counted it.tally key)
+  as_before : ((key : MetricKey) → is_among is_same_key key (active_since spec calls) ≡ is_counted tally key)
       → (key : MetricKey) → is_among is_same_key key ((inner.gone ++ tolds) ++ fresh) ≡ false
       → is_counted left key ≡ is_among is_same_key key (active_since spec calls)
   as_before counted key other =
@@ -178,7 +175,7 @@ module _ (it : SumProducer) (inner : InnerTable) (rows last : Table LeafKey Inne
       (λ (was : is_among is_same_key key before ≡ true).
       let more = not_fewer key (first_fails (is_among is_same_key key inner.gone) (is_among is_same_key key tolds) stays)
       (second_fails (is_among is_same_key key inner.gone) (is_among is_same_key key tolds) stays) in
-      let had : nat_lt 0 (tally_at it.tally key) ≡ true = sym (counted key) ∙ was in
+      let had : nat_lt 0 (tally_at tally key) ≡ true = sym (counted key) ∙ was in
       let has : nat_lt 0 (tally_at left key) ≡ true = grind (arith, more, had) in
       has ∙ sym was)
       (λ (was : is_among is_same_key key before ≡ false).
@@ -189,19 +186,14 @@ module _ (it : SumProducer) (inner : InnerTable) (rows last : Table LeafKey Inne
 -- the rows that begin at the touched places count for the keys that the tally had not
 pub finds_begun : (inner : InnerTable) (rows : Table LeafKey Inner) (tally : List (MetricKey × ℕ))
     (sorted places began : List ℕ) → IsPermutation inner.touched sorted → IsSorted nat_cmp sorted → places ≡ sorted
-    → (CountsRight (tally_at tally) inner.keys.rows → outs_at rows.rows began
-    ≡ firsts is_same_key [] (flat_map (fresh_at (tally_at tally) inner.keys.rows) places))
+    → outs_at rows.rows began ≡ firsts is_same_key [] (flat_map (fresh_at (tally_at tally) inner.keys.rows) places)
     → IsTallied inner (tally_at tally) → outs_at rows.rows began ≡ fresh_in (tally_at tally) (active_in inner.keys.rows)
 finds_begun inner rows tally sorted places began same order are begins right =
-    begins (inner.gone, right.all)
+    begins
     ∙ ap (λ l. firsts is_same_key [] (flat_map (fresh_at (tally_at tally) inner.keys.rows) l)) are
     ∙ fresh_found inner (tally_at tally) sorted same order right
 
 -- a tally that counts the same
-pub lowers_same : (raised lowered left : List (MetricKey × ℕ)) (gone : List MetricKey) → LowersAll raised lowered gone
-    → CountsSame lowered left → LowersAll raised left gone
-lowers_same raised lowered left gone lowers same rest all key = same key ∙ lowers rest all key
-
 pub steps_same : (lowered left : List (MetricKey × ℕ)) (old new : Table MetricKey Span) (keys : List MetricKey) (at : ℕ)
     → CountsSame lowered left → StepsSome old new keys (is_counted lowered) at
     → StepsSome old new keys (is_counted left) at
@@ -209,33 +201,34 @@ steps_same lowered left old new keys at same steps =
     subst (λ (f : MetricKey → Bool). StepsSome old new keys f at) (λ i key. nat_lt 0 (sym (same key) i)) steps
 
 -- nothing is touched or gone any more
-pub emptied : (it : SumProducer) (inner : InnerTable) (rows : Table LeafKey Inner) (tally : List (MetricKey × ℕ))
-    (table : Table MetricKey Span) (touched : List ℕ) (gone : List MetricKey) → [] ≡ touched → [] ≡ gone
-    → record it { inner = record inner { touched = []; gone = []; keys = rows }; tally = tally; table = table }
-    ≡ record it { inner = record inner { touched = touched; gone = gone; keys = rows }; tally = tally; table = table }
-emptied it inner rows tally table touched gone touched_is gone_is = λ i. record it {
+pub emptied : (it : Summing) (inner : InnerTable) (rows : Table LeafKey Inner) (table : Table MetricKey Span)
+    (touched : List ℕ) (gone : List MetricKey) → [] ≡ touched → [] ≡ gone
+    → record it { inner = record inner { touched = []; gone = []; keys = rows }; table = table }
+    ≡ record it { inner = record inner { touched = touched; gone = gone; keys = rows }; table = table }
+emptied it inner rows table touched gone touched_is gone_is = λ i. record it {
   inner = record inner { touched = touched_is i; gone = gone_is i; keys = rows };
-  tally = tally;
   table = table;
 }
 
 -- a condition was told
-pub learned : (it : SumProducer) (inner : InnerTable) (rows last : Table LeafKey Inner)
-    (raised lowered left : List (MetricKey × ℕ)) (places : List ℕ) (tolds fresh : List MetricKey)
+pub learned : (it : Summing) (inner : InnerTable) (rows last : Table LeafKey Inner)
+    (tally raised lowered left : List (MetricKey × ℕ)) (places : List ℕ) (tolds fresh : List MetricKey)
     (part mid new : Table MetricKey Span) (at : ℕ) (delta : InnerDelta) → TakesDelta it.inner inner delta
-    → ((tally : MetricKey → ℕ) → IsTallied it.inner tally → IsTallied inner tally)
-    → (IsTallied inner (tally_at it.tally) → fresh ≡ fresh_in (tally_at it.tally) (active_in inner.keys.rows))
-    → IsPermutation inner.touched places → Recounts inner.keys rows it.tally raised places []
+    → KeepsCounts it.inner inner
+    → (AreSteady it.inner.touched it.inner.keys.rows → AreSteady inner.touched inner.keys.rows)
+    → CountsAll (tally_at tally) it.inner.keys.rows it.inner.gone
+    → (IsTallied inner (tally_at tally) → fresh ≡ fresh_in (tally_at tally) (active_in inner.keys.rows))
+    → IsPermutation inner.touched places → Recounts inner.keys rows tally raised places []
     → LowersAll raised lowered inner.gone → ReleasesPlaces rows last lowered left places [] tolds
     → StepsSome it.table part (inner.gone ++ tolds) (is_counted left) at
     → StepsSome part mid fresh (is_counted left) at → BeginsAll mid new [] fresh at
     → Moves sum_law it
-    (record it { inner = record inner { touched = []; gone = []; keys = last }; tally = left; table = new })
+    (record it { inner = record inner { touched = []; gone = []; keys = last }; table = new })
     (Learned at delta)
-learned it inner rows last raised lowered left places tolds fresh part mid new at delta takes keeps finds order recounts
-    lowers releases ends resumes begins =
+learned it inner rows last tally raised lowered left places tolds fresh part mid new at delta takes counts steady all
+    finds order recounts lowers releases ends resumes begins =
     moves_by it
-    (record it { inner = record inner { touched = []; gone = []; keys = last }; tally = left; table = new })
+    (record it { inner = record inner { touched = []; gone = []; keys = last }; table = new })
     (Learned at delta)
     (λ params calls books has may.
     let spec = params.spec in
@@ -244,16 +237,21 @@ learned it inner rows last raised lowered left places tolds fresh part mid new a
     let keys = active_since spec calls in
     let active = active_in inner.keys.rows in
     let next : InnerTable = record inner { touched = []; gone = []; keys = last } in
-    let stands = new_stands it inner rows last raised lowered left places tolds fresh params calls at delta takes
-    keeps finds order recounts lowers releases
-    has.inner has.tally in
+    let right : IsTallied inner (tally_at tally) = record {
+      all = λ key. all key ∙ sym (counts key);
+      steady = steady has.steady;
+    } in
+    let counted : (key : MetricKey) → is_among is_same_key key keys ≡ is_counted tally key =
+    λ key. has.counted key ∙ ap (nat_lt 0) (sym (all key)) in
+    let stands = new_stands it inner rows last tally raised lowered left places tolds fresh params calls at delta takes
+    right finds order recounts lowers releases has.inner in
     let active_now : active ≡ active_after spec now = active_is inner spec now (takes spec calls at has.inner) in
-    let member = has_active it inner rows last raised lowered left places tolds fresh params calls at delta takes
-    keeps finds order recounts lowers releases
-    has.inner has.tally in
-    let fresh_are = fresh_is it inner rows last raised lowered left places tolds fresh params calls at delta takes
-    keeps finds order recounts lowers releases
-    has.inner has.tally has.counted in
+    let tallied = new_tally it inner rows last tally raised lowered left places tolds fresh params calls at delta takes
+    right finds order recounts lowers releases has.inner in
+    let member = has_active it inner rows last tally raised lowered left places tolds fresh params calls at delta takes
+    right finds order recounts lowers releases has.inner in
+    let fresh_are = fresh_is it inner rows last tally raised lowered left places tolds fresh params calls at delta takes
+    right finds order recounts lowers releases has.inner counted in
     let same_lost : last.dropped ≡ it.inner.keys.dropped =
     same_drops next spec now stands
     ∙ ap (λ (s : PredicateState LeafKey). s.dropped) (inner_state-other spec calls call refl)
@@ -266,9 +264,8 @@ learned it inner rows last raised lowered left places tolds fresh part mid new a
     let standing = standing-push params calls call in
     let same : (λ (key : MetricKey). is_counted left key) ≡ (λ (key : MetricKey). is_among is_same_key key active) =
     λ i key. sym (member key) i in
-    let kept = as_before it inner rows last raised lowered left places tolds fresh params calls at delta takes
-    keeps finds order recounts lowers releases
-    has.inner has.tally has.counted in
+    let kept = as_before it inner rows last tally raised lowered left places tolds fresh params calls at delta takes
+    right finds order recounts lowers releases has.inner counted in
     let steps = steps_changed (is_counted left) at it.table part mid spec.bound books.came (inner.gone ++ tolds) fresh
     has.holds.table ends resumes
     (λ key other. kept key other ∙ ap (is_among is_same_key key) (sym has.holds.came_last)) in
@@ -276,16 +273,14 @@ learned it inner rows last raised lowered left places tolds fresh part mid new a
     (standing_of (duration_demands params) calls).last has.others books has.holds may.0.timely.not_before
     (subst (λ (f : MetricKey → Bool). StepsAll it.table mid f at) same steps)
     (begins_newly mid new keys active fresh at fresh_are begins) few once in
-    let result = record it { inner = next; tally = left; table = new } in
+    let result = record it { inner = next; table = new } in
     let since : active ≡ active_since spec now = active_now ∙ sym (since-learned spec calls at delta) in
     subst (λ ks. HasSums result params now
     (books_from (drops sum_kind spec.bound) books (turned at keys ks))) active_now
     (record {
       inner = stands;
-      tally = new_tally it inner rows last raised lowered left places tolds fresh params calls at delta takes
-          keeps finds order recounts lowers releases
-          has.inner has.tally;
-      counted = λ key. ap (is_among is_same_key key) (sym since) ∙ member key;
+      steady = tallied.steady;
+      counted = λ key. ap (is_among is_same_key key) (sym since) ∙ member key ∙ ap (nat_lt 0) (tallied.all key);
       settled = λ none. (record { none_touched = refl; none_gone = refl }, same_outs ∙ since);
       others = has.others + turns.more;
       reported = omega (arith, same_lost, has.reported);
@@ -296,7 +291,7 @@ learned it inner rows last raised lowered left places tolds fresh part mid new a
           (books_from (drops sum_kind spec.bound) books (turned at keys active))) (sym standing)
           (subst (λ ks. HoldsSums result spec.bound ks at (has.others + turns.more)
           (books_from (drops sum_kind spec.bound) books (turned at keys active))) since
-          (other_inner (record it { table = new }) next left spec.bound active at
+          (other_inner (record it { table = new }) next spec.bound active at
           (has.others + turns.more)
           (books_from (drops sum_kind spec.bound) books (turned at keys active)) turns.holds));
     }))

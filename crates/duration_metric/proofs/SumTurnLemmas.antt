@@ -15,7 +15,7 @@ use Rattle.metric_kinds.specs.Runs.{Active, newly, run_keys, last_keys, last_tur
 use Rattle.metric_kinds.specs.Durations.{sum_kind, turned}
 use Rattle.metric_kinds.proofs.RunsLemmas.{run_keys-push}
 use Rattle.duration_metric.specs.declared.sum.Span.{Span}
-use Rattle.duration_metric.specs.declared.sum.SumProducer.{SumProducer}
+use Rattle.duration_metric.specs.SumParts.{Summing}
 use Rattle.duration_metric.specs.SumStands.{span_of, spans, HoldsSums}
 use Rattle.duration_metric.specs.SumSteps.{row_at, HasSpans, BeginsAll}
 use Rattle.duration_metric.proofs.SpanLemmas.{spans-step, spans-steady, spans_fresh}
@@ -44,13 +44,13 @@ once-push [] now all one = (one, tt)
 once-push (first ∷ came) now all one = (all.0, once-push came now all.1 one)
 
 -- What a change of the active keys makes of a producer: so many more are dropped.
-pub record Turned (it : SumProducer) (bound : ℕ) (active : List MetricKey) (at others : ℕ)
+pub record Turned (it : Summing) (bound : ℕ) (active : List MetricKey) (at others : ℕ)
     (books new : Books (Active MetricKey)) : Type 0 where
   pub more : ℕ
   pub holds : HoldsSums it bound active at (others + more) new
   pub counted : new.dropped ≡ books.dropped + more
 
-module _ (it : SumProducer) (active : List MetricKey) (mid new : Table MetricKey Span) (at bound : ℕ)
+module _ (it : Summing) (active : List MetricKey) (mid new : Table MetricKey Span) (at bound : ℕ)
     (keys : List MetricKey) (last others : ℕ) (books : Books (Active MetricKey))
     (holds : HoldsSums it bound keys last others books) (later : last ≤ at)
     (steps : StepsAll it.table mid (λ key. is_among is_same_key key active) at)
@@ -62,7 +62,7 @@ module _ (it : SumProducer) (active : List MetricKey) (mid new : Table MetricKey
     abbrev now : Active MetricKey
     now = record { at = at; keys = active }
 
-    abbrev turned_it : SumProducer
+    abbrev turned_it : Summing
     turned_it = record it { table = new }
 
     -- the table after the step, by any spans that are the old ones taken to the time

@@ -7,14 +7,14 @@ use Rattle.std.proofs.lemmas.List.Folds.{list_any-append}
 use Rattle.std.proofs.lemmas.Map.Keys.{IsDistinct-head, IsDistinct-tail}
 use Rattle.std.proofs.lemmas.Option.{none-some, same_Some}
 use Rattle.atom_record.specs.declared.value.MetricKey.{MetricKey}
-use Rattle.dim_table.specs.Table.{set_value_at, with_value_at}
+use Rattle.dim_table.specs.Table.{set_value_at}
 use Rattle.metric_kinds.specs.Keys.{is_same_key}
 use Rattle.predicate_state.specs.PredicateTable.{LeafKey, same_leaves}
 use Rattle.duration_metric.specs.declared.inner.Inner.{Inner}
 use Rattle.duration_metric.specs.declared.inner.InnerTable.{InnerTable}
 use Rattle.duration_metric.specs.InnerStands.{with_other}
 use Rattle.duration_metric.specs.SumCalls.{known_out}
-use Rattle.duration_metric.specs.Tallies.{row_out, how_often, freed_key, tallied_key, row_tallied, left_key, was_touched, AreSteady, IsTallied}
+use Rattle.duration_metric.specs.Tallies.{row_out, how_often, freed_key, tallied_key, row_tallied, left_key, was_touched, counted_in, AreSteady, KeepsCounts}
 
 -- a key in two lists
 pub how_often-append : (key : MetricKey) (some more : List MetricKey)
@@ -77,46 +77,37 @@ pub touches : (rows : List (LeafKey × Inner)) (touched : List ℕ) (place : ℕ
 touches rows touched place steady at row there free = steady at row there
     (first_free (was_touched touched at) (was_touched (place ∷ []) at) (sym (touched-push touched place at) ∙ free))
 
--- an inner key that isn't in the tally any more is put down
-pub releases : (old new : InnerTable) (place : ℕ) (was now : Inner)
+-- as much is counted where an inner key that isn't in the tally any more is put down
+pub releases_counts : (old new : InnerTable) (place : ℕ) (was now : Inner)
     → slice_get (values_of old.keys.rows) place ≡ Some was
-    → now.tallied ≡ false → new ≡ with_other old place was now → (tally : MetricKey → ℕ) → IsTallied old tally
-    → IsTallied new tally
-releases old new place was now at off is tally right = subst (λ (t : InnerTable). IsTallied t tally) (sym is) (record {
-  all = λ key.
-      let writes = tallied-set key old.keys.rows place was now at in
-      let none = ap (λ b. how_often key (freed_key b now.known)) off in
-      let more = how_often-append key old.gone (tallied_key was) in
-      omega (arith, right.all key, writes, none, more);
-  steady = λ other row there free. ⊎_elim
-      (λ (here : (other ≡ place) × (row.1 ≡ now)).
-      absurd (false≢true (sym free ∙ touched_itself old.touched place other here.0)))
-      (λ (apart : (¬ (other ≡ place)) × (slice_get old.keys.rows other ≡ Some row)).
-      touches old.keys.rows old.touched place right.steady other row apart.1 free)
-      (after_set old.keys.rows place other now row there);
-})
+    → now.tallied ≡ false → new ≡ with_other old place was now → KeepsCounts old new
+releases_counts old new place was now at off is key =
+    let same = ap (λ (t : InnerTable). counted_in t key) is in
+    let writes = tallied-set key old.keys.rows place was now at in
+    let none = ap (λ b. how_often key (freed_key b now.known)) off in
+    let more = how_often-append key old.gone (tallied_key was) in
+    omega (arith, same, writes, none, more)
 
--- an inner key with another count is touched
-pub other_count : (old : InnerTable) (place count : ℕ) (was : Inner)
-    → slice_get (values_of old.keys.rows) place ≡ Some was → (tally : MetricKey → ℕ) → IsTallied old tally
-    → IsTallied (record old {
-      keys = with_value_at old.keys place (record was { count = count });
-      touched = old.touched ++ place ∷ [];
-    }) tally
-other_count old place count was at tally right =
+-- a row that was written is touched, and the others stay as they were
+pub set_steady : (rows : List (LeafKey × Inner)) (touched : List ℕ) (place : ℕ) (now : Inner) → AreSteady touched rows
+    → AreSteady (touched ++ place ∷ []) (set_value_at rows place now)
+set_steady rows touched place now steady other row there free = ⊎_elim
+    (λ (here : (other ≡ place) × (row.1 ≡ now)).
+    absurd (false≢true (sym free ∙ touched_itself touched place other here.0)))
+    (λ (apart : (¬ (other ≡ place)) × (slice_get rows other ≡ Some row)).
+    touches rows touched place steady other row apart.1 free)
+    (after_set rows place other now row there)
+
+-- another count of starts says nothing of the tally
+pub other_counts : (old : InnerTable) (place count : ℕ) (was : Inner)
+    → slice_get (values_of old.keys.rows) place ≡ Some was → (key : MetricKey)
+    → how_often key (flat_map row_tallied (set_value_at old.keys.rows place (record was { count = count })))
+    ≡ how_often key (flat_map row_tallied old.keys.rows)
+other_counts old place count was at key =
     let now : Inner = record was { count = count } in
-    record {
-      all = λ key.
-          let writes = tallied-set key old.keys.rows place was now at in
-          let same : how_often key (tallied_key now) ≡ how_often key (tallied_key was) = refl in
-          omega (arith, right.all key, writes, same);
-      steady = λ other row there free. ⊎_elim
-          (λ (here : (other ≡ place) × (row.1 ≡ now)).
-          absurd (false≢true (sym free ∙ touched_itself old.touched place other here.0)))
-          (λ (apart : (¬ (other ≡ place)) × (slice_get old.keys.rows other ≡ Some row)).
-          touches old.keys.rows old.touched place right.steady other row apart.1 free)
-          (after_set old.keys.rows place other now row there);
-    }
+    let writes = tallied-set key old.keys.rows place was now at in
+    let same : how_often key (tallied_key now) ≡ how_often key (tallied_key was) = refl in
+    omega (arith, writes, same)
 
 -- a row of a list with one more
 get-push : (rows : List (LeafKey × Inner)) (last : LeafKey × Inner) (at : ℕ) (row : LeafKey × Inner)
@@ -139,25 +130,23 @@ out_none true = refl
 out_none false = refl
 
 -- a new key isn't in the tally
-pub lists_more : (old : InnerTable) (key : LeafKey) (count : ℕ) (tally : MetricKey → ℕ) → IsTallied old tally
-    → IsTallied (record old {
-      keys = record old.keys {
-        rows = old.keys.rows ++ (key, record { count = count; known = None; tallied = false }) ∷ [];
-      };
-    }) tally
-lists_more old key count tally right =
+pub lists_counts : (rows : List (LeafKey × Inner)) (key : LeafKey) (count : ℕ)
+    → flat_map row_tallied (rows ++ (key, record { count = count; known = None; tallied = false }) ∷ [])
+    ≡ flat_map row_tallied rows
+lists_counts rows key count =
+    tallied-push rows (key, record { count = count; known = None; tallied = false })
+    ∙ append-nil (flat_map row_tallied rows)
+
+pub lists_steady : (rows : List (LeafKey × Inner)) (touched : List ℕ) (key : LeafKey) (count : ℕ)
+    → AreSteady touched rows
+    → AreSteady touched (rows ++ (key, record { count = count; known = None; tallied = false }) ∷ [])
+lists_steady rows touched key count steady at row there passes =
     let last : LeafKey × Inner = (key, record { count = count; known = None; tallied = false }) in
-    record {
-      all = λ other.
-          let more = ap (how_often other)
-          (tallied-push old.keys.rows last ∙ append-nil (flat_map row_tallied old.keys.rows)) in
-          omega (arith, right.all other, more);
-      steady = λ at row there passes. ⊎_elim
-          (λ (old_one : slice_get old.keys.rows at ≡ Some row). right.steady at row old_one passes)
-          (λ (is : row ≡ last). subst (λ (r : LeafKey × Inner). row_tallied r ≡ row_out r) (sym is)
-          (out_none (nat_lt 0 count)))
-          (get-push old.keys.rows last at row there);
-    }
+    ⊎_elim
+    (λ (old_one : slice_get rows at ≡ Some row). steady at row old_one passes)
+    (λ (is : row ≡ last). subst (λ (r : LeafKey × Inner). row_tallied r ≡ row_out r) (sym is)
+    (out_none (nat_lt 0 count)))
+    (get-push rows last at row there)
 
 -- where nothing was touched, all rows are steady
 abbrev AllSteady : List (LeafKey × Inner) → Type 0
@@ -235,35 +224,34 @@ without-tallied same_exact out key (row ∷ rows) distinct =
     omega (arith, before, stays, with_it, is, rest))
     (cases_Bool (same_leaves key row.0))
 
--- a key was taken out
-pub takes_tallied : (same_exact : (x y : LeafKey) → same_leaves x y ≡ true → x ≡ y) (old : InnerTable) (key : LeafKey)
-    → IsDistinct same_leaves (keys_of old.keys.rows) → old.touched ≡ [] → (tally : MetricKey → ℕ) → IsTallied old tally
-    → IsTallied (record old {
+-- what a key that was taken out was counted for is put down
+pub takes_counts : (same_exact : (x y : LeafKey) → same_leaves x y ≡ true → x ≡ y) (old : InnerTable) (key : LeafKey)
+    → IsDistinct same_leaves (keys_of old.keys.rows) → KeepsCounts old (record old {
       keys = record old.keys { rows = filter (λ row. not (same_leaves key row.0)) old.keys.rows };
       gone = old.gone ++ left_key (lookup (same_leaves key) old.keys.rows);
-    }) tally
-takes_tallied same_exact old key distinct none tally right = record {
-  all = λ out.
-      let more = how_often-append out old.gone (left_key (lookup (same_leaves key) old.keys.rows)) in
-      omega (arith, right.all out, more, without-tallied same_exact out key old.keys.rows distinct);
-  steady = each_steady old.touched (filter (λ row. not (same_leaves key row.0)) old.keys.rows)
-      (steady-filter (λ row. not (same_leaves key row.0)) old.keys.rows
-      (steady_each old.keys.rows (subst (λ touched. AreSteady touched old.keys.rows) none right.steady)));
-}
+    })
+takes_counts same_exact old key distinct out =
+    let more = how_often-append out old.gone (left_key (lookup (same_leaves key) old.keys.rows)) in
+    omega (arith, more, without-tallied same_exact out key old.keys.rows distinct)
 
--- all keys were
-pub clears_tallied : (old : InnerTable) (unknown : Bool) (tally : MetricKey → ℕ) → IsTallied old tally
-    → IsTallied (record old {
-      unknown = unknown;
-      keys = record old.keys { rows = [] };
-      gone = old.gone ++ flat_map row_tallied old.keys.rows;
-    }) tally
-clears_tallied old unknown tally right = record {
-  all = λ out.
-      let more = how_often-append out old.gone (flat_map row_tallied old.keys.rows) in
-      omega (arith, right.all out, more);
-  steady = λ at row there passes. absurd (none-some row there);
-}
+-- rows of which none was touched are steady without some of them
+pub filter_steady : (test : LeafKey × Inner → Bool) (rows : List (LeafKey × Inner)) (touched : List ℕ) → touched ≡ []
+    → AreSteady touched rows → AreSteady touched (filter test rows)
+filter_steady test rows touched none steady = each_steady touched (filter test rows)
+    (steady-filter test rows (steady_each rows (subst (λ places. AreSteady places rows) none steady)))
+
+-- what all keys were counted for is
+pub clears_counts : (old : InnerTable) → KeepsCounts old (record old {
+  unknown = false;
+  keys = record old.keys { rows = [] };
+  gone = old.gone ++ flat_map row_tallied old.keys.rows;
+})
+clears_counts old out =
+    let more = how_often-append out old.gone (flat_map row_tallied old.keys.rows) in
+    omega (arith, more)
+
+pub none_steady : (touched : List ℕ) → AreSteady touched []
+none_steady touched at row there passes = absurd (none-some row there)
 
 -- whether a key stands among some, by how often it does
 pub how_often-among : (key : MetricKey) (keys : List MetricKey)

@@ -1,19 +1,13 @@
 -- A count of a tally is written, or taken out.
-use Rattle.std.proofs.Common.{◌≡◌, ℕ, ◌+◌, ◌-◌, Bool, true, false, ◌||◌, cond, if◌then◌else◌, List, [], ◌∷◌, ◌++◌, take, slice_get, Option, Some, None, is_some, refl, sym, ap, ◌∙◌, arith, ⊎_elim, append-nil, append_assoc}
-use Rattle.std.specs.List.{flat_map, list_any}
-use Rattle.std.specs.Map.{keys_of, lookup}
+use Rattle.std.proofs.Common.{◌≡◌, ◌⊎◌, inl, inr, ℕ, ◌+◌, ◌-◌, ◌≤◌, Bool, true, false, ◌||◌, cond, if◌then◌else◌, List, [], ◌∷◌, Option, Some, None, refl, sym, ap, ◌∙◌, arith, ⊎_elim}
+use Rattle.std.specs.Map.{lookup}
 use Rattle.std.specs.Option.{unwrap_or}
-use Rattle.std.proofs.lemmas.Bool.{cases_Bool, true≢false}
-use Rattle.std.proofs.lemmas.Grind.{flat_map-append}
-use Rattle.std.proofs.lemmas.List.{take-map}
+use Rattle.std.proofs.lemmas.Bool.{cases_Bool, false≢true}
+use Rattle.std.proofs.lemmas.Option.{none-some, same_Some}
 use Rattle.atom_record.specs.Equal.{metric_key_exact}
 use Rattle.atom_record.specs.declared.value.MetricKey.{MetricKey}
-use Rattle.bucket_meaning.specs.Guard.{is_among}
-use Rattle.flat_form.specs.declared.item.Item.{Item}
-use Rattle.flat_form.specs.Flat.{key_items, number_items, pair_items}
 use Rattle.metric_kinds.specs.Keys.{is_same_key}
-use Rattle.duration_metric.specs.Tallies.{tally_at, Raises, Lowers, CountsSame}
-use Rattle.duration_metric.proofs.StepLemmas.{among_is, next_got}
+use Rattle.duration_metric.specs.Tallies.{tally_at, Raises, Lowers, CountsSame, NewZeros, Forgets}
 
 -- one key has this now, and the others have what they had
 abbrev pub Writes : List (MetricKey × ℕ) → List (MetricKey × ℕ) → MetricKey → Option ℕ → Type 0
@@ -83,45 +77,53 @@ same_by old new key writes none other = ⊎_elim
     (λ (differs : is_same_key key other ≡ false). left_alone old new key None writes other differs)
     (cases_Bool (is_same_key key other))
 
--- a key that a look-up finds is one of the keys
-pub found_among : (key : MetricKey) (rows : List (MetricKey × ℕ)) → is_some (lookup (is_same_key key) rows) ≡ true
-    → is_among is_same_key key (keys_of rows) ≡ true
-found_among key rows found = sym (among_is key (keys_of rows)) ∙ sym (some_any rows) ∙ found where
-  by : (b : Bool) (row : MetricKey × ℕ) (rows : List (MetricKey × ℕ))
-      → is_some (lookup (is_same_key key) rows) ≡ list_any (is_same_key key) (keys_of rows)
-      → is_some (cond b (Some row.1) (lookup (is_same_key key) rows))
-      ≡ (b || list_any (is_same_key key) (keys_of rows))
-  by true row rows rest = refl
-  by false row rows rest = rest
+-- a key for which none is counted was written so, or is another one and was there before
+zeros_written : (old new : List (MetricKey × ℕ)) (key : MetricKey) (now : Option ℕ) → Writes old new key now
+    → (other : MetricKey) → lookup (is_same_key other) new ≡ Some 0
+    → ((is_same_key key other ≡ true) × (now ≡ Some 0))
+    ⊎ ((is_same_key key other ≡ false) × (lookup (is_same_key other) old ≡ Some 0))
+zeros_written old new key now writes other zero = ⊎_elim
+    (λ (same : is_same_key key other ≡ true).
+    inl (same, sym (writes other ∙ ap (λ b. cond b now (lookup (is_same_key other) old)) same) ∙ zero))
+    (λ (differs : is_same_key key other ≡ false).
+    inr (differs, sym (writes other ∙ ap (λ b. cond b now (lookup (is_same_key other) old)) differs) ∙ zero))
+    (cases_Bool (is_same_key key other))
 
-  some_any : (rows : List (MetricKey × ℕ))
-      → is_some (lookup (is_same_key key) rows) ≡ list_any (is_same_key key) (keys_of rows)
-  some_any [] = refl
-  some_any (row ∷ rows) = by (is_same_key key row.0) row rows (some_any rows)
+-- a key that is raised isn't one of them
+pub raised_zeros : (old new : List (MetricKey × ℕ)) (key : MetricKey) (count : ℕ) → Writes old new key (Some count)
+    → 1 ≤ count → NewZeros old new []
+raised_zeros old new key count writes above other zero = ⊎_elim
+    (λ (here : (is_same_key key other ≡ true) × (Some count ≡ Some 0)).
+    absurd (omega (arith, above, same_Some count 0 here.1)))
+    (λ (apart : (is_same_key key other ≡ false) × (lookup (is_same_key other) old ≡ Some 0)). inl apart.1)
+    (zeros_written old new key (Some count) writes other zero)
 
--- a look-up that finds nothing
-pub found_none : (found : Option ℕ) → is_some found ≡ false → found ≡ None
-found_none None none = refl
-found_none (Some count) none = absurd (true≢false none)
+-- one that is lowered may be
+pub lowered_zeros : (old new : List (MetricKey × ℕ)) (key : MetricKey) (now : Option ℕ) → Writes old new key now
+    → NewZeros old new (key ∷ [])
+lowered_zeros old new key now writes other zero = ⊎_elim
+    (λ (here : (is_same_key key other ≡ true) × (now ≡ Some 0)). inr (ap (λ b. b || false) here.0))
+    (λ (apart : (is_same_key key other ≡ false) × (lookup (is_same_key other) old ≡ Some 0)). inl apart.1)
+    (zeros_written old new key now writes other zero)
 
--- the keys of two lists of counts
-pub keys-append : (some more : List (MetricKey × ℕ)) → keys_of (some ++ more) ≡ keys_of some ++ keys_of more
-keys-append [] more = refl
-keys-append (row ∷ some) more = ap (λ l. row.0 ∷ l) (keys-append some more)
+-- one that is taken out isn't
+pub forgot_zeros : (old new : List (MetricKey × ℕ)) (key : MetricKey) → Writes old new key None
+    → Forgets old new (key ∷ []) []
+forgot_zeros old new key writes other zero = ⊎_elim
+    (λ (here : (is_same_key key other ≡ true) × (None ≡ Some 0)). absurd (none-some 0 here.1))
+    (λ (apart : (is_same_key key other ≡ false) × (lookup (is_same_key other) old ≡ Some 0)).
+    (apart.1, λ among. absurd (false≢true (sym (ap (λ b. b || false) apart.0) ∙ among))))
+    (zeros_written old new key None writes other zero)
 
-pub keys-take : (n : ℕ) (rows : List (MetricKey × ℕ)) → take n (keys_of rows) ≡ keys_of (take n rows)
-keys-take n rows = take-map (λ (row : MetricKey × ℕ). row.0) n rows
-
--- the items of one count more
-pub counts_more : (pairs : List (MetricKey × ℕ)) (place : ℕ) (pair : MetricKey × ℕ) (old before now : List Item)
-    → slice_get pairs place ≡ Some pair
-    → before ≡ old ++ flat_map (pair_items key_items number_items) (take place pairs)
-    → now ≡ before ++ pair_items key_items number_items pair
-    → now ≡ old ++ flat_map (pair_items key_items number_items) (take (place + 1) pairs)
-counts_more pairs place pair old before now there so_far is =
-    let f : MetricKey × ℕ → List Item = pair_items key_items number_items in
-    is ∙ ap (λ l. l ++ f pair) so_far ∙ append_assoc old (flat_map f (take place pairs)) (f pair)
-    ∙ ap (λ l. old ++ l)
-    (sym (ap (flat_map f) (next_got pairs place pair there)
-    ∙ flat_map-append f (take place pairs) (pair ∷ [])
-    ∙ ap (λ l. flat_map f (take place pairs) ++ l) (append-nil (f pair))))
+-- nor one for which some are counted
+pub counted_zeros : (it : List (MetricKey × ℕ)) (key : MetricKey) → ¬ (tally_at it key ≡ 0)
+    → Forgets it it (key ∷ []) []
+counted_zeros it key some other zero = (
+  zero,
+  λ among. absurd (some
+      (ap (tally_at it) ((metric_key_exact key other).0 (only (is_same_key key other) among))
+      ∙ ap (λ found. unwrap_or found 0) zero)),
+) where
+  only : (b : Bool) → (b || false) ≡ true → b ≡ true
+  only true is = refl
+  only false is = is

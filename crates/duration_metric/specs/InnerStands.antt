@@ -2,7 +2,6 @@
 use Rattle.std.specs.Prelude.{◌≡◌, ℕ, false, List, [], ◌∷◌, ◌++◌, map, position, slice_get, Contains, Option, Some, None}
 use Rattle.std.specs.List.{last_or}
 use Rattle.std.specs.Map.{values_of}
-use Rattle.atom_record.specs.declared.value.MetricKey.{MetricKey}
 use Rattle.config_types.specs.declared.parameters.PredSpec.{PredSpec}
 use Rattle.dim_table.specs.Table.{keys, set_value_at, with_value_at}
 use Rattle.predicate_state.specs.declared.event.PredEvent.{PredEvent}
@@ -16,7 +15,7 @@ use Rattle.duration_metric.specs.declared.inner.Known.{Known}
 use Rattle.duration_metric.specs.declared.inner.Inner.{Inner}
 use Rattle.duration_metric.specs.declared.inner.InnerTable.{InnerTable}
 use Rattle.duration_metric.specs.InnerKeys.{DurationCall, known_by, known_at, inner_state, last_known}
-use Rattle.duration_metric.specs.Tallies.{tallied_key, IsTallied, KeepsTally}
+use Rattle.duration_metric.specs.Tallies.{tallied_key, AreSteady, KeepsCounts, KeepsSteady}
 
 -- a listed key with its count
 abbrev pub row_count : LeafKey × Inner → LeafKey × ℕ
@@ -55,7 +54,8 @@ pub record ChangesTo (old new : InnerTable) (state : PredicateState LeafKey) : T
   pub bound_is : new.keys.bound ≡ old.keys.bound
   pub state_is : state_in new ≡ state
   pub known_are : KeepsKnown old new
-  pub tally_is : KeepsTally old new
+  pub counts_are : KeepsCounts old new
+  pub steady_is : KeepsSteady old new
 
 -- an event acts on a key of a table as on one of a predicate, and tells nothing
 abbrev pub ActsOn : InnerTable → InnerTable → PredEvent → LeafKey → Type 0
@@ -110,4 +110,5 @@ pub record TellsAll (old new : InnerTable) (changes : List InnerChange) : Type 0
   pub known_are : (known : LeafKey → Option Known) → AreKnown known old.keys.rows
       → AreKnown (λ key. last_or (known key) (known_at changes (position (same_leaves key) (keys old.keys))))
       new.keys.rows
-  pub tally_is : (tally : MetricKey → ℕ) → IsTallied old tally → IsTallied new tally
+  pub counts_are : KeepsCounts old new
+  pub steady_is : AreSteady old.touched old.keys.rows → AreSteady new.touched new.keys.rows

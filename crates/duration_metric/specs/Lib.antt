@@ -2,6 +2,7 @@ pub mod InnerKeys
 pub mod SumCalls
 pub mod Tallies
 pub mod InnerStands
+pub mod SumParts
 pub mod SumStands
 pub mod SumSteps
 pub mod SparseCalls

@@ -1,5 +1,5 @@
 -- What a producer of sums of durations stands for.
-use Rattle.std.specs.Prelude.{◌≡◌, ℕ, zero, suc, ◌+◌, ◌-◌, ◌<◌, ◌≤◌, Bool, true, false, List, [], ◌∷◌, ◌++◌, map, length, Option, Some, None}
+use Rattle.std.specs.Prelude.{◌≡◌, ℕ, zero, suc, ◌+◌, ◌-◌, ◌<◌, ◌≤◌, Bool, true, false, nat_lt, List, [], ◌∷◌, ◌++◌, map, length, Option, Some, None}
 use Rattle.std.specs.List.{flat_map, IsDistinct}
 use Rattle.atom_record.specs.declared.value.MetricKey.{MetricKey}
 use Rattle.bucket_meaning.specs.Guard.{is_among, firsts, admitted}
@@ -18,10 +18,10 @@ use Rattle.metric_kinds.specs.Durations.{sum_kind, duration_row}
 use Rattle.duration_metric.specs.declared.change.InnerEvent.{InnerEvent}
 use Rattle.duration_metric.specs.declared.change.InnerDelta.{InnerDelta}
 use Rattle.duration_metric.specs.declared.sum.Span.{Span}
-use Rattle.duration_metric.specs.declared.sum.SumProducer.{SumProducer}
 use Rattle.duration_metric.specs.InnerKeys.{DurationParams, DurationCall, duration_demands}
 use Rattle.duration_metric.specs.InnerStands.{InnersStandFor}
-use Rattle.duration_metric.specs.Tallies.{tally_at, is_counted, row_out, IsTallied, IsSettled}
+use Rattle.duration_metric.specs.Tallies.{row_out, counted_in, AreSteady, IsSettled}
+use Rattle.duration_metric.specs.SumParts.{Summing}
 use Rattle.duration_metric.specs.SumCalls.{active_since, sum_collecting}
 
 -- a span that goes on, or begins
@@ -75,7 +75,7 @@ whole_rows start size (suc n) keys = map (whole_row start size) keys ++ whole_ro
 
 -- What a producer holds besides its inner keys: the books, of which so many arrivals were dropped, where these keys are
 -- active since the last condition, up to a time.
-pub record HoldsSums (it : SumProducer) (bound : ℕ) (keys : List MetricKey) (last others : ℕ)
+pub record HoldsSums (it : Summing) (bound : ℕ) (keys : List MetricKey) (last others : ℕ)
     (books : Books (Active MetricKey)) : Type 0 where
   pub bound_is : it.table.bound ≡ bound
   pub start : it.start ≡ books.start
@@ -91,12 +91,12 @@ pub record HoldsSums (it : SumProducer) (bound : ℕ) (keys : List MetricKey) (l
   pub missing : books.missing ≡ 0
 
 -- The producer was made with these, has got these calls, and holds these books.
-pub record HasSums (it : SumProducer) (params : DurationParams) (calls : List DurationCall)
+pub record HasSums (it : Summing) (params : DurationParams) (calls : List DurationCall)
     (books : Books (Active MetricKey)) : Type 0 where
   pub inner : InnersStandFor it.inner params.spec calls
-  pub tally : IsTallied it.inner (tally_at it.tally)
+  pub steady : AreSteady it.inner.touched it.inner.keys.rows
   pub counted : (key : MetricKey)
-      → is_among is_same_key key (active_since params.spec calls) ≡ is_counted it.tally key
+      → is_among is_same_key key (active_since params.spec calls) ≡ nat_lt 0 (counted_in it.inner key)
   pub settled : (standing_of (duration_demands params) calls).owed ≡ None
       → IsSettled it.inner
       × (firsts is_same_key [] (flat_map row_out it.inner.keys.rows) ≡ active_since params.spec calls)
@@ -113,10 +113,10 @@ abbrev pub sums_mean : DurationParams → List DurationCall → Books (Active Me
 sums_mean = books_by (calls_mean sum_collecting)
 
 -- the producer was made with these, and has got these calls
-abbrev pub SumStandsFor : SumProducer → DurationParams → List DurationCall → Type 0
+abbrev pub SumStandsFor : Summing → DurationParams → List DurationCall → Type 0
 SumStandsFor it params calls = HasSums it params calls (sums_mean params calls)
 
 -- the law of sums of durations
 abbrev pub sum_law :
-    Law SumProducer DurationParams InnerEvent InnerDelta (Active MetricKey) MetricKey ℕ (Row ℕ)
+    Law Summing DurationParams InnerEvent InnerDelta (Active MetricKey) MetricKey ℕ (Row ℕ)
 sum_law = record { stands = SumStandsFor; collecting = sum_collecting }

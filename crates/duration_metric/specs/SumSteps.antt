@@ -1,12 +1,12 @@
 -- How the steps of a producer of sums change its table and its rows.
-use Rattle.std.specs.Prelude.{◌≡◌, ◌⊎◌, Bool, ℕ, ◌+◌, ◌≤◌, nat_lt, if◌then◌else◌, true, false, not, List, [], ◌∷◌, ◌++◌, map, filter, slice_get, Option, Some, None}
+use Rattle.std.specs.Prelude.{◌≡◌, ◌⊎◌, Bool, ℕ, ◌+◌, ◌^◌, ◌<◌, ◌≤◌, nat_lt, if◌then◌else◌, true, false, not, List, [], ◌∷◌, ◌++◌, map, filter, length, slice_get, Option, Some, None}
 use Rattle.std.specs.List.{flat_map, IsDistinct}
 use Rattle.std.specs.Map.{keys_of}
 use Rattle.atom_record.specs.declared.value.MetricKey.{MetricKey}
 use Rattle.bucket_meaning.specs.Guard.{is_among, firsts, admitted, dropped}
 use Rattle.bucket_meaning.specs.Kept.{count_in_u64}
 use Rattle.dim_table.specs.declared.answer.Admit.{Admit}
-use Rattle.dim_table.specs.Table.{Table, Admits, with_value_at}
+use Rattle.dim_table.specs.Table.{Table, keys, Admits, with_value_at}
 use Rattle.kept_rows.specs.KeptRows.{AddsRows}
 use Rattle.metric_kinds.specs.Keys.{is_same_key}
 use Rattle.metric_kinds.specs.Counts.{row_weight}
@@ -15,9 +15,9 @@ use Rattle.predicate_state.specs.PredicateTable.{LeafKey}
 use Rattle.duration_metric.specs.declared.inner.Known.{Known}
 use Rattle.duration_metric.specs.declared.inner.Inner.{Inner}
 use Rattle.duration_metric.specs.declared.sum.Span.{Span}
-use Rattle.duration_metric.specs.declared.sum.SumProducer.{SumProducer}
 use Rattle.duration_metric.specs.InnerStands.{row_count, AreKnown}
-use Rattle.duration_metric.specs.Tallies.{row_out, tally_at, is_counted, how_often, known_key, row_tallied, Raises, Lowers, CountsSame, CountsAll, AreSteady, IsOff, AreLooked}
+use Rattle.duration_metric.specs.Tallies.{row_out, tally_at, is_counted, how_often, known_key, row_tallied, Raises, Lowers, CountsAll, AreSteady, IsOff, AreLooked}
+use Rattle.duration_metric.specs.SumParts.{Summing}
 use Rattle.duration_metric.specs.SumStands.{span_at, span_row}
 
 -- the active keys, by the rows of the inner keys
@@ -82,15 +82,18 @@ BeginsAll old new before now at =
     (bound : ℕ) (span : MetricKey → Span) (seen : List MetricKey) (lost : ℕ) → HasFresh span seen before now at
     → HasSpans old bound span seen lost → HasBegun new bound span seen (newly is_same_key before now) lost
 
--- The rows of the open part were kept or counted, and an empty part begins. The tally counts as it did.
-pub record ClosesRows (old new : SumProducer) (end : ℕ) : Type 0 where
-  pub same : new
-      ≡ record old { start = end; tally = new.tally; table = record old.table { rows = [] }; kept = new.kept }
-  pub counts : CountsSame old.tally new.tally
+-- a key that has a row keeps one
+abbrev pub KeepsKeys : Table MetricKey Span → Table MetricKey Span → Type 0
+KeepsKeys old new =
+    (key : MetricKey) → is_among is_same_key key (keys old) ≡ true → is_among is_same_key key (keys new) ≡ true
+
+-- The rows of the open part were kept or counted, and an empty part begins.
+pub record ClosesRows (old new : Summing) (end : ℕ) : Type 0 where
+  pub same : new ≡ record old { start = end; table = record old.table { rows = [] }; kept = new.kept }
   pub adds : AddsRows row_weight old.kept new.kept (flat_map (span_row old.start end) old.table.rows)
 
 -- The keys for which inner keys count began at the start of the open part.
-pub record Opens (old new : SumProducer) : Type 0 where
+pub record Opens (old new : Summing) : Type 0 where
   pub same : new ≡ record old { table = new.table }
   pub begins : BeginsAll old.table new.table [] (flat_map row_out old.inner.keys.rows) old.start
 
@@ -111,9 +114,9 @@ outs_at rows places = flat_map (λ place. found_out (slice_get rows place)) plac
 abbrev pub fresh_at : (MetricKey → ℕ) → List (LeafKey × Inner) → ℕ → List MetricKey
 fresh_at tally rows place = fresh_in tally (found_out (slice_get rows place))
 
--- the tally counts the rows, and some keys more
+-- the tally counts the rows, and some keys more, of which there are fewer than a count fits
 abbrev pub CountsRight : (MetricKey → ℕ) → List (LeafKey × Inner) → Type 0
-CountsRight tally rows = (gone : List MetricKey) × CountsAll tally rows gone
+CountsRight tally rows = (gone : List MetricKey) × CountsAll tally rows gone × (length gone < 2 ^ 63)
 
 -- one place more begins, or none
 abbrev pub with_begun : List ℕ → Bool → ℕ → List ℕ
@@ -149,6 +152,11 @@ pub record Recounts (first last : Table LeafKey Inner) (before now : List (Metri
 abbrev pub found_told : Option (LeafKey × Inner) → List MetricKey
 found_told None = []
 found_told (Some row) = known_key row.1.known
+
+-- that for which a row is in the tally, if there is one
+abbrev pub found_tallied : Option (LeafKey × Inner) → List MetricKey
+found_tallied None = []
+found_tallied (Some row) = row_tallied row
 
 -- those that were told of the rows at some places
 abbrev pub tolds_at : List (LeafKey × Inner) → List ℕ → List MetricKey

@@ -1,11 +1,10 @@
 -- What a sum's tally counts: for each output key the inner keys that count for it.
-use Rattle.std.specs.Prelude.{◌≡◌, ℕ, ◌+◌, ◌-◌, ◌==◌, ◌⊎◌, Bool, true, false, nat_lt, List, [], ◌∷◌, slice_get, Option, Some, None, Result, Ok, Err, if◌then◌else◌}
-use Rattle.std.specs.List.{flat_map, list_any, IsDistinct}
-use Rattle.std.specs.Map.{keys_of, lookup}
+use Rattle.std.specs.Prelude.{◌≡◌, ℕ, ◌+◌, ◌-◌, ◌≤◌, ◌==◌, ◌⊎◌, Bool, true, false, nat_lt, List, [], ◌∷◌, slice_get, Option, Some, None, if◌then◌else◌}
+use Rattle.std.specs.List.{flat_map, list_any}
+use Rattle.std.specs.Map.{lookup}
 use Rattle.std.specs.Option.{unwrap_or}
 use Rattle.atom_record.specs.declared.value.MetricKey.{MetricKey}
-use Rattle.flat_form.specs.declared.flat_error.FlatError.{FlatError}
-use Rattle.flat_form.specs.declared.flat_error.FlatError.TheVariants.{Bad, Memory}
+use Rattle.bucket_meaning.specs.Guard.{is_among}
 use Rattle.metric_kinds.specs.Keys.{is_same_key}
 use Rattle.predicate_state.specs.PredicateTable.{LeafKey}
 use Rattle.duration_metric.specs.declared.inner.Known.{Known}
@@ -50,11 +49,29 @@ Lowers old new key = (other : MetricKey) → tally_at new other ≡ tally_at old
 abbrev pub CountsSame : List (MetricKey × ℕ) → List (MetricKey × ℕ) → Type 0
 CountsSame old new = (key : MetricKey) → tally_at new key ≡ tally_at old key
 
--- a tally of these counts, or that a key stands there twice
-abbrev pub MakesTally : List (MetricKey × ℕ) → Result (List (MetricKey × ℕ)) FlatError → Type 0
-MakesTally pairs (Ok tally) = tally ≡ pairs
-MakesTally pairs (Err Bad) = ¬ IsDistinct is_same_key (keys_of pairs)
-MakesTally pairs (Err Memory) = Unit {0}
+-- as much is counted as before, and each of these keys once more
+abbrev pub RaisesAll : List (MetricKey × ℕ) → List (MetricKey × ℕ) → List MetricKey → Type 0
+RaisesAll old new keys = (key : MetricKey) → tally_at new key ≡ tally_at old key + how_often key keys
+
+-- no more than so many are counted for a key
+abbrev pub CountsFew : List (MetricKey × ℕ) → ℕ → Type 0
+CountsFew tally most = (key : MetricKey) → tally_at tally key ≤ most
+
+-- a key that a tally has, and counts none for, is among these
+abbrev pub ZerosAmong : List (MetricKey × ℕ) → List MetricKey → Type 0
+ZerosAmong tally some =
+    (key : MetricKey) → lookup (is_same_key key) tally ≡ Some 0 → is_among is_same_key key some ≡ true
+
+-- a key that the new tally has, and counts none for, was such a key before, or is among these
+abbrev pub NewZeros : List (MetricKey × ℕ) → List (MetricKey × ℕ) → List MetricKey → Type 0
+NewZeros old new some = (key : MetricKey) → lookup (is_same_key key) new ≡ Some 0
+    → (lookup (is_same_key key) old ≡ Some 0) ⊎ (is_among is_same_key key some ≡ true)
+
+-- it was such a key before, and where it is among the first of these it is among the last
+abbrev pub Forgets : List (MetricKey × ℕ) → List (MetricKey × ℕ) → List MetricKey → List MetricKey → Type 0
+Forgets old new some rows = (key : MetricKey) → lookup (is_same_key key) new ≡ Some 0
+    → (lookup (is_same_key key) old ≡ Some 0)
+    × (is_among is_same_key key some ≡ true → is_among is_same_key key rows ≡ true)
 
 -- the output key that was told
 abbrev pub known_key : Option Known → List MetricKey
@@ -82,10 +99,18 @@ left_key (Some inner) = tallied_key inner
 abbrev pub was_touched : List ℕ → ℕ → Bool
 was_touched places place = list_any (λ other. other == place) places
 
+-- how many inner keys a tally counts for a key: those that are in it, and those that left it
+abbrev pub counted_in : InnerTable → MetricKey → ℕ
+counted_in it key = how_often key (flat_map row_tallied it.keys.rows) + how_often key it.gone
+
 -- a tally counts each inner key that is in it, and each that left it
 abbrev pub CountsAll : (MetricKey → ℕ) → List (LeafKey × Inner) → List MetricKey → Type 0
 CountsAll tally rows gone =
     (key : MetricKey) → tally key ≡ how_often key (flat_map row_tallied rows) + how_often key gone
+
+-- a tally of the old inner keys is one of the new ones
+abbrev pub KeepsCounts : InnerTable → InnerTable → Type 0
+KeepsCounts old new = (key : MetricKey) → counted_in new key ≡ counted_in old key
 
 -- an inner key that wasn't touched is in the tally for the key for which it counts
 abbrev pub AreSteady : List ℕ → List (LeafKey × Inner) → Type 0
@@ -111,6 +136,7 @@ pub record IsSettled (it : InnerTable) : Type 0 where
   pub none_touched : it.touched ≡ []
   pub none_gone : it.gone ≡ []
 
--- where the tally was right, it is as right as the table knows
-abbrev pub KeepsTally : InnerTable → InnerTable → Type 0
-KeepsTally old new = IsSettled old → (tally : MetricKey → ℕ) → IsTallied old tally → IsTallied new tally
+-- where nothing was touched, inner keys that aren't touched are in the tally still for the keys for which they count
+abbrev pub KeepsSteady : InnerTable → InnerTable → Type 0
+KeepsSteady old new =
+    IsSettled old → AreSteady old.touched old.keys.rows → AreSteady new.touched new.keys.rows

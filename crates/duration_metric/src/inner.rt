@@ -1,9 +1,8 @@
 //! The inner keys of a metric of durations: which are listed, how often each was started, and what was told of each.
-ghost use Rattle.std.specs.Prelude.{◌≡◌, ℕ, ◌<◌, ◌≤◌, ◌++◌, List, [], length, position, slice_get, OnOk, Contains, None, IfSome, option_to_list};
+ghost use Rattle.std.specs.Prelude.{◌≡◌, ◌<◌, ◌≤◌, ◌++◌, List, [], length, position, slice_get, OnOk, Contains, None, IfSome, option_to_list};
 ghost use Rattle.std.specs.Map.{keys_of, lookup};
 ghost use Rattle.std.specs.List.{flat_map};
 ghost use Rattle.std.specs.Option.{option_map, option_copied, option_and_then};
-ghost use Rattle.atom_record.specs.declared.value.MetricKey.{MetricKey};
 ghost use Rattle.bucket_meaning.specs.Limits.{most_keys};
 ghost use Rattle.config_types.specs.declared.parameters.PredSpec.{PredSpec};
 ghost use Rattle.dim_table.specs.Table.{keys};
@@ -12,7 +11,7 @@ ghost use Rattle.predicate_state.specs.PredicateStates.{count_after_start, count
 ghost use Rattle.predicate_state.specs.PredicateTable.{LeafKey, same_leaves};
 ghost use Rattle.duration_metric.specs.InnerKeys.{DurationCall, says, inner_keys, told_truth, was_told};
 ghost use Rattle.duration_metric.specs.InnerStands.{state_in, InnersStandFor, ChangesTo, ActsOn, SetsCount, ListsKey, TakesEvent, TakesDelta, TellsOne, TellsAll};
-ghost use Rattle.duration_metric.specs.Tallies.{freed_key, left_key, row_tallied, IsTallied, IsSettled, KeepsTally};
+ghost use Rattle.duration_metric.specs.Tallies.{freed_key, left_key, row_tallied, IsSettled, AreSteady, KeepsCounts, KeepsSteady};
 
 use crate::{InnerChange, InnerDelta, InnerEvent};
 use atom_record::{DimKey, MetricKey};
@@ -76,7 +75,8 @@ impl InnerTable {
     /// Lets an event act on its key.
     pub(crate) fn act(&mut self, ev: InnerEvent) -> Result<(), AllocError>
         ensures calls { OnOk result (TakesEvent self.old self.new ev) }
-        ensures tally { OnOk result (KeepsTally self.old self.new) }
+        ensures counts { OnOk result (KeepsCounts self.old self.new) }
+        ensures steady { OnOk result (KeepsSteady self.old self.new) }
     {
         let InnerEvent { event, key } = ev;
         self.apply(event, key)
@@ -212,8 +212,9 @@ impl InnerTable {
     /// Learns what changed.
     pub(crate) fn tell(&mut self, delta: InnerDelta) -> Result<(), AllocError>
         ensures calls { OnOk result (TakesDelta self.old self.new delta) }
-        ensures tally { OnOk result
-            ((tally : MetricKey → ℕ) → IsTallied self.old tally → IsTallied self.new tally) }
+        ensures counts { OnOk result (KeepsCounts self.old self.new) }
+        ensures steady { OnOk result (AreSteady self.old.touched self.old.keys.rows
+            → AreSteady self.new.touched self.new.keys.rows) }
     {
         self.tell_all(delta.changes)
     }

@@ -13,10 +13,11 @@ mod sparse_flat;
 mod sparse_keys;
 mod sum;
 mod sum_flat;
+mod sum_producer;
 mod tally;
 
 pub use change::{InnerChange, InnerDelta, InnerEvent};
 pub use laws::crossings_join;
 pub use metric_producer::{Closed, Producer, Row};
 pub use sparse::MaxProducer;
-pub use sum::SumProducer;
+pub use sum_producer::SumProducer;

@@ -1,34 +1,32 @@
-//! Sums of durations, by key.
-ghost use Rattle.std.specs.Prelude.{◌≡◌, ℕ, ◌+◌, ◌*◌, ◌^◌, ◌<◌, ◌≤◌, List, [], ◌∷◌, map, length, slice_get, OnOk};
+//! The parts of sums of durations, by key, and what calls make of them.
+ghost use Rattle.std.specs.Prelude.{◌≡◌, ℕ, ◌+◌, ◌^◌, ◌<◌, ◌≤◌, [], ◌∷◌, map, slice_get, OnOk};
 ghost use Rattle.std.specs.List.{flat_map};
-ghost use Rattle.std.specs.Option.{option_copied};
-ghost use Rattle.atom_record.specs.declared.value.MetricKey.{MetricKey};
 ghost use Rattle.bucket_clock.specs.Clock.{last_end};
-ghost use Rattle.bucket_meaning.specs.Limits.{longest_bucket, time_limit, most_keys};
-ghost use Rattle.config_types.specs.declared.parameters.PredSpec.{PredSpec};
+ghost use Rattle.bucket_meaning.specs.Limits.{most_keys};
 ghost use Rattle.dim_table.specs.Table.{keys};
 ghost use Rattle.kept_rows.specs.KeptRows.{AddsRows};
+ghost use Rattle.metric_producer.specs.Calls.{Got, Learned, Crossed, CutAt};
+ghost use Rattle.metric_producer.specs.Moves.{Moves};
 ghost use Rattle.metric_kinds.specs.Counts.{row_weight};
-ghost use Rattle.duration_metric.specs.InnerKeys.{DurationParams, DurationCall, inner_keys, told_truth, was_told};
-ghost use Rattle.duration_metric.specs.SumStands.{span_at, span_time, span_row, whole_row, whole_rows, SumStandsFor};
-ghost use Rattle.duration_metric.specs.SumSteps.{found_out, outs_at, found_told, tolds_at, StepsSome, BeginsRun, BeginsOut, BeginsAll, ClosesRows, Opens};
+ghost use Rattle.duration_metric.specs.SumParts.{seen, HasRightTally};
+ghost use Rattle.duration_metric.specs.SumStands.{span_at, span_row, whole_row, whole_rows, SumStandsFor, sum_law};
+ghost use Rattle.duration_metric.specs.SumSteps.{found_out, outs_at, found_told, tolds_at, StepsSome, BeginsRun, BeginsOut, BeginsAll, KeepsKeys, ClosesRows, Opens};
 ghost use Rattle.duration_metric.specs.Tallies.{row_out, is_counted};
 
 use crate::counted::{
     count_all, forget_all, forget_rows, forget_tolds, in_order, lower_all, out_at, release_all,
-    told_at,
+    show_few, told_at,
 };
 use crate::inner::{Inner, InnerTable};
 use crate::memory::Memory;
 use crate::tally::Tally;
-use crate::{Closed, InnerDelta, InnerEvent, Producer, Row};
+use crate::{InnerDelta, InnerEvent, Row};
 use atom_record::{DimKey, MetricKey};
 use bucket_clock::Crossings;
 use config_types::PredSpec;
 use dim_table::Guarded;
 use indexmap::map::IntoIter;
 use kept_rows::KeptRows;
-use predicate_state::Truth;
 use sd_base::Seq;
 use std::alloc::{AllocError, Global};
 use std::mem;
@@ -40,9 +38,9 @@ pub(crate) struct Span {
     pub(crate) since: Option<u64>,
 }
 
-/// Sums of the times for which keys are active, by part.
+/// What a producer of sums is made of, with the tally of its inner keys.
 #[derive(Drop)]
-pub struct SumProducer {
+pub(crate) struct Sums {
     pub(crate) start: u64,
     pub(crate) inner: InnerTable,
     /// How many inner keys count for each active key since the last condition.
@@ -54,19 +52,16 @@ pub struct SumProducer {
     pub(crate) memory: Memory,
 }
 
-impl SumProducer {
-    /// Of no calls. Time begins at `base`, and a full bucket is `size` long. A part admits as many keys as the inner
-    /// keys are bound to.
-    pub fn new(alloc: Global, base: u64, size: u64, spec: PredSpec) -> SumProducer
-        requires base_fits { base < time_limit }
-        requires least_size { 1 ≤ size }
-        requires most_size { size ≤ longest_bucket }
+impl Sums {
+    /// Of no calls. Time begins at `base`.
+    pub(crate) fn new(alloc: Global, base: u64, spec: PredSpec) -> Sums
         requires least_bound { 1 ≤ spec.bound }
         requires most_bound { spec.bound ≤ most_keys }
-        ensures { SumStandsFor result (record { base = base; size = size; spec = spec }) [] }
+        ensures stands { (size : ℕ)
+            → SumStandsFor (seen result) (record { base = base; size = size; spec = spec }) [] }
+        ensures tally { HasRightTally result }
     {
-        let _size = size;
-        SumProducer {
+        Sums {
             start: base,
             inner: InnerTable::new(alloc, spec),
             tally: Tally::new(alloc),
@@ -77,42 +72,89 @@ impl SumProducer {
         }
     }
 
-    /// The number of inner keys.
-    pub fn inner_len(&self) -> usize
-        ensures { (params : DurationParams) (calls : List DurationCall)
-            → SumStandsFor self.now params calls → result ≡ length (inner_keys params.spec calls) }
+    /// An event comes.
+    pub(crate) fn event(&mut self, at: u64, ev: InnerEvent) -> Result<(), AllocError>
+        ensures moves { OnOk result (Moves sum_law (seen self.old) (seen self.new) (Got at ev)) }
+        ensures tally { OnOk result (HasRightTally self.old → HasRightTally self.new) }
     {
-        self.inner.len()
+        let _at = at;
+        self.inner.act(ev)
     }
 
-    /// The inner key at a place, from 0, or none past the end.
-    pub fn inner_key(&self, place: usize) -> Option<&DimKey>
-        ensures { (params : DurationParams) (calls : List DurationCall)
-            → SumStandsFor self.now params calls
-            → option_copied result ≡ slice_get (inner_keys params.spec calls) place }
+    /// A condition is told.
+    pub(crate) fn condition(&mut self, at: u64, now: InnerDelta) -> Result<(), AllocError>
+        requires right { HasRightTally self.old }
+        ensures moves { OnOk result
+            (Moves sum_law (seen self.old) (seen self.new) (Learned at now)) }
+        ensures tally { OnOk result (HasRightTally self.new) }
     {
-        self.inner.key(place)
+        self.inner.tell(now)?;
+        let alloc = self.memory.alloc();
+        let touched = mem::replace(&mut self.inner.touched, Seq::new(alloc));
+        let places = in_order(touched.as_slice(), alloc)?;
+        let gone = mem::replace(&mut self.inner.gone, Seq::new(alloc));
+        show_few(gone.as_slice());
+        // What begins is counted before what ends, so that a key whose count comes back stays in the tally.
+        let began = count_all(
+            &mut self.inner.keys,
+            &mut self.tally,
+            places.as_slice(),
+            alloc,
+        )?;
+        lower_all(&mut self.tally, gone.as_slice())?;
+        release_all(&mut self.inner.keys, &mut self.tally, places.as_slice())?;
+        // A key that stays as active as it was keeps its span. No key of the table stands there twice.
+        let _len = self.table.len();
+        let keys = &self.inner.keys;
+        step_keys(&mut self.table, &self.tally, gone.as_slice(), at);
+        step_tolds(&mut self.table, &self.tally, keys, places.as_slice(), at);
+        step_outs(&mut self.table, &self.tally, keys, began.as_slice(), at);
+        forget_all(&mut self.tally, &self.table, gone.as_slice());
+        forget_tolds(&mut self.tally, &self.table, keys, places.as_slice());
+        begin_outs(&mut self.table, keys, began.as_slice(), at, alloc)
     }
 
-    /// The truth that was told last of the inner key at a place; none past the end, and where none was told of the key.
-    pub fn inner_truth(&self, place: usize) -> Option<Truth>
-        ensures { (params : DurationParams) (calls : List DurationCall)
-            → SumStandsFor self.now params calls → result ≡ told_truth params.spec calls place }
+    /// Ends of buckets are crossed.
+    pub(crate) fn cross(&mut self, crossings: Crossings) -> Result<(), AllocError>
+        ensures moves { OnOk result
+            (Moves sum_law (seen self.old) (seen self.new) (Crossed crossings)) }
+        ensures tally { OnOk result (HasRightTally self.old → HasRightTally self.new) }
     {
-        self.inner.truth(place)
+        self.close(crossings.first_end)?;
+        let full = crossings.full_buckets.saturating_mul(crossings.size);
+        self.start = crossings.first_end.saturating_add(full);
+        self.open()?;
+        keep_full(&mut self.kept, &self.table, &crossings, self.memory.alloc())
     }
 
-    /// Whether this was told last of the inner key at a place: its truth, and the key for which it counts.
-    pub fn was_told(&self, place: usize, truth: Truth, out: &MetricKey) -> bool
-        ensures { (params : DurationParams) (calls : List DurationCall) → SumStandsFor self.now params calls
-            → result ≡ was_told params.spec calls place (record { truth = truth; out = out.now }) }
+    /// A report cuts the open part.
+    pub(crate) fn cut(&mut self, at: u64) -> Result<(), AllocError>
+        ensures moves { OnOk result (Moves sum_law (seen self.old) (seen self.new) (CutAt at)) }
+        ensures tally { OnOk result (HasRightTally self.old → HasRightTally self.new) }
     {
-        self.inner.was_told(place, truth, out)
+        self.close(at)?;
+        self.open()
+    }
+
+    /// What a call answered. After want of memory no inner key is there, and none is counted.
+    pub(crate) fn after(&mut self, answer: Result<(), AllocError>) -> Result<(), AllocError>
+        ensures same { result ≡ answer }
+        ensures kept { OnOk answer (self.new ≡ self.old) }
+        ensures tally { OnOk answer (HasRightTally self.old) → HasRightTally self.new }
+    {
+        let Err(error) = answer else {
+            return Ok(());
+        };
+        self.inner.keys.clear();
+        self.inner.gone.clear();
+        self.tally = Tally::new(self.memory.alloc());
+        Err(error)
     }
 
     // Closes the open part at a time: its rows are kept or counted, and its table is empty.
     fn close(&mut self, end: u64) -> Result<(), AllocError>
-        ensures { OnOk result (ClosesRows self.old self.new end) }
+        ensures closes { OnOk result (ClosesRows (seen self.old) (seen self.new) end) }
+        ensures tally { OnOk result (HasRightTally self.old → HasRightTally self.new) }
     {
         let start = self.start;
         self.start = end;
@@ -122,7 +164,8 @@ impl SumProducer {
 
     // Begins a part in which the keys for which inner keys count are active from its start on.
     fn open(&mut self) -> Result<(), AllocError>
-        ensures { OnOk result (Opens self.old self.new) }
+        ensures opens { OnOk result (Opens (seen self.old) (seen self.new)) }
+        ensures tally { OnOk result (HasRightTally self.old → HasRightTally self.new) }
     {
         let alloc = self.memory.alloc();
         begin_all(&mut self.table, &self.inner.keys, self.start, alloc)
@@ -275,7 +318,9 @@ fn begin_outs(
     at: u64,
     alloc: Global,
 ) -> Result<(), AllocError>
-    ensures { OnOk result (BeginsAll table.old table.new [] (outs_at keys.now.rows places.now) at) }
+    ensures begins { OnOk result
+        (BeginsAll table.old table.new [] (outs_at keys.now.rows places.now) at) }
+    ensures keys { OnOk result (KeepsKeys table.old table.new) }
 {
     for place in places {
         begin_out(table, keys, *place, at, alloc)?;
@@ -290,7 +335,9 @@ fn begin_all(
     at: u64,
     alloc: Global,
 ) -> Result<(), AllocError>
-    ensures { OnOk result (BeginsAll table.old table.new [] (flat_map row_out keys.now.rows) at) }
+    ensures begins { OnOk result
+        (BeginsAll table.old table.new [] (flat_map row_out keys.now.rows) at) }
+    ensures keys { OnOk result (KeepsKeys table.old table.new) }
 {
     for place in 0..keys.len() {
         begin_out(table, keys, place as u64, at, alloc)?;
@@ -391,84 +438,4 @@ fn keep_full(
         start = start.saturating_add(crossings.size);
     }
     Ok(())
-}
-
-impl Producer for SumProducer {
-    ghost use Rattle.std.specs.Prelude.{ℕ};
-    ghost use Rattle.atom_record.specs.declared.value.MetricKey.{MetricKey};
-    ghost use Rattle.metric_kinds.specs.Runs.{Active};
-    ghost use Rattle.duration_metric.specs.InnerKeys.{DurationParams};
-    ghost use Rattle.duration_metric.specs.SumStands.{sum_law};
-
-    type Event = InnerEvent;
-
-    type After = InnerDelta;
-
-    type Value = u64;
-
-    ghost Params = { DurationParams };
-
-    ghost What = { Active MetricKey };
-
-    ghost Key = { MetricKey };
-
-    ghost Share = { ℕ };
-
-    ghost law = { sum_law };
-
-    fn event(&mut self, at: u64, ev: InnerEvent) -> Result<(), AllocError> {
-        let _at = at;
-        self.inner.act(ev)
-    }
-
-    fn condition(&mut self, at: u64, now: InnerDelta) -> Result<(), AllocError> {
-        self.inner.tell(now)?;
-        let alloc = self.memory.alloc();
-        let touched = mem::replace(&mut self.inner.touched, Seq::new(alloc));
-        let places = in_order(touched.as_slice(), alloc)?;
-        // What begins is counted before what ends, so that a key whose count comes back stays in the tally.
-        let began = count_all(
-            &mut self.inner.keys,
-            &mut self.tally,
-            places.as_slice(),
-            alloc,
-        )?;
-        let gone = mem::replace(&mut self.inner.gone, Seq::new(alloc));
-        lower_all(&mut self.tally, gone.as_slice())?;
-        release_all(&mut self.inner.keys, &mut self.tally, places.as_slice())?;
-        // A key that stays as active as it was keeps its span.
-        let keys = &self.inner.keys;
-        step_keys(&mut self.table, &self.tally, gone.as_slice(), at);
-        step_tolds(&mut self.table, &self.tally, keys, places.as_slice(), at);
-        step_outs(&mut self.table, &self.tally, keys, began.as_slice(), at);
-        forget_all(&mut self.tally, &self.table, gone.as_slice());
-        forget_tolds(&mut self.tally, &self.table, keys, places.as_slice());
-        begin_outs(&mut self.table, keys, began.as_slice(), at, alloc)
-    }
-
-    fn cross(&mut self, crossings: Crossings) -> Result<(), AllocError> {
-        self.close(crossings.first_end)?;
-        let full = crossings.full_buckets.saturating_mul(crossings.size);
-        self.start = crossings.first_end.saturating_add(full);
-        self.open()?;
-        keep_full(&mut self.kept, &self.table, &crossings, self.memory.alloc())
-    }
-
-    fn cut(&mut self, at: u64) -> Result<(), AllocError> {
-        self.close(at)?;
-        self.open()
-    }
-
-    fn take(&mut self) -> Closed<u64> {
-        let (rows, not_kept) = self.kept.take();
-        let lost = self.inner.keys.dropped();
-        let since = lost.saturating_sub(self.reported);
-        self.reported = lost;
-        Closed {
-            rows,
-            not_kept,
-            dropped: self.table.take_dropped().saturating_add(since),
-            missing: 0,
-        }
-    }
 }

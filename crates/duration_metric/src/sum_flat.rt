@@ -3,11 +3,11 @@ ghost use Rattle.std.proofs.Common.{refl};
 ghost use Rattle.flat_form.specs.Bounded.{short_head};
 ghost use Rattle.duration_metric.specs.SumForm.{RestoresSum};
 
+use crate::counted::recount;
 use crate::flat::{decode_flag, encode_flag};
 use crate::inner::{Inner, InnerTable};
 use crate::memory::Memory;
-use crate::sum::Span;
-use crate::tally::Tally;
+use crate::sum::{Span, Sums};
 use crate::{Row, SumProducer};
 use atom_record::{DimKey, MetricKey};
 use dim_table::Guarded;
@@ -19,14 +19,8 @@ use std::alloc::{AllocError, Global};
 /// The spans of the open part, and the rows of closed ones.
 type Books = (Guarded<MetricKey, Span>, KeptRows<Row<u64>>);
 
-/// The active keys, each with how many count for it, and the books.
-type Counted = (Seq<(MetricKey, u64)>, Books);
-
-/// The inner keys, those that were touched, the output keys of those that left, and what is counted.
-type Rest = (
-    Guarded<DimKey, Inner>,
-    (Seq<u64>, (Seq<MetricKey>, Counted)),
-);
+/// The inner keys, those that were touched, the output keys of those that left, and the books.
+type Rest = (Guarded<DimKey, Inner>, (Seq<u64>, (Seq<MetricKey>, Books)));
 
 /// The parts of a sum.
 type Parts = (u64, (u64, (u64, (u64, Rest))));
@@ -36,15 +30,15 @@ fn restore(alloc: Global, parts: Parts) -> Result<SumProducer, FlatError>
     ensures { RestoresSum parts result }
 {
     let (start, (reported, (nesting, (unknown, rest)))) = parts;
-    let (keys, (touched, (gone, (pairs, (table, kept))))) = rest;
+    let (keys, (touched, (gone, (table, kept)))) = rest;
     let Some(nesting) = decode_flag(nesting) else {
         return Err(FlatError::Bad);
     };
     let Some(unknown) = decode_flag(unknown) else {
         return Err(FlatError::Bad);
     };
-    let tally = Tally::made_of(alloc, pairs.as_slice())?;
-    Ok(SumProducer {
+    let tally = recount(&keys, gone.as_slice(), alloc)?;
+    let sums = Sums {
         start,
         inner: InnerTable {
             nesting,
@@ -58,7 +52,8 @@ fn restore(alloc: Global, parts: Parts) -> Result<SumProducer, FlatError>
         kept,
         reported,
         memory: Memory::new(alloc),
-    })
+    };
+    Ok(SumProducer { sums })
 }
 
 impl Flat for SumProducer {
@@ -70,9 +65,9 @@ impl Flat for SumProducer {
 
     ghost savable = { IsSavableSum };
 
-    ghost head = { 16 };
+    ghost head = { 15 };
 
-    ghost short = { short_head 16 refl };
+    ghost short = { short_head 15 refl };
 
     ghost entries = { sum_entries };
 
@@ -83,25 +78,24 @@ impl Flat for SumProducer {
     ghost spells = { sum_savable };
 
     fn show_valid(&self) {
-        self.inner.keys.show_valid();
-        self.tally.show_once();
-        self.table.show_valid();
-        self.kept.show_valid();
+        self.sums.inner.keys.show_valid();
+        self.sums.table.show_valid();
+        self.sums.kept.show_valid();
     }
 
     fn flatten(&self, alloc: Global, out: &mut Items) -> Result<(), AllocError> {
-        (self.start, self.reported).flatten(alloc, out)?;
+        let sums = &self.sums;
+        (sums.start, sums.reported).flatten(alloc, out)?;
         let kept = (
-            encode_flag(self.inner.nesting),
-            encode_flag(self.inner.unknown),
+            encode_flag(sums.inner.nesting),
+            encode_flag(sums.inner.unknown),
         );
         kept.flatten(alloc, out)?;
-        self.inner.keys.flatten(alloc, out)?;
-        self.inner.touched.flatten(alloc, out)?;
-        self.inner.gone.flatten(alloc, out)?;
-        self.tally.flatten(alloc, out)?;
-        self.table.flatten(alloc, out)?;
-        self.kept.flatten(alloc, out)
+        sums.inner.keys.flatten(alloc, out)?;
+        sums.inner.touched.flatten(alloc, out)?;
+        sums.inner.gone.flatten(alloc, out)?;
+        sums.table.flatten(alloc, out)?;
+        sums.kept.flatten(alloc, out)
     }
 
     fn build(

@@ -1,4 +1,5 @@
--- Items have no more bytes than they weigh, and a value has no more items than its head and its entries allow.
+-- Items have no more bytes than their own and what they hold, and a value has no more items than its head and its
+-- entries allow.
 use Rattle.std.specs.Prelude.{◌≡◌, ℕ, ℤ, ◌+◌, ◌*◌, ◌≤◌, nat_le, Bool, true, false, if◌then◌else◌, List, [], ◌∷◌, ◌++◌, length, All, Option}
 use Rattle.std.specs.Option.{option_to_list}
 use Rattle.std.specs.List.{flat_map, sum_by}
@@ -22,7 +23,7 @@ use Rattle.atom_record.specs.AtomSpelling.{value_bytes, entry_bytes}
 use Rattle.atom_record.specs.TypedValue.{typed_bytes}
 use Rattle.flat_form.specs.ItemSpelling.{spelled_leaf, spelled_slice, spelled_item, spelled_items}
 use Rattle.flat_form.specs.Flat.{Anything, IsValidPair, IsSigned, IsLong, IsMissingOr, number_items, signed_items, long_items, option_items, dims_items, key_items, atom_items, pair_items, list_items}
-use Rattle.flat_form.specs.Weight.{text_weight, value_weight, leaf_weight, entry_weight, held_weight, held, most_items, entries_for, most_head, head_within, entries_within, pair_entries, list_entries}
+use Rattle.flat_form.specs.Weight.{text_weight, value_weight, leaf_weight, entry_weight, held_weight, held, own_size, own_sizes, most_items, most_bytes, entries_for, most_head, head_within, entries_within, pair_entries, list_entries}
 
 -- pieces, each within its weight
 pieces_bounded : {X : Type 0} (bytes : X → List ℕ) (weight : X → ℕ) (xs : List X)
@@ -65,8 +66,8 @@ sixteens : {X : Type 0} (xs : List X) → sum_by (λ x. 16) xs ≡ 16 * length x
 sixteens [] = omega arith
 sixteens (x ∷ xs) = let rest = sixteens xs in let sum = sum_by-cons (λ x. 16) x xs in omega arith
 
--- an item has 16 bytes at most, and what it holds
-item_bounded : (item : Item) → length (spelled_item item) ≤ 16 + held_weight item
+-- an item has its own bytes, and what it holds at most
+pub item_bounded : (item : Item) → length (spelled_item item) ≤ own_size item + held_weight item
 item_bounded (Num number) = omega arith
 item_bounded (Dims dims) = let part = pieces_bounded spelled_leaf leaf_weight dims leaf_bounded in omega arith
 item_bounded (Slices slices) =
@@ -77,20 +78,39 @@ item_bounded (AtomItem atom) = let part = pieces_bounded entry_bytes entry_weigh
     omega arith
 item_bounded (Chunk bytes) = omega arith
 
--- 16 for each item, and what the items hold
-pub items_bounded : (items : List Item) → length (spelled_items items) ≤ 16 * length items + held items
+-- items have their own bytes, and what they hold at most
+pub items_bounded : (items : List Item) → length (spelled_items items) ≤ own_sizes items + held items
 items_bounded [] = omega arith
 items_bounded (item ∷ items) =
     let first = item_bounded item in
     let others = items_bounded items in
+    let own = sum_by-cons own_size item items in
     let sum = sum_by-cons held_weight item items in
     let size = length-append (spelled_item item) (spelled_items items) in
     omega arith
 
--- a value with a head of 16 items at most: 256 bytes, 128 for each entry, and what its items hold
-pub bytes_bounded : (items : List Item) (head entries : ℕ) → length items ≤ most_items head entries → head ≤ most_head
-    → length (spelled_items items) ≤ 256 + 128 * entries + held items
-bytes_bounded items head entries few short = let all = items_bounded items in omega arith
+-- no item has more than nine bytes of its own
+own_bounded : (item : Item) → own_size item ≤ 9
+own_bounded (Num number) = omega arith
+own_bounded (Dims dims) = omega arith
+own_bounded (Slices slices) = omega arith
+own_bounded (AtomItem atom) = omega arith
+own_bounded (Chunk bytes) = omega arith
+
+-- nine bytes at most for each item
+pub own_sizes-bounded : (items : List Item) → own_sizes items ≤ 9 * length items
+own_sizes-bounded [] = omega arith
+own_sizes-bounded (item ∷ items) =
+    let first = own_bounded item in
+    let others = own_sizes-bounded items in
+    let own = sum_by-cons own_size item items in
+    omega arith
+
+-- a value of so few items: nine bytes for each item of its head, 72 for each entry, and what its items hold
+pub bytes_bounded : (items : List Item) (head entries : ℕ) → length items ≤ most_items head entries
+    → length (spelled_items items) ≤ most_bytes head entries items
+bytes_bounded items head entries few =
+    let all = items_bounded items in let own = own_sizes-bounded items in omega arith
 
 -- a number that is told to be no more than a head has
 pub short_head : (head : ℕ) → nat_le head most_head ≡ true → head ≤ most_head
@@ -242,4 +262,23 @@ held-flat_map flat (x ∷ xs) =
     let rest = held-flat_map flat xs in
     let sum = sum_by-cons (λ x. held (flat x)) x xs in
     let parts = held-append (flat x) (flat_map flat xs) in
+    omega arith
+
+-- the own bytes of two parts
+pub own_sizes-append : (x y : List Item) → own_sizes (x ++ y) ≡ own_sizes x + own_sizes y
+own_sizes-append [] y = omega arith
+own_sizes-append (item ∷ x) y =
+    let rest = own_sizes-append x y in
+    let sum = sum_by-cons own_size item x in
+    let whole = sum_by-cons own_size item (x ++ y) in
+    omega arith
+
+-- the own bytes of elements, one by one
+pub own_sizes-flat_map : {X : Type 0} (flat : X → List Item) (xs : List X)
+    → own_sizes (flat_map flat xs) ≡ sum_by (λ x. own_sizes (flat x)) xs
+own_sizes-flat_map flat [] = omega arith
+own_sizes-flat_map flat (x ∷ xs) =
+    let rest = own_sizes-flat_map flat xs in
+    let sum = sum_by-cons (λ x. own_sizes (flat x)) x xs in
+    let parts = own_sizes-append (flat x) (flat_map flat xs) in
     omega arith

@@ -7,7 +7,7 @@ use Rattle.atom_record.specs.declared.value.Leaf.{Leaf}
 use Rattle.atom_record.specs.declared.value.MetricKey.{MetricKey}
 use Rattle.atom_record.specs.declared.atom.Atom.{Atom}
 use Rattle.flat_form.specs.declared.item.Item.{Item}
-use Rattle.flat_form.specs.declared.item.Item.TheVariants.{Num, Dims, Slices, AtomItem}
+use Rattle.flat_form.specs.declared.item.Item.TheVariants.{Num, Dims, Slices, AtomItem, Chunk}
 use Rattle.flat_form.specs.declared.flat_error.FlatError.{FlatError}
 use Rattle.flat_form.specs.declared.flat_error.FlatError.TheVariants.{Bad, Memory}
 
@@ -104,6 +104,10 @@ key_items key = Dims key.dims ∷ Slices key.slices ∷ []
 -- an atom is one item
 abbrev pub atom_items : Atom → List Item
 atom_items atom = AtomItem atom ∷ []
+
+-- bytes are one item
+abbrev pub chunk_items : List ℕ → List Item
+chunk_items bytes = Chunk bytes ∷ []
 
 -- a pair is its parts, one after the other
 abbrev pub pair_items : {X Y : Type 0} → (X → List Item) → (Y → List Item) → X × Y → List Item

@@ -3,6 +3,7 @@ use Rattle.std.specs.Prelude.{◌<◌, ◌^◌, List, length, All}
 use Rattle.atom_record.specs.declared.value.Leaf.{Leaf}
 use Rattle.atom_record.specs.declared.value.Leaf.TheVariants.{Missing, One, Many}
 use Rattle.atom_record.specs.declared.value.MetricKey.{MetricKey}
+use Rattle.atom_record.specs.declared.atom.AtomField.{AtomField}
 use Rattle.flat_form.specs.declared.item.Item.{Item}
 use Rattle.flat_form.specs.declared.item.Item.TheVariants.{Num, Dims, Slices, AtomItem, Chunk}
 use Rattle.atom_record.specs.AtomSound.{HasNoFault}
@@ -17,6 +18,10 @@ IsShortLeaf (Many values) = (length values < 2 ^ 16) × All HasShortText values
 -- the number of a key's leaves fits two bytes, and so do their parts
 abbrev pub AreShortLeaves : List Leaf → Type 0
 AreShortLeaves dims = (length dims < 2 ^ 16) × All IsShortLeaf dims
+
+-- the text of an atom's entry fits two bytes
+abbrev pub IsShortEntry : AtomField → Type 0
+IsShortEntry entry = HasShortText entry.value
 
 -- the number of a key's slices fits one byte, and its leaves fit
 abbrev pub IsShortKey : MetricKey → Type 0

@@ -44,21 +44,34 @@ held_weight (Chunk bytes) = length bytes
 abbrev pub held : List Item → ℕ
 held items = sum_by held_weight items
 
+-- the bytes of an item besides what it holds: its tag, and its number, the count of what it holds, or an atom's length
+-- and id
+abbrev pub own_size : Item → ℕ
+own_size (Num number) = 9
+own_size (Dims dims) = 3
+own_size (Slices slices) = 2
+own_size (AtomItem atom) = 7
+own_size (Chunk bytes) = 5
+
+-- those of all items
+abbrev pub own_sizes : List Item → ℕ
+own_sizes items = sum_by own_size items
+
 -- the most items of a value with such a head and so many entries: each entry takes eight at most
 abbrev pub most_items : ℕ → ℕ → ℕ
 most_items head entries = head + 8 * entries
 
--- the most bytes of a value with such a head, so many entries and these items
+-- the most bytes of a value with such a head, so many entries and these items: nine for an item, and what they hold
 abbrev pub most_bytes : ℕ → ℕ → List Item → ℕ
-most_bytes head entries items = 16 * head + 128 * entries + held items
+most_bytes head entries items = 9 * head + 72 * entries + held items
 
 -- how many entries stand for so many items: one for each eight that are begun
 abbrev pub entries_for : ℕ → ℕ
 entries_for items = (items + 7) / 8
 
--- the most items of a head
+-- the most items of a head: with nine bytes each they are 252
 abbrev pub most_head : ℕ
-most_head = 16
+most_head = 28
 
 -- the head of a value whose parts have so many items in their heads: theirs, or none where that is more than a head has
 abbrev pub head_within : ℕ → ℕ

@@ -9,12 +9,12 @@ ghost use Rattle.flat_form.specs.ItemSpelling.{spelled_leaf, spelled_slice, spel
 ghost use Rattle.flat_form.specs.Savable.{AreSavable, IsShortLeaf};
 
 use crate::{Item, Items};
-use atom_record::{Atom, Bytes, DimKey, Leaf, Slice, Value, encode_atom, encode_value};
+use atom_record::{Atom, AtomField, Bytes, DimKey, Leaf, Slice, Value, encode_atom, encode_value};
 use sd_base::Seq;
 use std::alloc::{AllocError, Global};
 
 /// What has one spelling as bytes.
-trait Encode {
+pub(crate) trait Encode {
     /// The spelling.
     ghost spelling: { Self → List ℕ };
 
@@ -28,7 +28,11 @@ trait Encode {
 }
 
 // Adds the spellings of all, one after the other.
-fn encode_all<T: Encode>(all: &[T], alloc: Global, out: &mut Vec<u8>) -> Result<(), AllocError>
+pub(crate) fn encode_all<T: Encode>(
+    all: &[T],
+    alloc: Global,
+    out: &mut Vec<u8>,
+) -> Result<(), AllocError>
     requires { All T.can_be all.now }
     ensures { OnOk result (out.new.items ≡ out.old.items ++ flat_map T.spelling all.now) }
 {
@@ -44,7 +48,7 @@ fn put_u16(number: u16, out: &mut Vec<u8>) -> Result<(), AllocError>
     out.extend_from_slice(&number.to_le_bytes())
 }
 
-fn put_u32(number: u32, out: &mut Vec<u8>) -> Result<(), AllocError>
+pub(crate) fn put_u32(number: u32, out: &mut Vec<u8>) -> Result<(), AllocError>
     ensures { OnOk result (out.new.items ≡ out.old.items ++ to_le_bytes w32 number) }
 {
     out.extend_from_slice(&number.to_le_bytes())
@@ -65,6 +69,20 @@ impl Encode for Value {
 
     fn encode(&self, _alloc: Global, out: &mut Vec<u8>) -> Result<(), AllocError> {
         encode_value(self, out)
+    }
+}
+
+impl Encode for AtomField {
+    ghost use Rattle.atom_record.specs.AtomSpelling.{entry_bytes};
+    ghost use Rattle.flat_form.specs.Savable.{IsShortEntry};
+
+    ghost spelling = { entry_bytes };
+
+    ghost can_be = { IsShortEntry };
+
+    fn encode(&self, _alloc: Global, out: &mut Vec<u8>) -> Result<(), AllocError> {
+        out.extend_from_slice(&[self.field, self.index, self.sub, self.flags])?;
+        encode_value(&self.value, out)
     }
 }
 

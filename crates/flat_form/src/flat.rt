@@ -3,12 +3,12 @@ ghost use Rattle.std.specs.Prelude.{◌≡◌, ℕ, ◌+◌, List, [], ◌∷◌
 ghost use Rattle.std.specs.List.{flat_map};
 ghost use Rattle.std.proofs.Common.{refl};
 ghost use Rattle.flat_form.specs.declared.item.Item.{Item};
-ghost use Rattle.flat_form.specs.Flat.{IsFront, Anything, Holds, Builds, BuildsAll, halves};
+ghost use Rattle.flat_form.specs.Flat.{IsFront, Anything, Holds, Builds, BuildsAll, halves, chunk_items};
 ghost use Rattle.flat_form.specs.Weight.{most_items, most_head};
 ghost use Rattle.flat_form.specs.Savable.{AreSavable};
 
 use crate::{FlatError, Item, Items};
-use atom_record::{Atom, DimKey, MetricKey, Slice};
+use atom_record::{Atom, Bytes, DimKey, MetricKey, Slice};
 use sd_base::{Duplicate, Seq};
 use std::alloc::{AllocError, Global};
 
@@ -47,7 +47,7 @@ pub trait Flat: Sized {
     fn build(alloc: Global, items: &Items, place: usize) -> Result<(Self, usize), FlatError>
         ensures { Builds valid flat items.now place result };
 
-    /// A head is no more than 16 items.
+    /// A head is no more than 28 items.
     ghost short: { head ≤ most_head };
 
     /// A value has no more items than its head and eight for each entry.
@@ -156,6 +156,28 @@ impl Single for Atom {
             _ => Err(FlatError::Bad),
         }
     }
+}
+
+impl Single for Bytes {
+    ghost use Rattle.flat_form.specs.declared.item.Item.TheVariants.{Chunk};
+
+    ghost wrap = { λ value. Chunk value };
+
+    ghost distinct = { λ x y same. Prim.cc };
+
+    fn of(alloc: Global, item: &Item) -> Result<Bytes, FlatError> {
+        match item {
+            Item::Chunk(bytes) => Ok(bytes.duplicate(alloc)?),
+            _ => Err(FlatError::Bad),
+        }
+    }
+}
+
+/// The bytes that stand at a place as one item, and the place after them. `Bad` comes exactly where none stand there.
+pub fn build_bytes(alloc: Global, items: &Items, place: usize) -> Result<(Bytes, usize), FlatError>
+    ensures { Builds Anything chunk_items items.now place result }
+{
+    build_one(alloc, items, place)
 }
 
 impl Flat for u64 {

@@ -3,14 +3,18 @@
 
 mod decode;
 mod encode;
+mod fits;
 mod flat;
 mod flat_error;
 mod item;
+mod measure;
 mod saved;
 
 pub use decode::decode_items;
 pub use encode::encode_items;
-pub use flat::Flat;
+pub use fits::can_be_spelled;
+pub use flat::{Flat, build_bytes};
 pub use flat_error::FlatError;
 pub use item::{Item, Items};
+pub use measure::spelled_len;
 pub use saved::{rebuild, save};

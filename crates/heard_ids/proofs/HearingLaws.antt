@@ -13,12 +13,13 @@ use Rattle.config_links.specs.declared.linked.LMetric.{LMetric}
 use Rattle.config_links.specs.declared.linked.LPredicate.{LPredicate}
 use Rattle.config_links.specs.declared.linked.LState.{LState}
 use Rattle.config_links.specs.declared.linked.Linked.{Linked}
+use Rattle.config_links.specs.OwnMatchers.{predicate_matchers, metric_matchers}
 use Rattle.link_graph.specs.Unrolling.{unroll}
 use Rattle.link_graph.proofs.NodeLemmas.{map_same}
 use Rattle.matcher_eval.specs.AtomTests.{number_set}
 use Rattle.matcher_eval.specs.Combined.{combined_truth}
 use Rattle.matcher_truths.specs.MatcherTruths.{is_of_atom, truth_from, truth_step, matches, all_truths}
-use Rattle.heard_ids.specs.Hearing.{matched_id, is_heard, heeded_by_body, heeded_by_kind, heeded_matchers, idle_from, idle_step, holds_idle, silent_truths, truth_listed, some_holds, hears_all}
+use Rattle.heard_ids.specs.Hearing.{matched_id, is_heard, heeded_matchers, idle_from, idle_step, holds_idle, silent_truths, truth_listed, some_holds, hears_all}
 
 -- where nothing in a row of lists passes, nothing in one of them does
 module _ {X : Type 0} (test : ℕ → Bool) (lists : X → List ℕ) where
@@ -95,10 +96,10 @@ module _ (says : SimpleMatcher → Atom → Bool) (atom : Atom) (linked : Linked
 
 module _ (linked : Linked) (truths : List Bool) (none : some_holds truths (heeded_matchers linked) ≡ false) where
   abbrev of_predicates : List ℕ
-  of_predicates = flat_map (λ (predicate : LPredicate). heeded_by_body predicate.body) linked.predicates
+  of_predicates = flat_map (λ (predicate : LPredicate). predicate_matchers predicate.body) linked.predicates
 
   abbrev of_metrics : List ℕ
-  of_metrics = flat_map (λ (metric : LMetric). heeded_by_kind metric.what metric.kind) linked.metrics
+  of_metrics = flat_map metric_matchers linked.metrics
 
   none_of_either : (some_holds truths of_predicates ≡ false) × (some_holds truths of_metrics ≡ false)
   none_of_either =
@@ -107,14 +108,14 @@ module _ (linked : Linked) (truths : List Bool) (none : some_holds truths (heede
 
   -- where none of the matchers that a configuration heeds holds, none does that one of its predicates heeds
   pub none_of_predicate : (place : ℕ) (predicate : LPredicate) → slice_get linked.predicates place ≡ Some predicate
-      → some_holds truths (heeded_by_body predicate.body) ≡ false
+      → some_holds truths (predicate_matchers predicate.body) ≡ false
   none_of_predicate place predicate is =
-      none_at (λ at. truth_listed at truths) (λ (one : LPredicate). heeded_by_body one.body)
+      none_at (λ at. truth_listed at truths) (λ (one : LPredicate). predicate_matchers one.body)
       linked.predicates place predicate none_of_either.0 is
 
   -- and none that one of its metrics heeds
   pub none_of_metric : (place : ℕ) (metric : LMetric) → slice_get linked.metrics place ≡ Some metric
-      → some_holds truths (heeded_by_kind metric.what metric.kind) ≡ false
+      → some_holds truths (metric_matchers metric) ≡ false
   none_of_metric place metric is =
-      none_at (λ at. truth_listed at truths) (λ (one : LMetric). heeded_by_kind one.what one.kind)
+      none_at (λ at. truth_listed at truths) metric_matchers
       linked.metrics place metric none_of_either.1 is

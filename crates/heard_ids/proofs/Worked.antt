@@ -1,5 +1,5 @@
 -- What worked configurations hear, by computing.
-use Rattle.std.proofs.Common.{◌≡◌, ℕ, pos, true, false, List, [], ◌∷◌, Some, None, refl}
+use Rattle.std.proofs.Common.{◌≡◌, ℕ, pos, true, false, List, [], ◌∷◌, Option, Some, None, refl}
 use Rattle.config_types.specs.declared.matcher.Operation.TheVariants.{And, Not, Nand}
 use Rattle.config_types.specs.declared.parameters.PredSpec.{PredSpec}
 use Rattle.config_types.specs.declared.parameters.Sampling.TheVariants.{AtTrigger}
@@ -20,7 +20,7 @@ atoms_of id = Simple (record { atom_id = Some (pos id); tests = [] })
 -- a configuration of matchers and predicates, with one metric
 abbrev with_metric : List LMatcher → List LPredicate → LMetric → Linked
 with_metric matchers predicates metric =
-    record { matchers = matchers; predicates = predicates; states = []; metrics = metric ∷ [] }
+    record { matchers = matchers; predicates = predicates; states = []; metrics = metric ∷ []; alerts = [] }
 
 -- a metric of what stands at a place
 abbrev metric_of : ℕ → LKind → LMetric
@@ -35,6 +35,7 @@ metric_of what kind = record {
   bound = 2;
   slices = [];
   kind = kind;
+  activations = [];
 }
 
 -- how a table of one key is kept
@@ -87,6 +88,22 @@ others_trigger :
     hears_all (with_metric five_and_others [] (metric_of 0 (PulledGauge None 1 AtTrigger (Some 1)))) ≡ true
 others_trigger = refl
 
+-- and so is a metric that any other atom starts, or stops
+abbrev with_activation : ℕ → Option ℕ → Linked
+with_activation start cancel =
+    with_metric five_and_others [] (record (metric_of 0 (Count false)) {
+      activations = record { start = start; ttl = 1000; cancel = cancel } ∷ [];
+    })
+
+others_begin : hears_all (with_activation 1 None) ≡ true
+others_begin = refl
+
+others_end : hears_all (with_activation 0 (Some 1)) ≡ true
+others_end = refl
+
+five_begins : hears_all (with_activation 0 (Some 0)) ≡ false
+five_begins = refl
+
 -- what a duration times is the predicate at that place, and not the matcher there
 times_a_predicate :
     hears_all (with_metric five_and_others (started_by 0 ∷ started_by 0 ∷ []) (metric_of 1 (SumDuration one_key)))
@@ -100,6 +117,7 @@ with_state = record {
   predicates = [];
   states = record { atom_id = 7; map = None } ∷ [];
   metrics = [];
+  alerts = [];
 }
 
 -- the state's atoms are heard

@@ -8,13 +8,9 @@ use Rattle.link_graph.specs.Unrolling.{unroll}
 use Rattle.config_links.specs.declared.linked.LMatcher.{LMatcher}
 use Rattle.config_links.specs.declared.linked.LMatcher.TheVariants as linked_matchers
 use Rattle.config_links.specs.declared.linked.LPredicate.{LPredicate}
-use Rattle.config_links.specs.declared.linked.LPredBody.{LPredBody}
-use Rattle.config_links.specs.declared.linked.LPredBody.TheVariants as linked_bodies
 use Rattle.config_links.specs.declared.linked.LState.{LState}
-use Rattle.config_links.specs.declared.linked.LMetric.{LMetric}
-use Rattle.config_links.specs.declared.linked.LKind.{LKind}
-use Rattle.config_links.specs.declared.linked.LKind.TheVariants as kinds
 use Rattle.config_links.specs.declared.linked.Linked.{Linked}
+use Rattle.config_links.specs.OwnMatchers.{predicate_matchers, metric_matchers}
 
 -- the id of a simple matcher, and no id of a combination
 abbrev pub matched_id : LMatcher → List ℕ
@@ -29,29 +25,11 @@ heard_ids linked = flat_map matched_id linked.matchers ++ map (λ (state : LStat
 abbrev pub is_heard : Linked → ℕ → Bool
 is_heard linked id = list_any (λ heard. heard == id) (heard_ids linked)
 
--- a matcher, where one is named
-abbrev pub heeded_place : Option ℕ → List ℕ
-heeded_place (Some place) = place ∷ []
-heeded_place None = []
-
--- the matchers that a predicate heeds: those that stop it at all keys, stop it or start it
-abbrev pub heeded_by_body : LPredBody → List ℕ
-heeded_by_body (linked_bodies.Simple start stop stop_all dims spec) =
-    heeded_place stop_all ++ (heeded_place stop ++ heeded_place start)
-heeded_by_body (linked_bodies.Combo op children) = []
-
--- the matchers that a metric of a kind heeds: what it counts, which for a duration is no matcher, and a trigger
-abbrev pub heeded_by_kind : ℕ → LKind → List ℕ
-heeded_by_kind what (kinds.PulledGauge fields samples mode trigger) = what ∷ heeded_place trigger
-heeded_by_kind what (kinds.SumDuration spec) = []
-heeded_by_kind what (kinds.MaxSparse spec) = []
-heeded_by_kind what _ = what ∷ []
-
 -- the matchers that a configuration heeds: those of its predicates, then those of its metrics
 abbrev pub heeded_matchers : Linked → List ℕ
 heeded_matchers linked =
-    flat_map (λ (predicate : LPredicate). heeded_by_body predicate.body) linked.predicates
-    ++ flat_map (λ (metric : LMetric). heeded_by_kind metric.what metric.kind) linked.metrics
+    flat_map (λ (predicate : LPredicate). predicate_matchers predicate.body) linked.predicates
+    ++ flat_map metric_matchers linked.metrics
 
 -- the truth of a matcher where no simple one holds, and where the truth at each place is given
 abbrev pub idle_from : (ℕ → Bool) → Option LMatcher → Bool

@@ -4,9 +4,9 @@ ghost use Rattle.std.specs.List.{flat_map};
 ghost use Rattle.matcher_eval.specs.AtomTests.{number_set};
 ghost use Rattle.config_links.specs.SoundConfig.{IsSoundConfig};
 ghost use Rattle.config_links.specs.declared.linked.LState.{LState};
-ghost use Rattle.heard_ids.specs.Hearing.{matched_id, heard_ids, heeded_matchers, some_holds, hears_all};
+ghost use Rattle.heard_ids.specs.Hearing.{matched_id, heard_ids, hears_all};
 
-use crate::heeded::{metric_heeds, predicate_heeds};
+use crate::heeded::{heeded_matchers, some_holds};
 use crate::idle::silent_truths;
 use config_links::{LMatcher, LState, Linked};
 use config_types::SimpleMatcher;
@@ -84,14 +84,6 @@ fn is_heeding_all(alloc: Global, linked: &Linked) -> Result<bool, AllocError>
 {
     let matchers = linked.matchers.as_slice();
     let truths = silent_truths(alloc, matchers)?;
-    Ok(is_heeding(linked, truths.as_slice()))
-}
-
-// Whether one of the matchers that are heeded holds.
-fn is_heeding(linked: &Linked, truths: &[bool]) -> bool
-    ensures { result ≡ some_holds truths.now (heeded_matchers linked.now) }
-{
-    let predicates = linked.predicates.as_slice();
-    let metrics = linked.metrics.as_slice();
-    predicate_heeds(predicates, truths) || metric_heeds(metrics, truths)
+    let heeded = heeded_matchers(alloc, linked)?;
+    Ok(some_holds(heeded.as_slice(), truths.as_slice()))
 }

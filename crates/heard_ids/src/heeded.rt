@@ -1,76 +1,29 @@
-//! Whether one of the matchers that predicates and metrics heed holds.
-ghost use Rattle.std.specs.Prelude.{◌≡◌};
-ghost use Rattle.std.specs.List.{list_any};
-ghost use Rattle.config_links.specs.declared.linked.LMetric.{LMetric};
+//! The matchers that a configuration heeds, and whether one of them holds.
+ghost use Rattle.std.specs.Prelude.{◌≡◌, ◌++◌, IfOk, OnOk};
+ghost use Rattle.std.specs.List.{flat_map};
 ghost use Rattle.config_links.specs.declared.linked.LPredicate.{LPredicate};
-ghost use Rattle.heard_ids.specs.Hearing.{heeded_place, heeded_by_body, heeded_by_kind, truth_listed, some_holds};
+ghost use Rattle.config_links.specs.OwnMatchers.{predicate_matchers, metric_matchers};
+ghost use Rattle.heard_ids.specs.Hearing.{heeded_matchers, truth_listed, some_holds};
 
-use config_links::{LKind, LMetric, LPredBody, LPredicate};
+use config_links::{LMetric, LPredicate, Linked};
+use sd_base::Seq;
+use std::alloc::{AllocError, Global};
 
-/// Whether a matcher holds that one of the predicates heeds.
-pub(crate) fn predicate_heeds(predicates: &[LPredicate], truths: &[bool]) -> bool
-    ensures { result
-        ≡ list_any (λ (predicate : LPredicate). some_holds truths.now (heeded_by_body predicate.body)) predicates.now }
+/// The matchers that a configuration heeds: those of its predicates, then those of its metrics.
+pub(crate) fn heeded_matchers(alloc: Global, linked: &Linked) -> Result<Seq<u32>, AllocError>
+    ensures { IfOk result (λ places. places ≡ heeded_matchers linked.now) }
 {
-    predicates
-        .iter()
-        .any(|predicate| body_heeds(&predicate.body, truths))
+    let mut places = Seq::new(alloc);
+    add_of_predicates(&mut places, linked.predicates.as_slice())?;
+    add_of_metrics(&mut places, linked.metrics.as_slice())?;
+    Ok(places)
 }
 
-/// Whether a matcher holds that one of the metrics heeds.
-pub(crate) fn metric_heeds(metrics: &[LMetric], truths: &[bool]) -> bool
-    ensures { result
-        ≡ list_any (λ (metric : LMetric). some_holds truths.now (heeded_by_kind metric.what metric.kind)) metrics.now }
+/// Whether one of the matchers at these places holds.
+pub(crate) fn some_holds(places: &[u32], truths: &[bool]) -> bool
+    ensures { result ≡ some_holds truths.now places.now }
 {
-    metrics
-        .iter()
-        .any(|metric| kind_heeds(metric.what, &metric.kind, truths))
-}
-
-// Whether a matcher holds that stops a predicate at all keys, stops it or starts it.
-fn body_heeds(body: &LPredBody, truths: &[bool]) -> bool
-    ensures { result ≡ some_holds truths.now (heeded_by_body body.now) }
-{
-    match body {
-        LPredBody::Simple {
-            start,
-            stop,
-            stop_all,
-            ..
-        } => {
-            is_true_if_named(*stop_all, truths)
-                || is_true_if_named(*stop, truths)
-                || is_true_if_named(*start, truths)
-        }
-        LPredBody::Combo { .. } => false,
-    }
-}
-
-// Whether a matcher holds that a metric of this kind heeds.
-fn kind_heeds(what: u32, kind: &LKind, truths: &[bool]) -> bool
-    ensures { result ≡ some_holds truths.now (heeded_by_kind what kind.now) }
-{
-    match kind {
-        LKind::PulledGauge { trigger, .. } => {
-            is_true_at(what, truths) || is_true_if_named(*trigger, truths)
-        }
-        LKind::SumDuration { .. } | LKind::MaxSparse { .. } => false,
-        LKind::Event
-        | LKind::Count { .. }
-        | LKind::PushedValue { .. }
-        | LKind::PulledValue { .. }
-        | LKind::PushedGauge { .. } => is_true_at(what, truths),
-    }
-}
-
-// The truth at a place, if one is named.
-fn is_true_if_named(place: Option<u32>, truths: &[bool]) -> bool
-    ensures { result ≡ some_holds truths.now (heeded_place place) }
-{
-    match place {
-        Some(place) => is_true_at(place, truths),
-        None => false,
-    }
+    places.iter().any(|place| is_true_at(*place, truths))
 }
 
 /// The truth at a place.
@@ -81,4 +34,25 @@ pub(crate) fn is_true_at(place: u32, truths: &[bool]) -> bool
         Some(truth) => *truth,
         None => false,
     }
+}
+
+// Adds the matchers of predicates.
+fn add_of_predicates(places: &mut Seq<u32>, predicates: &[LPredicate]) -> Result<(), AllocError>
+    ensures { OnOk result (places.new ≡ places.old
+        ++ flat_map (λ (predicate : LPredicate). predicate_matchers predicate.body) predicates.now) }
+{
+    for predicate in predicates {
+        predicate.body.add_matchers(places)?;
+    }
+    Ok(())
+}
+
+// Adds the matchers of metrics.
+fn add_of_metrics(places: &mut Seq<u32>, metrics: &[LMetric]) -> Result<(), AllocError>
+    ensures { OnOk result (places.new ≡ places.old ++ flat_map metric_matchers metrics.now) }
+{
+    for metric in metrics {
+        metric.add_matchers(places)?;
+    }
+    Ok(())
 }

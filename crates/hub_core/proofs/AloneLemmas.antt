@@ -21,13 +21,11 @@ use Rattle.matcher_table.proofs.Counting.{place_of, counted_at}
 use Rattle.held_slots.specs.Holdings.{matcher_tree}
 use Rattle.held_slots.proofs.HoldingLaws.{held_live, held_tree}
 use Rattle.held_slots.proofs.TruthLaws.{table_sound}
-use Rattle.bucket_meaning.specs.Ends.{Moment}
-use Rattle.client_engine.specs.declared.live_id.LiveId.{LiveId}
 use Rattle.hub_core.specs.declared.live_instance.LiveInstance.{LiveInstance}
 use Rattle.hub_core.specs.declared.hub.Hub.{Hub}
 use Rattle.hub_core.specs.HubStands.{SlotStandsFor, HubStandsFor}
 use Rattle.hub_core.specs.SharedTable.{IsHeldIn, slots_of}
-use Rattle.hub_core.specs.Slots.{live_id, same_id, slot_at}
+use Rattle.hub_core.specs.Slots.{live_id}
 use Rattle.hub_core.specs.Sleeping.{StandsAsleep}
 use Rattle.hub_core.specs.Alone.{live_at, hub_table, last_moment, HoldsSlot, IsSameLive, RunsAsAlone}
 use Rattle.hub_core.proofs.LogLemmas.{found_held}

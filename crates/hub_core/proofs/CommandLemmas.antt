@@ -1,6 +1,6 @@
 -- A configuration that goes in under its name, or is taken out.
 use Rattle.bucket_meaning.specs.Ends.{Moment}
-use Rattle.std.proofs.Common.{◌≡◌, ℕ, ◌+◌, ℤ, true, false, cond, List, Option, Some, None, is_some, Result, Ok, Err, refl, sym, ap, subst, ◌∙◌}
+use Rattle.std.proofs.Common.{◌≡◌, ℕ, ◌+◌, true, false, cond, List, Option, Some, None, is_some, Result, Ok, Err, refl, sym, ap, subst, ◌∙◌}
 use Rattle.std.specs.Prelude.{nat_le, IfOk}
 use Rattle.std.specs.Bool.{MatchBool}
 use Rattle.std.specs.Option.{MatchOption}
@@ -10,10 +10,7 @@ use Rattle.config_types.specs.declared.config.Config.{Config}
 use Rattle.session_frames.specs.declared.reply.ReplyBody.{ReplyBody}
 use Rattle.session_frames.specs.declared.reply.ReplyBody.TheVariants as answers
 use Rattle.config_links.specs.declared.linked.Linked.{Linked}
-use Rattle.atom_record.specs.declared.log.LogFrame.{LogFrame}
-use Rattle.client_engine.specs.InstanceStands.{IsFresh}
 use Rattle.hub_core.specs.declared.books.Books.{Books}
-use Rattle.hub_core.specs.BookStands.{BooksStandFor}
 use Rattle.client_engine.specs.declared.live_id.LiveId.{LiveId}
 use Rattle.hub_core.specs.declared.live_instance.LiveInstance.{LiveInstance}
 use Rattle.hub_core.specs.declared.lives.Lives.{Lives}

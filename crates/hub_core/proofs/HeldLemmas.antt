@@ -56,6 +56,7 @@ nothing = record {
     known = record { predicates = []; tables = [] };
     states = [];
     tracks = [];
+    alerts = [];
     base = 0;
     last = 0;
   };

@@ -36,12 +36,10 @@ use Rattle.hub_meaning.specs.ClientAnswers.{final_report, install_answer, remove
 use Rattle.hub_meaning.proofs.SessionLogLaws.{own-push_own, own-push_other, log_frames-push, log_frames-own, clock_of-push, clock_of-own}
 use Rattle.hub_meaning.proofs.LiveConfigLaws.{live-push, live_placed, live_distinct, history_of-push, history_of-new, history_of-log, one_if, config_at-with_config, config_at-without_id, length-with_config, length-without_id, placed_at}
 use Rattle.client_engine.specs.NextSteps.{logged_step, reported_step}
-use Rattle.client_engine.specs.declared.request.ReportRequest.{ReportRequest}
 use Rattle.client_engine.specs.Handed.{BookOfStates}
 use Rattle.client_engine.specs.InstanceStands.{InstanceStandsFor, last_step_time, linked_of, new_history}
 use Rattle.hub_core.specs.declared.books.Books.{Books}
 use Rattle.hub_core.specs.BookStands.{BooksStandFor}
-use Rattle.client_engine.specs.declared.live_id.LiveId.{LiveId}
 use Rattle.hub_core.specs.declared.live_instance.LiveInstance.{LiveInstance}
 use Rattle.hub_core.specs.declared.lives.Lives.{Lives}
 use Rattle.hub_core.proofs.TableLemmas.{table_held}
@@ -51,7 +49,7 @@ use Rattle.hub_core.specs.SlotLogs.{FoundLogs, AllLog}
 use Rattle.hub_core.specs.declared.log_clock.LogClock.{LogClock}
 use Rattle.hub_core.specs.Sleeping.{moment_of_clock, hears, StandsAsleep}
 use Rattle.hub_core.proofs.SleepingLemmas.{last_from-logged, last_from-reported, pushed_at, asleep_fresh, asleep_reported, asleep_logged, asleep_on, shown_heard, unheard_untouching}
-use Rattle.hub_core.specs.Slots.{live_id, request_of, same_id, slot_at, count_at, ShowsAt}
+use Rattle.hub_core.specs.Slots.{live_id, request_of, slot_at, count_at, ShowsAt}
 use Rattle.hub_core.specs.Commands.{change, held_at, others, Changes, Stays, StaysWith, IsEnded, Replaces, body_of_report, PutsIn, InstallsLinked, Installs, TakesOut, Removes, ReportsLive}
 use Rattle.hub_core.specs.HubStands.{LiveStandsFor, SlotStandsFor, LivesStandFor, HubStandsFor, Serves}
 use Rattle.hub_core.proofs.InstallReadingLemmas.{linked_is}

@@ -1,5 +1,5 @@
 -- A frame that came to those that are noted came to all that hear it.
-use Rattle.std.proofs.Common.{◌≡◌, ℕ, ◌+◌, ◌≤◌, ◌==◌, Bool, true, false, not, ◌&&◌, ◌||◌, cond, List, [], ◌∷◌, ◌++◌, Option, Some, None, refl, sym, ap, subst, ◌∙◌, arith}
+use Rattle.std.proofs.Common.{◌≡◌, ℕ, ◌+◌, ◌==◌, Bool, true, false, not, ◌&&◌, ◌||◌, cond, List, [], ◌∷◌, ◌++◌, Option, Some, None, refl, sym, ap, subst, ◌∙◌, arith}
 use Rattle.std.specs.Bool.{MatchBool}
 use Rattle.std.specs.List.{All, list_any}
 use Rattle.std.specs.Map.{keys_of}
@@ -12,7 +12,7 @@ use Rattle.atom_record.specs.declared.log.LogFrame.TheVariants.{Tick, AtomAt, Pu
 use Rattle.bucket_meaning.specs.Ends.{Moment}
 use Rattle.config_types.specs.declared.matcher.SimpleMatcher.{SimpleMatcher}
 use Rattle.heard_ids.specs.declared.hearing.Hearing.{Hearing}
-use Rattle.heard_ids.specs.Hearing.{heard_ids, hears_all}
+use Rattle.heard_ids.specs.Hearing.{hears_all}
 use Rattle.id_notes.specs.declared.notes.Notes.{Notes}
 use Rattle.id_notes.specs.Noted.{wants_id, is_named, names_under, names_for_all}
 use Rattle.matcher_table.specs.Tables.{SlotTable}
@@ -21,9 +21,9 @@ use Rattle.client_engine.specs.Handed.{BookOfStates}
 use Rattle.client_engine.specs.Running.{linked_of}
 use Rattle.client_engine.specs.declared.live_id.LiveId.{LiveId}
 use Rattle.hub_core.specs.declared.live_instance.LiveInstance.{LiveInstance}
-use Rattle.hub_core.specs.FrameTruths.{truths_by, LogsBy}
-use Rattle.hub_core.specs.LiveQuestions.{LiveAsks, NamesAsk, AllAskBy}
-use Rattle.hub_core.specs.NotedLives.{wants_at, wants_all_at, AreNoted, noted_for}
+use Rattle.hub_core.specs.FrameTruths.{LogsBy}
+use Rattle.hub_core.specs.LiveQuestions.{NamesAsk, AllAskBy}
+use Rattle.hub_core.specs.NotedLives.{AreNoted, noted_for}
 use Rattle.hub_core.specs.SharedTable.{IsHeldIn, AllHeld}
 use Rattle.hub_core.specs.Sleeping.{heard_id_of, hears_id, hears, IsHearing, AsksAwake}
 use Rattle.hub_core.specs.SlotLogs.{EvaluatesFor, results_for, IsShown, FoundShown, NamedShown, FoundLogs, AllLog}

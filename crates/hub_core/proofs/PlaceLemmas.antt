@@ -10,7 +10,7 @@ use Rattle.indexmap.specs.IndexMap.{set_value_at}
 use Rattle.id_notes.specs.Noted.{is_named}
 use Rattle.client_engine.specs.declared.live_id.LiveId.{LiveId}
 use Rattle.hub_core.specs.declared.live_instance.LiveInstance.{LiveInstance}
-use Rattle.hub_core.specs.Slots.{same_id, slot_at, StandsAt}
+use Rattle.hub_core.specs.Slots.{same_id, slot_at, IsAtPlace}
 use Rattle.hub_core.proofs.NamesLemmas.{all_at, same_equiv, same_is}
 
 module _ (name : LiveId) (row : LiveId × LiveInstance) (rows : List (LiveId × LiveInstance)) where
@@ -25,7 +25,7 @@ module _ (name : LiveId) (row : LiveId × LiveInstance) (rows : List (LiveId × 
   finds_first true own = record { found = refl; wrote = λ live. refl }
   finds_first false own = absurd (true≢false (sym own))
 
-  finds_later : (is : Bool) (place : ℕ) → is ≡ false → StandsAt name place rows
+  finds_later : (is : Bool) (place : ℕ) → is ≡ false → IsAtPlace name place rows
       → Finds is (slice_get (values_of rows) place) (λ live. row ∷ set_value_at rows place live)
   finds_later true place other rest = absurd (true≢false other)
   finds_later false place other rest = record {
@@ -37,7 +37,7 @@ module _ (name : LiveId) (row : LiveId × LiveInstance) (rows : List (LiveId × 
 pub stands_there : (name : LiveId) (live : LiveInstance) (rows : List (LiveId × LiveInstance)) (place : ℕ)
     → IsDistinct same_id (keys_of rows)
     → slice_get rows place ≡ Some (name, live)
-    → StandsAt name place rows
+    → IsAtPlace name place rows
 unfolding IsDistinct
 stands_there name live [] place distinct is = absurd (none-some (name, live) is)
 stands_there name live (row ∷ rows) zero distinct is =

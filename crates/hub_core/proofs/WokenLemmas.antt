@@ -1,5 +1,5 @@
 -- What woke up for a frame or for a report.
-use Rattle.std.proofs.Common.{◌≡◌, ◌≢◌, ℕ, ◌+◌, Bool, List, map, sym, ap, subst}
+use Rattle.std.proofs.Common.{◌≡◌, ℕ, Bool, List, sym, ap, subst}
 use Rattle.atom_record.specs.declared.log.LogFrame.{LogFrame}
 use Rattle.bucket_meaning.specs.Ends.{Moment}
 use Rattle.report_writer.specs.declared.tree.ReportTree.{ReportTree}

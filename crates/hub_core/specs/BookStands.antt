@@ -1,7 +1,7 @@
 -- What the two books of the log stand for.
 use Rattle.std.specs.Prelude.{◌≡◌, List}
 use Rattle.atom_record.specs.declared.log.LogFrame.{LogFrame}
-use Rattle.atom_record.specs.declared.log.LogFrame.TheVariants.{Pull}
+use Rattle.atom_record.specs.declared.log.LogFrame.TheVariants.{Tick, AtomAt, Pull}
 use Rattle.atom_record.specs.declared.log.PullOutcome.TheVariants.{Failed}
 use Rattle.state_slicer.specs.StateBooks.{StateBookStandsFor}
 use Rattle.pull_book.specs.PullBooks.{PullBookStandsFor}
@@ -16,3 +16,9 @@ pub record BooksStandFor (books : Books) (log : List LogFrame) : Type 0 where
 abbrev pub IsAsFailed : LogFrame → LogFrame → Type 0
 IsAsFailed (Pull at id outcome) failed = failed ≡ Pull at id Failed
 IsAsFailed _ failed = Unit {0}
+
+-- what is left of a frame whose pull was taken: one that failed; an atom and a tick stay as they are
+abbrev pub frame_left : LogFrame → LogFrame
+frame_left (Tick at) = Tick at
+frame_left (AtomAt at atom) = AtomAt at atom
+frame_left (Pull at id outcome) = Pull at id Failed

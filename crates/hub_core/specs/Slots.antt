@@ -39,7 +39,7 @@ abbrev pub slot_at : LiveId → List (LiveId × LiveInstance) → Option LiveIns
 slot_at name slots = lookup (same_id name) slots
 
 -- A name stands at this place: what is held there is held at the name, and what is written there is written under it.
-pub record StandsAt (name : LiveId) (place : ℕ) (slots : List (LiveId × LiveInstance)) : Type 0 where
+pub record IsAtPlace (name : LiveId) (place : ℕ) (slots : List (LiveId × LiveInstance)) : Type 0 where
   pub there : slot_at name slots ≡ slice_get (values_of slots) place
   pub written : (live : LiveInstance) → set_value_at slots place live ≡ set_value (same_id name) slots live
 

@@ -5,7 +5,7 @@ ghost use Rattle.session_frames.specs.Faultless.{IsFaultlessLog};
 ghost use Rattle.state_slicer.specs.StateBooks.{StateBookStandsFor};
 ghost use Rattle.pull_book.specs.PullBooks.{PullBookStandsFor};
 ghost use Rattle.metric_meaning.specs.ShownFrames.{shown_as};
-ghost use Rattle.hub_core.specs.BookStands.{IsAsFailed};
+ghost use Rattle.hub_core.specs.BookStands.{IsAsFailed, frame_left};
 
 use atom_record::{LogFrame, PullOutcome};
 use pull_book::PullBook;
@@ -68,12 +68,13 @@ impl Books {
         }
     }
 
-    /// Takes what a frame pulled out of it, if it is a pull.
+    /// Takes what a frame pulled out of it, if it is a pull, which is left as one that failed. An atom and a tick stay.
     pub fn record(&mut self, frame: &mut LogFrame) -> Result<(), AllocError>
         requires faultless { IsFaultlessLog frame.old }
         ensures pulls { OnOk result ((log : List LogFrame) → PullBookStandsFor self.old.pulls log
             → PullBookStandsFor self.new.pulls (log ++ frame.old ∷ [])) }
         ensures states { self.new.states ≡ self.old.states }
+        ensures lent { frame.new ≡ frame_left frame.old }
     {
         match frame {
             LogFrame::Tick { .. } => Ok(()),

@@ -40,6 +40,7 @@ pub struct Hub<J: Judge> {
 impl<J: Judge> Hub<J> {
     ghost use Rattle.hub_core.specs.HubStands.{judge_of, asked_in, HubStandsFor, Serves, UnheardStay};
     ghost use Rattle.hub_core.specs.Alone.{RunsAsAlone};
+    ghost use Rattle.hub_core.specs.BookStands.{frame_left};
     ghost use Rattle.hub_core.specs.LiveQuestions.{questions_in};
 
     /// A hub that has seen no frame. It takes no memory yet.
@@ -130,6 +131,7 @@ impl<J: Judge> Hub<J> {
             → clock_of frames ≤ log_time frame.old
             → asks.new ≤ asks.old + questions_in J.says self.old frames (Log frame.old) }
         ensures asleep { OnOk result (UnheardStay (Log frame.old) self.old self.new) }
+        ensures lent { OnOk result (frame.new ≡ frame_left frame.old) }
     {
         let before = self.clock;
         self.clock = before.after(frame);

@@ -7,7 +7,7 @@ ghost use Rattle.matcher_table.specs.Contents.{contents_of};
 ghost use Rattle.id_notes.specs.Noted.{names_under, names_for_all};
 ghost use Rattle.hub_core.specs.SharedTable.{AllHeld, KeepsSlots};
 ghost use Rattle.hub_core.specs.Sleeping.{moment_of_clock, heard_id_of};
-ghost use Rattle.hub_core.specs.Slots.{same_id, StandsAt};
+ghost use Rattle.hub_core.specs.Slots.{same_id, IsAtPlace};
 ghost use Rattle.hub_core.specs.NotedLives.{AreNotedApart, noted_for};
 ghost use Rattle.hub_core.specs.SlotLogs.{EvaluatesFor, questions_for, NamedShown};
 ghost use Rattle.hub_core.specs.LiveQuestions.{NamesAsk};
@@ -188,7 +188,7 @@ fn log_at<L: Ledger>(
 ) -> Result<(), AllocError>
     requires sound { IsFaultlessLog coming.now.frame.now }
     requires held { AllHeld (contents_of table.now) slots.old.entries }
-    requires there { StandsAt name place slots.old.entries }
+    requires there { IsAtPlace name place slots.old.entries }
     ensures shown { OnOk result (NamedShown (contents_of table.now) (moment_of_clock coming.now.before)
         coming.now.frame.now coming.now.states.now (name ∷ []) slots.old.entries slots.new.entries) }
     ensures kept { KeepsSlots slots.old.entries slots.new.entries }

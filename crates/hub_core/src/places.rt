@@ -1,6 +1,6 @@
 //! Where configurations were found last.
 ghost use Rattle.std.specs.Prelude.{IfSome};
-ghost use Rattle.hub_core.specs.Slots.{StandsAt};
+ghost use Rattle.hub_core.specs.Slots.{IsAtPlace};
 
 use crate::live_instance::LiveInstance;
 use client_engine::LiveId;
@@ -28,7 +28,7 @@ impl Places {
     /// Where a name stands, if it stands where it was found last.
     #[inline(always)]
     pub fn of(&self, slots: &IndexMap<LiveId, LiveInstance>, name: LiveId) -> Option<usize>
-        ensures { IfSome result (λ place. StandsAt name place slots.now.entries) }
+        ensures { IfSome result (λ place. IsAtPlace name place slots.now.entries) }
     {
         let place = *self.found.get(kept_at(name))?;
         // `len` says that no two names are the same.

@@ -49,8 +49,8 @@ fn run_block<J: Counting>(
     Ok(())
 }
 
-/// Runs a line: frames, the replies to them, how often the judge was asked so far, frames that are taken again and again,
-/// or a session of many clients.
+/// Runs a line: frames, the replies to them, how often the judge was asked so far, frames that are taken again and
+/// again, or a session of many clients.
 fn run_line<J: Counting>(
     alloc: Global,
     tester: &mut Tester,

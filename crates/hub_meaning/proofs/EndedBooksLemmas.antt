@@ -6,7 +6,7 @@ use Rattle.std.proofs.lemmas.Bool.Decides.{nat_tests}
 use Rattle.sd_base.specs.Outputs.{outputs, outputs_after}
 use Rattle.sd_base.proofs.OutputsLemmas.{outputs-push}
 use Rattle.atom_record.specs.declared.atom.Atom.{Atom}
-use Rattle.bucket_meaning.specs.Marks.{Mark, Came, Ends, Asked, Part, Books, no_edges, boundary, boundary_marks, after, books_from, books_of}
+use Rattle.bucket_meaning.specs.Marks.{Mark, Ends, Asked, Part, Books, no_edges, boundary, boundary_marks, after, books_from, books_of}
 use Rattle.bucket_meaning.specs.Rows.{drops, row_of}
 use Rattle.bucket_meaning.proofs.MarksLemmas.{books-append}
 use Rattle.config_links.specs.declared.linked.LMetric.{LMetric}

@@ -4,7 +4,7 @@ use Rattle.std.proofs.lemmas.Bool.{ltb-false}
 use Rattle.link_rules.specs.declared.entities.Entities.{Entities}
 use Rattle.link_rules.specs.declared.fault.LinkFault.{LinkFault}
 use Rattle.link_rules.specs.declared.limits.Limit.{Limit}
-use Rattle.link_rules.specs.declared.limits.Limit.TheVariants.{Matchers, Predicates, States, Metrics}
+use Rattle.link_rules.specs.declared.limits.Limit.TheVariants.{Matchers, Predicates, States, Metrics, Alerts}
 use Rattle.link_rules.specs.EntityLimits.{limit_fault, limits, most_of, count_limit, AreFew}
 use Rattle.link_rules.proofs.LinkFaultLemmas.{none_of}
 
@@ -14,7 +14,7 @@ within : (most count : ℕ) (past : Bool) (found : LinkFault) → nat_lt most co
 within most count false found is h = ltb-false most count is
 within most count true found is h = absurd (cc)
 
-count_fits : (limit : Limit) (count : ℕ) → count_limit limit count ≡ None → count ≤ most_of limit
+pub count_fits : (limit : Limit) (count : ℕ) → count_limit limit count ≡ None → count ≤ most_of limit
 count_fits limit count h = within (most_of limit) count (nat_lt (most_of limit) count) _ refl h
 
 -- where no number is past its limit there are few entities
@@ -25,4 +25,5 @@ few entities h = let parts = none_of (limits entities) h in record {
   predicates = count_fits Predicates _ parts.1.0;
   states = count_fits States _ parts.1.1.0;
   metrics = count_fits Metrics _ parts.1.1.1.0;
+  alerts = count_fits Alerts _ parts.1.1.1.1.1.1.0;
 }

@@ -38,3 +38,10 @@ pub breaks_second : {T : Type 0} (early second : Option LinkFault) (error : Link
     → Links (Err error) (first_of (early ∷ second ∷ [])) wanted
 breaks_second early second (Fault found) wanted none is = rw (none, is) refl
 breaks_second early second Memory wanted none is = tt
+
+-- and so where four were judged before it
+pub breaks_fifth : {S T : Type 0} (first second third fourth last : Option LinkFault) (error : LinkError) (given : S)
+    (wanted : T) → first ≡ None → second ≡ None → third ≡ None → fourth ≡ None → Links (Err error) last given
+    → Links (Err error) (first_of (first ∷ second ∷ third ∷ fourth ∷ last ∷ [])) wanted
+breaks_fifth first second third fourth last (Fault found) given wanted a b c d is = rw (a, b, c, d, is) refl
+breaks_fifth first second third fourth last Memory given wanted a b c d is = tt

@@ -71,4 +71,5 @@ entities_of config = record {
   states = config.states;
   metrics = metrics_of config;
   no_report = config.no_report;
+  alerts = config.alerts;
 }

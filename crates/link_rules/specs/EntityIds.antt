@@ -6,12 +6,13 @@ use Rattle.std.specs.List.{flat_map}
 use Rattle.config_types.specs.declared.matcher.MatcherDef.{MatcherDef}
 use Rattle.config_types.specs.declared.predicate.PredicateDef.{PredicateDef}
 use Rattle.config_types.specs.declared.state.StateDef.{StateDef}
+use Rattle.config_types.specs.declared.alert.AlertDef.{AlertDef}
 use Rattle.distinct.specs.Places.{first_place}
 use Rattle.distinct.specs.Repeats.{repeat_in}
 use Rattle.link_rules.specs.declared.entities.Metric.{Metric}
 use Rattle.link_rules.specs.declared.entities.Entities.{Entities}
 use Rattle.link_rules.specs.declared.fault.LinkFault.{LinkFault}
-use Rattle.link_rules.specs.LinkFaults.{fault, no_id, duplicate_id, matcher_kind, predicate_kind, state_kind, metric_kind, first_of}
+use Rattle.link_rules.specs.LinkFaults.{fault, no_id, duplicate_id, matcher_kind, predicate_kind, state_kind, metric_kind, alert_kind, first_of}
 
 -- the id of a matcher
 abbrev pub id_of_matcher : MatcherDef → Option ℤ
@@ -28,6 +29,10 @@ id_of_state def = def.id
 -- the id of a metric
 abbrev pub id_of_metric : Metric → Option ℤ
 id_of_metric metric = metric.common.id
+
+-- the id of an alert
+abbrev pub id_of_alert : AlertDef → Option ℤ
+id_of_alert def = def.id
 
 -- the ids that are set, in config order; where every entity has one, the place of an id here is that of its entity
 abbrev pub set_ids : List (Option ℤ) → List ℤ
@@ -54,6 +59,7 @@ missing_ids entities =
     ∷ no_id_in predicate_kind (map id_of_predicate entities.predicates)
     ∷ no_id_in state_kind (map id_of_state entities.states)
     ∷ no_id_in metric_kind (map id_of_metric entities.metrics)
+    ∷ no_id_in alert_kind (map id_of_alert entities.alerts)
     ∷ []
 
 -- number 2: the first entity that has no id
@@ -67,6 +73,7 @@ duplicate_ids entities =
     ∷ duplicate_in predicate_kind (map id_of_predicate entities.predicates)
     ∷ duplicate_in state_kind (map id_of_state entities.states)
     ∷ duplicate_in metric_kind (map id_of_metric entities.metrics)
+    ∷ duplicate_in alert_kind (map id_of_alert entities.alerts)
     ∷ []
 
 -- number 3: the first id that stood earlier in its kind

@@ -1,5 +1,8 @@
 -- The first number that is past its limit.
-use Rattle.std.specs.Prelude.{ℕ, ℤ, pos, ◌*◌, ◌≤◌, nat_lt, List, [], ◌∷◌, length, Option, Some, None, if◌then◌else◌}
+use Rattle.std.specs.Prelude.{ℕ, ℤ, pos, ◌*◌, ◌≤◌, nat_lt, nat_le, Bool, false, List, [], ◌∷◌, length, Option, Some, None, if◌then◌else◌}
+pub use Rattle.config_types.specs.AlertSpecs.{most_parts, most_threshold, refractory_seconds}
+use Rattle.config_types.specs.declared.alert.AlertDef.{AlertDef}
+use Rattle.config_types.specs.declared.metric.ActivationDef.{ActivationDef}
 use Rattle.config_types.specs.declared.metric.SamplingType.{SamplingType}
 use Rattle.config_types.specs.declared.metric.SamplingType.TheVariants.{RandomOne}
 use Rattle.config_types.specs.declared.predicate.PredicateDef.{PredicateDef}
@@ -13,7 +16,7 @@ use Rattle.link_rules.specs.declared.entities.Kind.TheVariants.{Gauge}
 use Rattle.link_rules.specs.declared.entities.Entities.{Entities}
 use Rattle.link_rules.specs.declared.fault.LinkFault.{LinkFault}
 use Rattle.link_rules.specs.declared.limits.Limit.{Limit}
-use Rattle.link_rules.specs.declared.limits.Limit.TheVariants.{Matchers, Predicates, States, Metrics, PredicateBound, MetricBound, Samples, BucketSamples}
+use Rattle.link_rules.specs.declared.limits.Limit.TheVariants.{Matchers, Predicates, States, Metrics, PredicateBound, MetricBound, Samples, BucketSamples, Activations, Lifetime, Alerts, Parts, Threshold, Refractory}
 use Rattle.link_rules.specs.LinkFaults.{fault, past_limit, first_of, first_in}
 
 -- how many matchers a configuration has
@@ -44,6 +47,18 @@ most_samples = 100
 abbrev pub most_bucket_samples : ℕ
 most_bucket_samples = 16384
 
+-- how many activations a metric has
+abbrev pub most_activations : ℕ
+most_activations = 8
+
+-- how many seconds an activation lasts
+abbrev pub most_lifetime : ℕ
+most_lifetime = 1000000
+
+-- how many alerts a configuration has
+abbrev pub most_alerts : ℕ
+most_alerts = 10
+
 -- the number by which a refusal names a limit; they are judged in this order
 abbrev pub limit_number : Limit → ℕ
 limit_number Matchers = 1
@@ -54,6 +69,12 @@ limit_number PredicateBound = 5
 limit_number MetricBound = 6
 limit_number Samples = 7
 limit_number BucketSamples = 8
+limit_number Activations = 9
+limit_number Lifetime = 10
+limit_number Alerts = 11
+limit_number Parts = 12
+limit_number Threshold = 13
+limit_number Refractory = 14
 
 -- the greatest number that is within a limit
 abbrev pub most_of : Limit → ℕ
@@ -65,6 +86,12 @@ most_of PredicateBound = most_bound
 most_of MetricBound = most_bound
 most_of Samples = most_samples
 most_of BucketSamples = most_bucket_samples
+most_of Activations = most_activations
+most_of Lifetime = most_lifetime
+most_of Alerts = most_alerts
+most_of Parts = most_parts
+most_of Threshold = most_threshold
+most_of Refractory = refractory_seconds
 
 -- a number past this limit
 abbrev pub number_past : Limit → ℤ → LinkFault
@@ -79,6 +106,16 @@ abbrev pub number_limit : Limit → Option ℤ → Option LinkFault
 number_limit limit None = None
 number_limit limit (Some number) =
     if is_number_to (most_of limit) (Some number) then None else Some (number_past limit number)
+
+-- a number from 0 to so many
+abbrev pub is_up_to : ℕ → ℤ → Bool
+is_up_to most (pos number) = nat_le number most
+is_up_to most _ = false
+
+-- a number is set that isn't from 0 to the limit
+abbrev pub amount_limit : Limit → Option ℤ → Option LinkFault
+amount_limit limit None = None
+amount_limit limit (Some number) = if is_up_to (most_of limit) number then None else Some (number_past limit number)
 
 -- the bound of a predicate or a metric that names none
 abbrev pub absent_bound : ℕ
@@ -119,11 +156,28 @@ samples_limit bound (Gauge gauge) = first_of
     (number_limit Samples gauge.max_samples ∷ count_limit BucketSamples (bound * samples_of gauge) ∷ [])
 samples_limit bound _ = None
 
--- a metric's bound, and then its samples
+-- how long an activation lasts
+abbrev pub lifetime_limit : ActivationDef → Option LinkFault
+lifetime_limit def = number_limit Lifetime def.ttl
+
+-- how many activations there are, and then how long each lasts
+abbrev pub activations_limit : List ActivationDef → Option LinkFault
+activations_limit defs = first_of (count_limit Activations (length defs) ∷ first_in lifetime_limit defs ∷ [])
+
+-- a metric's bound, then its samples, and then its activations
 abbrev pub metric_limit : Metric → Option LinkFault
 metric_limit metric = first_of
     (number_limit MetricBound metric.sliced.bound
     ∷ samples_limit (bound_or_default metric.sliced.bound) metric.kind
+    ∷ activations_limit metric.common.activations
+    ∷ [])
+
+-- an alert's parts, its threshold, and the time without an alarm after an alarm
+abbrev pub alert_limit : AlertDef → Option LinkFault
+alert_limit def = first_of
+    (number_limit Parts def.parts
+    ∷ amount_limit Threshold def.threshold
+    ∷ amount_limit Refractory def.refractory
     ∷ [])
 
 -- number 1, in this order
@@ -135,6 +189,8 @@ limits entities =
     ∷ count_limit Metrics (length entities.metrics)
     ∷ first_in predicate_limit entities.predicates
     ∷ first_in metric_limit entities.metrics
+    ∷ count_limit Alerts (length entities.alerts)
+    ∷ first_in alert_limit entities.alerts
     ∷ []
 
 -- number 1: the first number that is past its limit
@@ -147,3 +203,4 @@ pub record AreFew (entities : Entities) : Type 0 where
   pub predicates : length entities.predicates ≤ most_predicates
   pub states : length entities.states ≤ most_states
   pub metrics : length entities.metrics ≤ most_metrics
+  pub alerts : length entities.alerts ≤ most_alerts

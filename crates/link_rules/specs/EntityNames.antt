@@ -2,7 +2,8 @@
 use Rattle.std.specs.Prelude.{ℕ, ℤ, List, [], ◌∷◌, map, Option, Some, None, if◌then◌else◌}
 use Rattle.std.specs.Option.{option_map}
 use Rattle.std.specs.Ordering.{int_eq}
-use Rattle.std.specs.List.{list_any}
+use Rattle.std.specs.List.{list_any, flat_map}
+use Rattle.config_types.specs.declared.alert.AlertDef.{AlertDef}
 use Rattle.config_types.specs.declared.matcher.Combo.{Combo}
 use Rattle.config_types.specs.declared.matcher.MatcherDef.{MatcherDef}
 use Rattle.config_types.specs.declared.matcher.MatcherBody.{MatcherBody}
@@ -11,13 +12,14 @@ use Rattle.config_types.specs.declared.predicate.PredicateDef.{PredicateDef}
 use Rattle.config_types.specs.declared.predicate.PredicateBody.{PredicateBody}
 use Rattle.config_types.specs.declared.predicate.PredicateBody.TheVariants as predicate
 use Rattle.config_types.specs.declared.metric.LinkDef.{LinkDef}
+use Rattle.config_types.specs.declared.metric.ActivationDef.{ActivationDef}
 use Rattle.link_rules.specs.declared.entities.Metric.{Metric}
 use Rattle.link_rules.specs.declared.entities.Kind.{Kind}
 use Rattle.link_rules.specs.declared.entities.Kind.TheVariants.{Gauge, Duration}
 use Rattle.link_rules.specs.declared.entities.Entities.{Entities}
 use Rattle.link_rules.specs.declared.fault.LinkFault.{LinkFault}
-use Rattle.link_rules.specs.LinkFaults.{fault, unknown_matcher, unknown_predicate, unknown_state, matcher_kind, predicate_kind, metric_kind, first_of, first_in}
-use Rattle.link_rules.specs.EntityIds.{matcher_ids, predicate_ids, state_ids}
+use Rattle.link_rules.specs.LinkFaults.{fault, unknown_matcher, unknown_predicate, unknown_state, unknown_metric, matcher_kind, predicate_kind, metric_kind, alert_kind, first_of, first_in}
+use Rattle.link_rules.specs.EntityIds.{matcher_ids, predicate_ids, state_ids, metric_ids}
 
 -- the first of these names that isn't known; one that is absent names nothing
 abbrev pub first_unknown : List ℤ → List (Option ℤ) → Option ℤ
@@ -44,13 +46,21 @@ matchers_of_predicate def = by_body def.body where
   by_body (Some (predicate.Simple simple)) = simple.start ∷ simple.stop ∷ simple.stop_all ∷ []
   by_body _ = []
 
--- a metric names the matcher of what it counts, a gauge its trigger too, and a duration no matcher
+-- an activation names what begins it, and then what ends it
+abbrev pub matchers_of_activation : ActivationDef → List (Option ℤ)
+matchers_of_activation def = def.start ∷ def.cancel ∷ []
+
+-- a metric names the matcher of what it counts, a gauge then its trigger, and a duration neither; and all name at last
+-- those of their activations, one after another
 abbrev pub matchers_of_metric : Metric → List (Option ℤ)
 matchers_of_metric metric = by_kind metric.kind where
+  signals : List (Option ℤ)
+  signals = flat_map matchers_of_activation metric.common.activations
+
   by_kind : Kind → List (Option ℤ)
-  by_kind (Gauge gauge) = metric.common.what ∷ gauge.trigger ∷ []
-  by_kind (Duration max_sparse) = []
-  by_kind _ = metric.common.what ∷ []
+  by_kind (Gauge gauge) = metric.common.what ∷ gauge.trigger ∷ signals
+  by_kind (Duration max_sparse) = signals
+  by_kind _ = metric.common.what ∷ signals
 
 -- a predicate names the children of its combination
 abbrev pub predicates_of_predicate : PredicateDef → List (Option ℤ)
@@ -109,3 +119,15 @@ unknown_predicate_fault entities = first_of (unknown_predicates (predicate_ids e
 unfoldable pub unknown_state_fault : Entities → Option LinkFault
 unknown_state_fault entities =
     unknown_in unknown_state metric_kind (state_ids entities) states_of_metric entities.metrics
+
+-- an alert names the metric that it watches
+abbrev pub metrics_of_alert : AlertDef → List (Option ℤ)
+metrics_of_alert def = def.metric ∷ []
+
+-- number 10, which is judged after all others: the first alert on no metric, where metrics have these ids
+abbrev pub unknown_watched : List ℤ → List AlertDef → Option LinkFault
+unknown_watched known alerts = unknown_in unknown_metric alert_kind known metrics_of_alert alerts
+
+-- the same of a configuration
+unfoldable pub unknown_metric_fault : Entities → Option LinkFault
+unknown_metric_fault entities = unknown_watched (metric_ids entities) entities.alerts

@@ -33,6 +33,10 @@ unknown_predicate = 5
 abbrev pub unknown_state : ℕ
 unknown_state = 6
 
+-- an alert's id of a metric leads to none; the reason is the kind of alerts
+abbrev pub unknown_metric : ℕ
+unknown_metric = 10
+
 -- the kind of matchers, which are judged first
 abbrev pub matcher_kind : ℕ
 matcher_kind = 1
@@ -45,9 +49,13 @@ predicate_kind = 2
 abbrev pub state_kind : ℕ
 state_kind = 3
 
--- the kind of metrics, which are judged last
+-- the kind of metrics, which are judged after states
 abbrev pub metric_kind : ℕ
 metric_kind = 4
+
+-- the kind of alerts, which are judged last
+abbrev pub alert_kind : ℕ
+alert_kind = 5
 
 -- the first that is there
 abbrev pub first_of : {A : Type 0} → List (Option A) → Option A

@@ -3,8 +3,8 @@ ghost use Rattle.std.specs.Prelude.{◌≡◌, ◌++◌, map, IfOk, OnOk, OnErr}
 ghost use Rattle.link_rules.specs.Entities.{entities_of, metric_of_event, metric_of_count, metric_of_value, metric_of_gauge, metric_of_duration};
 
 use config_types::{
-    Aggregation, Common, Config, CountDef, Direction, DurationDef, EventDef, FieldMatcher,
-    GaugeDef, MatcherDef, PredicateDef, SamplingType, Sliced, StateDef, ValueDef,
+    Aggregation, AlertDef, Common, Config, CountDef, Direction, DurationDef, EventDef,
+    FieldMatcher, GaugeDef, MatcherDef, PredicateDef, SamplingType, Sliced, StateDef, ValueDef,
 };
 use sd_base::Seq;
 use std::alloc::{AllocError, Global};
@@ -55,6 +55,7 @@ pub struct Entities {
     pub states: Seq<StateDef>,
     pub metrics: Seq<Metric>,
     pub no_report: Seq<i64>,
+    pub alerts: Seq<AlertDef>,
 }
 
 /// A definition of one kind of metric.
@@ -185,5 +186,6 @@ pub fn gather(alloc: Global, config: Config) -> Result<Entities, AllocError>
         states: config.states,
         metrics,
         no_report: config.no_report,
+        alerts: config.alerts,
     })
 }

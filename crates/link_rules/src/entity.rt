@@ -1,11 +1,11 @@
-//! What the checks of ids and references ask of a matcher, a predicate, a state or a metric alike.
+//! What the checks of ids and references ask of a matcher, a predicate, a state, a metric or an alert alike.
 ghost use Rattle.std.specs.Prelude.{◌≡◌, []};
 ghost use Rattle.link_rules.specs.EntityNames.{first_unknown, matchers_of_matcher, matchers_of_predicate, matchers_of_metric, predicates_of_predicate, predicates_of_metric};
 
 use crate::entities::{Kind, Metric};
 use crate::known::Known;
-use crate::names::{find_unknown, find_unknown_child, find_unknown_link};
-use config_types::{MatcherBody, MatcherDef, PredicateBody, PredicateDef, StateDef};
+use crate::names::{find_unknown, find_unknown_child, find_unknown_link, find_unknown_signal};
+use config_types::{AlertDef, MatcherBody, MatcherDef, PredicateBody, PredicateDef, StateDef};
 
 /// An entity: it has an id, and may name matchers and predicates by theirs.
 pub trait Entity {
@@ -125,11 +125,15 @@ impl Entity for Metric {
     }
 
     fn unknown_matcher(&self, known: &Known) -> Option<i64> {
-        match &self.kind {
+        let own = match &self.kind {
             Kind::Gauge(gauge) => find_unknown(known, &[self.common.what, gauge.trigger]),
             Kind::Duration { .. } => None,
             _ => find_unknown(known, &[self.common.what]),
+        };
+        if own.is_some() {
+            return own;
         }
+        find_unknown_signal(known, self.common.activations.as_slice())
     }
 
     fn unknown_predicate(&self, known: &Known) -> Option<i64> {
@@ -142,5 +146,27 @@ impl Entity for Metric {
             return Some(id);
         }
         find_unknown_link(known, self.common.links.as_slice())
+    }
+}
+
+impl Entity for AlertDef {
+    ghost use Rattle.link_rules.specs.EntityIds.{id_of_alert};
+
+    ghost id = { id_of_alert };
+
+    ghost matchers = { λ _. [] };
+
+    ghost predicates = { λ _. [] };
+
+    fn given_id(&self) -> Option<i64> {
+        self.id
+    }
+
+    fn unknown_matcher(&self, _known: &Known) -> Option<i64> {
+        None
+    }
+
+    fn unknown_predicate(&self, _known: &Known) -> Option<i64> {
+        None
     }
 }

@@ -8,7 +8,7 @@ use thiserror::Error;
 #[derive(Clone, Copy, Debug, PartialEq, Eq, Error)]
 #[error("fault {number}, reason {reason}, value {value}")]
 pub struct LinkFault {
-    /// What is wrong, from 1 to 9.
+    /// What is wrong, from 1 to 10.
     pub number: u8,
     /// Which of the limits, which kind of entity, or which reason.
     pub reason: u8,
@@ -55,6 +55,9 @@ pub const MATCHER_CYCLE: u8 = 7;
 
 pub const PREDICATE_CYCLE: u8 = 8;
 
+/// An id of a metric leads to none.
+pub const UNKNOWN_METRIC: u8 = 10;
+
 // The kinds of entities.
 
 pub const MATCHER: u8 = 1;
@@ -64,3 +67,6 @@ pub const PREDICATE: u8 = 2;
 pub const STATE: u8 = 3;
 
 pub const METRIC: u8 = 4;
+
+/// The kind of alerts.
+pub const ALERT: u8 = 5;

@@ -5,7 +5,9 @@ ghost use Rattle.link_rules.specs.EntityIds.{set_ids, no_id_in, duplicate_in, no
 
 use crate::entities::Entities;
 use crate::entity::Entity;
-use crate::fault::{DUPLICATE_ID, LinkError, LinkFault, MATCHER, METRIC, NO_ID, PREDICATE, STATE};
+use crate::fault::{
+    ALERT, DUPLICATE_ID, LinkError, LinkFault, MATCHER, METRIC, NO_ID, PREDICATE, STATE,
+};
 use crate::known::Known;
 use std::alloc::Global;
 
@@ -35,6 +37,7 @@ pub fn judge_missing_ids(entities: &Entities) -> Option<LinkFault>
         .or_else(|| find_missing_id(PREDICATE, entities.predicates.as_slice()))
         .or_else(|| find_missing_id(STATE, entities.states.as_slice()))
         .or_else(|| find_missing_id(METRIC, entities.metrics.as_slice()))
+        .or_else(|| find_missing_id(ALERT, entities.alerts.as_slice()))
 }
 
 /// The ids of a kind, in config order, or the first that stood before.

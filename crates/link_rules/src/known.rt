@@ -68,7 +68,7 @@ impl Known {
     }
 }
 
-/// The ids of all kinds, in config order.
+/// The ids of all kinds that are named, in config order. Alerts are named by none.
 #[derive(Drop)]
 pub struct Ids {
     pub matchers: Known,

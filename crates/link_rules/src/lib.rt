@@ -15,5 +15,5 @@ pub use entities::{Entities, GaugeParts, Kind, Metric, ValueParts, gather};
 pub use fault::{LinkError, LinkFault};
 pub use known::{Ids, Known};
 pub use limits::{MOST_PREDICATES, choose_number, count_samples};
-pub use names::find_unknown_child;
+pub use names::{find_unknown_child, judge_watched};
 pub use rules::{checked_ids, refuse};

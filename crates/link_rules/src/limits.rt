@@ -2,11 +2,13 @@
 ghost use Rattle.std.specs.Prelude.{◌≡◌, ◌<◌, ◌≤◌, ◌≤ℤ◌, ◌^◌, Some, None, pos, length, if◌then◌else◌};
 ghost use Rattle.field_select.specs.WellFormed.{is_number_to};
 ghost use Rattle.link_rules.specs.LinkFaults.{first_in};
-ghost use Rattle.link_rules.specs.EntityLimits.{limit_number, most_of, number_past, count_limit, number_limit, number_or, bound_or_default, predicate_limit, samples_of, samples_limit, metric_limit, limit_fault};
+ghost use Rattle.link_rules.specs.EntityLimits.{limit_number, most_of, number_past, count_limit, number_limit, is_up_to, amount_limit, number_or, bound_or_default, predicate_limit, samples_of, samples_limit, lifetime_limit, activations_limit, metric_limit, alert_limit, limit_fault};
 
 use crate::entities::{Entities, GaugeParts, Kind, Metric};
 use crate::fault::{LinkFault, PAST_LIMIT};
-use config_types::{PredicateBody, PredicateDef, SamplingType};
+use config_types::{
+    ActivationDef, AlertDef, MAX_PARTS, MAX_THRESHOLD, PredicateBody, PredicateDef, SamplingType,
+};
 
 /// The most predicates that a configuration has.
 pub const MOST_PREDICATES: usize = 300;
@@ -26,6 +28,17 @@ pub enum Limit {
     Samples,
     /// The samples of a gauge for all keys of a bucket.
     BucketSamples,
+    /// The activations of a metric.
+    Activations,
+    /// The seconds that an activation lasts.
+    Lifetime,
+    Alerts,
+    /// The parts over which an alert counts.
+    Parts,
+    /// The threshold of an alert, from 0.
+    Threshold,
+    /// The seconds without an alarm after an alarm, from 0.
+    Refractory,
 }
 
 impl Limit {
@@ -42,6 +55,12 @@ impl Limit {
             Limit::MetricBound => 6,
             Limit::Samples => 7,
             Limit::BucketSamples => 8,
+            Limit::Activations => 9,
+            Limit::Lifetime => 10,
+            Limit::Alerts => 11,
+            Limit::Parts => 12,
+            Limit::Threshold => 13,
+            Limit::Refractory => 14,
         }
     }
 
@@ -57,6 +76,11 @@ impl Limit {
             Limit::PredicateBound | Limit::MetricBound => 3000,
             Limit::Samples => 100,
             Limit::BucketSamples => 16_384,
+            Limit::Activations => 8,
+            Limit::Alerts => 10,
+            Limit::Lifetime | Limit::Refractory => 1_000_000,
+            Limit::Parts => MAX_PARTS as usize,
+            Limit::Threshold => MAX_THRESHOLD as usize,
         }
     }
 
@@ -89,6 +113,17 @@ fn judge_number(limit: Limit, number: Option<i64>) -> Option<LinkFault>
 {
     let value = number?;
     if value > 0 && value <= limit.most() as i64 {
+        return None;
+    }
+    Some(limit.fault(value))
+}
+
+/// A number is set that isn't from 0 to the limit.
+fn judge_amount(limit: Limit, number: Option<i64>) -> Option<LinkFault>
+    ensures { result ≡ amount_limit limit number }
+{
+    let value = number?;
+    if value >= 0 && value <= limit.most() as i64 {
         return None;
     }
     Some(limit.fault(value))
@@ -148,13 +183,45 @@ fn judge_samples(bound: usize, kind: &Kind) -> Option<LinkFault>
     judge_count(Limit::BucketSamples, bound * count_samples(gauge))
 }
 
+fn judge_lifetimes(defs: &[ActivationDef]) -> Option<LinkFault>
+    ensures { result ≡ first_in lifetime_limit defs.now }
+{
+    for def in defs {
+        if let Some(fault) = judge_number(Limit::Lifetime, def.ttl) {
+            return Some(fault);
+        }
+    }
+    None
+}
+
+fn judge_activations(defs: &[ActivationDef]) -> Option<LinkFault>
+    ensures { result ≡ activations_limit defs.now }
+{
+    if let Some(fault) = judge_count(Limit::Activations, defs.len()) {
+        return Some(fault);
+    }
+    judge_lifetimes(defs)
+}
+
 fn judge_metric(metric: &Metric) -> Option<LinkFault>
     ensures { result ≡ metric_limit metric.now }
 {
-    if let Some(fault) = judge_number(Limit::MetricBound, wide(metric.sliced.bound)) {
+    let bound = wide(metric.sliced.bound);
+    if let Some(fault) = judge_number(Limit::MetricBound, bound) {
         return Some(fault);
     }
-    judge_samples(choose_number(800, wide(metric.sliced.bound)), &metric.kind)
+    if let Some(fault) = judge_samples(choose_number(800, bound), &metric.kind) {
+        return Some(fault);
+    }
+    judge_activations(metric.common.activations.as_slice())
+}
+
+fn judge_alert(def: &AlertDef) -> Option<LinkFault>
+    ensures { result ≡ alert_limit def.now }
+{
+    judge_number(Limit::Parts, wide(def.parts))
+        .or_else(|| judge_amount(Limit::Threshold, def.threshold))
+        .or_else(|| judge_amount(Limit::Refractory, def.refractory))
 }
 
 fn judge_predicates(defs: &[PredicateDef]) -> Option<LinkFault>
@@ -173,6 +240,17 @@ fn judge_metrics(metrics: &[Metric]) -> Option<LinkFault>
 {
     for metric in metrics {
         if let Some(fault) = judge_metric(metric) {
+            return Some(fault);
+        }
+    }
+    None
+}
+
+fn judge_alerts(defs: &[AlertDef]) -> Option<LinkFault>
+    ensures { result ≡ first_in alert_limit defs.now }
+{
+    for def in defs {
+        if let Some(fault) = judge_alert(def) {
             return Some(fault);
         }
     }
@@ -199,5 +277,11 @@ pub fn judge_limits(entities: &Entities) -> Option<LinkFault>
     if let Some(fault) = judge_predicates(entities.predicates.as_slice()) {
         return Some(fault);
     }
-    judge_metrics(entities.metrics.as_slice())
+    if let Some(fault) = judge_metrics(entities.metrics.as_slice()) {
+        return Some(fault);
+    }
+    if let Some(fault) = judge_count(Limit::Alerts, entities.alerts.as_slice().len()) {
+        return Some(fault);
+    }
+    judge_alerts(entities.alerts.as_slice())
 }

@@ -1,17 +1,19 @@
 //! Names that lead nowhere.
 ghost use Rattle.std.specs.Prelude.{◌≡◌, Some, map};
+ghost use Rattle.std.specs.List.{flat_map};
 ghost use Rattle.std.specs.Option.{option_map};
 ghost use Rattle.link_rules.specs.LinkFaults.{fault, unknown_matcher, unknown_predicate, unknown_state, metric_kind};
 ghost use Rattle.link_rules.specs.EntityIds.{matcher_ids, predicate_ids, state_ids};
-ghost use Rattle.link_rules.specs.EntityNames.{first_unknown, link_condition, unknown_in, states_of_metric, unknown_matcher_fault, unknown_predicate_fault, unknown_state_fault};
+ghost use Rattle.link_rules.specs.EntityNames.{first_unknown, link_condition, matchers_of_activation, unknown_in, states_of_metric, unknown_watched, unknown_matcher_fault, unknown_predicate_fault, unknown_state_fault};
 
 use crate::entities::{Entities, Metric};
 use crate::entity::Entity;
 use crate::fault::{
-    LinkFault, MATCHER, METRIC, PREDICATE, UNKNOWN_MATCHER, UNKNOWN_PREDICATE, UNKNOWN_STATE,
+    ALERT, LinkFault, MATCHER, METRIC, PREDICATE, UNKNOWN_MATCHER, UNKNOWN_METRIC,
+    UNKNOWN_PREDICATE, UNKNOWN_STATE,
 };
 use crate::known::Known;
-use config_types::LinkDef;
+use config_types::{ActivationDef, AlertDef, LinkDef};
 
 /// The first of these names that isn't known.
 pub fn find_unknown(known: &Known, names: &[Option<i64>]) -> Option<i64>
@@ -45,6 +47,19 @@ pub fn find_unknown_link(known: &Known, links: &[LinkDef]) -> Option<i64>
 {
     for link in links {
         if let Some(id) = find_unknown(known, &[link.condition]) {
+            return Some(id);
+        }
+    }
+    None
+}
+
+/// The first matcher that begins or ends one of these activations and isn't known.
+pub fn find_unknown_signal(known: &Known, activations: &[ActivationDef]) -> Option<i64>
+    ensures { result ≡
+        first_unknown known.now (flat_map matchers_of_activation activations.now) }
+{
+    for activation in activations {
+        if let Some(id) = find_unknown(known, &[activation.start, activation.cancel]) {
             return Some(id);
         }
     }
@@ -129,4 +144,20 @@ pub fn judge_state_names(known: &Known, entities: &Entities) -> Option<LinkFault
     ensures { result ≡ unknown_state_fault entities.now }
 {
     unknown_state_in(known, entities.metrics.as_slice())
+}
+
+/// The first alert on a metric that isn't known.
+pub fn judge_watched(known: &Known, alerts: &[AlertDef]) -> Option<LinkFault>
+    ensures { result ≡ unknown_watched known.now alerts.now }
+{
+    for alert in alerts {
+        if let Some(value) = find_unknown(known, &[alert.metric]) {
+            return Some(LinkFault {
+                number: UNKNOWN_METRIC,
+                reason: ALERT,
+                value,
+            });
+        }
+    }
+    None
 }

@@ -7,7 +7,7 @@ ghost use Rattle.link_rules.specs.LinkRules.{ids_in, id_fault, name_fault, refer
 
 use crate::cycles::refuse_cycles;
 use crate::entities::Entities;
-use crate::fault::{LinkError, LinkFault, MATCHER, METRIC, PREDICATE, STATE};
+use crate::fault::{ALERT, LinkError, LinkFault, MATCHER, METRIC, PREDICATE, STATE};
 use crate::ids::{ids_of, judge_missing_ids};
 use crate::known::Ids;
 use crate::limits::judge_limits;
@@ -24,7 +24,7 @@ pub fn refuse(fault: Option<LinkFault>) -> Result<(), LinkError>
     }
 }
 
-// The ids of all kinds, or the first that stood before.
+// The ids of all kinds that are named, or the first of any kind that stood before.
 #[tactic(auto, unfolding(crate::specs::EntityIds::duplicate_id_fault))]
 fn all_ids(alloc: Global, entities: &Entities) -> Result<Ids, LinkError>
     requires { AreFew entities.now }
@@ -34,6 +34,7 @@ fn all_ids(alloc: Global, entities: &Entities) -> Result<Ids, LinkError>
     let predicates = ids_of(alloc, PREDICATE, entities.predicates.as_slice())?;
     let states = ids_of(alloc, STATE, entities.states.as_slice())?;
     let metrics = ids_of(alloc, METRIC, entities.metrics.as_slice())?;
+    ids_of(alloc, ALERT, entities.alerts.as_slice())?;
     Ok(Ids {
         matchers,
         predicates,

@@ -10,5 +10,6 @@ pub mod TableLaws
 pub mod IdleLaws
 pub mod EnoughLaws
 pub mod RowLaws
+pub mod NoEmptyLaws
 pub mod HangingLaws
 pub mod ReadyLaws

@@ -5,6 +5,7 @@ pub mod Counts
 pub mod Trees
 pub mod Truths
 pub mod Idle
+pub mod NoEmpty
 pub mod Hanging
 pub mod Tables
 pub mod Steps

@@ -3,7 +3,7 @@ ghost use Rattle.std.specs.Prelude.{◌≡◌, ◌≢◌, ◌⊎◌, ℕ, ◌<�
 ghost use Rattle.indexmap.specs.IndexMap.{spare};
 ghost use Rattle.matcher_eval.specs.AtomTests.{number_set};
 ghost use Rattle.matcher_table.specs.Slots.{children_of, times_among};
-ghost use Rattle.matcher_table.specs.Hanging.{slots_under, high_slots, atom_ids, LeavesList, HangsUnder, UnhangsFrom, IsUnderAll};
+ghost use Rattle.matcher_table.specs.NoEmpty.{KeepsNoEmptyList};
 
 use crate::SharedMatcher;
 use crate::id_lists::{add_missing, leave_one, push_slot};
@@ -24,9 +24,12 @@ pub struct AtomSlots {
     pub(crate) low: Vec<Vec<usize>>,
     pub(crate) by_id: IndexMap<u32, Vec<usize>>,
     pub(crate) ids: IndexMap<usize, Seq<u32>>,
+    ghost none_empty: { ∥ KeepsNoEmptyList by_id.entries ∥₁ },
 }
 
 impl AtomSlots {
+    ghost use Rattle.matcher_table.specs.Hanging.{slots_under, high_slots, atom_ids, LeavesList, HangsUnder, UnhangsFrom, IsUnderAll};
+
     /// No slot hangs under any id.
     pub(crate) fn new(alloc: Global) -> AtomSlots
         ensures { (id : ℕ) → slots_under result id ≡ [] }
@@ -265,31 +268,12 @@ impl AtomSlots {
         ensures low { self.new.low ≡ self.old.low }
         ensures ids { self.new.ids ≡ self.old.ids }
     {
-        self.leave_list(id, slot);
-        if self.under_high(id).is_empty() {
-            self.drop_id(id);
-        }
-    }
-
-    fn leave_list(&mut self, id: u32, slot: usize)
-        ensures left { LeavesList slot (high_slots self.old id) (high_slots self.new id) }
-        ensures others { (other : ℕ) → other ≢ id → high_slots self.new other ≡ high_slots self.old other }
-        ensures low { self.new.low ≡ self.old.low }
-        ensures ids { self.new.ids ≡ self.old.ids }
-    {
         let Some(slots) = self.by_id.get_mut(&id) else {
             return;
         };
         leave_one(slots, slot);
-    }
-
-    // Forgets an id of the map that has no slot.
-    fn drop_id(&mut self, id: u32)
-        requires { high_slots self.old id ≡ [] }
-        ensures lists { (other : ℕ) → high_slots self.new other ≡ high_slots self.old other }
-        ensures low { self.new.low ≡ self.old.low }
-        ensures ids { self.new.ids ≡ self.old.ids }
-    {
-        self.by_id.swap_remove(&id);
+        if slots.is_empty() {
+            self.by_id.swap_remove(&id);
+        }
     }
 }

@@ -85,7 +85,7 @@ impl Store {
         }
     }
 
-    // One more outside use of a live slot.
+    // One more outside use of a live slot. It takes no memory: the count may stand at its type's end.
     fn raise(&mut self, slot: usize, shared: &SharedMatcher) -> Result<usize, AllocError>
         requires held { StoreIsHeld self.old }
         requires indexed { StoreIsIndexed self.old }
@@ -93,6 +93,7 @@ impl Store {
         requires used { UsedFrom self.old 0 }
         requires live { matcher_at self.old.bodies.slots slot ≡ Some shared.now }
         ensures interns { IfOk result (λ s. Interns (table_in self.old) shared.now s (table_in self.new)) }
+        ensures full { OnErr result (slice_index self.old.outside.items slot ≡ usize.MAX) }
         ensures err { OnErr result (IsUnchanged (table_in self.old) (table_in self.new)) }
         ensures held { StoreIsHeld self.new }
         ensures indexed { StoreIsIndexed self.new }
@@ -148,13 +149,10 @@ impl Store {
         self.index.reserve()?;
         self.order.reserve(1)?;
         let slot = self.bodies.vacant_key();
-        if slot == usize::MAX {
-            return Err(AllocError);
-        }
-        lengthen(&mut self.outside, slot + 1)?;
-        lengthen(&mut self.uses, slot + 1)?;
-        lengthen_truths(&mut self.results, slot + 1)?;
-        lengthen_truths(&mut self.idle, slot + 1)
+        lengthen(&mut self.outside, slot)?;
+        lengthen(&mut self.uses, slot)?;
+        lengthen_truths(&mut self.results, slot)?;
+        lengthen_truths(&mut self.idle, slot)
     }
 
     // Puts it into the vacant slot that comes next.

@@ -27,6 +27,8 @@ fn answer(alloc: Global, shared: &mut Shared, step: &str) -> Result<String, Allo
         "uses" => uses(alloc, shared, rest),
         "result" => result(alloc, shared, rest),
         "chain" => chain(alloc, shared, rest),
+        "many" => many(alloc, shared, rest),
+        "wide" => wide(alloc, shared, rest),
         _ => combination(alloc, shared, word, rest),
     }
 }
@@ -137,6 +139,33 @@ fn chain(alloc: Global, shared: &mut Shared, text: &str) -> Result<String, Alloc
             return String::from_str(alloc, "none");
         };
         shared.release(below);
+        below = next;
+    }
+    format!(in alloc; "{below}")
+}
+
+// So many interns of one matcher.
+fn many(alloc: Global, shared: &mut Shared, text: &str) -> Result<String, AllocError> {
+    let Ok(count) = text.parse::<usize>() else {
+        return String::from_str(alloc, "no count");
+    };
+    let mut slot = None;
+    for _ in 0..count {
+        slot = shared.simple(5, None)?;
+    }
+    slot_text(alloc, slot)
+}
+
+// So many combinations, each of slot 0 and of the one before. All are held.
+fn wide(alloc: Global, shared: &mut Shared, text: &str) -> Result<String, AllocError> {
+    let Ok(count) = text.parse::<usize>() else {
+        return String::from_str(alloc, "no count");
+    };
+    let mut below: usize = 0;
+    for _ in 0..count {
+        let Some(next) = shared.combination(Operation::And, &[0, below])? else {
+            return String::from_str(alloc, "none");
+        };
         below = next;
     }
     format!(in alloc; "{below}")

@@ -1,7 +1,6 @@
 -- What is told of inner keys, one key after the other: lemmas on `specs/DurationCalls.antt`.
 use Rattle.std.proofs.Common.{◌≡◌, ◌⊎◌, inl, inr, ℕ, ◌+◌, ◌<◌, ◌≤◌, Bool, true, false, not, ◌&&◌, ◌||◌, ◌==◌, cond, if◌then◌else◌, nat_lt, List, [], ◌∷◌, ◌++◌, map, filter, length, position, Option, Some, None, refl, sym, ap, subst, ◌∙◌, arith, ⊎_elim, append-nil}
-use Rattle.std.specs.Bool.{Decides}
-use Rattle.std.specs.List.{last_or, list_all, list_any, position_or_len}
+use Rattle.std.specs.List.{last_or, list_all, position_or_len}
 use Rattle.std.specs.Option.{option_map_or}
 use Rattle.std.proofs.lemmas.Bool.{cases_Bool, lt-ltb, false≢true, true≢false}
 use Rattle.std.proofs.lemmas.List.Elements.{filter-append}

@@ -1,11 +1,11 @@
 -- What the calls of a metric of durations tell of inner keys is what is so of them after its steps.
-use Rattle.std.proofs.Common.{◌≡◌, ◌⊎◌, inl, inr, ℕ, ◌+◌, ◌-◌, Bool, true, false, not, ◌==◌, if◌then◌else◌, cond, nat_lt, List, [], ◌∷◌, ◌++◌, map, filter, length, position, Option, Some, None, refl, sym, ap, subst, ◌∙◌, arith, ⊎_elim, append_assoc, append-nil}
+use Rattle.std.proofs.Common.{◌≡◌, ◌⊎◌, ℕ, ◌+◌, ◌-◌, Bool, true, false, not, if◌then◌else◌, cond, nat_lt, List, [], ◌∷◌, ◌++◌, map, filter, length, position, Option, Some, None, refl, sym, ap, subst, ◌∙◌, ⊎_elim, append_assoc, append-nil}
 use Rattle.std.specs.Prelude.{is_some}
 use Rattle.std.specs.List.{flat_map, last_or}
 use Rattle.std.specs.Map.{keys_of}
-use Rattle.std.proofs.lemmas.Bool.{cases_Bool, false≢true}
+use Rattle.std.proofs.lemmas.Bool.{cases_Bool}
 use Rattle.std.proofs.lemmas.Grind.{flat_map-append}
-use Rattle.sd_base.specs.Outputs.{outputs, outputs_after}
+use Rattle.sd_base.specs.Outputs.{outputs}
 use Rattle.sd_base.proofs.OutputsLemmas.{outputs-push}
 use Rattle.atom_record.specs.declared.log.LogFrame.{LogFrame}
 use Rattle.atom_record.specs.declared.log.LogFrame.TheVariants.{Tick, AtomAt, Pull}
@@ -26,7 +26,6 @@ use Rattle.metric_producer.specs.LaneCalls.{coming, told_by, crossing_of, cuttin
 use Rattle.metric_kinds.specs.Keys.{is_same_key}
 use Rattle.duration_metric.specs.declared.change.InnerEvent.{InnerEvent}
 use Rattle.duration_metric.specs.declared.change.InnerChange.{InnerChange}
-use Rattle.duration_metric.specs.declared.change.InnerDelta.{InnerDelta}
 use Rattle.duration_metric.specs.declared.inner.Known.{Known}
 use Rattle.duration_metric.specs.InnerKeys.{DurationCall, key_events, known_at, inner_state, inner_keys, told_to, last_known}
 use Rattle.duration_metric.specs.SumCalls.{known_out, counted_out, active_after, active_told, active_since, sum_collecting}
@@ -34,10 +33,10 @@ use Rattle.duration_metric.proofs.KnownLemmas.{inner_state-got, inner_state-othe
 use Rattle.duration_metric.proofs.ActiveLemmas.{since-learned, since-other}
 use Rattle.metric_meaning.specs.Histories.{What, Logged, Reported, Step, Installation, moment_of}
 use Rattle.metric_meaning.specs.PredicateSteps.{first_event, named_truth, on_key}
-use Rattle.metric_meaning.specs.DurationSteps.{measured, inner_events, inner_after, keys_on, out_key, is_timed, active_keys}
+use Rattle.metric_meaning.specs.DurationSteps.{measured, inner_events, inner_after, out_key, is_timed, active_keys}
 use Rattle.metric_meaning.proofs.DurationStepsLemmas.{inner_stays}
 use Rattle.metric_calls.specs.Askings.{steps_seen, asked_at, own_demands, calls_by_steps, calls_crossed}
-use Rattle.metric_calls.specs.DurationCalls.{first_event_of, told_as, delta_with, learning, inner_asks, listed_after, known_after, told_after, inner_event_at, inner_changes, inner_news, sum_asking}
+use Rattle.metric_calls.specs.DurationCalls.{first_event_of, told_as, delta_with, learning, listed_after, known_after, told_after, inner_event_at, inner_changes, sum_asking}
 use Rattle.metric_calls.proofs.AskingsLemmas.{calls_of_step, calls_are}
 use Rattle.metric_calls.proofs.InnerChangesLemmas.{among_later, among_first, position_is, told_once, nothing_told}
 use Rattle.metric_calls.proofs.QuietStepsLemmas.{IsQuiet, report_quiet, quiet_known, quiet_inner}

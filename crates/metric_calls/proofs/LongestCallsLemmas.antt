@@ -1,13 +1,12 @@
 -- What a metric of longest durations shows is what its calls mean, where times don't fall: lemmas on
 -- `specs/DurationCalls.antt`, for proofs of instances.
-use Rattle.std.proofs.Common.{◌≡◌, ◌⊎◌, inl, inr, ℕ, ◌+◌, ◌-◌, ◌≤◌, Bool, true, false, not, ◌||◌, if◌then◌else◌, cond, nat_lt, List, [], ◌∷◌, ◌++◌, map, filter, length, replicate, Option, Some, None, refl, sym, ap, subst, ◌∙◌, arith, ⊎_elim, append_assoc, append-nil}
+use Rattle.std.proofs.Common.{◌≡◌, ◌⊎◌, ℕ, ◌+◌, ◌-◌, ◌≤◌, Bool, true, false, not, ◌||◌, if◌then◌else◌, cond, nat_lt, List, [], ◌∷◌, ◌++◌, map, filter, length, replicate, Option, Some, None, refl, sym, ap, subst, ◌∙◌, arith, ⊎_elim, append_assoc, append-nil}
 use Rattle.std.specs.Prelude.{is_some}
 use Rattle.std.specs.List.{flat_map}
 use Rattle.std.specs.Map.{keys_of}
 use Rattle.std.proofs.lemmas.Bool.{cases_Bool, false≢true}
 use Rattle.sd_base.specs.Outputs.{outputs}
 use Rattle.sd_base.proofs.OutputsLemmas.{outputs-push}
-use Rattle.atom_record.specs.declared.log.LogFrame.{LogFrame}
 use Rattle.atom_record.specs.declared.value.MetricKey.{MetricKey}
 use Rattle.bucket_meaning.specs.Guard.{is_among}
 use Rattle.bucket_meaning.specs.Marks.{Mark, Came, Lost}
@@ -24,20 +23,20 @@ use Rattle.duration_metric.specs.declared.change.InnerEvent.{InnerEvent}
 use Rattle.duration_metric.specs.declared.change.InnerChange.{InnerChange}
 use Rattle.duration_metric.specs.declared.change.InnerDelta.{InnerDelta}
 use Rattle.duration_metric.specs.declared.inner.Known.{Known}
-use Rattle.duration_metric.specs.InnerKeys.{DurationCall, inner_state, last_known, inner_lost}
-use Rattle.duration_metric.specs.SparseCalls.{is_surely_true, is_told_timed, arrival_for, running_keys, is_on, running_time, keys_gone, sparse_comes, sparse_collecting}
+use Rattle.duration_metric.specs.InnerKeys.{DurationCall, inner_state, last_known}
+use Rattle.duration_metric.specs.SparseCalls.{is_surely_true, is_told_timed, arrival_for, is_on, running_time, sparse_comes, sparse_collecting}
 use Rattle.duration_metric.proofs.KnownLemmas.{ends_with}
 use Rattle.duration_metric.proofs.SparseKnownLemmas.{time-idle, time-off, time-on}
 use Rattle.metric_meaning.specs.Histories.{What, Logged, Reported, Step, Installation, moment_of}
-use Rattle.metric_meaning.specs.DurationSteps.{keys_on, measured, inner_events, inner_after, inner_drops, out_key, is_timed, key_moment, time_on, gone_off, longest_news}
+use Rattle.metric_meaning.specs.DurationSteps.{keys_on, measured, inner_after, inner_drops, out_key, is_timed, key_moment, time_on, gone_off, longest_news}
 use Rattle.metric_meaning.proofs.DurationStepsLemmas.{no_longest}
 use Rattle.metric_calls.specs.Askings.{frame_step, steps_seen, asked_at, own_demands, marks_after, calls_crossed, calls_by_steps, shown_by_calls, AsksWell}
 use Rattle.metric_meaning.specs.Ways.{shown_by_steps}
-use Rattle.metric_calls.specs.DurationCalls.{told_as, delta_with, learning, known_after, told_after, listed_after, inner_event_at, inner_changes, longest_asking, IsTimedWell}
+use Rattle.metric_calls.specs.DurationCalls.{told_as, delta_with, learning, known_after, inner_event_at, inner_changes, longest_asking, IsTimedWell}
 use Rattle.metric_calls.proofs.AskingsLemmas.{calls_of_step, calls_are}
 use Rattle.metric_calls.proofs.InnerChangesLemmas.{or_cases, among_later, among_first}
 use Rattle.metric_calls.proofs.QuietStepsLemmas.{report_quiet}
-use Rattle.metric_calls.proofs.InnerToldLemmas.{events_of, one_event, KnowsInner, TellsInner, KnowsActed, listed_told, quiet_call, crossing_tells, cutting_tells, acted, learned, untold, quiet_tells, asks_tell, calls_tell, crossed_tell}
+use Rattle.metric_calls.proofs.InnerToldLemmas.{events_of, one_event, KnowsInner, TellsInner, listed_told, quiet_call, crossing_tells, cutting_tells, acted, learned, untold, quiet_tells, asks_tell, calls_tell, crossed_tell}
 use Rattle.metric_calls.proofs.SumCallsLemmas.{inner_well, acted_none}
 use Rattle.metric_calls.proofs.TimelyLemmas.{DontGoBack, latest, latest-push, in_time-front, in_time-back, in_time-more, AgreesInTime, calls_mean_in_time}
 

@@ -6,14 +6,13 @@ use Rattle.std.proofs.lemmas.Grind.{flat_map-append}
 use Rattle.atom_record.specs.declared.atom.Atom.{Atom}
 use Rattle.atom_record.specs.declared.log.PullOutcome.{PullOutcome}
 use Rattle.atom_record.specs.declared.log.LogFrame.{LogFrame}
-use Rattle.atom_record.specs.declared.log.LogFrame.TheVariants.{Tick, AtomAt, Pull}
+use Rattle.atom_record.specs.declared.log.LogFrame.TheVariants.{Tick, Pull}
 use Rattle.atom_record.specs.declared.value.Leaf.{Leaf}
-use Rattle.atom_record.specs.declared.value.MetricKey.{MetricKey}
 use Rattle.atom_record.specs.declared.value.Slice.{Slice}
 use Rattle.bucket_meaning.specs.Guard.{is_among, admitted}
 use Rattle.book_meaning.specs.BookLimits.{most_state_ids, most_state_keys}
 use Rattle.book_meaning.specs.Snapshots.{same_atom_id}
-use Rattle.book_meaning.specs.States.{same_dims, no_state_known, puts_back, primary_key, state_atom_in, state_atoms, decides, state_by, state_value}
+use Rattle.book_meaning.specs.States.{same_dims, no_state_known, puts_back, primary_key, state_atom_in, state_atoms, decides, state_by}
 use Rattle.config_links.specs.declared.linked.LMetric.{LMetric}
 use Rattle.config_links.specs.declared.linked.LPredicate.{LPredicate}
 use Rattle.config_links.specs.declared.linked.LSlice.{LSlice}
@@ -21,12 +20,11 @@ use Rattle.config_links.specs.declared.linked.LState.{LState}
 use Rattle.predicate_state.specs.PredicateTable.{LeafKey, PredicateTable}
 use Rattle.state_slicer.specs.Slices.{slice_of}
 use Rattle.duration_metric.specs.declared.inner.Known.{Known}
-use Rattle.metric_meaning.specs.Histories.{What, Logged, Reported, Step, Installation, frames_at, logged_frames, log_after}
+use Rattle.metric_meaning.specs.Histories.{Logged, Reported, Step, Installation, frames_at, logged_frames, log_after}
 use Rattle.metric_meaning.specs.PredicateSteps.{events_at, tables_after}
 use Rattle.metric_meaning.specs.MetricConditions.{is_condition_true}
 use Rattle.metric_meaning.specs.Readings.{LeafReading}
 use Rattle.metric_meaning.specs.StateSlices.{state_key, slice_by, named_slice, named_slices}
-use Rattle.metric_meaning.specs.Scenes.{scene_after}
 use Rattle.metric_meaning.specs.DurationSteps.{measured, inner_events, inner_reading}
 use Rattle.metric_meaning.proofs.PredicateStepsLemmas.{tables_after-idle}
 use Rattle.metric_calls.specs.DurationCalls.{told_as, known_after}

@@ -1,19 +1,14 @@
 -- What a metric that sums durations shows is what its calls mean: lemmas on `specs/DurationCalls.antt`, for proofs of
 -- instances.
-use Rattle.std.proofs.Common.{◌≡◌, ℕ, ◌-◌, Bool, true, false, ◌&&◌, ◌==◌, nat_lt, if◌then◌else◌, List, [], ◌∷◌, ◌++◌, map, length, position, replicate, Option, Some, None, refl, sym, ap, subst, ◌∙◌, arith, append-nil, append_assoc}
+use Rattle.std.proofs.Common.{◌≡◌, ℕ, ◌-◌, Bool, true, false, ◌&&◌, if◌then◌else◌, List, [], ◌∷◌, ◌++◌, map, length, replicate, Option, Some, None, refl, sym, ap, subst, ◌∙◌, arith, append-nil}
 use Rattle.std.specs.Prelude.{is_some}
-use Rattle.std.specs.List.{list_all}
-use Rattle.std.specs.Option.{option_map_or}
 use Rattle.std.specs.Map.{keys_of}
 use Rattle.std.specs.Cmp.Lexicographic.{pointwise_decides}
 use Rattle.std.proofs.lemmas.List.{length-map}
-use Rattle.std.proofs.lemmas.Bool.{false≢true}
 use Rattle.std.proofs.lemmas.Option.{none-some, same_Some}
 use Rattle.atom_record.specs.Equal.{metric_key_exact}
-use Rattle.atom_record.specs.declared.log.LogFrame.{LogFrame}
 use Rattle.atom_record.specs.declared.log.LogFrame.TheVariants.{Tick, AtomAt, Pull}
 use Rattle.atom_record.specs.declared.value.MetricKey.{MetricKey}
-use Rattle.bucket_meaning.specs.Guard.{is_among}
 use Rattle.bucket_meaning.specs.Marks.{Mark, Came, Lost}
 use Rattle.config_types.specs.declared.parameters.PredSpec.{PredSpec}
 use Rattle.config_links.specs.declared.linked.LMetric.{LMetric}
@@ -23,7 +18,7 @@ use Rattle.config_links.specs.declared.linked.LPredBody.TheVariants.{Simple, Com
 use Rattle.field_select.specs.LeafValues.{leaf_value}
 use Rattle.predicate_state.specs.declared.event.PredEvent.{PredEvent}
 use Rattle.predicate_state.specs.PredicateStates.{PredicateState}
-use Rattle.predicate_state.specs.PredicateTable.{LeafKey, same_leaves}
+use Rattle.predicate_state.specs.PredicateTable.{LeafKey}
 use Rattle.metric_producer.specs.Calls.{Got, Learned}
 use Rattle.metric_producer.specs.Rules.{AreTold}
 use Rattle.metric_producer.specs.LaneCalls.{coming, AreAskedAt}
@@ -32,16 +27,16 @@ use Rattle.metric_kinds.specs.Durations.{turned}
 use Rattle.duration_metric.specs.declared.change.InnerEvent.{InnerEvent}
 use Rattle.duration_metric.specs.declared.change.InnerChange.{InnerChange}
 use Rattle.duration_metric.specs.declared.change.InnerDelta.{InnerDelta}
-use Rattle.duration_metric.specs.InnerKeys.{DurationCall, inner_state, inner_keys, last_known, inner_lost, are_places_apart, changes_place, is_told, may_tell, duration_demands}
+use Rattle.duration_metric.specs.InnerKeys.{DurationCall, inner_state, inner_keys, last_known, may_tell, duration_demands}
 use Rattle.duration_metric.specs.SumCalls.{active_after, active_since, sum_collecting}
-use Rattle.duration_metric.proofs.ActiveLemmas.{since-learned, since-other}
+use Rattle.duration_metric.proofs.ActiveLemmas.{since-learned}
 use Rattle.metric_meaning.specs.Histories.{What, Logged, Reported, Step, Installation}
 use Rattle.metric_meaning.specs.PredicateSteps.{first_event, named_truth, on_key}
 use Rattle.metric_meaning.specs.DurationSteps.{inner_fields, measured, inner_events, inner_after, inner_drops, active_keys, sum_news}
-use Rattle.metric_calls.specs.Askings.{frame_step, marks_after, calls_crossed, calls_by_steps, asked_at, AsksWell, Agrees}
-use Rattle.metric_calls.specs.DurationCalls.{first_event_of, delta_with, learning, changes_from, duration_params, listed_after, known_after, told_after, inner_event_at, inner_changes, sum_asking, longest_asking, IsTimedWell}
+use Rattle.metric_calls.specs.Askings.{frame_step, marks_after, calls_crossed, AsksWell, Agrees}
+use Rattle.metric_calls.specs.DurationCalls.{first_event_of, delta_with, learning, changes_from, duration_params, listed_after, known_after, told_after, inner_event_at, inner_changes, sum_asking, IsTimedWell}
 use Rattle.metric_calls.proofs.InnerChangesLemmas.{all_within, all_apart, each_told, changes_alike}
-use Rattle.metric_calls.proofs.InnerToldLemmas.{KnowsInner, TellsInner, KnowsActed, acted, learned, untold, asks_tell, calls_tell, crossed_tell}
+use Rattle.metric_calls.proofs.InnerToldLemmas.{TellsInner, KnowsActed, acted, learned, untold, calls_tell, crossed_tell}
 
 -- the key of an inner event has as many leaves as the predicate has dimensions
 pub event_leaves : (found : Option LPredicate) (step : Step) (event : InnerEvent)

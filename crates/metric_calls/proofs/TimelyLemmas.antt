@@ -1,5 +1,5 @@
 -- Calls mean what steps mean for kinds whose marks hang on times: where these don't fall. Lemmas for proofs of kinds.
-use Rattle.std.proofs.Common.{◌≡◌, ℕ, ◌≤◌, Bool, List, [], ◌∷◌, ◌++◌, refl, ap, sym, subst, ◌∙◌, append_assoc, append-nil}
+use Rattle.std.proofs.Common.{◌≡◌, ℕ, ◌≤◌, Bool, List, [], ◌∷◌, ◌++◌, refl, ap, sym, subst, ◌∙◌, append_assoc}
 use Rattle.sd_base.specs.Outputs.{outputs, outputs_after}
 use Rattle.sd_base.proofs.OutputsLemmas.{outputs_after-append, outputs-push}
 use Rattle.atom_record.specs.declared.log.LogFrame.{LogFrame}
@@ -8,7 +8,7 @@ use Rattle.metric_producer.specs.Calls.{Call}
 use Rattle.metric_producer.specs.LaneCalls.{calls_of}
 use Rattle.metric_producer.specs.Collecting.{Collecting, call_marks}
 use Rattle.metric_meaning.specs.Histories.{What, Logged, Reported, Step}
-use Rattle.metric_meaning.specs.StepMarks.{marks_at, marks_of}
+use Rattle.metric_meaning.specs.StepMarks.{marks_at}
 use Rattle.metric_meaning.specs.Ways.{shown_by_steps}
 use Rattle.metric_calls.specs.Askings.{Asking, AreSameEdges, frame_step, steps_seen, asked_at, own_demands, calls_by_steps, calls_crossed, marks_after, shown_by_calls, IsMadeFor}
 use Rattle.metric_calls.proofs.AskingsLemmas.{calls_of_step, calls_are, frame_marks, report_marks, shown_alike}

@@ -1,5 +1,5 @@
 -- One more frame, one more report: what the lane's clock and its producer do together.
-use Rattle.std.proofs.Common.{◌≡◌, ℕ, Bool, List, [], ◌∷◌, ◌++◌, ◌<◌, ◌&&◌, ◌||◌, ◌==◌, not, true, false, nat_lt, nat_le, Option, Some, None, refl, sym, ap, subst, ◌∙◌, append_assoc, append-nil, arith}
+use Rattle.std.proofs.Common.{◌≡◌, ℕ, Bool, List, [], ◌∷◌, ◌++◌, ◌<◌, Option, Some, None, refl, sym, ap, subst, ◌∙◌, append_assoc, append-nil, arith}
 use Rattle.bucket_meaning.specs.Ends.{Moment, crosses}
 use Rattle.bucket_clock.specs.declared.crossings.Crossings.{Crossings}
 use Rattle.bucket_clock.specs.Sound.{Times}

@@ -1,3 +1,4 @@
+pub mod LaneItemsLemmas
 pub mod LaneStandsLemmas
 pub mod LaneStepsLemmas
 pub mod JoinedEnds

@@ -1,4 +1,5 @@
 pub mod LaneClock
+pub mod LaneItems
 pub mod LaneStands
 pub mod LaneJoining
 pub use Rattle.metric_producer.specs.Calls

@@ -29,8 +29,8 @@ const TIME_LIMIT: u64 = 1 << 63;
 /// After want of memory nothing more is said of it: it can only be dropped.
 #[derive(Drop)]
 pub struct Lane<P: Producer> {
-    clock: Option<Clock>,
-    producer: P,
+    pub(crate) clock: Option<Clock>,
+    pub(crate) producer: P,
 }
 
 impl<P: Producer> Lane<P> {

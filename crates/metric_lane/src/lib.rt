@@ -1,6 +1,7 @@
 //! The lane of one metric: its clock and its producer, which gets just the calls that the metric's steps make.
 #![tactic(auto)]
 
+mod flat;
 mod lane;
 mod laws;
 

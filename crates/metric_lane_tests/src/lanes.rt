@@ -2,8 +2,9 @@
 use crate::steps::Step::{Came, Passed, Pull, Report};
 use crate::steps::{Shown, Step, run};
 use count_metric::CountProducer;
+use flat_form::FlatError;
 use metric_lane::Lane;
-use std::alloc::{AllocError, Global};
+use std::alloc::Global;
 use std::test::*;
 
 fn shown<'a>(rows: &'a [(i32, u64, u64, u64)], not_kept: u64, dropped: u64) -> Shown<'a> {
@@ -15,7 +16,7 @@ fn shown<'a>(rows: &'a [(i32, u64, u64, u64)], not_kept: u64, dropped: u64) -> S
 }
 
 // Whether a new lane with buckets of 10 from 3 on, and two keys a part, goes these steps.
-fn goes_well(alloc: Global, steps: &[Step]) -> Result<bool, AllocError> {
+fn goes_well(alloc: Global, steps: &[Step]) -> Result<bool, FlatError> {
     let mut lane = Lane::new(3, 10, CountProducer::new(alloc, 3, 10, 2, false));
     Ok(run(alloc, &mut lane, steps)? == steps.len())
 }

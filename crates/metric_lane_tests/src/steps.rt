@@ -1,6 +1,7 @@
 //! The steps of a lane, and what its reports show.
 use atom_record::{DimKey, Leaf, MetricKey, Value};
 use count_metric::{Closed, CountCell, CountProducer, Row};
+use flat_form::{FlatError, rebuild};
 use metric_lane::Lane;
 use sd_base::Seq;
 use std::alloc::{AllocError, Global};
@@ -87,16 +88,20 @@ fn goes(alloc: Global, lane: &mut Lane<CountProducer>, step: &Step) -> Result<bo
     }
 }
 
-/// How many of these steps go as they have to, up to the first that doesn't.
+/// How many of these steps go as they have to, up to the first that doesn't: with the lane, and with one beside it that
+/// is saved before each step and built again from its items.
 pub fn run(
     alloc: Global,
     lane: &mut Lane<CountProducer>,
     steps: &[Step],
-) -> Result<usize, AllocError> {
+) -> Result<usize, FlatError> {
+    let mut saved = rebuild(alloc, &*lane)?;
     for (place, step) in steps.iter().enumerate() {
-        if !goes(alloc, lane, step)? {
+        let mut built = rebuild(alloc, &saved)?;
+        if !goes(alloc, lane, step)? || !goes(alloc, &mut built, step)? {
             return Ok(place);
         }
+        saved = built;
     }
     Ok(steps.len())
 }

@@ -12,6 +12,7 @@ mod WorkedDurations
 pub mod DurationStepsLemmas
 mod WorkedMetrics
 mod WorkedEvents
+mod WorkedActivations
 mod WorkedPushedValues
 mod WorkedPushedGauges
 mod WorkedTouched

@@ -33,7 +33,7 @@ use Rattle.metric_meaning.specs.PredicateSteps.{named_truth, first_event, on_key
 use Rattle.metric_meaning.specs.Readings.{atom_reading}
 use Rattle.metric_meaning.specs.MetricConditions.{metric_binds}
 use Rattle.metric_meaning.specs.Scenes.{Scene, scene_after}
-use Rattle.metric_meaning.specs.Arrivals.{holds_in, arriving, arriving_by}
+use Rattle.metric_meaning.specs.Arrivals.{holds_in, is_active_in, arriving, arriving_by}
 use Rattle.metric_meaning.specs.Touched.{acts_on, acts_at, acts_below, names_atom_itself, timed_predicate, is_touched, ConditionStays}
 use Rattle.metric_meaning.proofs.PredicateStepsLemmas.{table_after-push}
 
@@ -176,7 +176,7 @@ none_arrives : (scene : Scene) (metric : LMetric) (at : ℕ) (what : What) (trut
     → truth_at metric.what truths ≡ false
     → arriving_by scene metric (record { at = at; what = what; truths = truths }) ≡ None
 none_arrives scene metric at (Logged (AtomAt when atom)) truths e =
-    ap (λ b. if b && holds_in scene metric (atom_reading atom) then Some atom else None) e
+    ap (λ b. if b && (is_active_in scene metric at && holds_in scene metric (atom_reading atom)) then Some atom else None) e
 none_arrives scene metric at (Logged (Tick when)) truths e = refl
 none_arrives scene metric at (Logged (Pull when id outcome)) truths e = refl
 none_arrives scene metric at (Reported include_current) truths e = refl

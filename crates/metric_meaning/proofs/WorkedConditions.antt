@@ -47,6 +47,7 @@ counted condition links = record {
   bound = 800;
   slices = [];
   kind = Count false;
+  activations = [];
 }
 
 -- an atom without fields

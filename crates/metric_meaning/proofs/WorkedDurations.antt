@@ -66,6 +66,7 @@ measures condition links dims bound kind = record {
   bound = bound;
   slices = [];
   kind = kind;
+  activations = [];
 }
 
 -- an entry with a number
@@ -225,6 +226,7 @@ beside_state groups = record {
     predicates = first_lock no_fields plain ∷ [];
     states = record { atom_id = 27; map = groups } ∷ [];
     metrics = [];
+    alerts = [];
   };
 }
 
@@ -381,6 +383,7 @@ as_a_tree : report_of
           predicates = first_lock no_fields plain ∷ [];
           states = [];
           metrics = total ∷ [];
+          alerts = [];
         };
       };
       steps = on 500 [] ∷ tick 1250 ∷ [];

@@ -34,6 +34,7 @@ guarded = record {
   bound = 2;
   slices = [];
   kind = Count false;
+  activations = [];
 }
 
 -- an installation with these predicates, at the clock 0 of an empty log
@@ -41,7 +42,7 @@ abbrev pub under : List LPredicate → Installation
 under predicates = record {
   base = 0;
   opening = [];
-  linked = record { matchers = []; predicates = predicates; states = []; metrics = [] };
+  linked = record { matchers = []; predicates = predicates; states = []; metrics = []; alerts = [] };
 }
 
 -- a frame of the log, with the truth of the one matcher where it is an atom
@@ -134,7 +135,7 @@ truths_are_handed_in = refl
 
 -- the configuration of this one metric, with any matcher
 abbrev configured : Linked
-configured = record { matchers = []; predicates = []; states = []; metrics = guarded ∷ [] }
+configured = record { matchers = []; predicates = []; states = []; metrics = guarded ∷ []; alerts = [] }
 
 -- a leaf with a text
 abbrev text_leaf : ℕ → LeafTree

@@ -40,6 +40,7 @@ metric_of kind dims size bound = record {
   bound = bound;
   slices = [];
   kind = kind;
+  activations = [];
 }
 
 -- a metric under the first predicate

@@ -67,6 +67,7 @@ metric_of condition dims size bound kind = record {
   bound = bound;
   slices = [];
   kind = kind;
+  activations = [];
 }
 
 -- a matcher of an id with these tests of fields
@@ -91,6 +92,7 @@ watching base opening matcher = record {
     predicates = switch ∷ [];
     states = [];
     metrics = [];
+    alerts = [];
   };
 }
 

@@ -43,6 +43,7 @@ sliced link = record {
   bound = 800;
   slices = record { state = 0; in_what = link } ∷ [];
   kind = Count false;
+  activations = [];
 }
 
 -- an installation with this state, after this log
@@ -50,7 +51,7 @@ abbrev pub beside : LState → List LogFrame → Installation
 beside state opening = record {
   base = 0;
   opening = opening;
-  linked = record { matchers = []; predicates = []; states = state ∷ []; metrics = [] };
+  linked = record { matchers = []; predicates = []; states = state ∷ []; metrics = []; alerts = [] };
 }
 
 -- an atom of the id 27 tells a state, of the empty key

@@ -5,6 +5,7 @@ pub mod Readings
 pub mod MetricConditions
 pub mod StateSlices
 pub mod Scenes
+pub mod ActivationSteps
 pub mod Arrivals
 pub mod StepMarks
 pub mod Ways

@@ -1,10 +1,12 @@
 -- What a contract sees of a predicate's table: how it is kept, and what it knows.
-use Rattle.std.specs.Prelude.{◌≡◌, ℕ, Bool, List, [], ◌∷◌, ◌++◌, length, All}
+use Rattle.std.specs.Prelude.{◌≡◌, ◌≢◌, ℕ, Bool, true, List, [], ◌∷◌, ◌++◌, length, All, Contains}
+use Rattle.std.specs.Map.{keys_of}
 use Rattle.std.specs.Cmp.Lexicographic.{pointwise}
 use Rattle.config_types.specs.declared.parameters.PredSpec.{PredSpec}
 use Rattle.atom_record.specs.declared.value.Leaf.{Leaf}
 use Rattle.atom_record.specs.contracts.value.LeafPartialEq.TheImpl as leaf_test
 use Rattle.predicate_state.specs.declared.event.PredEvent.{PredEvent}
+use Rattle.predicate_state.specs.declared.event.PredEvent.TheVariants.{Start, Stop, StopAll}
 use Rattle.predicate_state.specs.PredicateStates.{PredicateState, KeyEvent, predicate_after}
 
 -- A key is a list of leaves.
@@ -39,3 +41,15 @@ abbrev pub AppliesEvent : PredicateTable → PredicateTable → PredEvent → Le
 AppliesEvent old new event key =
     (spec : PredSpec) (events : List (KeyEvent LeafKey)) → PredTableStandsFor old spec events
     → PredTableStandsFor new spec (events ++ record { event = event; key = key } ∷ [])
+
+-- a start lists a key that is new, and so does a stop where all that isn't listed is unknown
+abbrev pub ListsNew : PredEvent → Bool → Type 0
+ListsNew Start unknown = Unit
+ListsNew Stop unknown = unknown ≡ true
+ListsNew StopAll unknown = ⊥
+
+-- the event lists the key: it is new, and the list isn't at its bound
+pub record ListsNewKey (table : PredicateTable) (event : PredEvent) (key : LeafKey) : Type 0 where
+  pub absent : ¬ Contains (keys_of table.state.counts) key
+  pub room : length table.state.counts ≢ table.spec.bound
+  pub lists : ListsNew event table.state.unknown

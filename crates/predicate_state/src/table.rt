@@ -7,7 +7,7 @@ ghost use Rattle.dim_table.specs.Table.{set_value_at};
 ghost use Rattle.predicate_state.specs.declared.event.PredEvent.TheVariants.{Start, Stop};
 ghost use Rattle.predicate_state.specs.PredicateStates.{initial_state, with_new_key, without_key, state_after, count_after_start, count_after_stop};
 ghost use Rattle.predicate_state.specs.PredicateTruths.{default_truth, count_truth, truth_of_count, key_truth, binds_truth, NamesKey, agrees, is_leaf, are_leaves_bound, is_place_bound};
-ghost use Rattle.predicate_state.specs.PredicateTable.{LeafKey, same_leaves, with_state, PredTableStandsFor, AppliesEvent};
+ghost use Rattle.predicate_state.specs.PredicateTable.{LeafKey, same_leaves, with_state, PredTableStandsFor, AppliesEvent, ListsNewKey};
 
 use crate::bound::{BoundKey, are_in_order, has_leaf};
 use crate::{Bind, PredEvent, Truth};
@@ -63,6 +63,9 @@ impl PredTable {
         ensures state { OnOk result
             (self.new ≡ with_state self.old (state_after same_leaves self.old.spec self.old.state event key)) }
         ensures stands { OnOk result (AppliesEvent self.old self.new event key) }
+
+        // Only a new key that finds room asks for memory.
+        ensures only_new { OnErr result (ListsNewKey self.old event key) }
         ensures err { OnErr result (self.new ≡ self.old) }
     {
         match event {
@@ -81,6 +84,7 @@ impl PredTable {
         requires leaves { length key ≡ self.old.spec.leaves }
         ensures state { OnOk result
             (self.new ≡ with_state self.old (state_after same_leaves self.old.spec self.old.state Start key)) }
+        ensures only_new { OnErr result (ListsNewKey self.old Start key) }
         ensures err { OnErr result (self.new ≡ self.old) }
     {
         match self.row_of(&key) {
@@ -98,6 +102,7 @@ impl PredTable {
         requires leaves { length key ≡ self.old.spec.leaves }
         ensures state { OnOk result
             (self.new ≡ with_state self.old (state_after same_leaves self.old.spec self.old.state Stop key)) }
+        ensures only_new { OnErr result (ListsNewKey self.old Stop key) }
         ensures err { OnErr result (self.new ≡ self.old) }
     {
         match self.row_of(&key) {
@@ -157,6 +162,7 @@ impl PredTable {
         requires absent { ¬ Contains (keys_of self.old.state.counts) key }
         ensures state { OnOk result
             (self.new ≡ with_state self.old (with_new_key self.old.spec.bound self.old.state key count)) }
+        ensures room { OnErr result (length self.old.state.counts ≢ self.old.spec.bound) }
         ensures err { OnErr result (self.new ≡ self.old) }
     {
         self.counts.admit(key, count)?;

@@ -1,5 +1,5 @@
-//! Keys as words: leaves with commas between them, each a number, `-` for none, or numbers with a `+` between them. The key
-//! without a leaf is a point.
+//! Keys as words: leaves with commas between them, each a number, `-` for none, or numbers with a `+` between them. The
+//! key without a leaf is a point.
 use atom_record::{DimKey, Leaf, Value};
 use predicate_state::{Bind, BindList, PredTable};
 use sd_base::Seq;

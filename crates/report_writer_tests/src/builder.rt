@@ -71,7 +71,8 @@ impl Rows {
     }
 }
 
-/// A row: its key, or whether it gathers what found no room, and its buckets, those with a number or those with samples.
+/// A row: its key, or whether it gathers what found no room, and its buckets, those with a number or those with
+/// samples.
 #[derive(Drop)]
 struct Line {
     leaves: Seq<LeafTree>,

@@ -4,3 +4,4 @@ pub mod Causes
 pub mod MemSource
 pub mod MemSink
 pub mod Streams
+pub mod Fronts

@@ -1,5 +1,5 @@
 //! std's readers as sources that read ahead.
-ghost use Rattle.std.specs.Prelude.{◌≡◌, ◌≤◌, ◌↔◌, length, is_err, IsTrue, if◌then◌else◌};
+ghost use Rattle.std.specs.Prelude.{◌≡◌, ◌≤◌, ◌↔◌, length, drop, is_err, IsTrue, MatchBool, if◌then◌else◌};
 ghost use Rattle.std.specs.Io.Buffered.{reader_remaining};
 ghost use Rattle.sd_io.specs.States.{input_with};
 ghost use Rattle.sd_io.specs.Causes.{IsRead, IsHeld, IsSkip, count_up};
@@ -55,6 +55,7 @@ impl<R: Read> Source for BufferedSource<R> {
 
     fn skip(&mut self, count: usize) -> bool
         ensures whole { IsTrue result ↔ (count ≤ length (at_hand self.old)) }
+        ensures rest { MatchBool result (at_hand self.new ≡ drop count (at_hand self.old)) (self.new ≡ self.old) }
 
         // What every source ensures.
         ensures skip { IsSkip (buffered_state R.remaining self.old) (buffered_state R.remaining self.new) result

@@ -2,6 +2,7 @@
 #![tactic(auto)]
 
 mod buffered_source;
+mod front;
 mod mem_sink;
 mod mem_source;
 mod sink;
@@ -10,6 +11,7 @@ mod std_sink;
 mod std_source;
 
 pub use buffered_source::BufferedSource;
+pub use front::{FrontError, read_at_most};
 pub use mem_sink::MemSink;
 pub use mem_source::MemSource;
 pub use sink::{Sink, WriteFailed};

@@ -24,6 +24,10 @@ pub record Reading : Type 0 where
 abbrev pub unread : Reading
 unread = record { pending = []; place = start; ended = false }
 
+-- where a session begins that goes on from another one, whose last time of the log was this
+abbrev pub resumed_at : ℕ → Place
+resumed_at clock = record start { clock = clock }
+
 -- a reader that stood so gave what stands next in these bytes: a frame, after which it holds none, or the end
 abbrev pub GivesNext : Reading → List ℕ → Reading → Option Frame → Type 0
 GivesNext before left after None =

@@ -6,7 +6,7 @@ ghost use Rattle.session_frames.specs.LogRooms.{frame_in};
 ghost use Rattle.session_frames.specs.Faultless.{IsFaultless, IsInTime};
 ghost use Rattle.session_frames.specs.FrameLimits.{most_pending};
 ghost use Rattle.session_frames.specs.Frames as frames;
-ghost use Rattle.session_frames.specs.Reader.{unread, GivesFrame, Refuses, HasReadCause};
+ghost use Rattle.session_frames.specs.Reader.{unread, resumed_at, GivesFrame, Refuses, HasReadCause};
 ghost use Rattle.session_frames.specs.Bodies.{FindsNext, IsOutside, StopsShort, TakesNext, TakesSome};
 
 use crate::body::{BodyError, next_clock, read_frame};
@@ -52,12 +52,20 @@ impl FrameReader {
     pub fn new(alloc: Global) -> FrameReader
         ensures { result ≡ unread }
     {
+        FrameReader::resumed(alloc, 0)
+    }
+
+    /// The same, of a session that goes on from another one: no frame of the log may come before this time, the last
+    /// one of that session. Bytes and frames count from 0.
+    pub fn resumed(alloc: Global, clock: u64) -> FrameReader
+        ensures { result ≡ record unread { place = resumed_at clock } }
+    {
         FrameReader {
             alloc,
             room: Vec::new(alloc),
             place: Place {
                 bytes: 0,
-                clock: 0,
+                clock,
                 frames: 0,
             },
             ended: false,

@@ -1,19 +1,16 @@
 -- On specs/Check.antt: a check that nothing hinders ends by what is found.
 use Rattle.std.proofs.Common.{◌≡◌, ℕ, List, take, Option, Some, None, Result, Ok, Err, ap, ◌∙◌, inl, inr}
 use Rattle.std.specs.Prelude.{◌⊎◌, IfSome}
-use Rattle.sd_io.specs.States.{Input, Output, Ports, ports, input_with}
+use Rattle.sd_io.specs.States.{Output, Ports, ports, input_with}
+use Rattle.sd_io.proofs.FrontLemmas.{first_taken}
 use Rattle.config_check.specs.declared.error.CheckError.{CheckError}
 use Rattle.config_check.specs.declared.error.CheckError.TheVariants.{Read, Write, Memory}
 use Rattle.config_check.specs.declared.finding.Finding.{Finding}
 use Rattle.config_check.specs.Findings.{finding_of}
 use Rattle.config_check.specs.Checks.{most_taken, Checks}
-use Rattle.config_check.proofs.ChecksLemmas.{first_taken}
-use Rattle.statsd_cli.specs.declared.command.Command.{Command}
-use Rattle.statsd_cli.specs.declared.command.Command.TheVariants.{Replay, Check, Load, Unknown}
-use Rattle.statsd_cli.specs.declared.ending.Ending.{Ending}
 use Rattle.statsd_cli.specs.Endings.{status_of}
 use Rattle.statsd_cli.specs.Check.{ending_found, check_ending}
-use Rattle.statsd_cli.specs.Does.{Did, IsUndisturbed}
+use Rattle.statsd_cli.specs.Does.{IsUndisturbed}
 
 -- what was found is found of the first bytes
 found_first : (bytes : List ℕ) (read_old : ℕ) (left : Option (List ℕ)) (read_now : ℕ) (o n : Output)
@@ -23,9 +20,9 @@ found_first : (bytes : List ℕ) (read_old : ℕ) (left : Option (List ℕ)) (re
 found_first bytes read_old None read_now o n finding checks = absurd checks.consumes
 found_first bytes read_old (Some rest) read_now o n finding checks =
     checks.outcome.1
-    ∙ ap finding_of (first_taken bytes checks.taken rest read_now checks.consumes checks.outcome.0)
+    ∙ ap finding_of (first_taken most_taken bytes checks.taken rest read_now checks.consumes checks.outcome.0)
 
--- A check ends by what is found of the first bytes, unless the outside fails or memory is wanting.
+-- of an input that tells its bytes
 judged_at : (bytes : List ℕ) (read_old : ℕ) (o : Output) (new : Ports) (status : ℕ) (answer : Result Finding CheckError)
     → status ≡ status_of (check_ending answer)
     → Checks (ports (input_with (Some bytes) read_old) o) new answer
@@ -48,15 +45,12 @@ judged_with None read_old o new status answer is checks still = tt
 judged_with (Some bytes) read_old o new status answer is checks still =
     judged_at bytes read_old o new status answer is checks still
 
-pub judged : (input : Input) (o : Output) (new : Ports) (status : ℕ) (ending : Ending) (command : Command)
-    → command ≡ Check
-    → status ≡ status_of ending
-    → Did command (ports input o) new ending
-    → IsUndisturbed (ports input o) new
-    → IfSome input.left (λ bytes.
+-- A check ends by what is found of the first bytes, unless the outside fails or memory is wanting.
+pub judged : (old new : Ports) (status : ℕ) (answer : Result Finding CheckError)
+    → status ≡ status_of (check_ending answer)
+    → Checks old new answer
+    → IsUndisturbed old new
+    → IfSome old.input.left (λ bytes.
     (status ≡ status_of (ending_found (finding_of (take most_taken bytes)))) ⊎ (status ≡ 6))
-judged input o new status ending Replay check is did still = absurd (cc)
-judged input o new status ending Check check is did still =
-    judged_with input.left input.faults o new status did.answer (is ∙ ap status_of did.is) did.checks still
-judged input o new status ending (Load seed many) check is did still = absurd (cc)
-judged input o new status ending Unknown check is did still = absurd (cc)
+judged old new status answer is checks still =
+    judged_with old.input.left old.input.faults old.output new status answer is checks still

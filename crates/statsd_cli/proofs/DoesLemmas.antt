@@ -8,22 +8,27 @@ use Rattle.config_check.specs.declared.error.CheckError.TheVariants.{Read, Write
 use Rattle.config_check.specs.declared.finding.Finding.{Finding}
 use Rattle.config_check.specs.declared.finding.Finding.TheVariants.{Sound, TooLarge, Malformed, Unsupported, Unlinked}
 use Rattle.config_check.specs.Checks.{Checks}
+use Rattle.report_print.specs.declared.error.PrintError.{PrintError}
+use Rattle.report_print.specs.declared.error.PrintError.TheVariants as print
+use Rattle.report_print.specs.Prints.{Prints}
 use Rattle.statsd_cli.specs.declared.command.Command.{Command}
-use Rattle.statsd_cli.specs.declared.command.Command.TheVariants.{Replay, Check, Load, Unknown}
+use Rattle.statsd_cli.specs.declared.command.Command.TheVariants.{Replay, Check, Show, Load, Unknown}
 use Rattle.statsd_cli.specs.declared.ending.Ending.{Ending}
-use Rattle.statsd_cli.specs.declared.ending.Ending.TheVariants.{Done, Refused, Usage, BadSession, ReadFault, WriteFault, NoMemory}
+use Rattle.statsd_cli.specs.declared.ending.Ending.TheVariants.{Done, Refused, Usage, BadSession, ReadFault, WriteFault, NoMemory, ReportRefused}
 use Rattle.statsd_cli.specs.Endings.{status_of, status_usage, status_read_fault, status_write_fault}
 use Rattle.statsd_cli.specs.Check.{check_ending}
+use Rattle.statsd_cli.specs.Show.{print_ending}
 use Rattle.statsd_cli.specs.Run.{IsRun}
 use Rattle.statsd_cli.specs.Streams.{Streams}
 use Rattle.statsd_cli.specs.Does.{Does}
 use Rattle.statsd_cli.proofs.LoadLemmas.{told_usage, told_read, told_write}
 
--- What a run tells, and what a check tells.
+-- What a run tells, what a check tells, and what a print tells.
 module _ (old new : Ports) where
   run_usage : (ending : Ending) → IsRun old new ending → status_of ending ≡ 2 → ⊥
   run_usage Done run is = absurd (omega (arith, is))
   run_usage Refused run is = run.outcome
+  run_usage (ReportRefused fault) run is = run.outcome
   run_usage Usage run is = run.outcome
   run_usage (BadSession at fault) run is = absurd (omega (arith, is))
   run_usage ReadFault run is = absurd (omega (arith, is))
@@ -33,6 +38,7 @@ module _ (old new : Ports) where
   run_read : (ending : Ending) → IsRun old new ending → status_of ending ≡ 4 → Rose old.input.faults new.input.faults
   run_read Done run is = absurd (omega (arith, is))
   run_read Refused run is = absurd run.outcome
+  run_read (ReportRefused fault) run is = absurd run.outcome
   run_read Usage run is = absurd run.outcome
   run_read (BadSession at fault) run is = absurd (omega (arith, is))
   run_read ReadFault run is = run.outcome.rose
@@ -42,6 +48,7 @@ module _ (old new : Ports) where
   run_write : (ending : Ending) → IsRun old new ending → status_of ending ≡ 5 → Rose old.output.faults new.output.faults
   run_write Done run is = absurd (omega (arith, is))
   run_write Refused run is = absurd run.outcome
+  run_write (ReportRefused fault) run is = absurd run.outcome
   run_write Usage run is = absurd run.outcome
   run_write (BadSession at fault) run is = absurd (omega (arith, is))
   run_write ReadFault run is = absurd (omega (arith, is))
@@ -76,6 +83,29 @@ module _ (old new : Ports) where
   check_write (Err Write) checks is = checks.outcome.rose
   check_write (Err Memory) checks is = absurd (omega (arith, is))
 
+  print_usage : (answer : Result Unit PrintError) → status_of (print_ending answer) ≡ 2 → ⊥
+  print_usage (Ok done) is = absurd (omega (arith, is))
+  print_usage (Err (print.Refused fault)) is = absurd (omega (arith, is))
+  print_usage (Err print.Read) is = absurd (omega (arith, is))
+  print_usage (Err print.Write) is = absurd (omega (arith, is))
+  print_usage (Err print.Memory) is = absurd (omega (arith, is))
+
+  print_read : (answer : Result Unit PrintError) → Prints old new answer → status_of (print_ending answer) ≡ 4
+      → Rose old.input.faults new.input.faults
+  print_read (Ok done) prints is = absurd (omega (arith, is))
+  print_read (Err (print.Refused fault)) prints is = absurd (omega (arith, is))
+  print_read (Err print.Read) prints is = prints.outcome.1
+  print_read (Err print.Write) prints is = absurd (omega (arith, is))
+  print_read (Err print.Memory) prints is = absurd (omega (arith, is))
+
+  print_write : (answer : Result Unit PrintError) → Prints old new answer → status_of (print_ending answer) ≡ 5
+      → Rose old.output.faults new.output.faults
+  print_write (Ok done) prints is = absurd (omega (arith, is))
+  print_write (Err (print.Refused fault)) prints is = absurd (omega (arith, is))
+  print_write (Err print.Read) prints is = absurd (omega (arith, is))
+  print_write (Err print.Write) prints is = prints.outcome.rose
+  print_write (Err print.Memory) prints is = absurd (omega (arith, is))
+
 -- 2 comes with words of no command alone
 pub usage_is_unknown : (command : Command) (status : ℕ) (old new : Streams) → Does command status old new
     → status ≡ status_usage → command ≡ Unknown
@@ -83,6 +113,8 @@ usage_is_unknown Replay status old new does is =
     absurd (run_usage old.ports new.ports does.ending does.did (sym does.is ∙ is))
 usage_is_unknown Check status old new does is =
     absurd (check_usage old.ports new.ports does.did.answer (sym (does.is ∙ ap status_of does.did.is) ∙ is))
+usage_is_unknown Show status old new does is =
+    absurd (print_usage old.ports new.ports does.did.answer (sym (does.is ∙ ap status_of does.did.is) ∙ is))
 usage_is_unknown (Load seed frames) status old new does is =
     absurd (told_usage _ old.ports.output new.ports.output does.ending does.did.told (sym does.is ∙ is))
 usage_is_unknown Unknown status old new does is = refl
@@ -98,6 +130,8 @@ read_fault_rose Replay status old new does is =
     run_read old.ports new.ports does.ending does.did (sym does.is ∙ is)
 read_fault_rose Check status old new does is =
     check_read old.ports new.ports does.did.answer does.did.checks (sym (does.is ∙ ap status_of does.did.is) ∙ is)
+read_fault_rose Show status old new does is =
+    print_read old.ports new.ports does.did.answer does.did.prints (sym (does.is ∙ ap status_of does.did.is) ∙ is)
 read_fault_rose (Load seed frames) status old new does is =
     absurd (told_read _ old.ports.output new.ports.output does.ending does.did.told (sym does.is ∙ is))
 read_fault_rose Unknown status old new does is =
@@ -110,6 +144,8 @@ write_fault_rose Replay status old new does is =
     run_write old.ports new.ports does.ending does.did (sym does.is ∙ is)
 write_fault_rose Check status old new does is =
     check_write old.ports new.ports does.did.answer does.did.checks (sym (does.is ∙ ap status_of does.did.is) ∙ is)
+write_fault_rose Show status old new does is =
+    print_write old.ports new.ports does.did.answer does.did.prints (sym (does.is ∙ ap status_of does.did.is) ∙ is)
 write_fault_rose (Load seed frames) status old new does is =
     told_write _ old.ports.output new.ports.output does.ending does.did.told (sym does.is ∙ is)
 write_fault_rose Unknown status old new does is =

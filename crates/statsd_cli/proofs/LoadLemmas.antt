@@ -5,7 +5,7 @@ use Rattle.std.specs.List.{flat_map}
 use Rattle.std.specs.Int.{w32, to_le_bytes}
 use Rattle.std.proofs.lemmas.List.{append-nil}
 use Rattle.sd_base.proofs.OutputsLemmas.{outputs-push}
-use Rattle.sd_io.specs.States.{Output, Ports}
+use Rattle.sd_io.specs.States.{Output}
 use Rattle.sd_io.specs.Causes.{Rose}
 use Rattle.session_frames.specs.declared.frame.Frame.{Frame}
 use Rattle.session_frames.specs.declared.reply.Reply.{Reply}
@@ -23,13 +23,10 @@ use Rattle.load_session.specs.declared.frame.LoadFrame.{LoadFrame}
 use Rattle.load_session.specs.Frames.{loaded_frame, load_frames}
 use Rattle.load_session.specs.Good.{AreGood}
 use Rattle.statsd_cli.specs.declared.load.Totals.{Totals}
-use Rattle.statsd_cli.specs.declared.command.Command.{Command}
-use Rattle.statsd_cli.specs.declared.command.Command.TheVariants.{Replay, Check, Load, Unknown}
 use Rattle.statsd_cli.specs.declared.ending.Ending.{Ending}
-use Rattle.statsd_cli.specs.declared.ending.Ending.TheVariants.{Done, Refused, Usage, BadSession, ReadFault, WriteFault, NoMemory}
+use Rattle.statsd_cli.specs.declared.ending.Ending.TheVariants.{Done, Refused, Usage, BadSession, ReadFault, WriteFault, NoMemory, ReportRefused}
 use Rattle.statsd_cli.specs.Endings.{status_of}
 use Rattle.statsd_cli.specs.Load.{session_of, totals_of, totals_with, AreInBounds, MayCountOne, IsLineTold}
-use Rattle.statsd_cli.specs.Does.{Did}
 
 -- four bytes a number
 pub length-path : (path : List ℕ) → length (flat_map (to_le_bytes w32) path) ≡ 4 * length path
@@ -146,9 +143,10 @@ module _ (seed frames : ℕ) (left : List LoadFrame) (hub : Hub FieldJudge) (tot
         goes_on_under_way new reply now served.0 served.1 count bound
 
 -- A session of the engine's own is answered to its end, unless the output fails or memory is wanting.
-told_status : (line : List ℕ) (old new : Output) (status : ℕ) (ending : Ending) → status ≡ status_of ending
+pub told_status : (line : List ℕ) (old new : Output) (status : ℕ) (ending : Ending) → status ≡ status_of ending
     → IsLineTold line old new ending → (Rose old.faults new.faults → ⊥) → (status ≡ 0) ⊎ (status ≡ 6)
 told_status line old new status Done is told still = inl is
+told_status line old new status (ReportRefused fault) is told still = absurd told
 told_status line old new status Refused is told still = absurd told
 told_status line old new status Usage is told still = absurd told
 told_status line old new status (BadSession at fault) is told still = absurd told
@@ -156,22 +154,12 @@ told_status line old new status ReadFault is told still = absurd told
 told_status line old new status WriteFault is told still = absurd (still told.1)
 told_status line old new status NoMemory is told still = inr is
 
-pub loaded : (seed frames : ℕ) (old new : Ports) (status : ℕ) (ending : Ending) (command : Command)
-    → command ≡ Load seed frames
-    → status ≡ status_of ending
-    → Did command old new ending
-    → (Rose old.output.faults new.output.faults → ⊥) → (status ≡ 0) ⊎ (status ≡ 6)
-loaded seed frames old new status ending Replay load is did still = absurd (cc)
-loaded seed frames old new status ending Check load is did still = absurd (cc)
-loaded seed frames old new status ending (Load own many) load is did still =
-    told_status _ old.output new.output status ending is did.told still
-loaded seed frames old new status ending Unknown load is did still = absurd (cc)
-
 -- What such a session tells by its status.
 pub told_usage : (line : List ℕ) (old new : Output) (ending : Ending) → IsLineTold line old new ending
     → status_of ending ≡ 2 → ⊥
 told_usage line old new Done told is = absurd (omega (arith, is))
 told_usage line old new Refused told is = told
+told_usage line old new (ReportRefused fault) told is = told
 told_usage line old new Usage told is = told
 told_usage line old new (BadSession at fault) told is = told
 told_usage line old new ReadFault told is = told
@@ -182,6 +170,7 @@ pub told_read : (line : List ℕ) (old new : Output) (ending : Ending) → IsLin
     → status_of ending ≡ 4 → ⊥
 told_read line old new Done told is = absurd (omega (arith, is))
 told_read line old new Refused told is = told
+told_read line old new (ReportRefused fault) told is = told
 told_read line old new Usage told is = told
 told_read line old new (BadSession at fault) told is = told
 told_read line old new ReadFault told is = told
@@ -192,6 +181,7 @@ pub told_write : (line : List ℕ) (old new : Output) (ending : Ending) → IsLi
     → status_of ending ≡ 5 → Rose old.faults new.faults
 told_write line old new Done told is = absurd (omega (arith, is))
 told_write line old new Refused told is = absurd told
+told_write line old new (ReportRefused fault) told is = absurd told
 told_write line old new Usage told is = absurd told
 told_write line old new (BadSession at fault) told is = absurd told
 told_write line old new ReadFault told is = absurd told

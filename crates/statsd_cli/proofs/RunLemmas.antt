@@ -21,14 +21,12 @@ use Rattle.hub_meaning.specs.ClientAnswers.{reply_to, text}
 use Rattle.hub_meaning.proofs.ClientAnswerLaws.{text-push}
 use Rattle.hub_core.specs.declared.hub.Hub.{Hub}
 use Rattle.statsd_cli.specs.declared.ending.Ending.{Ending}
-use Rattle.statsd_cli.specs.declared.ending.Ending.TheVariants.{Done, Refused, Usage, BadSession, ReadFault, WriteFault, NoMemory}
+use Rattle.statsd_cli.specs.declared.ending.Ending.TheVariants.{Done, Refused, Usage, BadSession, ReadFault, WriteFault, NoMemory, ReportRefused}
 use Rattle.hub_core.specs.HubStands.{HubStandsFor}
 use Rattle.statsd_cli.specs.Endings.{status_of}
-use Rattle.statsd_cli.specs.declared.command.Command.{Command}
-use Rattle.statsd_cli.specs.declared.command.Command.TheVariants.{Replay, Check, Load, Unknown}
 use Rattle.statsd_cli.specs.Run.{IsBadSession, IsUnfinishedEnd, IsRun, bytes_if_any, ending_by}
 use Rattle.statsd_cli.specs.Along.{IsAlong}
-use Rattle.statsd_cli.specs.Does.{Did, IsUndisturbed}
+use Rattle.statsd_cli.specs.Does.{IsUndisturbed}
 
 -- the bytes of the reply to a frame, if it has one
 abbrev reply_text : List Frame → Frame → List ℕ
@@ -282,7 +280,7 @@ good_isnt_bad bytes read_old (Some rest) read_now o n at fault frames run good =
     not_bad bytes rest run.taken (ports (input_with (Some bytes) read_old) o) read_now n at fault frames run.consumes
     run.outcome good
 
--- A good session is answered to its end, unless the outside fails or memory is wanting.
+-- of an input that tells its bytes
 complete_at : (bytes : List ℕ) (read_old : ℕ) (o : Output) (new : Ports) (status : ℕ) (ending : Ending)
     → status ≡ status_of ending
     → IsRun (ports (input_with (Some bytes) read_old) o) new ending
@@ -296,6 +294,7 @@ complete_at bytes read_old o new status (BadSession at fault) is run still frame
 complete_at bytes read_old o new status ReadFault is run still frames good = absurd (still.reads run.outcome.rose)
 complete_at bytes read_old o new status WriteFault is run still frames good = absurd (still.writes run.outcome.rose)
 complete_at bytes read_old o new status NoMemory is run still frames good = inr is
+complete_at bytes read_old o new status (ReportRefused fault) is run still frames good = absurd run.outcome
 
 complete_with : (left : Option (List ℕ)) (read_old : ℕ) (o : Output) (new : Ports) (status : ℕ) (ending : Ending)
     → status ≡ status_of ending
@@ -306,14 +305,12 @@ complete_with None read_old o new status ending is run still = tt
 complete_with (Some bytes) read_old o new status ending is run still =
     complete_at bytes read_old o new status ending is run still
 
-pub complete : (input : Input) (o : Output) (new : Ports) (status : ℕ) (ending : Ending) (command : Command)
-    → command ≡ Replay
+-- A good session is answered to its end, unless the outside fails or memory is wanting.
+pub complete : (old new : Ports) (status : ℕ) (ending : Ending)
     → status ≡ status_of ending
-    → Did command (ports input o) new ending
-    → IsUndisturbed (ports input o) new
-    → IfSome input.left (λ bytes. (frames : List Frame) → frames_of bytes frames Clean → (status ≡ 0) ⊎ (status ≡ 6))
-complete input o new status ending Replay replay is run still =
-    complete_with input.left input.faults o new status ending is run still
-complete input o new status ending Check replay is did still = absurd (cc)
-complete input o new status ending (Load seed many) replay is did still = absurd (cc)
-complete input o new status ending Unknown replay is did still = absurd (cc)
+    → IsRun old new ending
+    → IsUndisturbed old new
+    → IfSome old.input.left (λ bytes.
+    (frames : List Frame) → frames_of bytes frames Clean → (status ≡ 0) ⊎ (status ≡ 6))
+complete old new status ending is run still =
+    complete_with old.input.left old.input.faults old.output new status ending is run still

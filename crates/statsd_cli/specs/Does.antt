@@ -5,12 +5,15 @@ use Rattle.sd_io.specs.Causes.{Rose}
 use Rattle.config_check.specs.declared.error.CheckError.{CheckError}
 use Rattle.config_check.specs.declared.finding.Finding.{Finding}
 use Rattle.config_check.specs.Checks.{Checks}
+use Rattle.report_print.specs.declared.error.PrintError.{PrintError}
+use Rattle.report_print.specs.Prints.{Prints}
 use Rattle.statsd_cli.specs.declared.command.Command.{Command}
-use Rattle.statsd_cli.specs.declared.command.Command.TheVariants.{Replay, Check, Load, Unknown}
+use Rattle.statsd_cli.specs.declared.command.Command.TheVariants.{Replay, Check, Show, Load, Unknown}
 use Rattle.statsd_cli.specs.declared.ending.Ending.{Ending}
 use Rattle.statsd_cli.specs.declared.ending.Ending.TheVariants.{Usage}
 use Rattle.statsd_cli.specs.Endings.{status_of, IsNoted}
 use Rattle.statsd_cli.specs.Check.{check_ending}
+use Rattle.statsd_cli.specs.Show.{print_ending}
 use Rattle.statsd_cli.specs.Load.{IsLoaded}
 use Rattle.statsd_cli.specs.Run.{IsRun}
 use Rattle.statsd_cli.specs.Streams.{Streams}
@@ -21,6 +24,12 @@ pub record IsChecked (old new : Ports) (ending : Ending) : Type 0 where
   pub is : ending ≡ check_ending answer
   pub checks : Checks old new answer
 
+-- A print of a report ended by its answer.
+pub record IsReportShown (old new : Ports) (ending : Ending) : Type 0 where
+  pub answer : Result Unit PrintError
+  pub is : ending ≡ print_ending answer
+  pub prints : Prints old new answer
+
 -- Words of no command were refused: nothing was read or written.
 pub record IsUsage (old new : Ports) (ending : Ending) : Type 0 where
   pub is : ending ≡ Usage
@@ -30,6 +39,7 @@ pub record IsUsage (old new : Ports) (ending : Ending) : Type 0 where
 abbrev pub Did : Command → Ports → Ports → Ending → Type 0
 Did Replay old new ending = IsRun old new ending
 Did Check old new ending = IsChecked old new ending
+Did Show old new ending = IsReportShown old new ending
 Did (Load seed frames) old new ending = IsLoaded seed frames old new ending
 Did Unknown old new ending = IsUsage old new ending
 

@@ -5,5 +5,7 @@ pub mod Streams
 pub mod Run
 pub mod Along
 pub mod Check
+pub mod Show
 pub mod Load
 pub mod Does
+pub mod Completes

@@ -11,7 +11,7 @@ use Rattle.hub_meaning.specs.ClientAnswers.{replies, text}
 use Rattle.load_session.specs.Frames.{loaded_frame, load_frames}
 use Rattle.statsd_cli.specs.declared.load.Totals.{Totals}
 use Rattle.statsd_cli.specs.declared.ending.Ending.{Ending}
-use Rattle.statsd_cli.specs.declared.ending.Ending.TheVariants.{Done, Refused, Usage, BadSession, ReadFault, WriteFault, NoMemory}
+use Rattle.statsd_cli.specs.declared.ending.Ending.TheVariants.{Done, WriteFault, NoMemory}
 
 -- the session of a seed and of so many steps
 abbrev pub session_of : ℕ → ℕ → List Frame
@@ -34,12 +34,9 @@ totals_line totals =
 -- what was written of a line, by how the command ended: it is put, or memory was wanting before
 abbrev pub IsLineTold : List ℕ → Output → Output → Ending → Type 0
 IsLineTold line old new Done = Gains old new line
-IsLineTold line old new Refused = ⊥
-IsLineTold line old new Usage = ⊥
-IsLineTold line old new (BadSession at fault) = ⊥
-IsLineTold line old new ReadFault = ⊥
 IsLineTold line old new WriteFault = GainsFront old new line × Rose old.faults new.faults
 IsLineTold line old new NoMemory = Gains old new []
+IsLineTold line old new _ = ⊥
 
 -- A session of the engine's own was answered, and nothing was read: its numbers were told in one line.
 pub record IsLoaded (seed frames : ℕ) (old new : Ports) (ending : Ending) : Type 0 where

@@ -2,8 +2,9 @@
 use Rattle.std.specs.Prelude.{ℕ, List, [], ◌++◌, codes, decimal}
 use Rattle.session_frames.specs.declared.frame.SessionFault.{SessionFault}
 use Rattle.session_frames.specs.declared.frame.SessionFault.TheVariants.{Cut, TooLong, BadLength, UnknownKind, BadBody, BadAtom, TimeBackwards, TooManyFrames}
+use Rattle.report_print.specs.declared.error.ReportFault.TheVariants as report
 use Rattle.statsd_cli.specs.declared.ending.Ending.{Ending}
-use Rattle.statsd_cli.specs.declared.ending.Ending.TheVariants.{Done, Refused, Usage, BadSession, ReadFault, WriteFault, NoMemory}
+use Rattle.statsd_cli.specs.declared.ending.Ending.TheVariants.{Done, Refused, Usage, BadSession, ReadFault, WriteFault, NoMemory, ReportRefused}
 
 -- a fault of a session: its number, its name, and the values that it has
 abbrev pub fault_text : SessionFault → List ℕ
@@ -20,9 +21,11 @@ fault_text TooManyFrames = codes "8 too many frames"
 abbrev pub note_line : Ending → List ℕ
 note_line Done = []
 note_line Refused = codes "statsd: configuration refused\n"
-note_line Usage = codes "statsd: usage: replay | check | load SEED FRAMES\n"
+note_line Usage = codes "statsd: usage: replay | check | load SEED FRAMES | show\n"
 note_line (BadSession at fault) =
     codes "statsd: bad session at " ++ decimal at ++ codes ": " ++ fault_text fault ++ codes "\n"
 note_line ReadFault = codes "statsd: read fault\n"
 note_line WriteFault = codes "statsd: write fault\n"
 note_line NoMemory = codes "statsd: out of memory\n"
+note_line (ReportRefused report.TooLong) = codes "statsd: report refused: too long\n"
+note_line (ReportRefused report.NotReport) = codes "statsd: report refused: not a report\n"

@@ -14,7 +14,7 @@ use Rattle.session_frames.specs.Replies.{reply_bytes}
 use Rattle.matcher_eval.specs.AtomTests.{matcher_holds}
 use Rattle.hub_meaning.specs.ClientAnswers.{text}
 use Rattle.statsd_cli.specs.declared.ending.Ending.{Ending}
-use Rattle.statsd_cli.specs.declared.ending.Ending.TheVariants.{Done, Refused, Usage, BadSession, ReadFault, WriteFault, NoMemory}
+use Rattle.statsd_cli.specs.declared.ending.Ending.TheVariants.{Done, BadSession, ReadFault, WriteFault, NoMemory}
 
 -- The input ended at a frame's end, and every command was answered.
 pub record IsDone (taken : List ℕ) (old new : Ports) : Type 0 where
@@ -74,15 +74,14 @@ pub record IsShort (taken : List ℕ) (old new : Ports) : Type 0 where
   pub session : frames_of taken (answered ++ others) end
   pub written : Gains old.output new.output (text matcher_holds answered)
 
--- what was written, and what was left, by how the run ended: a session isn't refused, and its word is known
+-- what was written, and what was left, by how the run ended: the endings of other words don't come
 abbrev pub Outcome : List ℕ → Ports → Ports → Ending → Type 0
 Outcome taken old new Done = IsDone taken old new
-Outcome taken old new Refused = ⊥
-Outcome taken old new Usage = ⊥
 Outcome taken old new (BadSession at fault) = IsBadSession at fault taken old new
 Outcome taken old new ReadFault = IsUnread taken old new
 Outcome taken old new WriteFault = IsCutShort taken old new
 Outcome taken old new NoMemory = IsShort taken old new
+Outcome taken old new _ = ⊥
 
 -- A session was run: bytes were taken from the front of the input, and the run ended so.
 pub record IsRun (old new : Ports) (ending : Ending) : Type 0 where

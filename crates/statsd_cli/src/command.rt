@@ -13,6 +13,8 @@ pub enum Command {
     Replay,
     /// The configuration on the input is checked.
     Check,
+    /// The report on the input is printed as JSON.
+    Show,
     /// The session of this seed, with so many frames of the log, is answered, and its replies are counted.
     Load { seed: u64, frames: u64 },
     /// The words are those of no command.
@@ -38,7 +40,7 @@ impl Command {
     pub fn reads_input(&self) -> bool
         ensures { result ≡ reads_input self.now }
     {
-        matches!(self, Command::Replay | Command::Check)
+        matches!(self, Command::Replay | Command::Check | Command::Show)
     }
 
     /// The command of one word.
@@ -51,6 +53,9 @@ impl Command {
         }
         if word == b"check".as_slice() {
             return Command::Check;
+        }
+        if word == b"show".as_slice() {
+            return Command::Show;
         }
         Command::Unknown
     }

@@ -2,12 +2,13 @@
 ghost use Rattle.std.specs.Prelude.{◌≡◌};
 ghost use Rattle.statsd_cli.specs.Endings.{status_of};
 
+use report_print::ReportFault;
 use session_frames::SessionFault;
 
 /// How a command ended.
 #[derive(Clone, Copy)]
 pub enum Ending {
-    /// The session was answered to its end, or the configuration has no fault.
+    /// The session was answered to its end, the configuration has no fault, or the report was printed.
     Done,
     /// The configuration is refused.
     Refused,
@@ -21,9 +22,11 @@ pub enum Ending {
     WriteFault,
     /// Memory was wanting.
     NoMemory,
+    /// The bytes are no report, for this reason.
+    ReportRefused(ReportFault),
 }
 
-/// The session was answered to its end, or the configuration has no fault.
+/// The session was answered to its end, the configuration has no fault, or the report was printed.
 pub const STATUS_DONE: u8 = 0;
 
 /// The configuration is refused.
@@ -44,6 +47,9 @@ pub const STATUS_WRITE_FAULT: u8 = 5;
 /// Memory was wanting.
 pub const STATUS_NO_MEMORY: u8 = 6;
 
+/// The bytes are no report.
+pub const STATUS_REPORT_REFUSED: u8 = 7;
+
 impl Ending {
     /// The program's status.
     pub fn status(&self) -> u8
@@ -57,6 +63,7 @@ impl Ending {
             Ending::ReadFault => STATUS_READ_FAULT,
             Ending::WriteFault => STATUS_WRITE_FAULT,
             Ending::NoMemory => STATUS_NO_MEMORY,
+            Ending::ReportRefused(_) => STATUS_REPORT_REFUSED,
         }
     }
 }

@@ -1,5 +1,5 @@
-//! The engine's top call: it replays a recorded session and answers each command, checks a configuration, or answers a
-//! session of its own and counts.
+//! The engine's top call: it replays a recorded session and answers each command, checks a configuration, prints a
+//! report, or answers a session of its own and counts.
 #![tactic(auto)]
 
 mod command;
@@ -14,7 +14,7 @@ mod top;
 pub use command::Command;
 pub use ending::{
     Ending, STATUS_BAD_SESSION, STATUS_DONE, STATUS_NO_MEMORY, STATUS_READ_FAULT, STATUS_REFUSED,
-    STATUS_USAGE, STATUS_WRITE_FAULT,
+    STATUS_REPORT_REFUSED, STATUS_USAGE, STATUS_WRITE_FAULT,
 };
 pub use isolation::clients_are_isolated;
 pub use note::write_note;

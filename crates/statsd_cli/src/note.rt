@@ -7,6 +7,7 @@ ghost use Rattle.statsd_cli.specs.Note.{fault_text, note_line};
 
 use crate::Ending;
 use arrayvec::ArrayString;
+use report_print::ReportFault;
 use sd_io::{Sink, WriteFailed};
 use session_frames::SessionFault;
 
@@ -37,11 +38,17 @@ impl Ending {
         match self {
             Ending::Done => Line::new(),
             Ending::Refused => line("statsd: configuration refused\n"),
-            Ending::Usage => line("statsd: usage: replay | check | load SEED FRAMES\n"),
+            Ending::Usage => line("statsd: usage: replay | check | load SEED FRAMES | show\n"),
             Ending::BadSession { at, fault } => bad_session(*at, fault),
             Ending::ReadFault => line("statsd: read fault\n"),
             Ending::WriteFault => line("statsd: write fault\n"),
             Ending::NoMemory => line("statsd: out of memory\n"),
+            Ending::ReportRefused(ReportFault::TooLong) => {
+                line("statsd: report refused: too long\n")
+            }
+            Ending::ReportRefused(ReportFault::NotReport) => {
+                line("statsd: report refused: not a report\n")
+            }
         }
     }
 }

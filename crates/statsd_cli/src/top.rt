@@ -1,18 +1,15 @@
-//! The top call, and each command: the run of a session, the check of a configuration, and a session of its own.
-ghost use Rattle.std.specs.Prelude.{◌≡◌, ℕ, ◌⊎◌, List, take, IfSome};
+//! The top call, and each command: the run of a session, the check of a configuration, the print of a report, and a
+//! session of its own.
+ghost use Rattle.std.specs.Prelude.{◌≡◌, ℕ};
 ghost use Rattle.sd_io.specs.States.{ports};
-ghost use Rattle.sd_io.specs.Causes.{Rose};
-ghost use Rattle.session_frames.specs.declared.frame.Frame.{Frame};
-ghost use Rattle.session_frames.specs.Frames.{Clean, frames_of};
 ghost use Rattle.matcher_eval.specs.AtomTests.{matcher_holds};
 ghost use Rattle.hub_meaning.specs.ClientIsolation.{EqualOwnFramesEqualReplies};
-ghost use Rattle.config_check.specs.Findings.{finding_of};
-ghost use Rattle.config_check.specs.Checks.{most_taken};
 ghost use Rattle.statsd_cli.specs.Commands.{command_of, HasFewFrames};
 ghost use Rattle.statsd_cli.specs.Streams.{streams};
-ghost use Rattle.statsd_cli.specs.Endings.{status_of, status_done, status_no_memory};
-ghost use Rattle.statsd_cli.specs.Check.{ending_found, check_ending};
-ghost use Rattle.statsd_cli.specs.Does.{Did, Does, IsChecked, IsUndisturbed};
+ghost use Rattle.statsd_cli.specs.Check.{check_ending};
+ghost use Rattle.statsd_cli.specs.Show.{print_ending};
+ghost use Rattle.statsd_cli.specs.Does.{Did, Does, IsChecked, IsReportShown};
+ghost use Rattle.statsd_cli.specs.Completes.{Completes};
 
 use crate::load::load;
 use crate::note::tell;
@@ -20,13 +17,15 @@ use crate::replay::replay;
 use crate::{Command, Ending};
 use atom_record::Bytes;
 use config_check::{CheckError, Finding, check_config};
+use report_print::{PrintError, print_report};
 use sd_io::{Sink, Source};
 use std::alloc::Global;
 
 /// Does what the words ask for, and gives the program's status. The words are those of the command line without the
 /// program's name. `replay` answers the session on `input` on `out`; `check` tells on `out`, in one line, whether the
-/// configuration on `input` has a fault; `load` answers a session of its own, and tells on `out`, in one line, how much
-/// that came to. Why it ended with another status than 0 is told in one line on `notes`.
+/// configuration on `input` has a fault; `show` writes the report on `input` to `out` as one line of JSON; `load`
+/// answers a session of its own, and tells on `out`, in one line, how much that came to. Why it ended with another
+/// status than 0 is told in one line on `notes`.
 #[tactic(auto, using(hub_meaning::proofs::ClientIsolationLemmas::equal_own_frames))]
 pub fn statsd_top<S: Source, K: Sink, E: Sink>(
     alloc: Global,
@@ -48,26 +47,10 @@ pub fn statsd_top<S: Source, K: Sink, E: Sink>(
     ensures unread { (seed frames : ℕ) → command_of words.now ≡ Command.Load seed frames
         → input.new ≡ input.old }
 
-    // A good session is answered to its end, unless the outside fails or memory is wanting.
-    ensures complete { command_of words.now ≡ Command.Replay
-        → IsUndisturbed (ports (S.state input.old) (K.state out.old))
-        (ports (S.state input.new) (K.state out.new))
-        → IfSome (S.state input.old).left (λ bytes.
-        (frames : List Frame) → frames_of bytes frames Clean
-        → (result ≡ status_done) ⊎ (result ≡ status_no_memory)) }
-
-    // Each configuration is judged by its first bytes, unless the outside fails or memory is wanting.
-    ensures complete_check { command_of words.now ≡ Command.Check
-        → IsUndisturbed (ports (S.state input.old) (K.state out.old))
-        (ports (S.state input.new) (K.state out.new))
-        → IfSome (S.state input.old).left (λ bytes.
-        (result ≡ status_of (ending_found (finding_of (take most_taken bytes))))
-        ⊎ (result ≡ status_no_memory)) }
-
-    // A session of the engine's own is answered to its end, unless the output fails or memory is wanting.
-    ensures complete_load { (seed frames : ℕ) → command_of words.now ≡ Command.Load seed frames
-        → (Rose (K.state out.old).faults (K.state out.new).faults → ⊥)
-        → (result ≡ status_done) ⊎ (result ≡ status_no_memory) }
+    // What can be done is done, unless the outside fails or memory is wanting.
+    ensures complete { Completes (command_of words.now)
+        (ports (S.state input.old) (K.state out.old))
+        (ports (S.state input.new) (K.state out.new)) result }
 
     // What other clients do is no matter: equal own frames of a client have equal replies.
     ensures isolated { EqualOwnFramesEqualReplies matcher_holds }
@@ -90,6 +73,7 @@ fn obey<S: Source, K: Sink>(alloc: Global, command: Command, input: &mut S, out:
     match command {
         Command::Replay => replay(alloc, input, out),
         Command::Check => check(alloc, input, out),
+        Command::Show => show(alloc, input, out),
         Command::Load { seed, frames } => load(alloc, seed, frames, out),
         Command::Unknown => Ending::Usage,
     }
@@ -113,5 +97,26 @@ fn ending_after(answer: &Result<Finding, CheckError>) -> Ending
         Err(CheckError::Read) => Ending::ReadFault,
         Err(CheckError::Write) => Ending::WriteFault,
         Err(CheckError::Memory) => Ending::NoMemory,
+    }
+}
+
+/// Prints the report on the input as JSON on the output.
+fn show<S: Source, K: Sink>(alloc: Global, input: &mut S, out: &mut K) -> Ending
+    ensures { IsReportShown (ports (S.state input.old) (K.state out.old))
+        (ports (S.state input.new) (K.state out.new)) result }
+{
+    ending_of(&print_report(alloc, input, out))
+}
+
+/// How a print ends, by its answer.
+fn ending_of(answer: &Result<(), PrintError>) -> Ending
+    ensures { result ≡ print_ending answer.now }
+{
+    match answer {
+        Ok(()) => Ending::Done,
+        Err(PrintError::Refused(fault)) => Ending::ReportRefused(*fault),
+        Err(PrintError::Read) => Ending::ReadFault,
+        Err(PrintError::Write) => Ending::WriteFault,
+        Err(PrintError::Memory) => Ending::NoMemory,
     }
 }

@@ -1,7 +1,9 @@
-//! Runs of which each read and each put fails in turn.
-use super::outcomes::{compare, outcome_of, words_of};
+//! Runs of which each read and each write fails in turn.
+use super::ahead::{Faulty, faulty_of};
+use super::outcomes::{Outcome, compare, outcome_of, words_of};
 use super::streams::{AMPLE, Streams, faults_of};
 use super::wanted::Wanted;
+use atom_record::Bytes;
 use std::alloc::{AllocError, Global};
 use test_tools::{Row, Tester};
 
@@ -9,8 +11,19 @@ const READ_FAULT: u64 = 4;
 
 const WRITE_FAULT: u64 = 5;
 
-/// Runs a session once with each read that fails, and once with each put that does, as many as the row says. Such a run
-/// ends with the status of the fault and a front of the replies. One that doesn't make so many calls ends as the row says.
+/// How many bytes the sources hold at most over which calls fail: none, a few, all of a short session.
+const HELD: &[Option<usize>] = &[None, Some(5), Some(4096)];
+
+/// A session, and what its row says of it.
+#[derive(Clone, Copy)]
+struct Session<'a> {
+    words: &'a [Bytes],
+    input: &'a [u8],
+    wanted: &'a Wanted,
+}
+
+/// Runs a session once with each read that fails, and once with each write that does, as many as the row says, over each
+/// kind of source.
 pub fn run_faults(
     alloc: Global,
     tester: &mut Tester,
@@ -18,42 +31,106 @@ pub fn run_faults(
     input: &[u8],
     wanted: &Wanted,
 ) -> Result<(), AllocError> {
+    let words = words_of(alloc, "replay")?;
+    let session = Session {
+        words: words.as_slice(),
+        input,
+        wanted,
+    };
     for call in 0..faults_of(row) {
-        let reading = Streams {
-            failed_read: Some(call),
-            ..Streams::AMPLE
-        };
-        run_fault(alloc, tester, input, wanted, &reading, READ_FAULT)?;
-        let writing = Streams {
-            failed_put: Some(call),
-            ..Streams::AMPLE
-        };
-        run_fault(alloc, tester, input, wanted, &writing, WRITE_FAULT)?;
+        for ahead in HELD {
+            run_fault(alloc, tester, session, *ahead, call)?;
+        }
     }
     Ok(())
 }
 
-/// Runs a session with a call that fails.
+/// Runs a session with a read that fails, and with a write that does.
 fn run_fault(
     alloc: Global,
     tester: &mut Tester,
-    input: &[u8],
-    wanted: &Wanted,
-    streams: &Streams,
-    fault: u64,
+    session: Session<'_>,
+    ahead: Option<usize>,
+    call: u64,
 ) -> Result<(), AllocError> {
-    let words = words_of(alloc, "replay")?;
-    let outcome = outcome_of(alloc, words.as_slice(), input, streams)?;
-    if u64::from(outcome.status) != fault {
-        return compare(tester, wanted, AMPLE, AMPLE, &outcome);
+    let reading = Streams {
+        ahead,
+        failed_read: Some(call),
+        ..Streams::AMPLE
+    };
+    let run = faulty_of(alloc, session.words, session.input, &reading)?;
+    compare_read(alloc, tester, session, &run)?;
+    let writing = Streams {
+        ahead,
+        failed_put: Some(call),
+        ..Streams::AMPLE
+    };
+    let run = faulty_of(alloc, session.words, session.input, &writing)?;
+    compare_write(tester, session, &run)
+}
+
+/// A run whose read failed ends with the status of that, and has answered what a session is answered that ends there. One
+/// that had no such read ends as the row says.
+fn compare_read(
+    alloc: Global,
+    tester: &mut Tester,
+    session: Session<'_>,
+    run: &Faulty,
+) -> Result<(), AllocError> {
+    if !run.is_read {
+        return compare(tester, session.wanted, AMPLE, AMPLE, &run.outcome);
     }
+    compare_fault(
+        tester,
+        session,
+        &run.outcome,
+        READ_FAULT,
+        "statsd: read fault\n",
+    )?;
+    let cut = Streams {
+        len: run.read,
+        ..Streams::AMPLE
+    };
+    let ended = outcome_of(alloc, session.words, session.input, &cut)?;
+    let replies = run.outcome.replies.as_slice();
+    tester.same_bytes("replies before the read", ended.replies.as_slice(), replies)
+}
+
+/// A run whose write failed ends with the status of that, and not all is written. One that had no such write ends as the
+/// row says.
+fn compare_write(
+    tester: &mut Tester,
+    session: Session<'_>,
+    run: &Faulty,
+) -> Result<(), AllocError> {
+    if !run.is_written {
+        return compare(tester, session.wanted, AMPLE, AMPLE, &run.outcome);
+    }
+    compare_fault(
+        tester,
+        session,
+        &run.outcome,
+        WRITE_FAULT,
+        "statsd: write fault\n",
+    )?;
+    let written = run.outcome.replies.len();
+    tester.holds("less is written", written < session.wanted.replies.len())
+}
+
+/// Compares the status and the note of a run that failed. Its replies are the first ones of the row.
+fn compare_fault(
+    tester: &mut Tester,
+    session: Session<'_>,
+    outcome: &Outcome,
+    fault: u64,
+    note: &str,
+) -> Result<(), AllocError> {
     tester.case();
-    if wanted.replies.starts_with(outcome.replies.as_slice()) {
-        return Ok(());
-    }
-    tester.same_bytes(
+    tester.same_number("status", fault, u64::from(outcome.status))?;
+    tester.same_bytes("note", note.as_bytes(), outcome.note.as_slice())?;
+    let replies = outcome.replies.as_slice();
+    tester.holds(
         "a front of the replies",
-        wanted.replies.as_slice(),
-        outcome.replies.as_slice(),
+        session.wanted.replies.starts_with(replies),
     )
 }

@@ -1,9 +1,11 @@
 //! Whole sessions through the engine's top call: the rows of a table on standard input.
 #![tactic(auto)]
 
+mod ahead;
 mod faults;
 mod notes;
 mod outcomes;
+mod pieces;
 mod sessions;
 mod std_streams;
 mod streams;

@@ -1,5 +1,6 @@
 //! Notes by their lines, and each front of a line where the room ends.
 use super::wanted::line_of;
+use report_print::ReportFault;
 use sd_io::MemSink;
 use session_frames::SessionFault;
 use statsd_cli::{Ending, write_note};
@@ -15,6 +16,8 @@ fn note_of(text: &str) -> Option<Ending> {
         "read_fault" => Some(Ending::ReadFault),
         "write_fault" => Some(Ending::WriteFault),
         "no_memory" => Some(Ending::NoMemory),
+        "report_too_long" => Some(Ending::ReportRefused(ReportFault::TooLong)),
+        "no_report" => Some(Ending::ReportRefused(ReportFault::NotReport)),
         _ => bad_session(text.strip_prefix("bad_session ")?),
     }
 }

@@ -1,4 +1,5 @@
 //! Runs of the top call over memory, and what they left.
+use super::ahead::outcome_ahead;
 use super::streams::Streams;
 use super::wanted::Wanted;
 use atom_record::Bytes;
@@ -24,20 +25,19 @@ pub fn words_of(alloc: Global, text: &str) -> Result<Vec<Bytes>, AllocError> {
     Ok(words)
 }
 
-/// What a run over memory leaves.
+/// What a run over memory leaves, or over a source that holds bytes, where the streams say so.
 pub fn outcome_of(
     alloc: Global,
     words: &[Bytes],
     input: &[u8],
     streams: &Streams,
 ) -> Result<Outcome, AllocError> {
+    if streams.ahead.is_some() {
+        return outcome_ahead(alloc, words, input, streams);
+    }
     let mut source = source_of(alloc, input, streams)?;
-    let mut out = MemSink::new(alloc, streams.room, listed(alloc, streams.failed_put)?)?;
-    let mut notes = MemSink::new(
-        alloc,
-        streams.note_room,
-        listed(alloc, streams.failed_note)?,
-    )?;
+    let mut out = sink_of(alloc, streams.room, streams.failed_put)?;
+    let mut notes = sink_of(alloc, streams.note_room, streams.failed_note)?;
     let status = statsd_top(alloc, words, &mut source, &mut out, &mut notes);
     left(alloc, status, out.bytes(), notes.bytes())
 }
@@ -57,6 +57,11 @@ fn source_of(alloc: Global, input: &[u8], streams: &Streams) -> Result<MemSource
     Ok(MemSource::new(bytes, streams.piece.max(1), fails))
 }
 
+/// A sink in memory with so much room, of which one put fails, or none.
+pub fn sink_of(alloc: Global, room: usize, fails: Option<u64>) -> Result<MemSink, AllocError> {
+    MemSink::new(alloc, room, listed(alloc, fails)?)
+}
+
 /// The calls that fail: one, or none.
 fn listed(alloc: Global, call: Option<u64>) -> Result<Vec<u64>, AllocError> {
     let mut calls = Vec::new(alloc);
@@ -67,7 +72,7 @@ fn listed(alloc: Global, call: Option<u64>) -> Result<Vec<u64>, AllocError> {
 }
 
 /// The first bytes, as many as there is room for.
-fn front(bytes: &[u8], room: usize) -> &[u8] {
+pub fn front(bytes: &[u8], room: usize) -> &[u8] {
     bytes.get(..room).unwrap_or(bytes)
 }
 

@@ -3,7 +3,7 @@ use super::faults::run_faults;
 use super::notes::run_note;
 use super::outcomes::{compare, outcome_of, words_of};
 use super::std_streams::std_outcome_of;
-use super::streams::{AMPLE, misspelled, rounds, streams_at};
+use super::streams::{AMPLE, HELD, Streams, held_rounds, misspelled, rounds, streams_at};
 use super::wanted::{Wanted, input_of, wanted_of};
 use std::alloc::{AllocError, Global};
 use test_tools::{Row, Table, Tester};
@@ -13,7 +13,8 @@ pub struct Sessions;
 
 impl Table for Sessions {
     fn marks(&self) -> &'static str {
-        "> < words config line status note len piece failed_read room failed_put note_room failed_note each_fault reader writer write"
+        "> < words config report json line status note len piece failed_read room failed_put \
+         note_room failed_note ahead each_fault reader writer write"
     }
 
     fn run(&self, alloc: Global, tester: &mut Tester, row: &Row<'_>) -> Result<(), AllocError> {
@@ -39,23 +40,45 @@ fn run_session(alloc: Global, tester: &mut Tester, row: &Row<'_>) -> Result<(), 
     }
     run_faults(alloc, tester, row, input.as_slice(), &wanted)?;
     for round in 0..rounds(row, input.len()) {
-        run_round(alloc, tester, row, input.as_slice(), &wanted, round)?;
+        let streams = streams_at(row, round);
+        run_round(alloc, tester, row, input.as_slice(), &wanted, &streams)?;
+    }
+    for held in HELD {
+        run_held(alloc, tester, row, input.as_slice(), &wanted, *held)?;
     }
     Ok(())
 }
 
-/// Runs a row with the streams of a round.
+/// Runs a row over a source that holds so many bytes at most.
+fn run_held(
+    alloc: Global,
+    tester: &mut Tester,
+    row: &Row<'_>,
+    input: &[u8],
+    wanted: &Wanted,
+    held: usize,
+) -> Result<(), AllocError> {
+    for round in 0..held_rounds(row, input.len(), held) {
+        let streams = Streams {
+            ahead: Some(held),
+            ..streams_at(row, round)
+        };
+        run_round(alloc, tester, row, input, wanted, &streams)?;
+    }
+    Ok(())
+}
+
+/// Runs a row with these streams.
 fn run_round(
     alloc: Global,
     tester: &mut Tester,
     row: &Row<'_>,
     input: &[u8],
     wanted: &Wanted,
-    round: u64,
+    streams: &Streams,
 ) -> Result<(), AllocError> {
-    let streams = streams_at(row, round);
     let words = words_of(alloc, row.line("words").unwrap_or("replay"))?;
-    let outcome = outcome_of(alloc, words.as_slice(), input, &streams)?;
+    let outcome = outcome_of(alloc, words.as_slice(), input, streams)?;
     compare(tester, wanted, streams.room, streams.note_room, &outcome)
 }
 

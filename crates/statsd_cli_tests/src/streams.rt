@@ -24,6 +24,8 @@ pub struct Streams {
     pub note_room: usize,
     /// The number of the put of notes that fails, from 0.
     pub failed_note: Option<u64>,
+    /// The most bytes that the source holds, if it holds any.
+    pub ahead: Option<usize>,
 }
 
 impl Streams {
@@ -36,6 +38,7 @@ impl Streams {
         failed_put: None,
         note_room: AMPLE,
         failed_note: None,
+        ahead: None,
     };
 }
 
@@ -48,7 +51,17 @@ const MARKS: &[&str] = &[
     "failed_put",
     "note_room",
     "failed_note",
+    AHEAD,
 ];
+
+/// The mark of a source that holds bytes, with how many it holds at most.
+const AHEAD: &str = "ahead";
+
+/// How many bytes are held at most in the runs that a row has beside its own, over sources that hold bytes.
+pub const HELD: &[usize] = &[1, 5, HELD_OF_LONG, 65_536];
+
+/// How many are held at most in the one such run of a long session.
+const HELD_OF_LONG: usize = 4096;
 
 /// The mark of a row of which each call of a stream fails in turn, with how many are tried.
 const EACH_FAULT: &str = "each_fault";
@@ -120,6 +133,28 @@ pub fn streams_at(row: &Row<'_>, round: u64) -> Streams {
         failed_put: number_at(row, "failed_put", round),
         note_room: bytes_at(row, "note_room", round),
         failed_note: number_at(row, "failed_note", round),
+        ahead: ahead_at(row, round),
+    }
+}
+
+/// The most bytes that the source holds, where a row says so.
+fn ahead_at(row: &Row<'_>, round: u64) -> Option<usize> {
+    number_at(row, AHEAD, round).map(|number| number as usize)
+}
+
+/// How often a row is run with so many bytes held: once, or as often as its marks say. One that says of itself what is
+/// held, or which read fails, has no such run, and a long one has one.
+pub fn held_rounds(row: &Row<'_>, len: usize, held: usize) -> u64 {
+    if row.has(AHEAD) || row.has("failed_read") {
+        return 0;
+    }
+    if len > MOST_IN_PIECES && held != HELD_OF_LONG {
+        return 0;
+    }
+    if has_streams(row) {
+        rounds(row, len)
+    } else {
+        1
     }
 }
 

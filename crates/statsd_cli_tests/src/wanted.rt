@@ -38,12 +38,15 @@ fn status_of(row: &Row<'_>) -> Option<u64> {
     }
 }
 
-/// The bytes of the replies, or of the line that `check` writes.
+/// The bytes of the replies, or of the line that `check`, `show` or `load` writes.
 fn replies_of(
     alloc: Global,
     tester: &mut Tester,
     row: &Row<'_>,
 ) -> Result<Option<Vec<u8>>, AllocError> {
+    if row.has("json") {
+        return Ok(Some(json_of(alloc, row)?.into_bytes()));
+    }
     if row.has("line") {
         return Ok(Some(line_of(alloc, row, "line")?.into_bytes()));
     }
@@ -61,7 +64,18 @@ pub fn line_of(alloc: Global, row: &Row<'_>, mark: &str) -> Result<String, Alloc
     Ok(line)
 }
 
-/// The bytes that a row is run on: a configuration or a session.
+/// A line of JSON and its end. Where a row breaks it, blanks stand in it, of which it has none.
+fn json_of(alloc: Global, row: &Row<'_>) -> Result<String, AllocError> {
+    let text = row.text(alloc, "json")?;
+    let mut line = String::new(alloc);
+    for word in text.as_str().split_whitespace() {
+        line.push_str(word)?;
+    }
+    line.push_str("\n")?;
+    Ok(line)
+}
+
+/// The bytes that a row is run on: a configuration, a report or a session.
 pub fn input_of(
     alloc: Global,
     tester: &mut Tester,
@@ -70,6 +84,10 @@ pub fn input_of(
     if row.has("config") {
         let text = row.text(alloc, "config")?;
         return tester.bytes_of("config", text.as_str());
+    }
+    if row.has("report") {
+        let text = row.text(alloc, "report")?;
+        return tester.bytes_of("reports", text.as_str());
     }
     let text = row.text(alloc, ">")?;
     tester.bytes(text.as_str())

@@ -1,5 +1,5 @@
-//! Texts by name, with arguments. `let NAME = TEXT` is a text without them. Of `let NAME 2 = TEXT` each use takes the two
-//! words after it, which stand for `@1` and `@2` in it.
+//! Texts by name, with arguments. `let NAME = TEXT` is a text without them. Of `let NAME 2 = TEXT` each use takes the
+//! two words after it, which stand for `@1` and `@2` in it.
 use super::encoder::words_of;
 use super::loops::push_plain;
 use std::alloc::{AllocError, Global};

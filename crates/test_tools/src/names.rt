@@ -1,4 +1,5 @@
-//! The fields of messages by name. The names are shorter than those of `proto/`; each line has the message's name there.
+//! The fields of messages by name. The names are shorter than those of `proto/`; each line has the message's name
+//! there.
 use super::numbers::bits;
 use std::alloc::{AllocError, Global};
 

@@ -12,8 +12,8 @@ pub trait Table {
     fn run(&self, alloc: Global, tester: &mut Tester, row: &Row<'_>) -> Result<(), AllocError>;
 }
 
-/// Runs the rows of a text, and tells which differ and how many rows there are. A block of lines `let NAME = TEXT` is no
-/// row.
+/// Runs the rows of a text, and tells which differ and how many rows there are. A block of lines `let NAME = TEXT` is
+/// no row.
 pub fn told<T: Table>(alloc: Global, table: &T, text: &str) -> Result<String, AllocError> {
     let mut tester = Tester::new(alloc)?;
     for block in text.split("\n\n") {

@@ -143,7 +143,8 @@ impl Tester {
         self.lets.expanded(text)
     }
 
-    /// A text in which names are replaced and loops written out, or nothing where a loop isn't well formed, which is told.
+    /// A text in which names are replaced and loops written out, or nothing where a loop isn't well formed, which is
+    /// told.
     pub fn written_out(&mut self, text: &str) -> Result<Option<String>, AllocError> {
         let flat = self.lets.expanded(text)?;
         let all = unrolled(self.alloc, flat.as_str())?;

@@ -1,4 +1,5 @@
-//! A length of the most that a frame may have, whose body comes in small pieces or never: no room is asked for it at once.
+//! A length of the most that a frame may have, whose body comes in small pieces or never: no room is asked for it at
+//! once.
 use super::asserts::assert_found;
 use sd_io::{MemSource, ReadFailed, Source};
 use session_frames::FrameReader;

@@ -36,13 +36,15 @@ fn take_next<S: Source>(
     Ok(Some(next))
 }
 
-/// Takes the frames of a source up to its end or to its error, a hundred at most.
+/// Takes the frames of a source up to its end or to its error, a hundred at most, after a session whose last time was
+/// this.
 fn take_all<S: Source>(
     alloc: Global,
+    clock: u64,
     source: &mut S,
     frames: &mut Vec<Frame>,
 ) -> Result<(), FrameError> {
-    let mut reader = FrameReader::new(alloc);
+    let mut reader = FrameReader::resumed(alloc, clock);
     for _ in 0..100 {
         reader = match take_next(reader, source, frames)? {
             Some(next) => next,
@@ -62,8 +64,17 @@ fn end_of(alloc: Global, taken: &Result<(), FrameError>) -> Result<String, Alloc
 
 /// Reads a source to its end or to its error, a hundred frames at most.
 pub fn read<S: Source>(alloc: Global, source: &mut S) -> Result<Session, AllocError> {
+    read_after(alloc, 0, source)
+}
+
+/// The same, after a session whose last time was this.
+pub fn read_after<S: Source>(
+    alloc: Global,
+    clock: u64,
+    source: &mut S,
+) -> Result<Session, AllocError> {
     let mut frames = Vec::new(alloc);
-    let taken = take_all(alloc, source, &mut frames);
+    let taken = take_all(alloc, clock, source, &mut frames);
     let end = end_of(alloc, &taken)?;
     Ok(Session { frames, end })
 }
@@ -72,6 +83,20 @@ pub fn read<S: Source>(alloc: Global, source: &mut S) -> Result<Session, AllocEr
 fn source_of(alloc: Global, bytes: &[u8], piece: usize) -> Result<MemSource, AllocError> {
     let bytes = bytes.to_vec(alloc)?;
     Ok(MemSource::new(bytes, piece.max(1), Vec::new(alloc)))
+}
+
+/// Whether these bytes, after a session whose last time was this, are read as these frames, by their `Debug`, and then
+/// this end.
+pub fn resumes_as(
+    alloc: Global,
+    clock: u64,
+    bytes: &[u8],
+    text: &str,
+    end: &str,
+) -> Result<bool, AllocError> {
+    let mut source = source_of(alloc, bytes, 7)?;
+    let session = read_after(alloc, clock, &mut source)?;
+    Ok(is_so(alloc, &session, text, end))
 }
 
 /// What these bytes, in pieces of this size, are read as.

@@ -1,6 +1,6 @@
 //! Frames by their bytes, in any pieces, and sources that fail.
 use super::asserts::assert_found;
-use super::reading::{LEAST, Session, read, reads_as};
+use super::reading::{LEAST, Session, read, reads_as, resumes_as};
 use sd_io::MemSource;
 use std::alloc::{AllocError, Global};
 
@@ -86,6 +86,58 @@ const EACH_KIND: &[(&[u8], &str)] = &[
 fn reads_each_kind_of_frame(rt: HostRuntime) {
     for &(bytes, text) in EACH_KIND {
         assert_found(&rt, reads_as(rt.alloc(), bytes, 7, text, "end"), &bytes);
+    }
+}
+
+// The last time of a session, the bytes of one that goes on from it, its frames by their `Debug`, and its end.
+const RESUMED: &[(u64, &[u8], &str, &str)] = &[
+    (
+        3,
+        b"\x09\0\0\0\x01\x02\0\0\0\0\0\0\0",
+        "[]",
+        "bad session at 0: time backwards: 2 after 3",
+    ),
+    (
+        3,
+        b"\x09\0\0\0\x01\x03\0\0\0\0\0\0\0",
+        "[Log(Tick { at: 3 })]",
+        "end",
+    ),
+    (
+        3,
+        b"\x09\0\0\0\x01\x04\0\0\0\0\0\0\0",
+        "[Log(Tick { at: 4 })]",
+        "end",
+    ),
+    // A command leaves the time.
+    (
+        3,
+        b"\x0d\0\0\0\x11\x0a\0\0\0\x07\0\0\0\0\0\0\0\
+            \x0d\0\0\0\x02\x02\0\0\0\0\0\0\0\x05\0\0\0",
+        "[Remove { uid: 10, id: 7 }]",
+        "bad session at 17: time backwards: 2 after 3",
+    ),
+    // A frame moves it.
+    (
+        3,
+        b"\x09\0\0\0\x01\x05\0\0\0\0\0\0\0\
+            \x09\0\0\0\x01\x04\0\0\0\0\0\0\0",
+        "[Log(Tick { at: 5 })]",
+        "bad session at 13: time backwards: 4 after 5",
+    ),
+    // The last time that there is.
+    (
+        9_223_372_036_854_775_807,
+        b"\x09\0\0\0\x01\xff\xff\xff\xff\xff\xff\xff\x7f",
+        "[Log(Tick { at: 9223372036854775807 })]",
+        "end",
+    ),
+];
+
+#[test]
+fn goes_on_from_a_time(rt: HostRuntime) {
+    for &(clock, bytes, text, end) in RESUMED {
+        assert_found(&rt, resumes_as(rt.alloc(), clock, bytes, text, end), &bytes);
     }
 }
 

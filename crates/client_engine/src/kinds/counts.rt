@@ -16,7 +16,9 @@ ghost use Rattle.report_writer.specs.Writable.{IsWritableMetric};
 ghost use Rattle.client_engine.specs.Handed.{IsOfScene};
 ghost use Rattle.client_engine.specs.NextSteps.{TakesReport};
 ghost use Rattle.client_engine.specs.AskedFew.{AsksFew, arrival_questions};
-ghost use Rattle.client_engine.specs.Bringing.{handed_with, brought_step, TakesBrought};
+ghost use Rattle.client_engine.specs.Bringing.{handed_with, brought_step, TakesBroughtWhile};
+ghost use Rattle.metric_meaning.specs.Arrivals.{is_active_in};
+ghost use Rattle.session_frames.specs.FrameReading.{log_time};
 ghost use Rattle.client_engine.specs.CountsAlong.{CountsAlong, counts_shown_by, shown_count, shown_group};
 
 use crate::arriving::{arriving, metric_key_into};
@@ -156,19 +158,20 @@ pub fn log<L: Ledger>(
     lane: &mut CountLane,
     alloc: Global,
     metric: &LMetric,
+    is_active: bool,
     brought: &Brought<'_>,
     conditions: &mut Conditions,
     asks: &mut Steps<L>,
 ) -> Result<(), AllocError>
     requires within { MayBeWithin (length conditions.old.predicates) metric.now.condition }
-    ensures logs { OnOk result (TakesBrought (CountsAlong metric.now)
+    ensures logs { OnOk result (TakesBroughtWhile (CountsAlong metric.now) is_active metric.now
         conditions.old brought.now lane.old lane.new) }
     ensures known { conditions.new ≡ conditions.old }
     ensures asks { AsksFew (CountsAlong metric.now) (metric.now ∷ [])
         conditions.old brought.now lane.old asks.old asks.new }
 {
     let CountLane { lane, key } = lane;
-    let key = arrival(alloc, metric, brought, conditions, asks, key)?;
+    let key = arrival(alloc, metric, is_active, brought, conditions, asks, key)?;
     lane.log_of(time_of(brought.frame), comes_by_pull(brought.frame), key)
 }
 
@@ -213,6 +216,7 @@ fn counts_tree(
 fn arrival<'k, L: Ledger>(
     alloc: Global,
     metric: &LMetric,
+    is_active: bool,
     brought: &Brought<'_>,
     conditions: &mut Conditions,
     asks: &mut Steps<L>,
@@ -220,13 +224,14 @@ fn arrival<'k, L: Ledger>(
 ) -> Result<Option<&'k MetricKey>, AllocError>
     requires within { MayBeWithin (length conditions.old.predicates) metric.now.condition }
     ensures key { (scene : Scene) → IsOfScene (handed_with conditions.old brought.now) scene
+        → is_active ≡ is_active_in scene metric.now (log_time brought.now.frame.now)
         → IfOk result (λ key. option_copied key
         ≡ arrival_by scene metric.now (brought_step brought.now)) }
     ensures known { conditions.new ≡ conditions.old }
     ensures asks { asks.new ≤ asks.old
         + arrival_questions brought.now.frame.now brought.now.matched.now metric.now }
 {
-    let Some(atom) = arriving(alloc, metric, brought, conditions, asks)? else {
+    let Some(atom) = arriving(alloc, metric, is_active, brought, conditions, asks)? else {
         return Ok(None);
     };
     metric_key_into(alloc, metric, brought, atom, room)?;

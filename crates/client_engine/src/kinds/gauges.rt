@@ -10,7 +10,7 @@ ghost use Rattle.metric_meaning.specs.KeyTrees.{key_tree};
 ghost use Rattle.report_writer.specs.Writable.{AreWritableRows, IsWritableMetric};
 ghost use Rattle.client_engine.specs.NextSteps.{TakesReport};
 ghost use Rattle.client_engine.specs.AskedFew.{AsksFew};
-ghost use Rattle.client_engine.specs.Bringing.{TakesBrought};
+ghost use Rattle.client_engine.specs.Bringing.{TakesBroughtWhile};
 ghost use Rattle.client_engine.specs.GaugesAlong.{GaugesAlong, GetsSampleOf, sample_bucket, gauge_entry, gauges_shown_by};
 
 use crate::arriving::{arriving, key_in};
@@ -110,12 +110,13 @@ pub fn log<L: Ledger>(
     lane: &mut Lane<PushedGauge>,
     alloc: Global,
     metric: &LMetric,
+    is_active: bool,
     brought: &Brought<'_>,
     conditions: &mut Conditions,
     asks: &mut Steps<L>,
 ) -> Result<(), AllocError>
     requires within { MayBeWithin (length conditions.old.predicates) metric.now.condition }
-    ensures logs { OnOk result (TakesBrought (GaugesAlong metric.now)
+    ensures logs { OnOk result (TakesBroughtWhile (GaugesAlong metric.now) is_active metric.now
         conditions.old brought.now lane.old lane.new) }
     ensures known { conditions.new ≡ conditions.old }
     ensures asks { AsksFew (GaugesAlong metric.now) (metric.now ∷ [])
@@ -123,7 +124,7 @@ pub fn log<L: Ledger>(
 {
     // The ends come first, since a key that has all its samples in the part before has none in the next.
     lane.cross(time_of(brought.frame), comes_by_pull(brought.frame))?;
-    match arriving(alloc, metric, brought, conditions, asks)? {
+    match arriving(alloc, metric, is_active, brought, conditions, asks)? {
         Some(atom) => sample(lane, alloc, metric, brought, atom),
         None => Ok(()),
     }

@@ -3,6 +3,8 @@ ghost use Rattle.std.specs.Prelude.{◌≡◌, ◌+◌, ◌≤◌, ◌∷◌, �
 ghost use Rattle.std.specs.Option.{option_map};
 ghost use Rattle.bucket_meaning.specs.Limits.{time_limit};
 ghost use Rattle.config_links.specs.SoundConfig.{IsSize, IsBound, MayBeWithin};
+ghost use Rattle.metric_meaning.specs.Arrivals.{is_active_in};
+ghost use Rattle.session_frames.specs.FrameReading.{log_time};
 ghost use Rattle.metric_meaning.specs.Histories.{Installation};
 ghost use Rattle.metric_meaning.specs.Scenes.{Scene};
 ghost use Rattle.metric_meaning.specs.KeyTrees.{key_tree};
@@ -13,7 +15,7 @@ ghost use Rattle.report_writer.specs.Writable.{IsWritableMetric};
 ghost use Rattle.client_engine.specs.Handed.{IsOfScene};
 ghost use Rattle.client_engine.specs.NextSteps.{TakesReport};
 ghost use Rattle.client_engine.specs.AskedFew.{AsksFew, arrival_questions};
-ghost use Rattle.client_engine.specs.Bringing.{handed_with, brought_step, TakesBrought};
+ghost use Rattle.client_engine.specs.Bringing.{handed_with, brought_step, TakesBroughtWhile};
 ghost use Rattle.client_engine.specs.ValuesAlong.{value_kind_at, ValuesAlong, values_shown_by, shown_value, value_entry};
 
 use crate::arriving::{arriving, key_in};
@@ -105,18 +107,19 @@ pub fn log<L: Ledger>(
     lane: &mut Lane<PushedValue>,
     alloc: Global,
     metric: &LMetric,
+    is_active: bool,
     brought: &Brought<'_>,
     conditions: &mut Conditions,
     asks: &mut Steps<L>,
 ) -> Result<(), AllocError>
     requires within { MayBeWithin (length conditions.old.predicates) metric.now.condition }
-    ensures logs { OnOk result (TakesBrought (ValuesAlong metric.now)
+    ensures logs { OnOk result (TakesBroughtWhile (ValuesAlong metric.now) is_active metric.now
         conditions.old brought.now lane.old lane.new) }
     ensures known { conditions.new ≡ conditions.old }
     ensures asks { AsksFew (ValuesAlong metric.now) (metric.now ∷ [])
         conditions.old brought.now lane.old asks.old asks.new }
 {
-    let keyed = arrival(alloc, metric, brought, conditions, asks)?;
+    let keyed = arrival(alloc, metric, is_active, brought, conditions, asks)?;
     lane.log(time_of(brought.frame), comes_by_pull(brought.frame), keyed)
 }
 
@@ -161,12 +164,14 @@ pub fn values_tree(
 fn arrival<L: Ledger>(
     alloc: Global,
     metric: &LMetric,
+    is_active: bool,
     brought: &Brought<'_>,
     conditions: &mut Conditions,
     asks: &mut Steps<L>,
 ) -> Result<Option<KeyedInt>, AllocError>
     requires within { MayBeWithin (length conditions.old.predicates) metric.now.condition }
     ensures keyed { (scene : Scene) → IsOfScene (handed_with conditions.old brought.now) scene
+        → is_active ≡ is_active_in scene metric.now (log_time brought.now.frame.now)
         → (source : ValueLeaf) (aggregation : Aggregation)
         → metric.now.kind ≡ value_kind_at source aggregation
         → IfOk result (λ keyed. keyed
@@ -178,7 +183,7 @@ fn arrival<L: Ledger>(
     let LKind::PushedValue { atom_id, leaf, .. } = &metric.kind else {
         return Ok(None);
     };
-    let Some(atom) = arriving(alloc, metric, brought, conditions, asks)? else {
+    let Some(atom) = arriving(alloc, metric, is_active, brought, conditions, asks)? else {
         return Ok(None);
     };
     let Some(value) = read_integer(*atom_id, *leaf, atom) else {

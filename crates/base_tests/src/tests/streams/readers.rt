@@ -1,9 +1,9 @@
 //! Readers of std as sources.
 use super::super::asserts::{assert_found, assert_holds};
-use sd_io::{ReadFailed, Source, StdSource};
+use sd_io::{BufferedSource, ReadFailed, Source, StdSource};
 use std::alloc::{AllocError, Global};
 use std::io;
-use std::io::{ErrorKind, Read};
+use std::io::{BufReader, ErrorKind, Read};
 
 /// What a reader does at a call.
 #[derive(Clone, Copy)]
@@ -38,8 +38,7 @@ impl Read for Scripted<'_> {
 
 /// Whether reads into two bytes answer so, and then the end. A byte stands for a read that gives it, and none for one
 /// that fails and leaves the buffer alone.
-fn reads_as(calls: &[Call], answers: &[Option<u8>]) -> bool {
-    let mut source = StdSource::new(Scripted(calls));
+fn answers_so<S: Source>(source: &mut S, answers: &[Option<u8>]) -> bool {
     let mut buf = [0; 2];
     let mut last = 0;
     for answer in answers {
@@ -56,6 +55,24 @@ fn reads_as(calls: &[Call], answers: &[Option<u8>]) -> bool {
         }
     }
     source.read(&mut buf) == Ok(0) && buf == [last, 0]
+}
+
+/// Whether the reads of a reader as it comes answer so.
+fn reads_as(calls: &[Call], answers: &[Option<u8>]) -> bool {
+    answers_so(&mut StdSource::new(Scripted(calls)), answers)
+}
+
+/// Whether those of a reader answer so of which so many bytes are read ahead at once.
+fn reads_ahead_as(
+    alloc: Global,
+    calls: &[Call],
+    answers: &[Option<u8>],
+    ahead: usize,
+) -> Result<bool, AllocError> {
+    let Ok(buffered) = BufReader::with_capacity(alloc, ahead, Scripted(calls)) else {
+        return Err(AllocError);
+    };
+    Ok(answers_so(&mut BufferedSource::new(buffered), answers))
 }
 
 /// What a reader does, and what the reads answer.
@@ -82,6 +99,43 @@ fn tells_each_failed_read(rt: HostRuntime) {
     for (at, (calls, answers)) in ROWS.iter().enumerate() {
         assert_holds(&rt, reads_as(calls, answers), &at);
     }
+}
+
+#[test]
+fn tells_each_failed_read_ahead(rt: HostRuntime) {
+    for (at, (calls, answers)) in ROWS.iter().enumerate() {
+        // The buffer is no longer than what is asked for, or longer.
+        for &ahead in &[1, 2, 3, 4_096] {
+            assert_found(
+                &rt,
+                reads_ahead_as(rt.alloc(), calls, answers, ahead),
+                &(at, ahead),
+            );
+        }
+    }
+}
+
+/// Whether a source holds these bytes.
+fn holds<S: Source>(source: &S, bytes: &[u8]) -> bool {
+    source.held() == bytes
+}
+
+/// What a source holds that read three bytes ahead: all of them, then those after one that was taken, and as many where
+/// it was asked to take more than it holds.
+fn holds_what_is_left(alloc: Global) -> Result<bool, AllocError> {
+    let Ok(buffered) = BufReader::with_capacity(alloc, 4, b"abcd".as_slice()) else {
+        return Err(AllocError);
+    };
+    let mut source = BufferedSource::new(buffered);
+    let mut buf = [0];
+    let is_read = source.held().is_empty() && source.read(&mut buf) == Ok(1) && buf == [b'a'];
+    let is_first = holds(&source, b"bcd") && source.skip(1) && holds(&source, b"cd");
+    Ok(is_read && is_first && !source.skip(3) && holds(&source, b"cd") && source.skip(2))
+}
+
+#[test]
+fn holds_what_was_read_ahead(rt: HostRuntime) {
+    assert_found(&rt, holds_what_is_left(rt.alloc()), &0);
 }
 
 /// Whether a read gives so many bytes, and leaves these in the buffer.

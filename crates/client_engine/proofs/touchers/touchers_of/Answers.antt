@@ -3,8 +3,9 @@ use Rattle.std.proofs.Common.{◌≡◌, ◌<◌, ◌++◌, ◌||◌, ◌==◌, 
 use Rattle.std.proofs.lemmas.Option.{slice_get_read}
 use Rattle.config_links.specs.declared.linked.LPredicate.{LPredicate}
 use Rattle.config_links.specs.MetricLinks.{is_reached}
+use Rattle.config_links.specs.OwnMatchers.{predicate_matchers}
 use Rattle.metric_meaning.specs.Histories.{truth_at}
-use Rattle.client_engine.specs.Touchers.{own_matchers, matchers_found, matchers_below, touchers}
+use Rattle.client_engine.specs.Touchers.{matchers_found, matchers_below, touchers}
 use Rattle.client_engine.proofs.TouchersLemmas.{marked_below, places_first, places_on, places_all}
 use Rattle.client_engine.proofs.touchers.touchers_of.Goals as goal
 
@@ -30,9 +31,9 @@ loop-place-preserved c =
     places_on (matchers_below predicates root) place (length predicates) list (touchers predicates root)
     c.add_matchers.new.list within c.loop-place.invariant
     (c.in_ok-add_matchers.ensures
-    ∙ ap (λ (p : LPredicate). list ++ (if c.is_below-below.result then own_matchers p.body else []))
+    ∙ ap (λ (p : LPredicate). list ++ (if c.is_below-below.result then predicate_matchers p.body else []))
     (sym c.index-predicates-place.is)
-    ∙ ap (λ (b : Bool). list ++ (if b then own_matchers predicate.body else [])) below
+    ∙ ap (λ (b : Bool). list ++ (if b then predicate_matchers predicate.body else [])) below
     ∙ ap (λ found. list ++ (if is_reached predicates (Some root) place then matchers_found found else [])) (sym there))
 
 -- all

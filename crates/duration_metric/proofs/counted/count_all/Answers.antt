@@ -4,13 +4,15 @@ use Rattle.std.proofs.lemmas.List.{drop_more, drop_all, take_all, take_more}
 use Rattle.duration_metric.specs.SumSteps.{Recounts}
 use Rattle.duration_metric.proofs.BegunLemmas.{Begun, begun_none, begun_more, begun_outs}
 use Rattle.duration_metric.proofs.RecountLemmas.{recounts_none, recounts_more}
+use Rattle.duration_metric.proofs.ZerosLemmas.{zeros_none, zeros_more}
 use Rattle.duration_metric.proofs.counted.count_all.Goals as goal
 
 pub loop-place-init : goal.loop-place-init
 loop-place-init c = (
   recounts_none c.args.keys.now c.args.tally.now c.args.places.now,
-  λ right. subst (Begun c.args.keys.now c.args.keys.now c.args.tally.now c.args.tally.now []) (sym c.new-began.ensures)
+  subst (Begun c.args.keys.now c.args.keys.now c.args.tally.now c.args.tally.now []) (sym c.new-began.ensures)
       (begun_none c.args.keys.now c.args.tally.now),
+  zeros_none c.args.tally.now,
 )
 
 pub loop-place-preserved : goal.loop-place-preserved
@@ -27,11 +29,12 @@ loop-place-preserved c =
     let counts = subst (Recounts first mid before some places) (drop_more places i 0 c.loop-place-test.true)
     c.loop-place.invariant.0 in (
       recounts_more first mid last before some now places (drop (i + 1) places) place counts c.loop-place.began
-          c.count_at.new.began c.in_ok-count_at.ensures,
-      λ right. subst (λ done. Begun first last before now done c.count_at.new.began)
+          c.count_at.new.began c.in_ok-count_at.ensures.counts,
+      subst (λ done. Begun first last before now done c.count_at.new.began)
           (sym (take_more places i 0 c.loop-place-test.true))
           (begun_more first mid last before some now places (drop (i + 1) places) (take i places) c.loop-place.began
-          place counts right (c.loop-place.invariant.1 right) c.count_at.new.began c.in_ok-count_at.ensures),
+          place counts c.requires.right c.loop-place.invariant.1 c.count_at.new.began c.in_ok-count_at.ensures.counts),
+      zeros_more before some now [] [] c.loop-place.invariant.2 c.in_ok-count_at.ensures.zeros,
     )
 
 -- all are
@@ -43,9 +46,15 @@ returns-clause-counts c =
     (drop_all c.loop-place.place-index places (omega (arith, ends))) c.loop-place.invariant.0
 
 pub returns-clause-begins : goal.returns-clause-begins
-returns-clause-begins c right =
+returns-clause-begins c =
     let ends = c.loop-place-test.false in
     let places = c.args.places.now in
     begun_outs c.args.keys.now c.loop-place.keys c.args.tally.now c.loop-place.tally places c.loop-place.began
     (subst (λ done. Begun c.args.keys.now c.loop-place.keys c.args.tally.now c.loop-place.tally done c.loop-place.began)
-    (take_all c.loop-place.place-index places (omega (arith, ends))) (c.loop-place.invariant.1 right))
+    (take_all c.loop-place.place-index places (omega (arith, ends))) c.loop-place.invariant.1)
+
+-- the tally of the rows so far is right
+pub count_at-requires : goal.count_at-requires
+count_at-requires c =
+    let right = c.requires.right in
+    record { right = (right.0, c.loop-place.invariant.0.tally_is right.0 right.1, right.2) }

@@ -7,8 +7,8 @@ use Rattle.duration_metric.specs.declared.inner.Inner.{Inner}
 use Rattle.duration_metric.proofs.RecountLemmas.{value_there}
 use Rattle.duration_metric.proofs.counted.release_at.Goals as goal
 
-pub returns : goal.returns
-returns c =
+pub returns-clause-counts : goal.returns-clause-counts
+returns-clause-counts c =
     let keys = c.args.keys.now in
     let place = c.args.place in
     let row : LeafKey × Inner = (c.in-Some._key.now, c.in-Some.row.now) in
@@ -18,7 +18,7 @@ returns c =
       sym c.in-Some.ensures,
       (c.if-not-row.false, sym c.in-None.ensures),
       sym c.in-Some-told_of.ensures,
-      c.in_ok-lower.ensures,
+      c.in_ok-lower.ensures.counts,
       ap (λ (i : Inner). with_value_at keys place (record i { tallied = false }))
           (same_Some c.in-Some-value_at.inner.now c.in-Some.row.now
           (c.in-Some-value_at.ensures.value ∙ value_there keys.rows place row (sym c.in-Some.ensures))),

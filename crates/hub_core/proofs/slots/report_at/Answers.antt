@@ -2,7 +2,7 @@
 use Rattle.std.proofs.Common.{Some, refl, ap, ◌∙◌, sym, subst}
 use Rattle.std.specs.Prelude.{IsSome}
 use Rattle.hub_core.specs.Sleeping.{moment_of_clock}
-use Rattle.hub_core.proofs.KeptLemmas.{kept_same, kept_written}
+use Rattle.hub_core.proofs.KeptLemmas.{kept_written}
 use Rattle.hub_core.proofs.ShownLemmas.{shows}
 use Rattle.hub_core.proofs.slots.report_at.Goals as goal
 

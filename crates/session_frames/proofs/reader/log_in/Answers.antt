@@ -1,5 +1,5 @@
 -- What comes after the frame is what comes after its content.
-use Rattle.std.proofs.Common.{◌≡◌, ◌-◌, length, take, drop, Ok, Some, arith, refl, sym, ap, ◌∙◌}
+use Rattle.std.proofs.Common.{◌≡◌, ◌-◌, length, take, drop, arith, refl, sym, ap, ◌∙◌}
 use Rattle.std.proofs.lemmas.List.{take_rest}
 use Rattle.session_frames.specs.declared.frame.Frame.TheVariants.{Log}
 use Rattle.session_frames.specs.FrameReading.{frame_of}

@@ -1,4 +1,4 @@
-use Rattle.std.proofs.Common.{◌≡◌, ◌∙◌, ◌++◌, Bool, List, ℕ, length, ap, sym, subst, arith}
+use Rattle.std.proofs.Common.{◌≡◌, ◌∙◌, Bool, List, ℕ, length, ap, sym, subst, arith}
 use Rattle.config_links.specs.declared.linked.LPredicate.{LPredicate}
 use Rattle.metric_meaning.specs.Histories.{truth_at}
 use Rattle.predicate_state.specs.PredicateTable.{PredicateTable}
@@ -27,8 +27,7 @@ returns-in_ok-act_on_each-in-AtomAt-clause-knows c =
     let kept = subst (λ ps. HaveTheirSpecs ps new) same c.act_on_each.ensures.specs in
     let many = as_many nodes new kept ∙ sym (as_many nodes tables.items c.self.invariant.0.specs) in
     let places : c.as_slice-in-AtomAt-2.result.now ≡ places_under lists holds =
-    c.as_slice-in-AtomAt-2.ensures.value ∙ c.in_ok-add_matched-in-AtomAt.ensures
-    ∙ ap (λ l. l ++ places_under c.as_slice.result.now holds) c.clear.ensures.items
+    c.as_slice-in-AtomAt-2.ensures.value ∙ c.in_ok-find_matched-in-AtomAt.ensures
     ∙ ap (λ ls. places_under ls holds) c.as_slice.ensures.value in
     let specs = subst (HaveTheirSpecs given) (sym were)
     (subst (λ ps. HaveTheirSpecs ps tables.items) (sym same) c.self.invariant.0.specs) in

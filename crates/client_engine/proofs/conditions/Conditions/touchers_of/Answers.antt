@@ -1,4 +1,4 @@
-use Rattle.std.proofs.Common.{◌∙◌, Option, List, [], ℕ, sym, ap, get_or}
+use Rattle.std.proofs.Common.{◌∙◌, Option, List, [], ℕ, ap, get_or}
 use Rattle.std.specs.Prelude.{unwrap_or}
 use Rattle.std.proofs.lemmas.Option.{unwrap_or-slice_get}
 use Rattle.client_engine.proofs.conditions.Conditions.touchers_of.Goals as goal

@@ -27,12 +27,12 @@ log-requires-2-clause-others g c =
 -- where memory is wanting for the predicates, the configuration is what it was
 pub returns-in_err-log-clause-linked : goal.returns-in_err-log-clause-linked
 returns-in_err-log-clause-linked g c =
-    linked_stays _ _ _ _ _ _ c.log.ensures.predicates refl ∙ ap linked_of c.self.view_is
+    linked_stays _ _ _ _ _ _ _ c.log.ensures.predicates refl ∙ ap linked_of c.self.view_is
 
 -- and after all metrics
 pub returns-clause-linked : goal.returns-clause-linked
 returns-clause-linked g c =
-    linked_stays _ _ _ _ _ _
+    linked_stays _ _ _ _ _ _ _
     (ap (λ (known : Known). known.predicates) c.log-2.ensures.known ∙ c.log.ensures.predicates)
     c.log-2.ensures.metrics
     ∙ ap linked_of c.self.view_is
@@ -47,7 +47,7 @@ returns-clause-logs g c =
     let timely = c.requires.faultless.timely in
     rw (← c.self.view_is) (on_ok_weaker c.log-2.result (λ logs.
     instance_logs _ _ frame truths book refl
-    (linked_stays _ _ _ _ _ _
+    (linked_stays _ _ _ _ _ _ _
     (ap (λ (known : Known). known.predicates) c.log-2.ensures.known ∙ c.log.ensures.predicates)
     c.log-2.ensures.metrics)
     (subst (KnowsStep (logged_step frame truths) old.conditions) (sym c.log-2.ensures.known) c.in_ok-log.ensures.knows)

@@ -11,5 +11,5 @@ returns-clause-caught c =
     rw (← c.self.view_is)
     (on_ok_weaker c.catch_up.result (λ takes.
     instance_caught _ _ (frame_at c.args.at c.args.is_pull) refl
-    (linked_stays _ _ _ _ _ _ refl c.catch_up.ensures.metrics) takes)
+    (linked_stays _ _ _ _ _ _ _ refl c.catch_up.ensures.metrics) takes)
     c.catch_up.ensures.takes)

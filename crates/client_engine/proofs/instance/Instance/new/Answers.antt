@@ -58,11 +58,12 @@ returns-clause-fresh c = λ log pulls states.
       known = c.new-2.new.conditions;
       states = linked.states;
       tracks = tracks;
+      alerts = linked.alerts;
       base = c.args.base;
       last = c.args.base;
     } in
     fresh linked opening it refl
-    (ap (λ (known : Known). known.predicates) same ∙ c.in_ok-conditions.ensures.predicates) refl refl refl
+    (ap (λ (known : Known). known.predicates) same ∙ c.in_ok-conditions.ensures.predicates) refl refl refl refl
     c.as_slice.ensures (subst (KnowsAfter []) (sym same) c.in_ok-conditions.ensures.knows)
     (subst (λ known. AreNew opening known linked.metrics tracks) (sym same) c.in_ok-tracks.ensures.new) c.requires.sound log pulls
 
@@ -75,9 +76,10 @@ returns-clause-linked c =
       known = c.new-2.new.conditions;
       states = linked.states;
       tracks = c.in_ok-tracks.tracks.list.items;
+      alerts = linked.alerts;
       base = c.args.base;
       last = c.args.base;
     } in
     linked_whole linked it refl
     (ap (λ (known : Known). known.predicates) c.new-2.ensures.known ∙ c.in_ok-conditions.ensures.predicates) refl
-    c.in_ok-tracks.ensures.new.metrics_are
+    c.in_ok-tracks.ensures.new.metrics_are refl

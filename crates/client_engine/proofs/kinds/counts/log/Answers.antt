@@ -15,7 +15,8 @@ returns-clause-logs g c =
     let logs = rw (c.comes_by_pull.ensures, c.time_of.ensures) at c.log_of.ensures in
     on_ok_weaker c.log_of.result
     (rw (← c.lane.view_is) (counts_log (handed_with c.args.conditions.now brought) c.args.metric.now brought.frame.now
-    brought.matched.now c.lane.inside.lane c.log_of.new.self (option_copied c.in_ok-key.key) c.in_ok-key.ensures.key))
+    brought.matched.now c.lane.inside.lane c.log_of.new.self
+    (option_copied c.in_ok-key.key) c.args.is_active c.in_ok-key.ensures.key))
     logs
 
 -- an atom that arrives costs one question

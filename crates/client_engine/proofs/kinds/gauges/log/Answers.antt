@@ -17,10 +17,10 @@ returns-in-Some-clause-logs g c =
     let crosses = rw (c.comes_by_pull.ensures, c.time_of.ensures) at c.in_ok-cross.ensures in
     on_ok_weaker c.sample.result
     (λ gets. gauges_log (handed_with c.args.conditions.now brought) metric brought.frame.now brought.matched.now
-    c.args.lane.now c.cross.new.self c.sample.new.lane crosses
-    (λ scene found fields samples gauge. one_sampled c.cross.new.self c.sample.new.lane (log_time brought.frame.now)
+    c.args.lane.now c.cross.new.self c.sample.new.lane c.args.is_active crosses
+    (λ scene found active fields samples gauge. one_sampled c.cross.new.self c.sample.new.lane (log_time brought.frame.now)
     scene metric fields (brought_step brought) c.in-Some.atom.now
-    (rw (c.in-Some.is) at (c.in_ok-atom.ensures.atom scene found))
+    (rw (c.in-Some.is) at (c.in_ok-atom.ensures.atom scene found active))
     (gets c.args.conditions.now scene fields samples found gauge)))
     c.sample.ensures
 
@@ -31,9 +31,9 @@ returns-in-None-clause-logs g c =
     let metric = c.args.metric.now in
     let crosses = rw (c.comes_by_pull.ensures, c.time_of.ensures) at c.in_ok-cross.ensures in
     gauges_log (handed_with c.args.conditions.now brought) metric brought.frame.now brought.matched.now
-    c.args.lane.now c.cross.new.self c.cross.new.self crosses
-    (λ scene found fields samples gauge. none_sampled c.cross.new.self (log_time brought.frame.now)
-    scene metric fields (brought_step brought) (rw (c.in-None.is) at (c.in_ok-atom.ensures.atom scene found)))
+    c.args.lane.now c.cross.new.self c.cross.new.self c.args.is_active crosses
+    (λ scene found active fields samples gauge. none_sampled c.cross.new.self (log_time brought.frame.now)
+    scene metric fields (brought_step brought) (rw (c.in-None.is) at (c.in_ok-atom.ensures.atom scene found active)))
 
 -- an atom that arrives costs one question
 pub returns-in-Some-clause-asks : goal.returns-in-Some-clause-asks

@@ -8,10 +8,10 @@ use Rattle.client_engine.proofs.ValuesLemmas.{with_integer}
 use Rattle.client_engine.proofs.kinds.values.arrival.Goals as goal
 
 pub returns-clause-keyed : goal.returns-clause-keyed
-returns-clause-keyed g c = λ scene found source aggregation also.
+returns-clause-keyed g c = λ scene found active source aggregation also.
     let kind = c.in-PushedValue in
     let own : ValueLeaf = record { atom_id = kind.atom_id; leaf = kind.leaf } in
-    let comes = rw (c.in-Some.is) at (c.in_ok-atom.ensures.atom scene found) in
+    let comes = rw (c.in-Some.is) at (c.in_ok-atom.ensures.atom scene found active) in
     let value = c.in-Some-read_integer.value in
     let key = c.in_ok-key.key in
     let fits : SFits w64 value = search rules in

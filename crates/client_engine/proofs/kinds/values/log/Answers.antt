@@ -14,7 +14,7 @@ returns-clause-logs g c =
     let logs = rw (c.comes_by_pull.ensures, c.time_of.ensures) at c.log.ensures in
     on_ok_weaker c.log.result
     (values_log (handed_with c.args.conditions.now brought) c.args.metric.now brought.frame.now brought.matched.now
-    c.args.lane.now c.log.new.self c.in_ok-keyed.keyed c.in_ok-keyed.ensures.keyed) logs
+    c.args.lane.now c.log.new.self c.in_ok-keyed.keyed c.args.is_active c.in_ok-keyed.ensures.keyed) logs
 
 -- an atom that arrives costs one question
 pub returns-clause-asks : goal.returns-clause-asks

@@ -1,5 +1,5 @@
 -- One metric more, each by its place.
-use Rattle.std.proofs.Common.{◌≡◌, ◌∙◌, get_or, refl, subst, arith}
+use Rattle.std.proofs.Common.{◌∙◌, get_or, refl, subst, arith}
 use Rattle.client_engine.specs.Bringing.{handed_with}
 use Rattle.client_engine.specs.Woken.{OnMoreWoken, FewAsked}
 use Rattle.client_engine.proofs.MarksLemmas.{one_more_marked}

@@ -1,5 +1,5 @@
 -- The frame comes to the one metric, as if only that were marked.
-use Rattle.std.proofs.Common.{◌≡◌, ◌<◌, ◌∙◌, false, length, get_or, replicate, set, refl, sym, ap, subst, arith}
+use Rattle.std.proofs.Common.{◌∙◌, false, length, get_or, replicate, set, refl, sym, ap, subst, arith}
 use Rattle.std.proofs.lemmas.List.{get_or_past, get_or-replicate, length-replicate}
 use Rattle.config_links.specs.SoundConfig.{MayBeWithin}
 use Rattle.client_engine.specs.Bringing.{handed_with}

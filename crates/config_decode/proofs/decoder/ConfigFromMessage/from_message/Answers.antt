@@ -12,4 +12,5 @@ returns c = λ i. record {
   gauges = c.in_ok-gauges.ensures i;
   durations = c.in_ok-durations.ensures i;
   no_report = c.in_ok-no_report.ensures i;
+  alerts = c.in_ok-alerts.ensures i;
 }

@@ -7,5 +7,8 @@ pub returns-clause-calls : goal.returns-clause-calls
 returns-clause-calls c =
     on_ok_weaker c.apply.result (takes_event c.args.self.now c.apply.new.self c.args.ev) c.apply.ensures
 
-pub returns-clause-tally : goal.returns-clause-tally
-returns-clause-tally c = on_ok_weaker c.apply.result (λ acts. acts.tally_is) c.apply.ensures
+pub returns-clause-counts : goal.returns-clause-counts
+returns-clause-counts c = on_ok_weaker c.apply.result (λ acts. acts.counts_are) c.apply.ensures
+
+pub returns-clause-steady : goal.returns-clause-steady
+returns-clause-steady c = on_ok_weaker c.apply.result (λ acts. acts.steady_is) c.apply.ensures

@@ -1,8 +1,5 @@
 -- What was read goes to the live ones, and the hub serves the frame.
-use Rattle.std.proofs.Common.{refl, SFits, w32, w64, rules, ◌∙◌, ap}
-use Rattle.std.proofs.lemmas.Int.{to_z-of_z}
-use Rattle.config_decode.specs.Config.{config_of}
-use Rattle.hub_meaning.specs.Acceptance.{config_read}
+use Rattle.std.proofs.Common.{refl}
 use Rattle.hub_core.proofs.HubStandsLemmas.{hub_install}
 use Rattle.hub_core.proofs.hub.Hub.install.Goals as goal
 

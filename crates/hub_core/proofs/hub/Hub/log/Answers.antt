@@ -79,3 +79,7 @@ returns-clause-asleep g c =
     c.tell.new.self.states c.args.frame.now c.args.self.now.lives.slots.entries c.log.new.self.slots.entries
     c.shown.ensures.heard c.in_ok-log.ensures.slots)
     c.record.ensures.pulls
+
+-- the frame is lent, and comes back as the book of pulls leaves it
+pub returns-clause-lent : goal.returns-clause-lent
+returns-clause-lent g c = on_ok_weaker c.record.result (λ records. c.record.ensures.lent) c.record.ensures.pulls

@@ -1,5 +1,5 @@
 -- What was reported before is the answer, and taken out.
-use Rattle.std.proofs.Common.{◌≡◌, true, is_some, subst, sym, ap, ◌∙◌}
+use Rattle.std.proofs.Common.{subst, sym, ◌∙◌}
 use Rattle.hub_core.specs.Sleeping.{moment_of_clock}
 use Rattle.hub_core.specs.Slots.{ReportsAt}
 use Rattle.hub_core.proofs.CommandLemmas.{takes_out}

@@ -1,5 +1,5 @@
 -- The counts are those of the slots, and the configuration stands under its name.
-use Rattle.std.proofs.Common.{SFits, w32, rules, ◌≡◌, ◌≤◌, ◌<◌, ◌+◌, cond, Option, Some, arith, ap, sym, subst, ◌∙◌}
+use Rattle.std.proofs.Common.{SFits, w32, rules, ◌≡◌, ◌≤◌, ◌<◌, ◌+◌, cond, Option, arith, ap, sym, subst, ◌∙◌}
 use Rattle.std.specs.Ordering.{int_eq}
 use Rattle.std.proofs.lemmas.Grind.{merely}
 use Rattle.std.proofs.lemmas.Int.{to_z-of_z}

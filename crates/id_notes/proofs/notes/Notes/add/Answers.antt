@@ -1,6 +1,5 @@
 -- The id is noted, and those after it are still to come.
 use Rattle.std.proofs.Common.{◌∙◌, arith}
-use Rattle.std.specs.Prelude.{◌&&◌}
 use Rattle.id_notes.specs.Noted.{is_named, names_under}
 use Rattle.id_notes.proofs.AddedLemmas.{added_step}
 use Rattle.id_notes.proofs.notes.Notes.add.Goals as goal

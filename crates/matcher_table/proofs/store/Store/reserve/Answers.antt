@@ -48,10 +48,6 @@ pub returns-in_err-reserve-3-clause-indexed : goal.returns-in_err-reserve-3-clau
 returns-in_err-reserve-3-clause-indexed c =
     indexed_as c.requires.indexed _ _ (ap (λ s. s.slots) c.reserve.ensures.rest_kept) c.reserve-2.ensures.same
 
-pub returns-then-slot-clause-indexed : goal.returns-then-slot-clause-indexed
-returns-then-slot-clause-indexed c =
-    indexed_as c.requires.indexed _ _ (ap (λ s. s.slots) c.reserve.ensures.rest_kept) c.reserve-2.ensures.same
-
 pub returns-in_err-lengthen-clause-indexed : goal.returns-in_err-lengthen-clause-indexed
 returns-in_err-lengthen-clause-indexed c =
     indexed_as c.requires.indexed _ _ (ap (λ s. s.slots) c.reserve.ensures.rest_kept) c.reserve-2.ensures.same
@@ -75,11 +71,6 @@ returns-in_err-reserve-2-clause-ready c =
 
 pub returns-in_err-reserve-3-clause-ready : goal.returns-in_err-reserve-3-clause-ready
 returns-in_err-reserve-3-clause-ready c =
-    ready_as c.requires.ready _ _ _ _ _ _ (ap (λ s. s.slots) c.reserve.ensures.rest_kept) (λ id. refl) (λ s. refl)
-    c.reserve-3.ensures.items (omega arith) (λ s. refl) (λ s. refl)
-
-pub returns-then-slot-clause-ready : goal.returns-then-slot-clause-ready
-returns-then-slot-clause-ready c =
     ready_as c.requires.ready _ _ _ _ _ _ (ap (λ s. s.slots) c.reserve.ensures.rest_kept) (λ id. refl) (λ s. refl)
     c.reserve-3.ensures.items (omega arith) (λ s. refl) (λ s. refl)
 

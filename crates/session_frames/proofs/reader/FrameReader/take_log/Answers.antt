@@ -1,5 +1,5 @@
 -- A frame that is taken where it stands: what was held is what the judgement asks for, and was skipped.
-use Rattle.std.proofs.Common.{◌≡◌, ◌≤◌, true, false, [], Some, Ok, length, take, refl, sym, subst, arith, rules}
+use Rattle.std.proofs.Common.{◌≡◌, ◌≤◌, true, false, [], Some, length, take, refl, sym, subst, arith, rules}
 use Rattle.std.proofs.lemmas.List.{length-take-le}
 use Rattle.sd_io.specs.Causes.{IsSkip}
 use Rattle.session_frames.specs.declared.frame.Frame.TheVariants.{Log}

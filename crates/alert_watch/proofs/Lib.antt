@@ -1,0 +1,7 @@
+pub mod CountedLemmas
+pub mod SumsLemmas
+pub mod TurnsLemmas
+pub mod WatchLemmas
+pub mod AddedLemmas
+pub mod FilledLemmas
+pub mod WatchItemsLemmas

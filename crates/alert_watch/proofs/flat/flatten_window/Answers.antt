@@ -1,0 +1,16 @@
+-- The tables come after their number.
+use Rattle.std.proofs.Common.{refl}
+use Rattle.std.proofs.lemmas.Result.{on_ok_weaker, on_err_weaker}
+use Rattle.dim_table.proofs.TableItemsLemmas.{front_more}
+use Rattle.alert_watch.proofs.AddedLemmas.{window_added}
+use Rattle.alert_watch.proofs.flat.flatten_window.Goals as goal
+
+pub returns-clause-added : goal.returns-clause-added
+returns-clause-added c =
+    on_ok_weaker c.flatten_tables.result
+    (λ added. window_added c.args.tables.now _ _ _ _ refl c.in_ok-flatten.ensures.added added)
+    c.flatten_tables.ensures.added
+
+pub returns-clause-err : goal.returns-clause-err
+returns-clause-err c = on_err_weaker c.flatten_tables.result
+    (λ front. front_more _ _ _ _ c.in_ok-flatten.ensures.added front) c.flatten_tables.ensures.err

@@ -1,0 +1,11 @@
+pub mod FieldLemmas
+pub mod Spelled
+pub mod NumberLemmas
+pub mod ToldLemmas
+pub mod LeavesBack
+pub mod RowsBack
+pub mod MetricBack
+pub mod Back
+pub mod Widths
+pub mod Verdict
+pub mod Worked

@@ -1,0 +1,1 @@
+"""Sessions from what people have: tables, events that Android's statsd gave out, and traces of Perfetto."""

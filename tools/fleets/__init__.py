@@ -1,0 +1,1 @@
+"""Configurations over many recorded sessions: what tools/fleet is made of."""

@@ -1,0 +1,1 @@
+"""Reports as pictures: what tools/picture is made of."""
