@@ -3,6 +3,7 @@ import struct
 
 from session_text.layout import ATOM, BITS, BOOL, INSTALL, INT, LONG, PULL, RAW, REMOVE, REPORT, STR, TICK
 
+from compared.alarms import MOST_LISTED
 from compared.atoms import EXCLUSIVE, PRIMARY, RESET, Atom, Entry, Value
 from compared.balance import unbalanced
 from compared.drawn_config import (
@@ -208,6 +209,23 @@ class Drawn:
         self.logged(TICK, b"")
         self.report(client, self.random.random() < 0.5)
 
+    def many_alarms(self):
+        """Atoms each of which sets off an alarm, about as many as a report lists, over several reports."""
+        client = self.client()
+        matcher = {"id": 1, "simple": {"atom_id": ATOM_IDS[0]}}
+        dimensions = {"field": ATOM_IDS[0], "children": [{"field": FIELDS[0]}]}
+        count = {"id": 1, "what": 1, "dimensions": dimensions, "bucket": SECONDS}
+        count.update(bound=self.random.choice([1, 2, 3]))
+        watching = {"metric": 1, "parts": self.random.choice([1, 3])}
+        alerts = [{"id": 2, "threshold": 0, **watching}, {"id": 1, "threshold": 90, **watching}]
+        tree = {"matchers": [matcher], "counts": [count], "alerts": alerts, "no_report": self.random.choice([[], [1]])}
+        self.command(INSTALL, client, encoded("config", tree))
+        for _ in range(self.random.choice([1, 2, 3])):
+            for _ in range(MOST_LISTED + self.random.randint(-3, 5)):
+                self.now += self.random.choice([0, 0, 0, SECOND // 100])
+                self.logged(ATOM, Atom(ATOM_IDS[0], [plain(FIELDS[0], self.random.choice(NUMBERS))]).payload())
+            self.report(client, self.random.random() < 0.5)
+
     def many_keys(self):
         """State atoms of one id with about as many keys as are kept, and a reset among the last of them."""
         atom_id = self.random.choice(ATOM_IDS)
@@ -231,6 +249,8 @@ class Drawn:
             self.command(REMOVE, client)
         elif drawn < 0.12:
             self.report(client, self.random.random() < 0.5)
+        elif drawn < 0.1202:
+            self.many_alarms()
         elif drawn < 0.1205:
             self.many_ids()
         elif drawn < 0.1207:

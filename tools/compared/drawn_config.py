@@ -18,7 +18,7 @@ NUMBERS = range(3)
 STATES = range(-1, 4)
 
 # Ids are places from these on.
-MATCHER_ID, PREDICATE_ID, METRIC_ID, STATE_ID = 1, 101, 201, 301
+MATCHER_ID, PREDICATE_ID, METRIC_ID, STATE_ID, ALERT_ID = 1, 101, 201, 301, 401
 
 SECONDS, MINUTES = 1000, 1
 RANDOM_ONE, CHANGE_TO_TRUE, FIRST_N = 1, 3, 4
@@ -55,6 +55,9 @@ class DrawnConfig:
             self.tree[listed].append({"id": METRIC_ID + place, **draw(self)})
         ids = [metric["id"] for listed in LISTED for metric in self.tree[listed]]
         self.tree["no_report"] = [one for one in ids if random.random() < 0.1]
+        watched = [metric["id"] for metric in self.tree[COUNTS]]
+        number = random.choice([0, 1, 1, 2, 3]) if watched else 0
+        self.tree["alerts"] = [{"id": ALERT_ID + place, **self.alert(watched)} for place in range(number)]
         self.tree.update(matchers=self.matchers, predicates=self.predicates, states=self.states)
 
     def some(self, chance, draw):
@@ -271,6 +274,15 @@ class DrawnConfig:
         own = without_none(overflow=self.some(0.6, lambda: self.random.random() < 0.85))
         own.update(self.active())
         return {"what": what, **self.common(atom_id), **self.keyed(atom_id), **self.sliced(atom_id), **own}
+
+    def alert(self, watched):
+        """What an alert on one of these counts has beside its id."""
+        return without_none(
+            metric=self.random.choice(watched),
+            threshold=self.random.choice([0, 0, 1, 1, 2, 3, 5]),
+            parts=self.random.choice([1, 1, 2, 2, 3, 10]),
+            refractory=self.random.choice([None, None, 0, 1, 1, 2, 60]),
+        )
 
     def value(self, pulled=False):
         """A metric of values, pushed or pulled."""

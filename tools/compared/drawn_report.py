@@ -103,12 +103,19 @@ def drops(rng, field):
     )
 
 
+def alarm(rng):
+    """An alarm."""
+    told = number(1, drawn(rng, I64)) + number(2, drawn(rng, U64)) + number(3, drawn(rng, U64))
+    return message(1004, told + keys(rng))
+
+
 def draw_report(rng):
     """A report's bytes."""
     whose = number(1, drawn(rng, I32)) + number(2, drawn(rng, I64))
     clock = number(3, drawn(rng, U64)) + number(4, drawn(rng, U64))
     dropped = drops(rng, 1001) + drops(rng, 1002) + above(1003, drawn(rng, U64) if rng.randrange(2) else 0)
-    return message(1, whose) + message(2, several(rng, 3, metric) + clock + dropped)
+    alarms = several(rng, 2, alarm) + drops(rng, 1005)
+    return message(1, whose) + message(2, several(rng, 3, metric) + clock + dropped + alarms)
 
 
 def changed(rng, content):
@@ -181,7 +188,7 @@ def refielded(rng, tag, content):
     if how == 1:
         return spelled(tag, content) * 2
     if how == 2:
-        return spelled(rng.choice([1, 2, 3, 4, 6, 10, 1001, 1002, 1003]) << 3 | tag & 7, content)
+        return spelled(rng.choice([1, 2, 3, 4, 6, 10, 1001, 1002, 1003, 1004, 1005]) << 3 | tag & 7, content)
     if how == 3 and tag & 7 == 0:
         return spelled(tag, longer(content))
     if how == 4 and tag & 7 == 0:

@@ -1,7 +1,6 @@
 """Random configurations for `check`: first without a fault, and then changed at a few places."""
 from copy import deepcopy
 
-from compared.trees import READ
 from compared.verdict import (
     ALL,
     CHANGE_TO_TRUE,
@@ -79,14 +78,13 @@ class Drawn:
             ("gauges", self.gauge),
             ("durations", self.duration),
         ):
-            least = 1 if name == "counts" and "alerts" in READ else 0
+            least = 1 if name == "counts" else 0
             number = random.randint(least, 2) if name != "durations" or self.timed() else 0
             self.tree[name] = [self.metric(draw) for _ in range(number)]
         self.tree["no_report"] = [one for one in range(1, self.metrics + 1) if random.random() < 0.2]
         counts = [one["id"] for one in self.tree["counts"]]
-        if "alerts" in READ:
-            number = random.choice([0, 1, 1, 2, 2, 3])
-            self.tree["alerts"] = [{"id": one, **self.alert(counts)} for one in range(1, number + 1)]
+        number = random.choice([0, 1, 1, 2, 2, 3])
+        self.tree["alerts"] = [{"id": one, **self.alert(counts)} for one in range(1, number + 1)]
 
     def named(self, name):
         """The id of some entity of a list, if there is any."""
@@ -217,7 +215,7 @@ class Drawn:
 
     def with_activations(self, metric, may_have=True):
         """A metric that mostly has some activations, if it may have some; now and then one that may not."""
-        if "activations" not in READ or not (may_have or self.random.random() < 0.05):
+        if not may_have and self.random.random() > 0.05:
             return metric
         number = self.random.choice([0, 1, 1, 2, 3, 8])
         return {**metric, "activations": [self.activation() for _ in range(number)]}

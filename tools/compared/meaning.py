@@ -3,6 +3,7 @@ import sys
 
 from session_text.layout import ATOM, INSTALL, PULL, REPORT
 
+from compared.alarms import Alert, shown_alarms
 from compared.counted import Count, Event, PushedGauge, PushedValue
 from compared.durations import Longest, Sum
 from compared.history import Step
@@ -48,6 +49,8 @@ class Instance:
         self.predicates = Predicates(tree.get("predicates", []))
         self.steps = []
         self.metrics = list(self.drawn_up())
+        counts = {metric.metric_id: metric for metric in self.metrics}
+        self.alerts = [Alert(alert, counts) for alert in tree.get("alerts", [])]
         self.step(Step(INSTALL, self.base))
 
     def drawn_up(self):
@@ -87,5 +90,6 @@ class Instance:
         shown = b"".join(message(1, shown_metric(one)) for one in self.metrics if one.metric_id not in hidden)
         shown += number(3, self.last) + number(4, now)
         shown += predicate_drops(self.predicates.known) + state_drops(self.states_by_id.values(), self.books.states)
+        shown += shown_alarms(self.alerts)
         self.last = now
         return message(1, number(1, self.uid) + number(2, self.config_id)) + message(2, shown)

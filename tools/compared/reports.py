@@ -244,6 +244,12 @@ def dropped(message):
     return number_of
 
 
+def alarm(message):
+    """An alarm of an alert: when, with which sum, and of which key."""
+    found = {"id": signed(message.one(1), 64), "at": message.one(2), "sum": message.one(3)}
+    return {**found, "key": message.each(4, leaf), "slices": message.each(6, shown_slice)}
+
+
 def key(message):
     """Whose report it is."""
     return {"uid": signed(message.one(1), 32), "id": signed(message.one(2), 64)}
@@ -258,8 +264,8 @@ def config(message):
         "predicate_drops": message.each(1001, dropped),
         "state_drops": message.each(1002, dropped),
         "state_atoms_dropped": message.above(1003),
-        "alarms": [],
-        "alarms_not_kept": [],
+        "alarms": message.each(1004, alarm),
+        "alarms_not_kept": message.each(1005, dropped),
     }
 
 

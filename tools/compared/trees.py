@@ -14,20 +14,11 @@ POSITION, OPERATION = (1, 2, 3, 4), (1, 2, 3, 4, 5)
 # The sizes of buckets in seconds, by the number of their unit.
 UNITS = {1: 300, 2: 300, 3: 600, 4: 1_800, 5: 3_600, 6: 10_800, 7: 21_600, 8: 43_200, 9: 86_400, 1000: 1}
 
-# Which of the fields below are read so far: a metric's activations. Alerts are passed over.
-OPEN = ("activations",)
-
-# Those that are read now, their fields, and which messages have them.
-READ = set()
-LATER = {
-    "activations": (Field(1010, "activation", True), ("event", "count", "value", "gauge")),
-    "alerts": (Field(1011, "alert", True), ("config",)),
-}
-
 COMMON = {
     "id": Field(1, INT64),
     "what": Field(2, INT64),
 }
+ACTIVE = {"activations": Field(1010, "activation", True)}
 MESSAGES = {
     "config": {
         "events": Field(2, "event", True),
@@ -39,6 +30,7 @@ MESSAGES = {
         "predicates": Field(8, "predicate", True),
         "no_report": Field(13, INT64, True),
         "states": Field(21, "state", True),
+        "alerts": Field(1011, "alert", True),
     },
     "matcher": {
         "id": Field(1, INT64),
@@ -92,9 +84,10 @@ MESSAGES = {
         "parts": Field(4, INT32),
         "refractory": Field(5, INT64),
     },
-    "event": {**COMMON, "condition": Field(3, INT64), "links": Field(4, "link", True)},
+    "event": {**COMMON, **ACTIVE, "condition": Field(3, INT64), "links": Field(4, "link", True)},
     "count": {
         **COMMON,
+        **ACTIVE,
         "condition": Field(3, INT64),
         "dimensions": Field(4, "fields"),
         "bucket": Field(5, tuple(UNITS)),
@@ -106,6 +99,7 @@ MESSAGES = {
     },
     "value": {
         **COMMON,
+        **ACTIVE,
         "field": Field(3, "fields"),
         "condition": Field(4, INT64),
         "dimensions": Field(5, "fields"),
@@ -123,6 +117,7 @@ MESSAGES = {
     },
     "gauge": {
         **COMMON,
+        **ACTIVE,
         "filter": Field(3, "filter"),
         "condition": Field(4, INT64),
         "dimensions": Field(5, "fields"),
@@ -166,18 +161,6 @@ STRICT = {
 # Fields that are taken with any wire type and aren't acted on, and those of the whole that aren't taken at all.
 TAKEN = {"value": (10, 16, 17), "gauge": (10, 13, 14)}
 NOT_TAKEN = {"config": (17,)}
-
-
-def read(names):
-    """From now on these fields are read."""
-    for name in names:
-        field, kinds = LATER[name]
-        READ.add(name)
-        for kind in kinds:
-            MESSAGES[kind][name] = field
-
-
-read(OPEN)
 
 
 def encoded(kind, tree):

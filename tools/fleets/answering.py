@@ -9,7 +9,7 @@ import time
 
 from session_text.commands import ENDED, fault_words
 from session_text.faults import Fault
-from session_text.reports import TURNED_AWAY, Names, Reply, Rows, text_of
+from session_text.reports import ALARM, TURNED_AWAY, Names, Reply, Rows, text_of
 from session_text.replies import NAMES, WITH_REPORT
 
 from .plan import Result
@@ -101,7 +101,7 @@ class Cells:
 
     def __init__(self, name, leaves):
         self.name, self.names = name, [Names(leaves=one) for one in leaves]
-        self.rows, self.turned_away = [], []
+        self.rows, self.turned_away, self.alarms = [], [], []
         self.end = None
 
     def add(self, reply):
@@ -115,6 +115,9 @@ class Cells:
                 continue
             if row.key is not key or row.states is not states:
                 key, states, words = row.key, row.states, (text_of(row.key), text_of(row.states))
+            if row.what == ALARM:
+                self.alarms.append((self.name, *row[:4], *words, row.begin, row.value))
+                continue
             value = row.value if isinstance(row.value, int) else text_of(row.value)
             self.rows.append((self.name, *row[:6], *words, row.begin, row.to, value))
 
@@ -164,4 +167,4 @@ def answered(name, plan):
     except (MemoryError, OSError) as error:
         status, fault = FAULT, f"{type(error).__name__}: {error}"
     told = (size, zero if zero is None or zero < NO_TIME else None, cells.end, round(time.monotonic() - begin, 6))
-    return Result(name, status, fault, note.strip() or None, *told, cells.rows, cells.turned_away)
+    return Result(name, status, fault, note.strip() or None, *told, cells.rows, cells.turned_away, cells.alarms)

@@ -6,6 +6,7 @@ from collections import Counter, defaultdict
 from session_text.compare import COLUMNS, DIFFERENT, NEW, OLD, SAME, Comparison, Place, cells_of, line_of
 from session_text.faults import Fault
 from session_text.files import text, write
+from session_text.reports import SHOWN
 
 # So many sessions are named that one looks at first.
 FIRST = 10
@@ -14,6 +15,8 @@ BOTH = 2
 
 ROWS = 'SELECT metric, kind, what, key, states, "from", "to", value FROM rows WHERE session = ? AND config = ?'
 TURNED = 'SELECT metric, kind, what, \'\', \'\', "from", "to", value FROM turned_away WHERE session = ? AND config = ?'
+
+ALARMS = "SELECT alert, 'alert', 'alarm', key, states, at, at, sum FROM alarms WHERE session = ? AND config = ?"
 
 
 @contextlib.contextmanager
@@ -44,9 +47,9 @@ class Half:
         self.well = {name: fault is None for name, fault in tables.execute("SELECT session, fault FROM sessions")}
 
     def found(self, name):
-        """The rows of a session and its numbers that were turned away, by what they are of."""
+        """The rows of a session, its numbers that were turned away and its alarms, by what they are of."""
         found = defaultdict(list)
-        for ask in (ROWS, TURNED):
+        for ask in (ROWS, TURNED, ALARMS):
             for *place, value in self.tables.execute(ask, (name, self.number)):
                 found[Place(*place)].append(value)
         return found
@@ -69,7 +72,7 @@ class FleetComparison(Comparison):
         """Notes what differs in a session, and where numbers were turned away."""
         super().add_found(name, old, new)
         for word, found in ((OLD, old), (NEW, new)):
-            places = {place[:3] for place in found if place.what not in ("row", "overflow")}
+            places = {place[:3] for place in found if place.what not in SHOWN}
             self.turning[word].update(places)
 
     def began_lines(self):

@@ -8,5 +8,5 @@ Plan = namedtuple("Plan", "configs leaves uid every is_alone limit program")
 
 # What came of a session: its name, the status, what was wrong with it in words (None where it ended well), the
 # program's note, how many bytes it has, the times of its first frame of the log and of its end, the seconds that it
-# took, and its rows and numbers that were turned away, as tables have them.
-Result = namedtuple("Result", "session status fault note bytes begin to seconds rows turned_away")
+# took, and its rows, numbers that were turned away and alarms, as tables have them.
+Result = namedtuple("Result", "session status fault note bytes begin to seconds rows turned_away alarms")

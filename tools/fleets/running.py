@@ -61,7 +61,7 @@ def answered_all(names, plan):
 def dead(name):
     """The result of a session whose process died again and again."""
     fault = f"its process died, {TRIES} times"
-    return Result(name, FAULT, fault, None, None, None, None, None, [], [])
+    return Result(name, FAULT, fault, None, None, None, None, None, [], [], [])
 
 
 def windowed(submit, lots, most):

@@ -7,12 +7,17 @@ import pathlib
 import sqlite3
 
 from session_text.faults import Fault
-from session_text.reports import COLUMNS, metrics_of
+from session_text.reports import COLUMNS, alerts_of, metrics_of
 from session_text.signals import held
 
 PLAIN = tuple(name for name in COLUMNS if name not in ("key", "states"))
 SESSION_COLUMNS = ("session", "status", "fault", "note", "bytes", "from", "to", "seconds")
-TABLES = {"rows": ("session", *COLUMNS), "turned_away": ("session", *PLAIN), "sessions": SESSION_COLUMNS}
+TABLES = {
+    "rows": ("session", *COLUMNS),
+    "turned_away": ("session", *PLAIN),
+    "alarms": ("session", "reply", "client", "config", "alert", "key", "states", "at", "sum"),
+    "sessions": SESSION_COLUMNS,
+}
 
 TYPES = {"session": "TEXT NOT NULL", "seconds": "REAL", "value": ""}
 TYPES |= dict.fromkeys(("kind", "what", "key", "states", "fault", "note"), "TEXT")
@@ -34,6 +39,7 @@ def schema():
     yield "CREATE UNIQUE INDEX sessions_by_name ON sessions (session)"
     yield "CREATE TABLE configs (config INTEGER PRIMARY KEY, file TEXT, content BLOB)"
     yield "CREATE TABLE metrics (config INTEGER, metric INTEGER, kind TEXT, bucket INTEGER)"
+    yield "CREATE TABLE alerts (config INTEGER, alert INTEGER, metric INTEGER)"
     yield "CREATE TABLE about (name TEXT PRIMARY KEY, value TEXT)"
 
 
@@ -77,6 +83,8 @@ class Store:
             self.tables.execute("INSERT INTO configs VALUES (?, ?, ?)", (number, file, content))
             told_of = [(number, *one) for one in metrics_of(content, client)]
             self.tables.executemany("INSERT INTO metrics VALUES (?, ?, ?, ?)", told_of)
+            watching = [(number, *one) for one in alerts_of(content)]
+            self.tables.executemany("INSERT INTO alerts VALUES (?, ?, ?)", watching)
 
     def judge_same(self):
         """A run goes on as it began, or not at all."""
@@ -97,6 +105,7 @@ class Store:
                 for one in results:
                     self.tables.executemany(insert("rows"), one.rows)
                     self.tables.executemany(insert("turned_away"), one.turned_away)
+                    self.tables.executemany(insert("alarms"), one.alarms)
                     self.tables.execute(insert("sessions"), one[: len(SESSION_COLUMNS)])
                 self.tables.execute("COMMIT")
             except BaseException:
@@ -104,9 +113,9 @@ class Store:
                 raise
 
     def counts(self):
-        """How many sessions there are, how many of them didn't end well, how many rows and numbers turned away."""
+        """How many sessions there are, how many of them didn't end well, how many rows, numbers turned away and alarms."""
         ask = "SELECT (SELECT count(*) FROM sessions), (SELECT count(fault) FROM sessions),"
-        ask += " (SELECT count(*) FROM rows), (SELECT count(*) FROM turned_away)"
+        ask += " (SELECT count(*) FROM rows), (SELECT count(*) FROM turned_away), (SELECT count(*) FROM alarms)"
         return self.tables.execute(ask).fetchone()
 
     def finish(self):
@@ -114,6 +123,7 @@ class Store:
         with told(self.name):
             self.tables.execute("CREATE INDEX IF NOT EXISTS rows_by_session ON rows (session)")
             self.tables.execute("CREATE INDEX IF NOT EXISTS turned_away_by_session ON turned_away (session)")
+            self.tables.execute("CREATE INDEX IF NOT EXISTS alarms_by_session ON alarms (session)")
             if self.how != SQLITE:
                 for table in TABLES:
                     self.write(table)

@@ -1,5 +1,5 @@
 """Pictures of metrics by matplotlib: counts and values by bucket with a line a key, durations as stacked bars, gauges
-as points, events as ticks; what was turned away in red, and parts of buckets that were cut as such."""
+as points, events as ticks, alarms as marks; what was turned away in red, and parts of buckets that were cut as such."""
 import re
 from collections import Counter, defaultdict
 
@@ -9,6 +9,7 @@ from .reading import Part
 
 GREATEST = 10
 RED, GREY = "#c1121f", "#888888"
+MARK = "v"
 COLORS = "#1f77b4 #ff7f0e #2ca02c #9467bd #8c564b #e377c2 #bcbd22 #17becf #393b79 #637939".split()
 WIDTH, HEIGHT = 10, 2.6
 
@@ -153,7 +154,30 @@ def ticks(axes, _drawn, by_key, unit, color):
     axes.set_ylabel("events")
 
 
-DRAW = {"count": steps, "value": steps, "duration": bars, "gauge": points, "event": ticks}
+def alarms(axes, _drawn, by_key, unit, color):
+    """Alarms of an alert: a mark for each, when it came, as high as its sum."""
+    for key, parts in by_key.items():
+        across, up = [part.begin / unit for part in parts], [part.value for part in parts]
+        axes.plot(across, up, MARK, color=color[key], markersize=5)
+    axes.set_ylim(0, max(part.value for parts in by_key.values() for part in parts) * 1.15)
+    axes.set_ylabel("sum")
+
+
+def marks(axes, drawn, unit, color):
+    """The alarms on a metric: marks at the top, of the color of their keys."""
+    for mark in drawn.marks:
+        axes.plot(
+            [mark.at / unit],
+            [1],
+            MARK,
+            color=color.get(mark.key, GREY),
+            markersize=5,
+            transform=axes.get_xaxis_transform(),
+            clip_on=False,
+        )
+
+
+DRAW = {"count": steps, "value": steps, "duration": bars, "gauge": points, "event": ticks, "alert": alarms}
 
 
 def keyed(drawn):
@@ -180,24 +204,28 @@ def turned_away(axes, drawn, unit):
     axes.text(1, 1.02, told, color=RED, ha="right", transform=axes.transAxes)
 
 
-def legend(axes, pyplot, by_key, color, has_cuts):
-    """What is which color, and how a cut shows."""
+def legend(axes, pyplot, by_key, color, has_cuts, has_marks):
+    """What is which color, and how a cut and an alarm show."""
     handles = [pyplot.Line2D([], [], color=color[key], linewidth=3, label=short(key)) for key in by_key]
     if has_cuts:
         handles.append(pyplot.Line2D([], [], color=GREY, linestyle=":", label="dotted, hatched, hollow: cut"))
+    if has_marks:
+        handles.append(pyplot.Line2D([], [], color=GREY, linestyle="", marker=MARK, label="an alarm"))
     axes.legend(handles=handles, loc="upper left", bbox_to_anchor=(1.01, 1), frameon=False, fontsize=7)
 
 
 def draw(pyplot, axes, drawn, unit):
     """Draws a metric."""
     axes.set_title(drawn.title, loc="left", fontsize=9)
+    by_key = groups(keyed(drawn)) if drawn.parts else {}
+    color = colors(by_key)
     if drawn.parts:
-        by_key = groups(keyed(drawn))
-        color = colors(by_key)
         DRAW[drawn.kind](axes, drawn, by_key, unit, color)
-        legend(axes, pyplot, by_key, color, any(part.is_cut for part in drawn.parts))
     else:
         axes.set_yticks([])
+    marks(axes, drawn, unit, color)
+    if drawn.parts or drawn.marks:
+        legend(axes, pyplot, by_key, color, any(part.is_cut for part in drawn.parts), bool(drawn.marks))
     if drawn.turned:
         turned_away(axes, drawn, unit)
     axes.spines[["top", "right"]].set_visible(False)
@@ -206,6 +234,7 @@ def draw(pyplot, axes, drawn, unit):
 def span_of(page):
     """The first and the last time of all that is drawn."""
     times = [time for one in page.all() for part in [*one.parts, *one.turned] for time in (part.begin, part.end)]
+    times += [mark.at for one in page.all() for mark in one.marks]
     return min(times, default=0), max(times, default=SECOND)
 
 

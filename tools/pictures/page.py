@@ -43,7 +43,7 @@ def cell(name, value, kind):
     """A cell of a table. A number is sorted by what it is, and not by how it is shown."""
     if not isinstance(value, int):
         return f"<td>{html.escape(str(value))}</td>"
-    is_time = name in ("from", "to") or (kind == "duration" and name in ("value", "sum"))
+    is_time = name in ("from", "to", "at") or (kind == "duration" and name in ("value", "sum"))
     shown = time_word(value) if is_time else f"{value:,}"
     return f'<td class="number" data-number="{value}">{shown}</td>'
 
@@ -77,8 +77,9 @@ def section(page, drawn):
     if drawn.table:
         lines = drawn.table[:MOST_LINES]
         more = f", of which the first {MOST_LINES} are shown" if len(drawn.table) > MOST_LINES else ""
-        yield f"<details open><summary>{len(drawn.table)} rows{more}</summary>"
-        yield table(page.columns, lines, drawn.kind)
+        is_alert = drawn.kind == "alert"
+        yield f"<details open><summary>{len(drawn.table)} {'alarms' if is_alert else 'rows'}{more}</summary>"
+        yield table(page.alarm_columns if is_alert else page.columns, lines, drawn.kind)
         yield "</details>"
 
 

@@ -5,9 +5,10 @@ from collections import defaultdict, namedtuple
 
 from session_text.answering import Program, answered, is_replies, tell_ending
 from session_text.commands import commands, frames_of
+from session_text.config import ALERT
 from session_text.faults import Fault
 from session_text.files import content_of
-from session_text.reports import TURNED_AWAY, metrics_of, read_replies, rows_of, text_of
+from session_text.reports import ALARM, GATHERED, KINDS, TURNED_AWAY, alerts_of, metrics_of, read_replies, rows_of, text_of
 
 SQLITE = b"SQLite format 3\0"
 # The most rows of a metric that are read of a fleet: more of them show nothing more.
@@ -17,21 +18,27 @@ MOST_ROWS = 100_000
 Part = namedtuple("Part", "key begin end value is_cut")
 # What was turned away between two times.
 Turned = namedtuple("Turned", "what begin end count")
+# An alarm on a metric: of which key, and when.
+Mark = namedtuple("Mark", "key at")
+
+COUNT = KINDS[5]
 
 
 class Drawn:
-    """A metric with what is drawn of it."""
+    """A metric with what is drawn of it, the alarms on it among that; or an alert, whose parts are its alarms."""
 
     def __init__(self, title, kind):
         self.title, self.kind = title, kind
-        self.parts, self.turned, self.table = [], [], []
+        self.parts, self.turned, self.marks, self.table = [], [], [], []
 
 
 class Page:
-    """All that is drawn of a file: its title, the metrics, and lines that stand below; and what a time is of."""
+    """All that is drawn of a file: its title, the metrics and alerts, and lines that stand below; what a time is of; and
+    the columns of the tables, those of alarms apart."""
 
-    def __init__(self, title, time, columns):
-        self.title, self.time, self.columns, self.notes, self.drawn = title, time, columns, [], {}
+    def __init__(self, title, time, columns, alarm_columns):
+        self.title, self.time, self.notes, self.drawn = title, time, [], {}
+        self.columns, self.alarm_columns = columns, alarm_columns
 
     def of(self, whose, title, kind):
         """A metric, or what else turns something away."""
@@ -40,8 +47,8 @@ class Page:
         return self.drawn[whose]
 
     def all(self):
-        """The metrics that have something to show, in their order, and then what turned something away."""
-        return [one for one in self.drawn.values() if one.parts or one.turned]
+        """The metrics and alerts that have something to show, in their order, and then what turned something away."""
+        return [one for one in self.drawn.values() if one.parts or one.turned or one.marks]
 
 
 def label(key, states):
@@ -65,17 +72,25 @@ def session_page(name, program):
         one = answered(name, Program(program))
         tell_ending(one)
         written, session = one.written, one.session
-    page = Page(name, "the session's clock", ("key", "from", "to", "value"))
+    page = Page(name, "the session's clock", ("key", "from", "to", "value"), ("key", "at", "sum"))
     has_several = len({(reply.client, reply.config) for reply in read_replies(written) if reply.report}) > 1
-    known = {}
+    known, watched = {}, {}
     for whose, config in installs(session).items():
         with contextlib.suppress(KeyError, IndexError):
             known[whose] = {metric: size for metric, _, size in metrics_of(config, whose.client)}
-    for row in rows_of(read_replies(written), commands(session)):
-        place = (row.client, row.config, row.kind, row.metric)
-        size = known.get((row.client, row.config), {}).get(row.metric)
+            watched[whose] = dict(alerts_of(config))
+
+    def drawn_of(row, kind, metric):
         owner = f", client {row.client}, configuration {row.config}" if has_several else ""
-        add(page.of(place, title_of(row.kind, row.metric) + owner, row.kind), row, size)
+        return page.of((row.client, row.config, kind, metric), title_of(kind, metric) + owner, kind)
+
+    for row in rows_of(read_replies(written), commands(session)):
+        whose = (row.client, row.config)
+        size = None if row.kind == ALERT else known.get(whose, {}).get(row.metric)
+        add(drawn_of(row, row.kind, row.metric), row, size)
+        if row.what == ALARM and row.metric in watched.get(whose, {}):
+            counted = drawn_of(row, COUNT, watched[whose][row.metric])
+            counted.marks.append(Mark(label(text_of(row.key), text_of(row.states)), row.begin))
     return page
 
 
@@ -90,10 +105,10 @@ def add(drawn, row, size):
         drawn.turned.append(Turned(row.what, row.begin, row.to, row.value))
         return
     value = row.value if isinstance(row.value, int) else text_of(row.value)
-    name = "overflow" if row.what == "overflow" else label(text_of(row.key), text_of(row.states))
+    name = GATHERED if row.what == GATHERED else label(text_of(row.key), text_of(row.states))
     is_cut = size is not None and row.to - row.begin < size
     drawn.parts.append(Part(name, row.begin, row.to, value, is_cut))
-    drawn.table.append((name, row.begin, row.to, value))
+    drawn.table.append((name, row.begin, value) if row.what == ALARM else (name, row.begin, row.to, value))
 
 
 # The rows of all sessions by buckets since each began, with how many rows these are, and how many of them were cut.
@@ -115,11 +130,19 @@ SELECT config, metric, kind, what, min(turned_away."from" - ifnull(sessions."fro
 FROM turned_away JOIN sessions USING (session) GROUP BY config, metric, kind, what
 """
 
+# The alarms of all sessions by when they came since each began, and how many came at once with one sum.
+FLEET_ALARMS = """
+SELECT config, alert, metric, key, states, at - ifnull(sessions."from", 0) AS since, sum, count(*)
+FROM alarms JOIN sessions USING (session) LEFT JOIN alerts USING (config, alert)
+GROUP BY config, alert, metric, key, states, since, sum ORDER BY config, alert, since
+"""
+
 
 def fleet_page(name):
     """The page of a fleet's tables: of each metric its rows, added up over the sessions by the time since each session
     began."""
-    page = Page(name, "since each session began", ("key", "from", "to", "sum", "rows", "of which cut"))
+    columns = ("key", "from", "to", "sum", "rows", "of which cut")
+    page = Page(name, "since each session began", columns, ("key", "at", "sum", "alarms"))
     with contextlib.closing(sqlite3.connect(f"file:{name}?mode=ro", uri=True)) as tables:
         try:
             fill(page, tables)
@@ -144,10 +167,17 @@ def fill(page, tables):
         counts[drawn] += 1
         if counts[drawn] > MOST_ROWS:
             continue
-        name = "overflow" if what == "overflow" else label(key, states)
+        name = GATHERED if what == GATHERED else label(key, states)
         end = begin + (size or 0)
         drawn.parts.append(Part(name, begin, end, value, cut == rows))
         drawn.table.append((name, begin, end, value, rows, cut))
+    for config, alert, metric, key, states, at, total, number in tables.execute(FLEET_ALARMS):
+        drawn, name = drawn_of(config, ALERT, alert), label(key, states)
+        counts[drawn] += 1
+        if counts[drawn] <= MOST_ROWS:
+            drawn.parts.append(Part(name, at, at, total, False))
+            drawn.table.append((name, at, total, number))
+            drawn_of(config, COUNT, metric).marks.append(Mark(name, at))
     for drawn, number in counts.items():
         if number > MOST_ROWS:
             page.notes.append(f"{drawn.title} has {number} rows, of which {MOST_ROWS} are drawn")

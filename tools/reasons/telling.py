@@ -6,7 +6,9 @@ from compared.durations import Duration, Longest
 from compared.history import parts_of
 from compared.kinds import is_of_pulled
 from compared.knowledge import FALSE, UNKNOWN
+from session_text.config import ALERT
 from session_text.layout import ATOM, PULL, REPORT, TICK
+from session_text.reports import ALARM, SHOWN
 
 from reasons.snapshots import snapshot_lines
 from reasons.words import key_word, leaf_name, listed, span, times
@@ -108,10 +110,10 @@ class Told:
     def __init__(self, note, watcher, rows):
         self.note, self.metric, self.watcher = note, note.metric, watcher
         mine = [row for row in rows if row.metric == self.metric.metric_id and row.kind in KINDS.values()]
-        self.shown = sum(row.what in ("row", "overflow") for row in mine)
+        self.shown = sum(row.what in SHOWN for row in mine)
         self.turned = Counter()
         for row in mine:
-            if row.what not in ("row", "overflow"):
+            if row.what not in SHOWN:
                 self.turned[row.what] += row.value
         self.parts = list(parts_of(watcher.steps, watcher.base, self.metric.size))
 
@@ -228,6 +230,25 @@ class Told:
             yield "  buckets were closed since the last report: the next one shows them"
 
 
+def alert_lines(alert, rows):
+    """What is told of an alert: its alarms in reports, its greatest sum, and what its refractory time kept quiet."""
+    mine = [row for row in rows if row.kind == ALERT and row.metric == alert.alert_id]
+    shown = sum(1 if row.what == ALARM else row.value for row in mine)
+    sums = list(alert.sums())
+    above = [one for one in sums if one.sum > alert.threshold]
+    name = f"alert {alert.alert_id} (of metric {alert.count.metric_id})"
+    if not sums:
+        yield f"{name}: no alarm in reports: nothing that arrived at its metric found room"
+        return
+    greatest = max(sums, key=lambda one: one.sum)
+    why = "" if shown or above else f": no sum was above {alert.threshold}"
+    yield f"{name}: {times(shown, 'alarm') if shown else 'no alarm'} in reports{why}"
+    key = key_word(alert.count.fields.leaves, greatest.key[0])
+    quiet = len(above) - sum(1 for _ in alert.alarms())
+    told = f"; {times(quiet, 'sum')} above {alert.threshold} came within the refractory time" if quiet else ""
+    yield f"  its greatest sum was {greatest.sum}, of {key} at {span(greatest.at)}{told}"
+
+
 def watcher_lines(watcher, session, rows):
     """What is told of one installed configuration."""
     uid, config_id = watcher.uid, watcher.config_id
@@ -240,6 +261,7 @@ def watcher_lines(watcher, session, rows):
         predicate_lines(watcher),
         state_lines(watcher, session),
         *(Told(note, watcher, mine).lines() for note in watcher.notes),
+        *(alert_lines(alert, mine) for alert in watcher.alerts),
     ):
         yield from ("  " + line for line in lines)
 

@@ -4,13 +4,13 @@ from collections import Counter, defaultdict, namedtuple
 from . import packing, program
 from .answering import Answered, Program, session_of, tell_ending
 from .commands import Whose, frame, frames_of
-from .config import METRIC, entities, tree
+from .config import ALERT, METRIC, entities, tree
 from .faults import Fault
 from .files import called, text, write
 from .layout import INSTALL, REFUSED, REPORT
 from .refusals import found_lines
 from .replies import NAMES
-from .reports import KINDS, read_replies, rows_of, text_of
+from .reports import ALARM, KINDS, SHOWN, read_replies, rows_of, text_of
 from .tables import csv_line
 
 SAME, DIFFERENT = 0, 1
@@ -89,7 +89,8 @@ def line_of(cells, how):
 
 
 class Side:
-    """What one of the two configurations gave: its metrics, and how many rows each had, and their sum."""
+    """What one of the two configurations gave: its metrics, and how many rows each had, and their sum; and its alerts
+    with how many alarms of each were listed."""
 
     def __init__(self, config):
         content = tree(config)
@@ -97,13 +98,18 @@ class Side:
         self.kinds = {
             metric: kind for metric, kind in kinds.items() if metric not in content.get("no_report_metric", [])
         }
+        self.alerts = [alert.get("id") for _, alert in entities(content, ALERT)]
         self.config, self.rows, self.sums, self.turned = config, Counter(), Counter(), Counter()
+        self.alarms = Counter()
 
     def add(self, found):
         """Adds what a session gave."""
         for place, values in found.items():
-            if place.what not in ("row", "overflow"):
+            if place.what not in SHOWN:
                 self.turned[place.metric, place.kind, place.what] += sum(values)
+                continue
+            if place.what == ALARM:
+                self.alarms[place.metric] += len(values)
                 continue
             self.rows[place.metric] += len(values)
             self.sums[place.metric] += sum(value for value in values if isinstance(value, int))
@@ -150,6 +156,16 @@ class Comparison:
         )
         return f"metric {metric} ({kind}): {differ} differ; {rows}{sums}"
 
+    def alert_lines(self):
+        """What is told of each alert."""
+        old, new = self.sides.values()
+        for alert in dict.fromkeys([*old.alerts, *new.alerts]):
+            if alert in old.alerts and alert in new.alerts:
+                yield f"alert {alert}: {old.alarms[alert]} alarms and {new.alarms[alert]}"
+            else:
+                side, word = (old, OLD) if alert in old.alerts else (new, NEW)
+                yield f"alert {alert}: in the {word} configuration alone, with {side.alarms[alert]} alarms"
+
     def turned_lines(self):
         """What was turned away otherwise."""
         old, new = self.sides.values()
@@ -172,6 +188,7 @@ class Comparison:
         sessions = "1 session" if count == 1 else f"{count} sessions"
         yield f"{sessions}: {self.same} rows the same, {sum(self.differ.values())} differ"
         yield from map(self.metric_line, dict.fromkeys([*old.kinds, *new.kinds]))
+        yield from self.alert_lines()
         yield from self.turned_lines()
         yield from self.rowless_lines()
 

@@ -1,9 +1,9 @@
-"""Replies as values, and reports as rows: one for each bucket of a key, each event, each sample, and each number
-that was turned away. docs/REPORT.md has the columns."""
+"""Replies as values, and reports as rows: one for each bucket of a key, each event, each sample, each alarm, and each
+number that was turned away. docs/REPORT.md has the columns."""
 import struct
 from collections import defaultdict, namedtuple
 
-from .config import METRIC, bucket_size, entities, records, signed, tree, varint_at
+from .config import ALERT, METRIC, bucket_size, entities, records, signed, tree, varint_at
 from .faults import Fault
 from .layout import INSTALLED, REPLACED
 from .replies import NAMES, WITH_REPORT, bodies
@@ -30,6 +30,10 @@ EVENT, COUNT, DURATION, VALUE, GAUGE = range(4, 9)
 KINDS = {EVENT: "event", COUNT: "count", DURATION: "duration", VALUE: "value", GAUGE: "gauge"}
 OVERFLOW = 1001
 TURNED_AWAY = {1001: "dropped", 1002: "not_kept", 1003: "missing"}
+# What a row is of. What is neither of these was turned away.
+ROW, GATHERED, ALARM = SHOWN = ("row", "overflow", "alarm")
+# Alarms are of alerts, and of their metrics' keys.
+ALARMS, ALARMS_NOT_KEPT = 1004, 1005
 PLACE = 1001
 POSITIONS = {1: "FIRST", 2: "LAST", 3: "ANY", 4: "ALL"}
 
@@ -98,10 +102,16 @@ def metrics_of(config, client):
         yield metric.get("id"), kind, None if kind == KINDS[EVENT] else bucket_size(metric, client)
 
 
+def alerts_of(config):
+    """The alerts of a configuration: their ids, and the ids of the metrics that they watch."""
+    return [(alert.get("id"), alert.get("metric")) for _, alert in entities(tree(config), ALERT)]
+
+
 def leaves_of(config):
-    """The leaves of the keys of each metric of a configuration, by the metric's id."""
+    """The leaves of the keys of each metric of a configuration, by the metric's id, and those of each alert."""
     metrics = entities(tree(config), METRIC)
-    return {metric.get("id"): leaf_names(metric.get("dimensions_in_what")) for _, metric in metrics}
+    found = {metric.get("id"): leaf_names(metric.get("dimensions_in_what")) for _, metric in metrics}
+    return {**found, **{(ALERT, alert): found.get(metric, []) for alert, metric in alerts_of(config)}}
 
 
 class Names:
@@ -154,7 +164,7 @@ class Rows:
         self.base = None
 
     def all(self):
-        """All rows, metric by metric, and then what predicates and states turned away."""
+        """All rows, metric by metric, then what predicates and states turned away, and then alarms."""
         for metric in self.body[1]:
             yield from self.metric(fields_of(metric))
         for number, kind, since in ((1001, "predicate", self.base), (1002, "state_atom", 0)):
@@ -162,6 +172,19 @@ class Rows:
                 yield self.turned_away(number_of(drops, 1), kind, "dropped", since, number_of(drops, 2))
         if 1003 in self.body:
             yield self.turned_away(None, "state_atoms", "dropped", 0, number_of(self.body, 1003))
+        yield from map(self.alarm, map(fields_of, self.body[ALARMS]))
+        for unlisted in map(fields_of, self.body[ALARMS_NOT_KEPT]):
+            yield self.turned_away(number_of(unlisted, 1), ALERT, "not_kept", self.last, number_of(unlisted, 2))
+
+    def alarm(self, found):
+        """An alarm, at the time when it came, with its sum."""
+        alert, at = number_of(found, 1), number_of(found, 2)
+        key, states = self.key((ALERT, alert), found)
+        return Row(*self.head, alert, ALERT, ALARM, key, states, at, at, number_of(found, 3) % 2**64)
+
+    def key(self, metric, found):
+        """The values and the states that a row or an alarm is of."""
+        return tuple(leaf_of(leaf, metric, self.names) for leaf in found[4]), tuple(map(slice_of, found[6]))
 
     def turned_away(self, metric, kind, what, since, count):
         """A number that was turned away between two times."""
@@ -181,14 +204,11 @@ class Rows:
     def event(self, metric, data):
         """An event."""
         at = number_of(data, 1)
-        yield Row(*self.head, metric, "event", "row", None, None, at, at, atom_of(data[2][0]))
+        yield Row(*self.head, metric, "event", ROW, None, None, at, at, atom_of(data[2][0]))
 
     def keyed(self, metric, kind, data):
         """The rows of a key: one a bucket, and of samples one each."""
-        what = "overflow" if OVERFLOW in data else "row"
-        key = tuple(leaf_of(leaf, metric, self.names) for leaf in data[4])
-        states = tuple(map(slice_of, data[6]))
-        head = (*self.head, metric, KINDS[kind], what, key, states)
+        head = (*self.head, metric, KINDS[kind], GATHERED if OVERFLOW in data else ROW, *self.key(metric, data))
         for bucket in data[3]:
             if kind == GAUGE:
                 found = fields_of(bucket)

@@ -6,6 +6,7 @@ SECOND = 10**9
 EVENTS, COUNTS, DURATIONS, VALUES, GAUGES = range(4, 9)
 OVERFLOW = 1001
 TURNED_AWAY = ((1001, "dropped"), (1002, "not kept"), (1003, "missing"))
+ALARMS, ALARMS_NOT_KEPT = 1004, 1005
 
 
 def parts(content, number):
@@ -97,12 +98,29 @@ def metric_words(metric, has_times):
     return f"{number_at(metric, 1)}: {'; '.join(rows + counts) or 'none'}"
 
 
+def alarm_word(alarm):
+    """An alarm: its sum, its key, and when it came."""
+    key, slices = key_word(alarm), ", ".join(map(slice_word, parts(alarm, 6)))
+    whose = (f" of {key}" if key else "") + (f" with {slices}" if slices else "")
+    return f"{number_at(alarm, 3)}{whose} at {time_word(number_at(alarm, 2))}"
+
+
+def alert_words(content):
+    """The alarms of each alert, and how many aren't listed."""
+    alarms = {}
+    for alarm in parts(content, ALARMS):
+        alarms.setdefault(number_at(alarm, 1), []).append(alarm_word(alarm))
+    for unlisted in parts(content, ALARMS_NOT_KEPT):
+        alarms.setdefault(number_at(unlisted, 1), []).append(f"not kept {number_at(unlisted, 2)}")
+    return [f"alert {alert}: {'; '.join(words)}" for alert, words in alarms.items()]
+
+
 def report_words(report, has_times):
-    """What a report shows: the metrics that have rows or counts, and what found no room."""
+    """What a report shows: the metrics that have rows or counts, what found no room, and alarms."""
     content = parts(report, 2)[0]
     metrics = [metric_words(metric, has_times) for metric in parts(content, 1)]
     words = [word for word in metrics if not word.endswith(": none")]
     words += [f"predicate {number_at(one, 1)}: dropped {number_at(one, 2)}" for one in parts(content, 1001)]
     words += [f"atom {number_at(one, 1)}: dropped {number_at(one, 2)}" for one in parts(content, 1002)]
     words += [f"state atoms: dropped {number_at(content, 1003)}"] if parts(content, 1003) else []
-    return " | ".join(words) or "none"
+    return " | ".join(words + alert_words(content)) or "none"

@@ -11,8 +11,8 @@ use Rattle.bucket_meaning.specs.Kept.{count_in_u64}
 use Rattle.metric_kinds.specs.Keys.{is_same_key}
 use Rattle.config_types.specs.declared.parameters.AlertSpec.{AlertSpec}
 use Rattle.alert_watch.specs.declared.alarm.Alarm.{Alarm}
-use Rattle.alert_watch.specs.Windows.{Arrival, Notice, KeyArrived, PartsEnded, AlarmsTold, admitted_of, AlertBooks, window_sum, is_over, with_alarm, with_arrival, with_notice, alert_books_from, alert_books, no_alert_books, most_alarms}
-use Rattle.alert_watch.specs.Watches.{KeyCounts, WatchContents, IsPartTable, IsWatch, CountsPart, CountParts, HasAlertBooks, TakesNotice}
+use Rattle.alert_watch.specs.Windows.{Arrival, Notice, KeyArrived, PartsEnded, AlarmsTold, admitted_of, AlertBooks, window_sum, is_over, with_alarm, with_arrival, with_notice, alert_books_from, alert_books, no_alert_books, alarms_told, most_alarms}
+use Rattle.alert_watch.specs.Watches.{KeyCounts, WatchContents, IsPartTable, IsWatch, CountsPart, CountParts, HasAlertBooks, WatchStandsFor, TakesNotice, TellsAlarms}
 use Rattle.alert_watch.specs.WindowParts.{IsEmptyTable, table_sum, finds_room, CountsOne, Turns}
 use Rattle.alert_watch.specs.WatchSteps.{no_table, open_table, CountsIn, is_over_after, rung_with, RingsWith}
 use Rattle.alert_watch.proofs.CountedLemmas.{admitted_keys, is_admitted, admitted_more, not_admitted, turned_away, room_is}
@@ -29,6 +29,12 @@ pub alert_books_push : (spec : AlertSpec) (books : AlertBooks) (before : List No
     → alert_books_from spec books (before ++ notice ∷ []) ≡ with_notice spec (alert_books_from spec books before) notice
 alert_books_push spec books [] notice = refl
 alert_books_push spec books (first ∷ before) notice = alert_books_push spec (with_notice spec books first) before notice
+
+-- and with some more
+alert_books_append : (spec : AlertSpec) (books : AlertBooks) (before more : List Notice)
+    → alert_books_from spec books (before ++ more) ≡ alert_books_from spec (alert_books_from spec books before) more
+alert_books_append spec books [] more = refl
+alert_books_append spec books (first ∷ before) more = alert_books_append spec (with_notice spec books first) before more
 
 -- it is enough to say what one thing makes of what was books
 pub takes_notice : (old new : WatchContents) (notice : Notice) → new.spec ≡ old.spec
@@ -419,3 +425,37 @@ ended_singly spec books (suc (suc n)) some =
   where
     one_and : (m : ℕ) → 1 + suc m ≡ suc (suc m)
     one_and m = omega arith
+
+-- so many parts of a watch ended at once, as they would have singly
+singly_books : (spec : AlertSpec) (notices : List Notice) (n : ℕ) → 1 ≤ n
+    → alert_books spec (notices ++ PartsEnded n ∷ []) ≡ alert_books spec (notices ++ replicate n (PartsEnded 1))
+singly_books spec notices n some =
+    alert_books_push spec no_alert_books notices (PartsEnded n)
+    ∙ sym (ended_singly spec (alert_books spec notices) n some)
+    ∙ sym (alert_books_append spec no_alert_books notices (replicate n (PartsEnded 1)))
+
+-- For callers: a watch that took the end of so many parts stands for as many ends of one part.
+pub stands_singly : (old new : WatchContents) (notices : List Notice) (n : ℕ) → 1 ≤ n → new.spec ≡ old.spec
+    → TakesNotice old new (PartsEnded n) → WatchStandsFor old notices
+    → WatchStandsFor new (notices ++ replicate n (PartsEnded 1))
+stands_singly old new notices n some same takes stands =
+    subst (HasAlertBooks new) (singly_books new.spec notices n some) (takes notices stands)
+
+-- For callers: the alarms that a watch lists and counts are those that the next report tells.
+pub tells_untold : (watch : WatchContents)
+    → TellsAlarms watch (record { listed = watch.listed; not_kept = watch.not_kept })
+tells_untold watch notices stands =
+    ap (λ (alarms : List Alarm). record { listed = alarms; not_kept = watch.not_kept }) stands.listed
+    ∙ ap (λ (n : ℕ). record {
+      listed = take most_alarms (alert_books watch.spec notices).untold;
+      not_kept = n;
+    }) stands.not_kept
+
+-- For callers: the end of a part, as that of a report's cut, leaves the alarms that a report tells.
+pub told_after_end : (spec : AlertSpec) (notices : List Notice) (n : ℕ)
+    → alarms_told spec (notices ++ PartsEnded n ∷ []) ≡ alarms_told spec notices
+told_after_end spec notices n =
+    ap (λ (books : AlertBooks). record {
+      listed = take most_alarms books.untold;
+      not_kept = count_in_u64 (length books.untold - most_alarms);
+    }) (alert_books_push spec no_alert_books notices (PartsEnded n))

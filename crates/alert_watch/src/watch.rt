@@ -114,6 +114,20 @@ impl AlertWatch {
         }
     }
 
+    /// The alarms that the next report lists. They stay.
+    pub fn listed(&self) -> &[Alarm]
+        ensures { result.now ≡ self.now.listed }
+    {
+        self.listed.as_slice()
+    }
+
+    /// How many alarms came after those.
+    pub fn not_kept(&self) -> u64
+        ensures { result ≡ self.now.not_kept }
+    {
+        self.not_kept
+    }
+
     /// The alert that it is a watch of.
     pub fn alert(&self) -> AlertSpec
         ensures value { result ≡ self.now.spec }

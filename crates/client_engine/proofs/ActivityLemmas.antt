@@ -1,5 +1,5 @@
 -- What the book of a metric's activations stands for, one step more at a time: lemmas on `specs/Activity.antt`.
-use Rattle.std.proofs.Common.{◌≡◌, ◌≢◌, ℕ, zero, suc, ◌+◌, ◌<◌, ◌≤◌, Bool, false, ◌||◌, List, [], ◌∷◌, ◌++◌, length, map, take, get_or, set, slice_get, All, Some, None, refl, sym, ap, subst, ◌∙◌, arith, ⊎_elim}
+use Rattle.std.proofs.Common.{◌≡◌, ◌≢◌, ℕ, zero, suc, ◌+◌, ◌<◌, ◌≤◌, Bool, true, false, ◌||◌, List, [], ◌∷◌, ◌++◌, length, map, take, get_or, set, slice_get, All, Some, None, refl, sym, ap, subst, ◌∙◌, arith, ⊎_elim}
 use Rattle.std.specs.Option.{option_map_or}
 use Rattle.std.proofs.lemmas.Bool.{cases_lt}
 use Rattle.std.proofs.lemmas.List.{map-append, length-map, length-take-le, get_or-map, get_or-take, get_or_default, get_or-set_same, get_or-set_other, same_lists}
@@ -24,7 +24,7 @@ use Rattle.metric_activation.proofs.TimersLemmas.{stays_silent}
 use Rattle.metric_meaning.specs.ActivationSteps.{signal_of, is_active_after}
 use Rattle.metric_meaning.specs.Histories.{What, Logged, Reported, Step}
 use Rattle.metric_meaning.specs.ShownFrames.{shown_as}
-use Rattle.client_engine.specs.Activity.{starts_by, cancels_by, timers_of, said_by, ActsAlong, AreSaid, TellsFrame}
+use Rattle.client_engine.specs.Activity.{starts_by, cancels_by, timers_of, said_by, ActsAlong, AreSaid, TellsFrame, SaysActive}
 use Rattle.client_engine.specs.NextSteps.{logged_step, with_logged, with_reported}
 use Rattle.client_engine.specs.Touchers.{one_holds}
 use Rattle.client_engine.specs.Waking.{SleepsThrough}
@@ -202,6 +202,15 @@ none_told metric shown truths acts none log steps frame is in_time along =
       length-map metric.activations (λ (one : LActivation). one.ttl),
       length-map acts (λ (timer : Timer). timer.ttl),
     )))
+
+-- it is always active
+pub none_asked : (metric : LMetric) (acts : List Timer) (now : ℕ) → length metric.activations ≡ 0
+    → SaysActive metric acts now true
+none_asked metric acts now none steps along = of_list metric.activations none where
+  of_list : (ones : List LActivation) → length ones ≡ 0
+      → true ≡ is_active_after (record metric { activations = ones }) steps now
+  of_list [] none = refl
+  of_list (one ∷ ones) none = absurd (omega (arith, none))
 
 -- nor does a frame tell anything that is no atom
 pub tick_told : (metric : LMetric) (at : ℕ) (truths : List Bool) (acts : List Timer)

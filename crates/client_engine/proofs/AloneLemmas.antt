@@ -69,9 +69,8 @@ use Rattle.client_engine.specs.CaughtUp.{LeavesAlone, AllLeaveAlone, MayCatchUp,
 use Rattle.client_engine.specs.Activity.{ActsAlong}
 use Rattle.client_engine.specs.TrackStands.{LaneAlong}
 use Rattle.client_engine.specs.declared.lanes.MetricLane.{MetricLane}
-use Rattle.client_engine.specs.declared.track.Track.{Track}
 use Rattle.metric_activation.specs.declared.timer.Timer.{Timer}
-use Rattle.client_engine.specs.CountsAlong.{CountLane, CountsAlong}
+use Rattle.client_engine.specs.CountsAlong.{WatchedLane, CountsAlong, CrossesWatched}
 use Rattle.client_engine.specs.ValuesAlong.{ValueLane, ValuesAlong}
 use Rattle.client_engine.specs.PulledValuesAlong.{PulledValueLane, PulledValuesAlong}
 use Rattle.client_engine.specs.GaugesAlong.{GaugeLane, GaugesAlong}
@@ -82,6 +81,8 @@ use Rattle.client_engine.specs.LongestAlong.{LongestLane, LongestAlong}
 use Rattle.client_engine.specs.Touchers.{one_holds, tells_one}
 use Rattle.client_engine.specs.Waking.{told_touchers, wakers, told_slices}
 use Rattle.client_engine.proofs.ActivityLemmas.{tick_stays, atom_stays, pull_stays}
+use Rattle.metric_meaning.proofs.AlertStepsLemmas.{IsFrame, BringNone}
+use Rattle.client_engine.proofs.CountsLemmas.{watches_run}
 use Rattle.client_engine.proofs.RunLemmas.{AsksNothing, nothing_asked, along_run}
 use Rattle.client_engine.proofs.SleepingLemmas.{alone, duration_untouched, pulled_untouched, gauge_untouched}
 use Rattle.client_engine.proofs.UntouchedLemmas.{nothing_changes}
@@ -116,6 +117,21 @@ module _ (installed : Installation) (metric : LMetric) where
         (sym (ap (one_holds step.truths) own) ∙ kind_off installed.linked.predicates metric step.truths leaves.0))
     of_what (Logged (Pull at id outcome)) leaves = refl
     of_what (Reported include_current) leaves = absurd leaves
+
+  -- so none of the steps of a run brings anything that leave it alone
+  nothing_comes : kind_matchers metric.what metric.kind ≡ metric.what ∷ [] → (before run : List Step)
+      → AllLeaveAlone installed.linked run metric → BringNone installed metric before run
+  nothing_comes own before [] leave = tt
+  nothing_comes own before (step ∷ run) leave = (
+    is_frame step.what leave.0,
+    ap (option_map (atom_key (scene_after installed (before ++ step ∷ [])) metric))
+        (none_comes (scene_after installed (before ++ step ∷ [])) step own leave.0),
+    nothing_comes own (before ++ step ∷ []) run leave.1,
+  )
+    where
+      is_frame : (what : What) → LeavesAlone installed.linked metric (record step { what = what }) → IsFrame installed metric what
+      is_frame (Logged frame) leaves = tt
+      is_frame (Reported include_current) leaves = leaves
 
   module _ (before : List Step) (step : Step) (leaves : LeavesAlone installed.linked metric step) where
     abbrev scene : Scene
@@ -223,15 +239,17 @@ module _ (metric : LMetric) (moment : Moment) where
       (run_logs law joins asking.asks old new moment crosses)
       (nothing_asked asking installed metric none steps run leave) may along
 
-  pub counts_run : (old new : CountLane) → GetsFrame count_law old new moment
+  pub counts_run : (old new : WatchedLane) → CrossesWatched moment old new
       → TakesRun (CountsAlong metric) metric moment old new
   counts_run old new crosses installed steps run has leave may = record {
     overflow = has.overflow;
     counts = has.counts;
-    along = takes_run count_law joining_counts.counts_join (count_asking installed metric has.overflow) old new crosses
-        installed (counts_ask_well installed metric has.overflow) refl
+    along = takes_run count_law joining_counts.counts_join (count_asking installed metric has.overflow) old.lane new.lane
+        crosses.0 installed (counts_ask_well installed metric has.overflow) refl
         (λ before step leaves. counts_none installed metric before step leaves has.overflow has.counts) steps run leave may
         has.along;
+    watches = watches_run metric installed has.overflow steps run moment old.lane old.watches new.watches has.along may
+        crosses.1 (nothing_comes installed metric (ap (kind_matchers metric.what) has.counts) steps run leave) has.watches;
   }
 
   pub values_run : (old new : ValueLane) → GetsFrame pushed_law old new moment

@@ -1,5 +1,5 @@
 -- A lane that collects for its metric, one step more: lemmas on `specs/Along.antt`, for every kind of metric.
-use Rattle.std.proofs.Common.{◌≡◌, ℕ, ◌<◌, Bool, List, [], ◌∷◌, ◌++◌, sym, ap, subst, ◌∙◌}
+use Rattle.std.proofs.Common.{◌≡◌, ℕ, ◌<◌, Bool, List, [], ◌∷◌, ◌++◌, sym, subst, ◌∙◌}
 use Rattle.std.proofs.lemmas.List.{append-nil}
 use Rattle.sd_base.specs.Outputs.{outputs_after}
 use Rattle.sd_base.proofs.OutputsLemmas.{outputs-push}

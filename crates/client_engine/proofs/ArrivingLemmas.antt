@@ -108,6 +108,24 @@ pub record IsOfArrivals {P Params News Event After X K C V : Type 0}
 module _ {P Params News Event After X K C V : Type 0} (asking : Asking Params News Event After X K C (Row V))
     (law : Law P Params Event After X K C (Row V)) (installed : Installation) (metric : LMetric)
     (makes : Scene → Option Atom → News) (kind : IsOfArrivals asking law installed metric makes) where
+  -- what is made of the atom that arrives with a frame, which is shown so, is what the frame's step brings
+  pub news_come : (given : Handed) (shown frame : LogFrame) (truths : List Bool) (news : News) (steps : List Step)
+      (active : Bool)
+      → active ≡ is_active_after metric (with_logged steps frame truths) (log_time frame)
+      → ((scene : Scene) → IsOfScene given scene → active ≡ is_active_in scene metric (log_time shown)
+      → news ≡ makes scene (arriving_by scene metric (logged_step shown truths)))
+      → MayLog installed steps given shown frame truths → news ≡ asking.news steps (logged_step frame truths)
+  news_come given shown frame truths news steps active active_is is may =
+      let step = logged_step frame truths in
+      let scene = scene_after installed (steps ++ step ∷ []) in
+      let log = log_after installed steps in
+      let at_once : log_time frame ≡ log_time shown =
+      sym (ap (λ (m : Moment). m.at) (ap (λ f. moment_of f (log_time f)) may.shown_is ∙ shown_moment log frame)) in
+      is scene may.found (active_is ∙ ap (is_active_after metric (with_logged steps frame truths)) at_once)
+      ∙ ap (makes scene) (ap (λ f. arriving_by scene metric (logged_step f truths)) may.shown_is
+      ∙ shown_arriving scene metric log frame truths)
+      ∙ sym (kind.news steps step)
+
   -- the lane of such a metric takes one more frame of the log, which is shown so, and brings what is made of the atom
   -- that arrives
   pub arrivals_log : (given : Handed) (shown frame : LogFrame) (truths : List Bool) (old new : Lane P Event After V)
@@ -119,17 +137,8 @@ module _ {P Params News Event After X K C V : Type 0} (asking : Asking Params Ne
       → Along asking law steps old → MayLog installed steps given shown frame truths
       → Along asking law (with_logged steps frame truths) new
   arrivals_log given shown frame truths old new news steps active active_is is logs along may =
-      let step = logged_step frame truths in
-      let scene = scene_after installed (steps ++ step ∷ []) in
-      let log = log_after installed steps in
-      let at_once : log_time frame ≡ log_time shown =
-      sym (ap (λ (m : Moment). m.at) (ap (λ f. moment_of f (log_time f)) may.shown_is ∙ shown_moment log frame)) in
-      let comes : news ≡ asking.news steps step =
-      is scene may.found (active_is ∙ ap (is_active_after metric (with_logged steps frame truths)) at_once)
-      ∙ ap (makes scene) (ap (λ f. arriving_by scene metric (logged_step f truths)) may.shown_is
-      ∙ shown_arriving scene metric log frame truths)
-      ∙ sym (kind.news steps step) in
       let moment : moment_of shown (log_time shown) ≡ moment_of frame (log_time frame) =
-      ap (λ f. moment_of f (log_time f)) may.shown_is ∙ shown_moment log frame in
-      along_logs asking law kind.well steps frame truths old new (moment_of shown (log_time shown)) news moment comes
+      ap (λ f. moment_of f (log_time f)) may.shown_is ∙ shown_moment (log_after installed steps) frame in
+      along_logs asking law kind.well steps frame truths old new (moment_of shown (log_time shown)) news moment
+      (news_come given shown frame truths news steps active active_is is may)
       logs along (subst (λ b. ComeInTime b (with_logged steps frame truths)) (sym kind.base) may.in_time)

@@ -29,6 +29,7 @@ use Rattle.client_engine.specs.declared.lanes.MetricLane.TheVariants.{Counts, Va
 use Rattle.client_engine.specs.declared.track.Track.{Track}
 use Rattle.client_engine.proofs.AloneLemmas.{counts_run, values_run, pulled_values_run, gauges_run, pulled_gauges_run, events_run, sums_run, longest_run, track_run}
 use Rattle.client_engine.proofs.TracksLemmas.{map-set_same, same_here}
+use Rattle.client_engine.proofs.WatchesLemmas.{ends_none}
 use Rattle.client_engine.proofs.UntouchingLemmas.{run_leaves_alone, run_tables, run_reports_none}
 
 -- a lane takes a run where it does as it was found
@@ -42,7 +43,10 @@ lane_takes metric moment old found new is takes =
 lane_stays : (moment : Moment) (time : ℕ) → moment.at < time → (metric : LMetric) (lane : MetricLane)
     → NoEndBefore time (clock_of_lane lane) → TakesRun (LaneAlong metric) metric moment lane lane
 lane_stays moment time early metric (Counts lane) later =
-    counts_run metric moment lane lane (frame_before_end count_law lane moment time later early)
+    counts_run metric moment lane lane (
+      frame_before_end count_law lane.lane moment time later early,
+      ends_none lane.lane.clock moment time lane.watches later early,
+    )
 lane_stays moment time early metric (Values lane) later =
     values_run metric moment lane lane (frame_before_end pushed_law lane moment time later early)
 lane_stays moment time early metric (PulledValues lane) later =

@@ -1,7 +1,10 @@
 -- An instance, one step more.
-use Rattle.std.proofs.Common.{◌≡◌, ℕ, ◌+◌, ◌≤◌, ◌<◌, Bool, List, [], ◌∷◌, ◌++◌, length, map, filter, All, refl, sym, ap, subst, ◌∙◌, append_assoc, arith}
+use Rattle.std.proofs.Common.{◌≡◌, ℕ, ◌+◌, ◌≤◌, ◌<◌, Bool, List, [], ◌∷◌, ◌++◌, length, map, filter, get_or, slice_get, All, AllPairs, Some, refl, sym, ap, subst, ◌∙◌, append_assoc, arith, ◌≢◌, ◌⊎◌, inl, inr}
+use Rattle.std.proofs.lemmas.Bool.{cases_lt}
 use Rattle.std.proofs.lemmas.List.Concat.{flat_map-append}
 use Rattle.std.proofs.lemmas.List.Elements.{All-weaker}
+use Rattle.std.proofs.lemmas.Option.{slice_get_within, slice_get-get_or, get_or_from_slice_get}
+use Rattle.std.specs.List.{flat_map}
 use Rattle.pull_book.specs.PullBooks.{PullBookStandsFor}
 use Rattle.state_slicer.specs.StateBooks.{StateBookStandsFor}
 use Rattle.atom_record.specs.declared.log.LogFrame.{LogFrame}
@@ -22,6 +25,7 @@ use Rattle.metric_meaning.specs.Histories.{Step, What, Reported, Logged, Install
 use Rattle.metric_meaning.specs.ShownFrames.{shown_as}
 use Rattle.metric_meaning.specs.StateDrops.{drops_of_states, dropped_for}
 use Rattle.metric_meaning.specs.PredicateSteps.{table_spec, tables_after, predicate_drops, table_after, drop_above_zero}
+use Rattle.metric_meaning.specs.AlarmTrees.{alarm_trees, alarm_drops}
 use Rattle.metric_meaning.specs.Reports.{report_of, last_report}
 use Rattle.metric_meaning.proofs.PredicateStepsLemmas.{tables_after-idle}
 use Rattle.report_writer.specs.declared.tree.MetricTree.{MetricTree}
@@ -34,13 +38,16 @@ use Rattle.client_engine.proofs.QuestionsLemmas.{shown_questions}
 use Rattle.client_engine.proofs.ShownLemmas.{shown_time, shown_tables}
 use Rattle.client_engine.specs.KeptPredicates.{HasItsLeaves, KeepsItsLeaves, HasBound, CanBeKept}
 use Rattle.client_engine.specs.Tracks.{CanBeTracked, metric_in, AsksWithin, AllAskWithin, AreNew, AllStandFor, AllReport}
-use Rattle.client_engine.specs.SoundMetrics.{IsSoundIn}
+use Rattle.client_engine.specs.SoundMetrics.{AreInstalled}
+use Rattle.client_engine.specs.Alarms.{AreAlarmsOf}
+use Rattle.client_engine.specs.Watches.{CanBeWatched}
 use Rattle.client_engine.specs.Running.{Running, linked_of}
 use Rattle.client_engine.specs.InstanceParts.{tree_with, AreStateDrops}
 use Rattle.client_engine.specs.InstanceStands.{new_history, InstanceStandsFor, last_step_time, IsFresh, Logs, AsksAtMost, Reports}
 use Rattle.client_engine.specs.Finding.{MayAsk}
 use Rattle.client_engine.proofs.LastStepLemmas.{in_time-push}
 use Rattle.client_engine.specs.declared.opening.Opening.{Opening}
+use Rattle.client_engine.specs.declared.alarms.AlarmsShown.{AlarmsShown}
 use Rattle.client_engine.specs.declared.parts.Drops.{Drops}
 use Rattle.client_engine.specs.declared.track.Track.{Track}
 use Rattle.client_engine.specs.declared.request.ReportRequest.{ReportRequest}
@@ -196,13 +203,14 @@ asked_after old new same asked =
 
 -- an instance takes one more report
 pub instance_reports : (old new : Running) (request : ReportRequest) (book : BookOfStates) (tree : ReportTree)
-    (trees : List MetricTree) (drops : Drops) → new ≡ record old { tracks = new.tracks; last = request.at }
-    → linked_of new ≡ linked_of old → tree ≡ tree_with request old.last trees drops
+    (trees : List MetricTree) (drops : Drops) (alarms : AlarmsShown)
+    → new ≡ record old { tracks = new.tracks; last = request.at }
+    → linked_of new ≡ linked_of old → tree ≡ tree_with request old.last trees drops alarms
     → drops.of_predicates ≡ drops_in old.known.predicates old.known.tables → AreStateDrops old.states book drops
-    → AllReport old.base request old.tracks new.tracks trees → Reports old request book new tree
+    → AreAlarmsOf old.alerts old.tracks alarms → AllReport old.base request old.tracks new.tracks trees → Reports old request book new tree
 unfolding report_of
-instance_reports old new request book tree trees drops same stays tree_is predicate_drops_are state_drops_are reports
-    history has now =
+instance_reports old new request book tree trees drops alarms same stays tree_is predicate_drops_are state_drops_are
+    alarms_are reports history has now =
     let step = reported_step request in
     let steps = history.steps in
     let installed = history.installed in
@@ -236,28 +244,33 @@ instance_reports old new request book tree trees drops same stays tree_is predic
           let of_atoms : drops.of_atoms ≡ dropped_for linked.states (log_of_history history) =
           state_drops_are.atoms (log_of_history history) book_is
           ∙ ap (λ states. dropped_for states (log_of_history history)) states_are in
-          tree_is
-          ∙ ap (λ time. tree_with request time trees drops) has.last
-          ∙ ap (λ l. tree_with request last trees (record drops { of_predicates = l })) of_predicates
-          ∙ ap (λ l. tree_with request last trees (record {
-            of_predicates = predicate_drops linked.predicates steps;
-            of_states = l;
-            of_atoms = drops.of_atoms;
-          })) of_states
-          ∙ ap (λ n. tree_with request last trees (record {
-            of_predicates = predicate_drops linked.predicates steps;
-            of_states = drops_of_states linked.states (log_of_history history);
-            of_atoms = n;
-          })) of_atoms
-          ∙ ap (λ shown. tree_with request last shown (record {
+          let metrics_are : map metric_in old.tracks ≡ linked.metrics = ap (λ (l : Linked). l.metrics) has.linked in
+          let alerts_are : old.alerts ≡ linked.alerts = ap (λ (l : Linked). l.alerts) has.linked in
+          let all : Drops = record {
             of_predicates = predicate_drops linked.predicates steps;
             of_states = drops_of_states linked.states (log_of_history history);
             of_atoms = dropped_for linked.states (log_of_history history);
-          }))
+          } in
+          let shown = map (requested_tree installed steps request)
+          (filter (λ (metric : LMetric). metric.shown) linked.metrics) in
+          let of_alerts = alarms_are installed steps has.tracks (sym alerts_are) (sym metrics_are) in
+          tree_is
+          ∙ ap (λ time. tree_with request time trees drops alarms) has.last
+          ∙ ap (λ l. tree_with request last trees (record drops { of_predicates = l }) alarms) of_predicates
+          ∙ ap (λ l. tree_with request last trees (record all { of_states = l; of_atoms = drops.of_atoms }) alarms)
+          of_states
+          ∙ ap (λ n. tree_with request last trees (record all { of_atoms = n }) alarms) of_atoms
+          ∙ ap (λ metrics. tree_with request last metrics all alarms)
           (reports.shown installed steps has.tracks may
           ∙ ap (λ metrics. map (requested_tree installed steps request)
-          (filter (λ (metric : LMetric). metric.shown) metrics))
-          (ap (λ (l : Linked). l.metrics) has.linked)),
+          (filter (λ (metric : LMetric). metric.shown) metrics)) metrics_are)
+          ∙ ap (λ l. tree_with request last shown all (record alarms { listed = l }))
+          (of_alerts.listed ∙ ap (flat_map (alarm_trees installed steps)) alerts_are)
+          ∙ ap (λ l. tree_with request last shown all (record {
+            listed = flat_map (alarm_trees installed steps) linked.alerts;
+            not_kept = l;
+          }))
+          (of_alerts.not_kept ∙ ap (flat_map (alarm_drops installed steps)) alerts_are),
     )
 
 -- a sound predicate's table has as many leaves as it has dimensions
@@ -297,28 +310,62 @@ linked_whole linked it matchers predicates states metrics alerts =
     ∙ ap (λ ms. record linked { metrics = ms; alerts = it.alerts }) metrics
     ∙ ap (λ alerts. record linked { alerts = alerts }) alerts
 
+-- no other metric of a sound configuration is the same
+alone_there : (metrics : List LMetric) → AllPairs (λ (one later : LMetric). one.id ≢ later.id) metrics
+    → (place other : ℕ) (metric : LMetric) → slice_get metrics place ≡ Some metric
+    → slice_get metrics other ≡ Some metric → other ≡ place
+alone_there metrics apart place other metric here there =
+    by (cases_lt place other) (cases_lt other place)
+  where
+    ne : (first second : ℕ) → first < second → slice_get metrics first ≡ Some metric
+        → slice_get metrics second ≡ Some metric → ⊥
+    ne first second before one later =
+        apart first second metric before (slice_get_within metrics second metric later)
+        (ap (λ (m : LMetric). m.id) (get_or_from_slice_get metrics first metric metric one
+        ∙ sym (get_or_from_slice_get metrics second metric metric later)))
+
+    by : (place < other) ⊎ (other ≤ place) → (other < place) ⊎ (place ≤ other) → other ≡ place
+    by (inl before) behind = absurd (ne place other before here there)
+    by (inr within) (inl before) = absurd (ne other place before there here)
+    by (inr within) (inr behind) = omega (arith, within, behind)
+
+-- each metric of a sound configuration stands at its own place
+all_installed : (linked : Linked) → IsSoundConfig linked → AreInstalled linked linked.metrics
+all_installed linked sound place none within = record {
+  sound = record { leaves = (sound_kept linked sound).leaves; sound = sound.metrics place none within };
+  alone = λ other there.
+      alone_there linked.metrics sound.metric_ids place other (get_or linked.metrics place none)
+      (slice_get-get_or linked.metrics place none within) there;
+}
+
+-- its alerts can be watched
+pub all_watchable : (linked : Linked) → IsSoundConfig linked → All CanBeWatched linked.alerts
+all_watchable linked sound = λ k d within. (sound.alerts k d within).spec
+
 -- an instance of a sound configuration, to which nothing has happened yet
 pub fresh : (linked : Linked) (opening : Opening) (it : Running) → it.matchers ≡ linked.matchers
     → it.known.predicates ≡ linked.predicates → it.states ≡ linked.states → it.alerts ≡ linked.alerts
     → it.base ≡ opening.base
-    → it.last ≡ opening.base → opening.matchers.now ≡ linked.matchers → KnowsAfter [] it.known
+    → it.last ≡ opening.base → opening.matchers.now ≡ linked.matchers → opening.alerts.now ≡ linked.alerts
+    → KnowsAfter [] it.known
     → AreNew opening it.known linked.metrics it.tracks → IsSoundConfig linked → (log : List LogFrame)
     → PullBookStandsFor opening.pulls.now log → IsFresh linked opening.base log it
-fresh linked opening it matchers predicates states alerts base_is last_is matchers_are knows are sound log pulls = record {
-  linked = linked_whole linked it matchers predicates states are.metrics_are alerts;
-  base = base_is;
-  last = last_is;
-  in_time = tt;
-  knows = knows;
-  tracks = are.stand (new_history opening.base log linked).installed (record {
-    base = refl;
-    matchers = sym matchers_are;
-    predicates = predicates;
-    knows = knows;
-    pulls = pulls;
-  }) (All-weaker (IsSoundMetric linked) (IsSoundIn linked)
-      (λ metric s. record { leaves = (sound_kept linked sound).leaves; sound = s }) linked.metrics sound.metrics);
-}
+fresh linked opening it matchers predicates states alerts base_is last_is matchers_are alerts_are knows are sound log
+    pulls = record {
+      linked = linked_whole linked it matchers predicates states are.metrics_are alerts;
+      base = base_is;
+      last = last_is;
+      in_time = tt;
+      knows = knows;
+      tracks = are.stand (new_history opening.base log linked).installed (record {
+        base = refl;
+        matchers = sym matchers_are;
+        alerts = sym alerts_are;
+        predicates = predicates;
+        knows = knows;
+        pulls = pulls;
+      }) (all_installed linked sound);
+    }
 
 -- the matchers of a sound configuration may be asked
 each_askable : (count : ℕ) (matcher : LMatcher) → IsSoundMatcher count matcher → MayAsk matcher

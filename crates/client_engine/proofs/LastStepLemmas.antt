@@ -33,6 +33,12 @@ in_time-behind last [] run in_time = in_time
 in_time-behind last (step ∷ steps) run in_time =
     in_time-behind (last_at last (bare_step step)) steps run in_time.1
 
+-- and the steps before others come in time, too
+pub in_time-before : (last : ℕ) (steps run : List Step) → ComeInTime last (steps ++ run) → ComeInTime last steps
+in_time-before last [] run in_time = tt
+in_time-before last (step ∷ steps) run in_time =
+    (in_time.0, in_time-before (last_at last (bare_step step)) steps run in_time.1)
+
 -- one more step that comes in time
 pub in_time-push : (last : ℕ) (steps : List Step) (step : Step) → ComeInTime last steps
     → IsTimelyStep (last_from last steps) (bare_step step) → ComeInTime last (steps ++ step ∷ [])

@@ -8,6 +8,8 @@ pub mod TouchersLemmas
 pub mod WakersLemmas
 pub mod ShownLemmas
 pub mod ActivityLemmas
+pub mod WatchesLemmas
+pub mod AlarmsLemmas
 pub mod SliceLemmas
 pub mod StateDropsLemmas
 pub mod AlongLemmas

@@ -1,15 +1,21 @@
 -- A lane that collects for its metric takes a run of steps at which the metric asks nothing, for every kind of metric.
-use Rattle.std.proofs.Common.{◌≡◌, ℕ, ◌≤◌, Bool, List, [], ◌∷◌, ◌++◌, refl, sym, ap, subst, ◌∙◌}
+use Rattle.std.proofs.Common.{◌≡◌, ℕ, ◌≤◌, ◌<◌, Bool, List, [], ◌∷◌, ◌++◌, refl, sym, ap, subst, ◌∙◌}
 use Rattle.sd_base.specs.Outputs.{outputs_after}
 use Rattle.sd_base.proofs.OutputsLemmas.{outputs_after-append}
 use Rattle.bucket_clock.specs.Clock.{moments_told}
 use Rattle.bucket_meaning.specs.Ends.{Moment}
+use Rattle.bucket_meaning.specs.Limits.{time_limit}
+use Rattle.metric_producer.specs.Calls.{standing_of}
+use Rattle.metric_producer.specs.OpeningCalls.{calls_with}
+use Rattle.metric_producer.proofs.OpeningLemmas.{all_along_opened}
 use Rattle.metric_producer.specs.Collecting.{Law}
 use Rattle.metric_producer.specs.LaneCalls.{LaneStep, told_by, AreTimely, last_at, last_of}
 use Rattle.metric_producer.specs.LaneCalls as lane
 use Rattle.metric_producer.specs.declared.row.Row.{Row}
 use Rattle.metric_lane.specs.LaneJoining.{StandsForRun, steps_of_run, moments_of, AskNone, LogsRun}
+use Rattle.metric_lane.specs.LaneClock.{MayCross}
 use Rattle.metric_lane.specs.LaneStands.{OpenedStandsFor}
+use Rattle.metric_lane.proofs.LaneStepsLemmas.{may_cross}
 use Rattle.metric_lane.specs.declared.lane.Lane.{Lane}
 use Rattle.metric_meaning.specs.Histories.{What, Logged, Reported, Step, Installation, moment_of, moments_at}
 use Rattle.metric_meaning.specs.StepMarks.{moments}
@@ -131,6 +137,22 @@ module _ {Params News Event After X K C R : Type 0} (asking : Asking Params News
     each before step alone.0,
     nothing_asked installed metric each (before ++ step ∷ []) run alone.1,
   )
+
+module _ {P Params News Event After X K C V : Type 0} (asking : Asking Params News Event After X K C (Row V))
+    (law : Law P Params Event After X K C (Row V)) (well : AsksWell asking law.collecting) where
+  -- a frame that isn't before the last one may cross
+  pub along_may_cross : (steps : List Step) (lane : Lane P Event After V) (at : ℕ) → Along asking law steps lane
+      → ComeInTime (own_demands asking law.collecting).base steps
+      → last_from (own_demands asking law.collecting).base steps ≤ at → at < time_limit → MayCross lane.clock at
+  along_may_cross steps lane at along in_time later fits =
+      let demands = own_demands asking law.collecting in
+      let seen = steps_seen asking steps in
+      may_cross demands seen (last_of demands.base seen)
+      (standing_of demands (calls_with demands asking.asks asking.opens seen))
+      (all_along_opened demands along.fits asking.opens well.opens asking.asks seen
+      (timely_from asking.news demands.base steps in_time) (asks_well asking law.collecting well steps))
+      lane.clock at along.collects.clock (subst (λ time. time ≤ at) (sym (last_seen asking demands.base [] steps)) later)
+      fits
 
 module _ {P Params News Event After X K C V : Type 0} (asking : Asking Params News Event After X K C (Row V))
     (law : Law P Params Event After X K C (Row V)) (well : AsksWell asking law.collecting) (installed : Installation)

@@ -1,6 +1,5 @@
 -- A metric that sleeps through a frame, which isn't a pull and ends none of its buckets, is as it was.
 use Rattle.std.proofs.Common.{◌≡◌, ℕ, ◌<◌, Bool, true, false, ◌&&◌, ◌||◌, List, [], ◌∷◌, ◌++◌, length, get_or, slice_get, Option, Some, None, if◌then◌else◌, refl, sym, ap, subst, ◌∙◌, append-nil, inl, inr}
-use Rattle.std.specs.List.{list_any}
 use Rattle.std.specs.Option.{option_map_or, option_map, option_and_then}
 use Rattle.std.proofs.lemmas.Bool.{cases_lt, true≢false}
 use Rattle.std.proofs.lemmas.List.{get_or_past}
@@ -10,7 +9,6 @@ use Rattle.atom_record.specs.declared.atom.Atom.{Atom}
 use Rattle.atom_record.specs.declared.log.LogFrame.{LogFrame}
 use Rattle.atom_record.specs.declared.log.LogFrame.TheVariants.{Tick, AtomAt, Pull}
 use Rattle.config_links.specs.OwnMatchers.{place_named, kind_matchers}
-use Rattle.config_links.specs.declared.linked.LKind.TheVariants as kinds
 use Rattle.config_links.specs.declared.linked.LMetric.{LMetric}
 use Rattle.config_links.specs.declared.linked.LPredicate.{LPredicate}
 use Rattle.count_metric.specs.CountStands.{count_law}
@@ -41,7 +39,7 @@ use Rattle.metric_meaning.specs.Touched.{acts_below, is_touched}
 use Rattle.metric_calls.specs.PulledValueCalls.{value_telling}
 use Rattle.metric_calls.specs.PulledGaugeCalls.{gauge_telling}
 use Rattle.metric_calls.specs.ValueCalls.{keyed_int}
-use Rattle.client_engine.specs.CountsAlong.{CountLane, CountsAlong}
+use Rattle.client_engine.specs.CountsAlong.{WatchedLane, CountsAlong}
 use Rattle.client_engine.specs.ValuesAlong.{ValueLane, ValuesAlong}
 use Rattle.client_engine.specs.PulledValuesAlong.{PulledValueLane, PulledValuesAlong}
 use Rattle.client_engine.specs.GaugesAlong.{GaugeLane, GaugesAlong}
@@ -59,6 +57,7 @@ use Rattle.client_engine.specs.declared.lanes.MetricLane.{MetricLane}
 use Rattle.client_engine.specs.declared.lanes.MetricLane.TheVariants.{Counts, Values, PulledValues, Gauges, PulledGauges, Events, Sums, Longest}
 use Rattle.client_engine.specs.declared.track.Track.{Track}
 use Rattle.client_engine.proofs.CountsLemmas.{counts_log}
+use Rattle.client_engine.proofs.WatchesLemmas.{none_taken, ends_none}
 use Rattle.client_engine.proofs.ValuesLemmas.{values_log}
 use Rattle.client_engine.proofs.EventsLemmas.{events_log}
 use Rattle.client_engine.proofs.GaugesLemmas.{gauges_log, none_sampled}
@@ -188,14 +187,16 @@ module _ (given : Handed) (metric : LMetric) (shown : LogFrame) (truths : List B
       (λ at atom is. alone (truth_at metric.what truths)
       (sym (ap (one_holds truths) own) ∙ kind_off given.known.predicates metric truths (asleep at atom is).0))
 
-  counts_sleep : (lane : CountLane) → NoEndBefore time lane.clock
+  counts_sleep : (lane : WatchedLane) → NoEndBefore time lane.lane.clock
       → TakesFrame (CountsAlong metric) given shown truths lane lane
   counts_sleep lane later installed steps frame has =
-      counts_log given metric shown truths lane lane None
+      counts_log given metric shown truths lane lane lane.watches None
       (is_active_after metric (with_logged steps frame truths) (log_time frame))
       (λ scene found active. ap (option_map (atom_key scene metric)) (arrives_none scene
       (ap (kind_matchers metric.what) has.counts)))
-      (logs_none count_law lane later) installed steps frame refl has
+      (logs_none count_law lane.lane later)
+      (ends_none lane.lane.clock (moment_of shown (log_time shown)) time lane.watches later early)
+      (none_taken lane.watches) installed steps frame refl has
 
   values_sleep : (lane : ValueLane) → NoEndBefore time lane.clock
       → TakesFrame (ValuesAlong metric) given shown truths lane lane

@@ -9,7 +9,8 @@ use Rattle.metric_meaning.specs.Histories.{Step, Installation}
 use Rattle.report_writer.specs.Writable.{IsWritableMetric}
 use Rattle.report_writer.specs.declared.tree.MetricTree.{MetricTree}
 use Rattle.client_engine.specs.NextSteps.{MayLog, MayReport, with_logged, with_reported, requested_tree, TakesFrame, TakesReport}
-use Rattle.client_engine.specs.SoundMetrics.{IsSoundIn}
+use Rattle.client_engine.specs.SoundMetrics.{IsInstalledAt, AreInstalled}
+use Rattle.config_links.specs.declared.linked.Linked.{Linked}
 use Rattle.client_engine.specs.TrackStands.{TrackStandsFor}
 use Rattle.client_engine.specs.Known.{Known}
 use Rattle.client_engine.specs.Handed.{Handed}
@@ -28,30 +29,40 @@ none_new opening known = record {
   stand = λ installed is sound. All-nil (TrackStandsFor installed []);
 }
 
--- what is so of all is so of those before the last, and of the last
-all_before : {X : Type 0} (P : X → Type 0) (xs : List X) (x : X) → All P (xs ++ x ∷ []) → All P xs
-all_before P xs x all k d within =
-    subst P (get_or_append_left xs (x ∷ []) d k within)
-    (all k d (omega (arith, within, length-append xs (x ∷ []))))
+-- the metrics before the last stand at their places
+installed_before : (linked : Linked) (metrics : List LMetric) (metric : LMetric)
+    → AreInstalled linked (metrics ++ metric ∷ []) → AreInstalled linked metrics
+installed_before linked metrics metric there place none within =
+    subst (IsInstalledAt linked place) (get_or_append_left metrics (metric ∷ []) none place within)
+    (there place none (omega (arith, within, length-append metrics (metric ∷ []))))
 
-the_last : {X : Type 0} (P : X → Type 0) (xs : List X) (x : X) → All P (xs ++ x ∷ []) → P x
-the_last P xs x all =
-    subst P (ap (λ n. get_or (xs ++ x ∷ []) n x) (sym (add-zero (length xs))) ∙ get_or-append-add xs (x ∷ []) 0 x)
-    (all (length xs) x (omega (arith, length-append xs (x ∷ []))))
+-- and so does the last one
+installed_last : (linked : Linked) (metrics : List LMetric) (metric : LMetric)
+    → AreInstalled linked (metrics ++ metric ∷ []) → IsInstalledAt linked (length metrics) metric
+installed_last linked metrics metric there =
+    subst (IsInstalledAt linked (length metrics))
+    (ap (λ n. get_or (metrics ++ metric ∷ []) n metric) (sym (add-zero (length metrics)))
+    ∙ get_or-append-add metrics (metric ∷ []) 0 metric)
+    (there (length metrics) metric (omega (arith, length-append metrics (metric ∷ []))))
+
+-- so many tracks there are as metrics
+pub placed : (metrics : List LMetric) (tracks : List Track) → map metric_in tracks ≡ metrics
+    → length tracks ≡ length metrics
+placed metrics tracks are = sym (length-map tracks metric_in) ∙ ap length are
 
 -- one more metric has its track
 pub one_new : (opening : Opening) (known : Known) (metrics : List LMetric) (tracks : List Track) (metric : LMetric)
     (track : Track)
     → AreNew opening known metrics tracks → track.metric ≡ metric
-    → ((installed : Installation) → IsOpeningOf installed opening known → IsSoundIn installed.linked metric
-    → TrackStandsFor installed [] track)
+    → ((installed : Installation) → IsOpeningOf installed opening known
+    → IsInstalledAt installed.linked (length metrics) metric → TrackStandsFor installed [] track)
     → AreNew opening known (metrics ++ metric ∷ []) (tracks ++ track ∷ [])
 one_new opening known metrics tracks metric track are is stands = record {
   metrics_are = map-append metric_in tracks (track ∷ []) ∙ ap (λ l. l ++ track.metric ∷ []) are.metrics_are
       ∙ ap (λ m. metrics ++ m ∷ []) is;
-  stand = λ installed same sound. All-push (TrackStandsFor installed []) tracks track
-      (are.stand installed same (all_before (IsSoundIn installed.linked) metrics metric sound))
-      (stands installed same (the_last (IsSoundIn installed.linked) metrics metric sound));
+  stand = λ installed same there. All-push (TrackStandsFor installed []) tracks track
+      (are.stand installed same (installed_before installed.linked metrics metric there))
+      (stands installed same (installed_last installed.linked metrics metric there));
 }
 
 -- an element is replaced by one with the same image

@@ -70,7 +70,7 @@ none_mapped test f (x ∷ xs) off (suc k) none within =
     none_mapped test f xs (second_off (test (f x)) (list_any test (map f xs)) off) k none (omega (arith, within))
 
 -- what is so of all is so of one that is found
-of_found : {X : Type 0} (P : X → Type 0) (xs : List X) (place : ℕ) (x : X) → All P xs → slice_get xs place ≡ Some x → P x
+pub of_found : {X : Type 0} (P : X → Type 0) (xs : List X) (place : ℕ) (x : X) → All P xs → slice_get xs place ≡ Some x → P x
 of_found P xs place x all is =
     subst P (get_or_from_slice_get xs place x x is) (all place x (slice_get_within xs place x is))
 

@@ -1,5 +1,5 @@
 -- What a pulled metric finds in a snapshot.
-use Rattle.std.specs.Prelude.{Bool, List, [], All, Option}
+use Rattle.std.specs.Prelude.{◌<◌, Bool, List, [], All, Option}
 use Rattle.std.specs.Option.{option_map, option_and_then}
 use Rattle.atom_record.specs.declared.atom.Atom.{Atom}
 use Rattle.atom_record.specs.declared.log.LogFrame.{LogFrame}
@@ -11,7 +11,9 @@ use Rattle.config_links.specs.declared.linked.LMatcher.{LMatcher}
 use Rattle.config_links.specs.declared.linked.LMatcher.TheVariants.{Simple, Combo}
 use Rattle.config_links.specs.declared.linked.LMetric.{LMetric}
 use Rattle.predicate_state.specs.declared.truth.Truth.{Truth}
+use Rattle.bucket_meaning.specs.Limits.{time_limit}
 use Rattle.session_frames.specs.Faultless.{HasSoundAtoms}
+use Rattle.session_frames.specs.FrameReading.{log_time}
 use Rattle.metric_producer.specs.Calls.{Call}
 use Rattle.metric_meaning.specs.Scenes.{Scene}
 use Rattle.metric_meaning.specs.SnapshotSteps.{pulled_matcher, atoms_meant}
@@ -25,10 +27,11 @@ abbrev pub MayAsk : LMatcher → Type 0
 MayAsk (Simple simple) = IsAskable simple
 MayAsk (Combo op children) = Unit {0}
 
--- the matchers of the configuration may be asked of the atoms that are brought
-pub record CanBeMatched (brought : Brought) : Type 0 where
+-- the matchers of the configuration may be asked of the atoms that are brought, and the frame comes while there is time
+pub record CanBeBrought (brought : Brought) : Type 0 where
   pub askable : All MayAsk brought.matchers.now
   pub sound : HasSoundAtoms brought.frame.now
+  pub timely : log_time brought.frame.now < time_limit
 
 -- the matcher of what was found may be asked of the atoms
 pub record CanBeMeant (found : Found) : Type 0 where

@@ -7,12 +7,13 @@ use Rattle.report_writer.specs.declared.tree.MetricTree.{MetricTree}
 use Rattle.report_writer.specs.declared.tree.ReportTree.{ReportTree}
 use Rattle.metric_meaning.specs.StateDrops.{drops_of_states, dropped_for}
 use Rattle.client_engine.specs.Handed.{BookOfStates}
+use Rattle.client_engine.specs.declared.alarms.AlarmsShown.{AlarmsShown}
 use Rattle.client_engine.specs.declared.parts.Drops.{Drops}
 use Rattle.client_engine.specs.declared.request.ReportRequest.{ReportRequest}
 
--- the tree of a report, with what it shows of metrics, predicates and states
-abbrev pub tree_with : ReportRequest → ℕ → List MetricTree → Drops → ReportTree
-tree_with request last trees drops = record {
+-- the tree of a report, with what it shows of metrics, predicates, states and alerts
+abbrev pub tree_with : ReportRequest → ℕ → List MetricTree → Drops → AlarmsShown → ReportTree
+tree_with request last trees drops alarms = record {
   uid = request.name.uid;
   id = request.name.id;
   last = last;
@@ -21,6 +22,8 @@ tree_with request last trees drops = record {
   predicate_drops = drops.of_predicates;
   state_drops = drops.of_states;
   state_atoms_dropped = drops.of_atoms;
+  alarms = alarms.listed;
+  alarms_not_kept = alarms.not_kept;
 }
 
 -- what is shown of states that found no room is what this book says of these states

@@ -12,6 +12,7 @@ pub mod Bringing
 pub mod Opens
 pub mod Finding
 pub mod Along
+pub mod Watches
 pub mod CountsAlong
 pub mod CountGroups
 pub mod ValuesAlong
@@ -31,6 +32,7 @@ pub mod SoundMetrics
 pub mod Activity
 pub mod TrackStands
 pub mod Tracks
+pub mod Alarms
 pub mod Running
 pub mod InstanceParts
 pub mod InstanceStands

@@ -5,11 +5,12 @@ use Rattle.metric_meaning.specs.Histories.{Installation}
 use Rattle.client_engine.specs.Known.{Known, KnowsAfter}
 use Rattle.client_engine.specs.declared.opening.Opening.{Opening}
 
--- what is found is what was installed: its clock, its matchers, its predicates, to which nothing has happened yet, and a
--- book of pulls for the log up to it
+-- what is found is what was installed: its clock, its matchers, its alerts, its predicates, to which nothing has
+-- happened yet, and a book of pulls for the log up to it
 pub record IsOpeningOf (installed : Installation) (opening : Opening) (known : Known) : Type 0 where
   pub base : installed.base ≡ opening.base
   pub matchers : installed.linked.matchers ≡ opening.matchers.now
+  pub alerts : installed.linked.alerts ≡ opening.alerts.now
   pub predicates : known.predicates ≡ installed.linked.predicates
   pub knows : KnowsAfter [] known
   pub pulls : PullBookStandsFor opening.pulls.now installed.opening

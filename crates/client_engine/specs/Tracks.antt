@@ -8,7 +8,7 @@ use Rattle.report_writer.specs.Writable.{IsWritableMetric}
 use Rattle.report_writer.specs.declared.tree.MetricTree.{MetricTree}
 use Rattle.client_engine.specs.NextSteps.{MayReport, with_reported, requested_tree}
 use Rattle.client_engine.specs.TrackStands.{TrackStandsFor}
-use Rattle.client_engine.specs.SoundMetrics.{IsSoundIn}
+use Rattle.client_engine.specs.SoundMetrics.{AreInstalled}
 use Rattle.client_engine.specs.Known.{Known}
 use Rattle.client_engine.specs.Opens.{IsOpeningOf}
 use Rattle.client_engine.specs.declared.opening.Opening.{Opening}
@@ -40,7 +40,7 @@ AllStandFor installed steps tracks = All (TrackStandsFor installed steps) tracks
 pub record AreNew (opening : Opening) (known : Known) (metrics : List LMetric) (tracks : List Track) : Type 0 where
   pub metrics_are : map metric_in tracks ≡ metrics
   pub stand : (installed : Installation) → IsOpeningOf installed opening known
-      → All (IsSoundIn installed.linked) metrics → AllStandFor installed [] tracks
+      → AreInstalled installed.linked metrics → AllStandFor installed [] tracks
 
 -- a report of all: one step more, and what it shows of those that are shown
 pub record AllReport (base : ℕ) (request : ReportRequest) (old new : List Track) (trees : List MetricTree)

@@ -2,7 +2,7 @@
 -- buckets ends with it, is as it was. For private clauses.
 use Rattle.std.specs.Prelude.{◌≡◌, ℕ, ◌<◌, Bool, false, List, [], ◌++◌, length, map, get_or, slice_get, Option, Some, None}
 use Rattle.atom_record.specs.declared.log.LogFrame.{LogFrame}
-use Rattle.atom_record.specs.declared.log.LogFrame.TheVariants.{AtomAt, Pull}
+use Rattle.atom_record.specs.declared.log.LogFrame.TheVariants.{AtomAt}
 use Rattle.config_links.specs.declared.linked.LKind.{LKind}
 use Rattle.config_links.specs.declared.linked.LKind.TheVariants.{PulledValue, PulledGauge, SumDuration, MaxSparse}
 use Rattle.config_links.specs.declared.linked.LMetric.{LMetric}

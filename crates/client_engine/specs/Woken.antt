@@ -18,7 +18,7 @@ use Rattle.client_engine.specs.declared.track.Track.{Track}
 
 -- the clock of a lane
 abbrev pub clock_of_lane : MetricLane → Option Times
-clock_of_lane (Counts lane) = lane.clock
+clock_of_lane (Counts lane) = lane.lane.clock
 clock_of_lane (Values lane) = lane.clock
 clock_of_lane (PulledValues lane) = lane.clock
 clock_of_lane (Gauges lane) = lane.clock

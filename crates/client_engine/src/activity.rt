@@ -37,12 +37,15 @@ fn idle_timers(alloc: Global, activations: &[LActivation]) -> Result<Seq<Timer>,
 }
 
 /// Tells the book of a metric's activations what a frame of the log says of them, and asks it whether the metric is
-/// active then. A metric without activations is.
+/// active then. A metric without activations is, and its book is neither told nor asked.
 #[inline]
 pub fn hear(acts: &mut ActBook, metric: &LMetric, brought: &Brought<'_>) -> bool
     ensures told { TellsFrame metric.now brought.now.frame.now brought.now.matched.now acts.old acts.new }
     ensures active { SaysActive metric.now acts.new (log_time brought.now.frame.now) result }
 {
+    if metric.activations.is_empty() {
+        return true;
+    }
     tell(acts, metric, brought);
     acts.active(time_of(brought.frame))
 }
@@ -52,9 +55,6 @@ pub fn hear(acts: &mut ActBook, metric: &LMetric, brought: &Brought<'_>) -> bool
 fn tell(acts: &mut ActBook, metric: &LMetric, brought: &Brought<'_>)
     ensures { TellsFrame metric.now brought.now.frame.now brought.now.matched.now acts.old acts.new }
 {
-    if metric.activations.is_empty() {
-        return;
-    }
     match brought.frame {
         LogFrame::AtomAt { at, .. } => {
             tell_atom(acts, metric.activations.as_slice(), brought.matched, *at)

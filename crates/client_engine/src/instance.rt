@@ -5,6 +5,7 @@ ghost use Rattle.pull_book.specs.PullBooks.{PullBookStandsFor};
 ghost use Rattle.state_slicer.specs.StateBooks.{StateBookStandsFor};
 ghost use Rattle.client_engine.specs.Running.{linked_of};
 
+use crate::alarms::alarms_of;
 use crate::brought::Brought;
 use crate::conditions::Conditions;
 use crate::listeners::Listeners;
@@ -114,6 +115,7 @@ impl Instance {
         let opening = Opening {
             base,
             matchers: matchers.as_slice(),
+            alerts: alerts.as_slice(),
             pulls,
         };
         let tracks = Tracks::new(alloc, metrics, &opening, &mut conditions)?;
@@ -196,9 +198,14 @@ impl Instance {
     {
         let last = self.last;
         self.last = request.at;
+        let alarms = alarms_of(
+            self.alloc,
+            self.alerts.as_slice(),
+            self.tracks.list.as_slice(),
+        )?;
         let metrics = self.tracks.report(self.alloc, self.base, request)?;
         let drops = self.drops(states)?;
-        Ok(tree_of(request, last, metrics, drops))
+        Ok(tree_of(request, last, metrics, drops, alarms))
     }
 
     /// The same as `apply`, of a configuration that is handed on.

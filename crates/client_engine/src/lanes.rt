@@ -8,14 +8,15 @@ ghost use Rattle.metric_lane.specs.LaneClock.{NoEndBefore};
 ghost use Rattle.metric_meaning.specs.Histories.{Installation};
 ghost use Rattle.report_writer.specs.Writable.{IsWritableMetric};
 ghost use Rattle.client_engine.specs.NextSteps.{TakesReport};
-ghost use Rattle.client_engine.specs.SoundMetrics.{IsSoundIn};
+ghost use Rattle.client_engine.specs.SoundMetrics.{IsInstalledAt};
 ghost use Rattle.client_engine.specs.AskedFew.{AsksFew};
 ghost use Rattle.client_engine.specs.Bringing.{TakesBroughtWhile};
 ghost use Rattle.client_engine.specs.CaughtUp.{TakesRun};
 ghost use Rattle.client_engine.specs.Opens.{IsOpeningOf};
-ghost use Rattle.client_engine.specs.Finding.{MayAsk, CanBeMatched};
+ghost use Rattle.client_engine.specs.Finding.{MayAsk, CanBeBrought};
 ghost use Rattle.client_engine.specs.TrackStands.{LaneAlong};
 ghost use Rattle.client_engine.specs.Tracks.{CanBeTracked};
+ghost use Rattle.client_engine.specs.Watches.{CanBeWatched};
 ghost use Rattle.client_engine.specs.Woken.{clock_of_lane};
 
 use crate::brought::Brought;
@@ -24,6 +25,7 @@ use crate::kinds::counts::CountLane;
 use crate::kinds::{counts, events, gauges, longest, pulled_gauges, pulled_values, sums, values};
 use crate::opening::Opening;
 use crate::request::ReportRequest;
+use crate::watches::watches_of;
 use condition_links::Steps;
 use config_links::{LKind, LMetric};
 use duration_metric::{MaxProducer, SumProducer};
@@ -67,7 +69,7 @@ impl MetricLane {
         asks: &mut Steps<L>,
     ) -> Result<(), AllocError>
         requires within { MayBeWithin (length conditions.old.predicates) metric.now.condition }
-        requires matched { CanBeMatched brought.now }
+        requires matched { CanBeBrought brought.now }
         ensures logs { OnOk result (TakesBroughtWhile (LaneAlong metric.now) is_active metric.now
             conditions.old brought.now self.old self.new) }
         ensures known { conditions.new ≡ conditions.old }
@@ -162,10 +164,11 @@ impl MetricLane {
     }
 }
 
-/// The lane of a metric, by its kind, which begins where it is installed.
+/// The lane of the metric at a place of a configuration, by its kind, which begins where it is installed.
 pub fn lane_of(
     alloc: Global,
     metric: &LMetric,
+    place: usize,
     opening: &Opening<'_>,
     conditions: &mut Conditions,
 ) -> Result<MetricLane, AllocError>
@@ -173,15 +176,17 @@ pub fn lane_of(
     requires tracked { CanBeTracked metric.now }
     requires within { MayBeWithin (length conditions.old.predicates) metric.now.condition }
     requires askable { All MayAsk opening.now.matchers.now }
+    requires alerts { All CanBeWatched opening.now.alerts.now }
     ensures stands { IfOk result (λ lane. (installed : Installation)
-        → IsOpeningOf installed opening.now conditions.old → IsSoundIn installed.linked metric.now
+        → IsOpeningOf installed opening.now conditions.old → IsInstalledAt installed.linked place metric.now
         → LaneAlong metric.now installed [] lane) }
     ensures known { conditions.new ≡ conditions.old }
 {
     let base = opening.base;
     match &metric.kind {
         LKind::Count { overflow } => {
-            Ok(MetricLane::Counts(counts::begin(alloc, base, metric, *overflow)))
+            let watches = watches_of(alloc, opening.alerts, place)?;
+            Ok(MetricLane::Counts(counts::begin(alloc, base, metric, *overflow, watches)))
         }
         LKind::PushedValue { agg, .. } => {
             Ok(MetricLane::Values(values::begin(alloc, base, metric, *agg)))

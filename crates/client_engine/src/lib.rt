@@ -2,6 +2,7 @@
 #![tactic(auto)]
 
 mod activity;
+mod alarms;
 mod arriving;
 mod asked;
 mod brought;
@@ -35,6 +36,7 @@ mod touchers;
 mod track;
 mod tracks;
 mod turns;
+mod watches;
 
 pub use instance::{Instance, LogView};
 pub use live_id::LiveId;

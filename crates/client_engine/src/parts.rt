@@ -6,10 +6,12 @@ ghost use Rattle.bucket_meaning.specs.Limits.{time_limit};
 ghost use Rattle.client_engine.specs.AskedFew.{AsksFew};
 ghost use Rattle.client_engine.specs.Bringing.{TakesBrought};
 ghost use Rattle.client_engine.specs.CaughtUp.{AllTakeRun};
-ghost use Rattle.client_engine.specs.Finding.{MayAsk, CanBeMatched};
+ghost use Rattle.client_engine.specs.Finding.{MayAsk, CanBeBrought};
 ghost use Rattle.client_engine.specs.Tracks.{CanBeTracked, metric_in, AsksWithin, AllAskWithin, AreNew, AllStandFor, AllReport};
 ghost use Rattle.client_engine.specs.InstanceParts.{tree_with};
+ghost use Rattle.client_engine.specs.Watches.{CanBeWatched};
 
+use crate::alarms::AlarmsShown;
 use crate::brought::Brought;
 use crate::conditions::Conditions;
 use crate::opening::Opening;
@@ -41,12 +43,14 @@ pub fn tracks_of(
     requires ready { All CanBeTracked metrics }
     requires within { All (AsksWithin (length conditions.old.predicates)) metrics }
     requires askable { All MayAsk opening.now.matchers.now }
+    requires alerts { All CanBeWatched opening.now.alerts.now }
     ensures new { IfOk result (λ tracks. AreNew opening.now conditions.old metrics tracks.items) }
     ensures known { conditions.new ≡ conditions.old }
 {
     let mut tracks = Vec::new(alloc);
     for metric in metrics.into_vec() {
-        tracks.push(Track::new(alloc, metric, opening, conditions)?)?;
+        let place = tracks.len();
+        tracks.push(Track::new(alloc, metric, place, opening, conditions)?)?;
     }
     Ok(tracks)
 }
@@ -60,7 +64,7 @@ pub fn log_all<L: Ledger>(
     asks: &mut Steps<L>,
 ) -> Result<(), AllocError>
     requires within { AllAskWithin conditions.old tracks.old.items }
-    requires matched { CanBeMatched brought.now }
+    requires matched { CanBeBrought brought.now }
     ensures logs { OnOk result (TakesBrought AllStandFor
         conditions.old brought.now tracks.old.items tracks.new.items) }
     ensures metrics { map metric_in tracks.new.items ≡ map metric_in tracks.old.items }
@@ -115,14 +119,15 @@ fn show(trees: &mut Seq<MetricTree>, tree: MetricTree, is_shown: bool) -> Result
     Ok(())
 }
 
-/// The tree of a report, with what it shows of metrics, predicates and states.
+/// The tree of a report, with what it shows of metrics, predicates, states and alerts.
 pub fn tree_of(
     request: ReportRequest,
     last: u64,
     metrics: Seq<MetricTree>,
     drops: Drops,
+    alarms: AlarmsShown,
 ) -> ReportTree
-    ensures { result ≡ tree_with request last metrics drops }
+    ensures { result ≡ tree_with request last metrics drops alarms }
 {
     ReportTree {
         uid: request.name.uid,
@@ -133,5 +138,7 @@ pub fn tree_of(
         predicate_drops: drops.of_predicates,
         state_drops: drops.of_states,
         state_atoms_dropped: drops.of_atoms,
+        alarms: alarms.listed,
+        alarms_not_kept: alarms.not_kept,
     }
 }

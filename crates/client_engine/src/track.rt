@@ -1,19 +1,22 @@
 //! A metric of a configuration, the lane that collects for it, and what atoms said of its activations.
-ghost use Rattle.std.specs.Prelude.{◌≡◌, ◌<◌, [], ◌∷◌, length, All, OnOk, IfOk};
+ghost use Rattle.std.specs.Prelude.{◌≡◌, ◌<◌, [], ◌∷◌, length, slice_get, All, OnOk, IfOk};
+ghost use Rattle.std.specs.Option.{option_copied};
 ghost use Rattle.bucket_clock.specs.Clock.{frame_at};
 ghost use Rattle.bucket_meaning.specs.Limits.{time_limit};
 ghost use Rattle.config_links.specs.SoundConfig.{MayBeWithin};
 ghost use Rattle.metric_meaning.specs.Histories.{Installation};
 ghost use Rattle.report_writer.specs.Writable.{IsWritableMetric};
+ghost use Rattle.client_engine.specs.Alarms.{watches_in};
 ghost use Rattle.client_engine.specs.NextSteps.{TakesReport};
-ghost use Rattle.client_engine.specs.SoundMetrics.{IsSoundIn};
+ghost use Rattle.client_engine.specs.SoundMetrics.{IsInstalledAt};
 ghost use Rattle.client_engine.specs.AskedFew.{AsksFew};
 ghost use Rattle.client_engine.specs.Bringing.{TakesBrought};
 ghost use Rattle.client_engine.specs.CaughtUp.{TrackTakesRun};
 ghost use Rattle.client_engine.specs.Opens.{IsOpeningOf};
-ghost use Rattle.client_engine.specs.Finding.{MayAsk, CanBeMatched};
+ghost use Rattle.client_engine.specs.Finding.{MayAsk, CanBeBrought};
 ghost use Rattle.client_engine.specs.TrackStands.{TrackStandsFor};
 ghost use Rattle.client_engine.specs.Tracks.{CanBeTracked};
+ghost use Rattle.client_engine.specs.Watches.{CanBeWatched};
 ghost use Rattle.client_engine.specs.Woken.{IsDue};
 
 use crate::activity::{book_of, hear};
@@ -22,6 +25,7 @@ use crate::conditions::Conditions;
 use crate::lanes::{MetricLane, lane_of};
 use crate::opening::Opening;
 use crate::request::ReportRequest;
+use alert_watch::AlertWatch;
 use condition_links::Steps;
 use config_links::LMetric;
 use metric_activation::ActBook;
@@ -38,10 +42,11 @@ pub struct Track {
 }
 
 impl Track {
-    /// The track of a metric, with a lane that begins where it is installed.
+    /// The track of the metric at a place of a configuration, with a lane that begins where it is installed.
     pub fn new(
         alloc: Global,
         metric: LMetric,
+        place: usize,
         opening: &Opening<'_>,
         conditions: &mut Conditions,
     ) -> Result<Track, AllocError>
@@ -49,13 +54,14 @@ impl Track {
         requires tracked { CanBeTracked metric }
         requires within { MayBeWithin (length conditions.old.predicates) metric.condition }
         requires askable { All MayAsk opening.now.matchers.now }
+        requires alerts { All CanBeWatched opening.now.alerts.now }
         ensures metric { IfOk result (λ track. track.metric ≡ metric) }
         ensures stands { IfOk result (λ track. (installed : Installation)
-            → IsOpeningOf installed opening.now conditions.old → IsSoundIn installed.linked metric
+            → IsOpeningOf installed opening.now conditions.old → IsInstalledAt installed.linked place metric
             → TrackStandsFor installed [] track) }
         ensures known { conditions.new ≡ conditions.old }
     {
-        let lane = lane_of(alloc, &metric, opening, conditions)?;
+        let lane = lane_of(alloc, &metric, place, opening, conditions)?;
         let acts = book_of(alloc, &metric)?;
         Ok(Track { metric, lane, acts })
     }
@@ -69,7 +75,7 @@ impl Track {
         asks: &mut Steps<L>,
     ) -> Result<(), AllocError>
         requires within { MayBeWithin (length conditions.old.predicates) self.old.metric.condition }
-        requires matched { CanBeMatched brought.now }
+        requires matched { CanBeBrought brought.now }
         ensures metric { self.new.metric ≡ self.old.metric }
         ensures logs { OnOk result (TakesBrought TrackStandsFor
             conditions.old brought.now self.old self.new) }
@@ -95,6 +101,16 @@ impl Track {
         ensures { IsDue result self.now }
     {
         self.lane.next_end()
+    }
+
+    /// The watch of the alert that comes after so many others on the metric, if there is one.
+    pub fn watch(&self, turn: usize) -> Option<&AlertWatch>
+        ensures { option_copied result ≡ slice_get (watches_in self.now.lane) turn }
+    {
+        match &self.lane {
+            MetricLane::Counts(lane) => lane.watch(turn),
+            _ => None,
+        }
     }
 
     /// A report, and what it shows of the metric.

@@ -6,10 +6,11 @@ ghost use Rattle.bucket_meaning.specs.Limits.{time_limit};
 ghost use Rattle.client_engine.specs.AskedFew.{AsksFew};
 ghost use Rattle.client_engine.specs.Bringing.{TakesBrought, handed_with};
 ghost use Rattle.client_engine.specs.CaughtUp.{AllTakeRun};
-ghost use Rattle.client_engine.specs.Finding.{MayAsk, CanBeMatched};
+ghost use Rattle.client_engine.specs.Finding.{MayAsk, CanBeBrought};
 ghost use Rattle.client_engine.specs.Tracks.{CanBeTracked, metric_in, AsksWithin, AllAskWithin, AreNew, AllStandFor, AllReport};
 ghost use Rattle.client_engine.specs.Waking.{OthersSleep};
 ghost use Rattle.client_engine.specs.Marks.{IsMarked, AreAllMarked, KeepsMarks};
+ghost use Rattle.client_engine.specs.Watches.{CanBeWatched};
 ghost use Rattle.client_engine.specs.Woken.{AllDue, AreWoken, OnMoreWoken, FewAsked, WakesThese};
 
 use crate::brought::Brought;
@@ -51,6 +52,7 @@ impl Tracks {
         requires ready { All CanBeTracked metrics }
         requires within { All (AsksWithin (length conditions.old.predicates)) metrics }
         requires askable { All MayAsk opening.now.matchers.now }
+        requires alerts { All CanBeWatched opening.now.alerts.now }
         ensures new { IfOk result (λ it. AreNew opening.now conditions.old metrics it.list.items) }
         ensures known { conditions.new ≡ conditions.old }
         ensures due { IfOk result (λ it. AllDue it.due it.list.items) }
@@ -73,7 +75,7 @@ impl Tracks {
         asks: &mut Steps<L>,
     ) -> Result<(), AllocError>
         requires within { AllAskWithin conditions.old self.old.list.items }
-        requires matched { CanBeMatched brought.now }
+        requires matched { CanBeBrought brought.now }
         requires others { OthersSleep woken.now conditions.old.predicates brought.now.states.now
             brought.now.frame.now brought.now.matched.now (map metric_in self.old.list.items) }
         requires due { AllDue self.old.due self.old.list.items }
@@ -115,7 +117,7 @@ impl Tracks {
     ) -> Result<u64, AllocError>
         requires one { length woken.now ≡ 1 }
         requires within { AllAskWithin conditions.old self.old.list.items }
-        requires matched { CanBeMatched brought.now }
+        requires matched { CanBeBrought brought.now }
         requires due { AllDue due self.old.list.items }
         ensures woken { IfOk result (WakesThese woken.now (handed_with conditions.old brought.now) brought.now.frame.now
             brought.now.matched.now self.old.list.items asks.old self.new.list.items asks.new) }
@@ -146,7 +148,7 @@ impl Tracks {
         asks: &mut Steps<L>,
     ) -> Result<u64, AllocError>
         requires within { AllAskWithin conditions.old self.old.list.items }
-        requires matched { CanBeMatched brought.now }
+        requires matched { CanBeBrought brought.now }
         requires due { AllDue due self.old.list.items }
         requires marks { self.old.marks.items ≡ replicate (length self.old.list.items) false }
         ensures woken { IfOk result (AreWoken (handed_with conditions.old brought.now) brought.now.frame.now
@@ -178,7 +180,7 @@ impl Tracks {
         asks: &mut Steps<L>,
     ) -> Result<u64, AllocError>
         requires within { AllAskWithin conditions.old self.old.list.items }
-        requires matched { CanBeMatched brought.now }
+        requires matched { CanBeBrought brought.now }
         requires marks { length self.old.marks.items ≡ length self.old.list.items }
         ensures woken { OnMoreWoken (handed_with conditions.old brought.now) brought.now.frame.now brought.now.matched.now
             self.old.list.items self.old.marks.items asks.old due

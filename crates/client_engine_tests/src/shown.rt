@@ -1,11 +1,12 @@
 //! A report's tree as text.
 use atom_record::{Bytes, Slice, Value};
-use report_writer::{LeafTree, MetricBody, MetricTree, NumTree, ReportTree};
+use report_writer::{AlarmTree, LeafTree, MetricBody, MetricTree, NumTree, ReportTree};
 use std::alloc::{AllocError, Global};
 
 /// A report as text: `LAST..NOW`, and for each metric ` | ID BASE SIZE`, what it didn't show, and for each key
 /// ` [LEAVES] {ATOM=STATE} START-END=COUNT ..`, a group as `ATOM:GROUP`; and then ` | ATOM lost COUNT` for each atom of
-/// states, and what of ids. A leaf that is missing is `-`.
+/// states, and what of ids; ` | alarm ID TIME SUM [LEAVES] {ATOM=STATE}` for each alarm, and ` | ID unlisted COUNT`. A leaf
+/// that is missing is `-`.
 pub fn text_of(alloc: Global, tree: &ReportTree) -> Result<String, AllocError> {
     let mut text = String::new(alloc);
     write!(text, "{}..{}", tree.last, tree.now)?;
@@ -16,6 +17,12 @@ pub fn text_of(alloc: Global, tree: &ReportTree) -> Result<String, AllocError> {
         write!(text, " | {} lost {}", drop.id, drop.number)?;
     }
     push_count(&mut text, "| ids lost", tree.state_atoms_dropped)?;
+    for alarm in tree.alarms.as_slice() {
+        push_alarm(&mut text, alarm)?;
+    }
+    for unlisted in tree.alarms_not_kept.as_slice() {
+        write!(text, " | {} unlisted {}", unlisted.id, unlisted.number)?;
+    }
     Ok(text)
 }
 
@@ -45,13 +52,24 @@ fn push_keys(text: &mut String, keys: &[NumTree]) -> Result<(), AllocError> {
     Ok(())
 }
 
+fn push_alarm(text: &mut String, alarm: &AlarmTree) -> Result<(), AllocError> {
+    write!(text, " | alarm {} {} {}", alarm.id, alarm.at, alarm.sum)?;
+    push_leaves(text, alarm.leaves.as_slice())?;
+    push_slices(text, alarm.slices.as_slice())
+}
+
 fn push_key(text: &mut String, key: &NumTree) -> Result<(), AllocError> {
     push_leaves(text, key.leaves.as_slice())?;
-    for slice in key.slices.as_slice() {
-        push_slice(text, slice)?;
-    }
+    push_slices(text, key.slices.as_slice())?;
     for bucket in key.buckets.as_slice() {
         write!(text, " {}-{}={}", bucket.start, bucket.end, bucket.value)?;
+    }
+    Ok(())
+}
+
+fn push_slices(text: &mut String, slices: &[Slice]) -> Result<(), AllocError> {
+    for slice in slices {
+        push_slice(text, slice)?;
     }
     Ok(())
 }

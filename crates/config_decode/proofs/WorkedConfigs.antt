@@ -2,6 +2,7 @@
 -- from these. In a comment, {7: {1: 1}} is a message whose field 7 holds a message whose field 1 is 1.
 use Rattle.std.proofs.Common.{◌≡◌, ℕ, ℤ, pos, negsuc, Bool, true, false, List, [], ◌∷◌, ◌++◌, Some, None, Ok, Err, refl}
 use Rattle.proto_wire.specs.WireReading.{inside_at, walk_from, walk_turns, field_at, field_with, tag_at, tag_of, varint_at, taken_at}
+use Rattle.config_types.specs.declared.alert.AlertDef.{AlertDef}
 use Rattle.config_types.specs.declared.bucket.TimeUnit.TheVariants.{Cts}
 use Rattle.config_types.specs.declared.config.Config.{Config}
 use Rattle.config_types.specs.declared.fields.FieldMatcher.{FieldMatcher}
@@ -300,6 +301,41 @@ activation_of_duration : config_of (50 ∷ 7 ∷ 146 ∷ 63 ∷ 4 ∷ 8 ∷ 2 �
 unfolding config_of walk_of whole.walk_in inside_at
     walk_from walk_turns field_at field_with tag_at tag_of varint_at taken_at
 activation_of_duration = refl
+
+-- An alert on the metric 100, at more than 2 in two parts, and not again for one second:
+-- {7: {1: 1, 2: {1: 5}}, 3: {1: 100, 2: 1}, 1011: {1: 200, 2: 100, 3: 2, 4: 2, 5: 1}}
+abbrev pub alert_bytes : List ℕ
+alert_bytes =
+    least_bytes
+    ++ 154 ∷ 63 ∷ 11 ∷ 8 ∷ 200 ∷ 1 ∷ 16 ∷ 100
+    ∷ 24 ∷ 2 ∷ 32 ∷ 2 ∷ 40 ∷ 1 ∷ []
+
+-- what it says
+abbrev pub count_alert : AlertDef
+count_alert = record {
+  id = Some (pos 200);
+  metric = Some (pos 100);
+  threshold = Some (pos 2);
+  parts = Some (pos 2);
+  refractory = Some (pos 1);
+}
+
+pub alert_config : config_of alert_bytes ≡ Ok (record least_tree { alerts = count_alert ∷ [] })
+unfolding config_of walk_of whole.walk_in inside_at
+    walk_from walk_turns field_at field_with tag_at tag_of varint_at taken_at
+alert_config = refl
+
+-- an alert as a number: {1011: 1}
+alert_as_number : config_of (152 ∷ 63 ∷ 1 ∷ []) ≡ Ok (tree_with [] [])
+unfolding config_of walk_of whole.walk_in inside_at
+    walk_from walk_turns field_at field_with tag_at tag_of varint_at taken_at
+alert_as_number = refl
+
+-- a field that no alert has: {1011: {6: 1}}
+field_of_no_alert : config_of (154 ∷ 63 ∷ 2 ∷ 48 ∷ 1 ∷ []) ≡ Err (Unsupported (1011 ∷ 6 ∷ []))
+unfolding config_of walk_of whole.walk_in inside_at
+    walk_from walk_turns field_at field_with tag_at tag_of varint_at taken_at
+field_of_no_alert = refl
 
 -- a value metric that has an overflow: {4: {1: 100, 2: 1, 1002: 1}}
 abbrev pub overflow_of_value_bytes : List ℕ

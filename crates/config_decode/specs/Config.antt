@@ -3,11 +3,10 @@ use Rattle.std.specs.Prelude.{ℕ, nat_lt, List, map, length, Option, Some, None
 use Rattle.proto_wire.specs.declared.fault.WireFault.{WireFault}
 use Rattle.proto_wire.specs.Fields.{FieldOf}
 use Rattle.config_types.specs.declared.config.Config.{Config}
-use Rattle.config_decode.specs.declared.profile.Kind.TheVariants as kind
 use Rattle.config_decode.specs.ConfigFault.{ConfigFault, TooLarge, Wire, Unsupported}
 use Rattle.config_decode.specs.FieldNumbers.{config_event_metric, config_count_metric, config_value_metric, config_gauge_metric, config_duration_metric, config_atom_matcher, config_predicate, config_no_report_metric, config_state, config_alert}
 use Rattle.config_decode.specs.Walk.{Walked, walk_of, first_refused}
-use Rattle.config_decode.specs.Values.{records_of, int64_fields, messages, listed_messages}
+use Rattle.config_decode.specs.Values.{records_of, int64_fields, messages}
 use Rattle.config_decode.specs.Tree.{matcher_of, predicate_of, state_of}
 use Rattle.config_decode.specs.Metrics.{event_of, count_of, value_of, gauge_of, duration_of}
 use Rattle.config_decode.specs.Alerts.{alert_of}
@@ -28,7 +27,7 @@ tree_of fields = record {
   gauges = map gauge_of (messages config_gauge_metric fields);
   durations = map duration_of (messages config_duration_metric fields);
   no_report = int64_fields config_no_report_metric fields;
-  alerts = map alert_of (listed_messages kind.Config config_alert fields);
+  alerts = map alert_of (messages config_alert fields);
 }
 
 -- the tree, unless a record isn't supported

@@ -96,10 +96,6 @@ runs_of number =
     else if number == 2 then Some runs.MaxSparse
     else None
 
--- what stands in the alerts of the whole; it will be `Message Alert` where they are acted on
-abbrev pub alerts : Shape
-alerts = Ignored
-
 -- The fields of each message, a row a field. The id of the whole has no place in the tree.
 abbrev pub profile_rows : Kind → List (ℕ × Shape)
 profile_rows Config =
@@ -113,7 +109,7 @@ profile_rows Config =
     ∷ (config_no_report_metric, Numbers)
     ∷ (config_metric_activation, Refused)
     ∷ (config_state, Message State)
-    ∷ (config_alert, alerts)
+    ∷ (config_alert, Message Alert)
     ∷ []
 profile_rows Matcher =
     (matcher_id, Number)

@@ -5,8 +5,7 @@ ghost use Rattle.config_decode.specs.ConfigFault.{config_fault_of};
 ghost use Rattle.config_decode.specs.Config.{config_of, tree_of};
 
 use crate::message::Message;
-use crate::profile::Kind;
-use crate::tree::{FromMessage, listed, repeated};
+use crate::tree::{FromMessage, repeated};
 use crate::walk::first_unsupported;
 use crate::{DecodeFault, numbers};
 use config_types::Config;
@@ -48,7 +47,7 @@ impl FromMessage for Config {
         let gauges = repeated(alloc, message, numbers::CONFIG_GAUGE_METRIC)?;
         let durations = repeated(alloc, message, numbers::CONFIG_DURATION_METRIC)?;
         let no_report = message.read_scalars(alloc, numbers::CONFIG_NO_REPORT_METRIC)?;
-        let alerts = listed(alloc, message, Kind::Config, numbers::CONFIG_ALERT)?;
+        let alerts = repeated(alloc, message, numbers::CONFIG_ALERT)?;
         Ok(Config {
             matchers,
             predicates,

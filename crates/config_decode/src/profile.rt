@@ -79,9 +79,6 @@ pub enum Shape {
 /// A field: its number, and what stands in it.
 type Row = (u32, Shape);
 
-/// What stands in the alerts of the whole. It will be `Message(Kind::Alert)` where they are acted on.
-const ALERTS: Shape = Shape::Ignored;
-
 const CONFIG: [Row; 11] = [
     (numbers::CONFIG_EVENT_METRIC, Shape::Message(Kind::Event)),
     (numbers::CONFIG_COUNT_METRIC, Shape::Message(Kind::Count)),
@@ -96,7 +93,7 @@ const CONFIG: [Row; 11] = [
     (numbers::CONFIG_NO_REPORT_METRIC, Shape::Numbers),
     (numbers::CONFIG_METRIC_ACTIVATION, Shape::Refused),
     (numbers::CONFIG_STATE, Shape::Message(Kind::State)),
-    (numbers::CONFIG_ALERT, ALERTS),
+    (numbers::CONFIG_ALERT, Shape::Message(Kind::Alert)),
 ];
 
 const MATCHER: [Row; 3] = [

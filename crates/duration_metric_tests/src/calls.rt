@@ -1,12 +1,16 @@
 //! Calls as words: `3:start=7`, `3:stop=7` and `3:stop_all` are what an atom does to an inner key at a time,
-//! `3:tell=0T9,1F8` the changes of places, each with a truth (T, U or F) and an output key, `cross:10+2` the crossing of
-//! a full end and of so many full buckets after it, `cut:5` a cut, `take` a report, and `inner` shows the inner keys.
+//! `3:tell=0T9,1F8` the changes of places, each with a truth (T, U or F) and an output key, `cross:10+2` the crossing
+//! of a full end and of so many full buckets after it, `cut:5` a cut, `take` a report, and `inner` shows the inner keys.
 //! `rebuilt` goes on with what the producer's items build, and `turns:100/8` stands for 100 events, each with its
-//! condition: 8 inner keys start one after the other, each true for the output key 7, and stop, the last one first, again
-//! and again. An event's time is its number. `apart:100/8` are the same events, of inner keys that each have an output key
-//! of their own number, and `total` is a report of which the number of rows is shown, and the sum of their values.
+//! condition: 8 inner keys start one after the other, each true for the output key 7, and stop, the last one first,
+//! again and again. An event's time is its number. `apart:100/8` are the same events, of inner keys that each have an
+//! output key of their own number, and `total` is a report of which the number of rows is shown, and the sum of their
+//! values. `4:tell=0T9*4000` tells of an output key that is a text of 4,000 letters, `bytes` shows how many bytes the
+//! producer's items are spelled with, and `twins:2000` are so many calls by chance, of this producer and of another one.
+use super::saved::bytes_of;
 use super::shown::{push_closed, push_key, push_total};
-use atom_record::{DimKey, Leaf, MetricKey, Value};
+use super::twins::push_twins;
+use atom_record::{Bytes, DimKey, Leaf, MetricKey, Value};
 use bucket_clock::Crossings;
 use duration_metric::{InnerChange, InnerDelta, InnerEvent, MaxProducer, Producer, SumProducer};
 use flat_form::{FlatError, rebuild};
@@ -25,6 +29,9 @@ pub trait Timed: Producer<Event = InnerEvent, After = InnerDelta, Value = u64> {
 
     /// What its items build.
     fn again(&self, alloc: Global) -> Result<Self, FlatError>;
+
+    /// How many bytes its items are spelled with.
+    fn saved_in(&self, alloc: Global) -> Result<u64, AllocError>;
 }
 
 impl Timed for SumProducer {
@@ -43,6 +50,10 @@ impl Timed for SumProducer {
     fn again(&self, alloc: Global) -> Result<Self, FlatError> {
         rebuild(alloc, self)
     }
+
+    fn saved_in(&self, alloc: Global) -> Result<u64, AllocError> {
+        bytes_of(alloc, self)
+    }
 }
 
 impl Timed for MaxProducer {
@@ -60,6 +71,10 @@ impl Timed for MaxProducer {
 
     fn again(&self, alloc: Global) -> Result<Self, FlatError> {
         rebuild(alloc, self)
+    }
+
+    fn saved_in(&self, alloc: Global) -> Result<u64, AllocError> {
+        bytes_of(alloc, self)
     }
 }
 
@@ -82,8 +97,12 @@ enum Do<'a> {
     Inner,
     /// The producer is built again.
     Rebuild,
+    /// How many bytes the producer is saved in is shown.
+    Bytes,
     /// So many events, by so many inner keys in turn.
     Turns(u64, Turns),
+    /// So many calls by chance, of the producer and of one that is built again after each.
+    Twins(u64),
 }
 
 /// The inner keys that start and stop in turn.
@@ -112,6 +131,7 @@ fn call_of(word: &str) -> Option<Do<'_>> {
         "total" => return Some(Do::Total),
         "inner" => return Some(Do::Inner),
         "rebuilt" => return Some(Do::Rebuild),
+        "bytes" => return Some(Do::Bytes),
         _ => (),
     }
     let (before, after) = word.split_once(':')?;
@@ -120,6 +140,7 @@ fn call_of(word: &str) -> Option<Do<'_>> {
         "cross" => crossing_of(after),
         "turns" => turns_of(after, false),
         "apart" => turns_of(after, true),
+        "twins" => Some(Do::Twins(unsigned(after)?)),
         _ => step_of(unsigned(before)?, after),
     }
 }
@@ -160,35 +181,82 @@ pub fn key_of(alloc: Global, number: i32) -> Result<DimKey, AllocError> {
     Ok(dims)
 }
 
-/// One change, as `0T9`.
-fn change_of(text: &str) -> Option<(u32, Truth, i32)> {
-    if let Some((place, out)) = text.split_once('T') {
-        return numbers_of(place, Truth::True, out);
-    }
-    if let Some((place, out)) = text.split_once('U') {
-        return numbers_of(place, Truth::Unknown, out);
-    }
-    let (place, out) = text.split_once('F')?;
-    numbers_of(place, Truth::False, out)
+/// An output key as a test names it: a number, or a text of one letter that comes so many times.
+#[derive(Clone, Copy)]
+struct Out<'a> {
+    name: &'a str,
+    times: usize,
 }
 
-fn numbers_of(place: &str, truth: Truth, out: &str) -> Option<(u32, Truth, i32)> {
-    Some((place.parse::<u32>().ok()?, truth, out.parse::<i32>().ok()?))
+/// One change, as `0T9` or as `0T9*4000`.
+fn change_of(text: &str) -> Option<(u32, Truth, Out<'_>)> {
+    if let Some((place, out)) = text.split_once('T') {
+        return told_of(place, Truth::True, out);
+    }
+    if let Some((place, out)) = text.split_once('U') {
+        return told_of(place, Truth::Unknown, out);
+    }
+    let (place, out) = text.split_once('F')?;
+    told_of(place, Truth::False, out)
+}
+
+fn told_of<'a>(place: &str, truth: Truth, out: &'a str) -> Option<(u32, Truth, Out<'a>)> {
+    let (name, times) = out.split_once('*').unwrap_or((out, "0"));
+    let out = Out {
+        name,
+        times: times.parse::<usize>().ok()?,
+    };
+    Some((place.parse::<u32>().ok()?, truth, out))
+}
+
+/// The key with one leaf that is this one; a number that isn't one is 0.
+fn out_key(alloc: Global, out: Out<'_>) -> Result<DimKey, AllocError> {
+    if out.times == 0 {
+        return key_of(alloc, out.name.parse::<i32>().unwrap_or(0));
+    }
+    let text = text_of(alloc, first_of(out.name), out.times)?;
+    let mut dims = DimKey::new(alloc);
+    dims.push(Leaf::One(Value::Str(text)))?;
+    Ok(dims)
+}
+
+/// The first byte of a name.
+fn first_of(name: &str) -> u8 {
+    name.as_bytes().first().copied().unwrap_or(0)
+}
+
+/// So many equal letters.
+fn text_of(alloc: Global, letter: u8, times: usize) -> Result<Bytes, AllocError> {
+    let mut text = Seq::new(alloc);
+    for _ in 0..times {
+        text.push(letter)?;
+    }
+    Ok(text)
 }
 
 /// The delta of some changes; none is the empty text. A change that isn't one is left out, which its row shows.
 fn delta_of(alloc: Global, text: &str) -> Result<InnerDelta, AllocError> {
     let mut changes = Seq::new(alloc);
     for word in text.split(',') {
-        if let Some((place, truth, number)) = change_of(word) {
-            let out = MetricKey {
-                dims: key_of(alloc, number)?,
-                slices: Seq::new(alloc),
-            };
-            changes.push(InnerChange { place, truth, out })?;
+        if let Some((place, truth, out)) = change_of(word) {
+            let dims = out_key(alloc, out)?;
+            push_change(alloc, &mut changes, place, truth, dims)?;
         }
     }
     Ok(InnerDelta { changes })
+}
+
+/// One change more, with an output key of no slices.
+pub fn push_change(
+    alloc: Global,
+    changes: &mut Seq<InnerChange>,
+    place: u32,
+    truth: Truth,
+    dims: DimKey,
+) -> Result<(), AllocError> {
+    let slices = Seq::new(alloc);
+    let out = MetricKey { dims, slices };
+    changes.push(InnerChange { place, truth, out })
 }
 
 /// What the reports of these calls show, one after the other. Full buckets have a size.
@@ -205,11 +273,19 @@ pub fn played<P: Timed + Drop>(
             Some(Do::Total) => push_total(&mut shown, &producer.take())?,
             Some(Do::Inner) => push_inner(&mut shown, producer)?,
             Some(Do::Rebuild) => build_again(alloc, &mut shown, producer)?,
+            Some(Do::Bytes) => push_bytes(alloc, &mut shown, producer)?,
+            Some(Do::Twins(turns)) => push_twins(alloc, &mut shown, producer, size, turns)?,
             Some(call) => act(alloc, producer, size, call)?,
             None => write!(shown, "no call {word} ")?,
         }
     }
     Ok(shown)
+}
+
+/// How many bytes the producer is saved in.
+fn push_bytes<P: Timed>(alloc: Global, shown: &mut String, producer: &P) -> Result<(), AllocError> {
+    let bytes = producer.saved_in(alloc)?;
+    write!(shown, "{bytes} bytes ; ")
 }
 
 /// Goes on with what the producer's items build.
@@ -270,7 +346,7 @@ fn act<P: Timed>(
         }),
         Do::Cut(at) => producer.cut(at),
         Do::Turns(count, turns) => turn(alloc, producer, count, turns),
-        Do::Take | Do::Total | Do::Inner | Do::Rebuild => Ok(()),
+        Do::Take | Do::Total | Do::Inner | Do::Rebuild | Do::Bytes | Do::Twins(_) => Ok(()),
     }
 }
 
@@ -308,7 +384,7 @@ fn turn_once<P: Timed>(
 }
 
 /// The number of a key, of which there are far fewer than fit.
-fn small(number: u64) -> u32 {
+pub fn small(number: u64) -> u32 {
     let Ok(small) = u32::try_from(number) else {
         return 0;
     };

@@ -5,6 +5,7 @@ mod calls;
 mod rows;
 mod saved;
 mod shown;
+mod twins;
 
 use rows::Durations;
 use std::io;

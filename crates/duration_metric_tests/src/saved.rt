@@ -1,7 +1,7 @@
 //! Items that are no producer's, or one's.
 use super::calls::{Timed, key_of};
 use duration_metric::{MaxProducer, SumProducer};
-use flat_form::{Flat, FlatError, Item, Items};
+use flat_form::{Flat, FlatError, Item, Items, spelled_len};
 use sd_base::Seq;
 use std::alloc::{AllocError, Global};
 use test_tools::{Row, Tester, unsigned};
@@ -23,6 +23,13 @@ fn item_of(alloc: Global, word: &str) -> Result<Item, AllocError> {
         Some(key) => Ok(Item::Dims(key_of(alloc, key.parse::<i32>().unwrap_or(0))?)),
         None => Ok(Item::Num(unsigned(word).unwrap_or(0))),
     }
+}
+
+/// How many bytes the items of a value are spelled with.
+pub fn bytes_of<T: Flat>(alloc: Global, value: &T) -> Result<u64, AllocError> {
+    let mut items = Items::new(alloc);
+    value.flatten(alloc, &mut items)?;
+    Ok(spelled_len(&items))
 }
 
 /// Builds the producer of a row's items, and compares what it is, or that there is none.

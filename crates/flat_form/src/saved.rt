@@ -8,7 +8,7 @@ use crate::{Flat, FlatError, Items, encode_items};
 use atom_record::Bytes;
 use std::alloc::{AllocError, Global};
 
-/// The bytes of a value: 16 for each item of its head, 128 for each entry, and what its items hold, at most.
+/// The bytes of a value: 9 for each item of its head, 72 for each entry, and what its items hold, at most.
 pub fn save<T: Flat>(alloc: Global, value: &T) -> Result<Bytes, AllocError>
     requires { T.savable value.now }
     ensures spelled { IfOk result (λ bytes. bytes ≡ spelled_items (T.flat value.now)) }

@@ -3,6 +3,7 @@ use Rattle.std.proofs.Common.{◌≡◌, ℕ, suc, ◌+◌, ◌*◌, Bool, true,
 use Rattle.std.specs.List.{list_any, AllByRecursion}
 use Rattle.std.proofs.lemmas.List.Folds.{list_any-append}
 use Rattle.bucket_meaning.proofs.OutputsLemmas.{outputs-push}
+use Rattle.bucket_meaning.specs.Outputs.{outputs_after}
 use Rattle.bucket_meaning.specs.Ends.{Moment, crosses, ends_at}
 use Rattle.bucket_meaning.proofs.EndsLemmas.{crosses-le}
 use Rattle.bucket_clock.specs.declared.crossings.Crossings.{Crossings}
@@ -111,6 +112,30 @@ any_stands base came run moment end stands after is = ⊎_elim
     let within = crosses-le moment end is in absurd (omega (arith, after, early, within)))
     (λ (covered : IsCoveredBy (came ++ run) moment). any_covers (came ++ run) moment end covered is)
     stands.is_covered
+
+-- a run's frames cross, one after the other, what a frame crosses that covers them all, but for what is left to it
+joined_with : (base size : ℕ) (came run : List Moment) (moment : Moment)
+    → AllByRecursion (λ frame. Covers frame moment) run
+    → ends_at base size came moment
+    ≡ outputs_after (ends_at base size) came run ++ ends_at base size (came ++ run) moment
+joined_with base size came [] moment covers = ap (λ l. ends_at base size l moment) (sym (append-nil came))
+joined_with base size came (frame ∷ run) moment covers =
+    let first = ends_at base size came frame in
+    let others = outputs_after (ends_at base size) (came ++ frame ∷ []) run in
+    ends_joined base size came frame moment covers.0
+    ∙ ap (λ l. first ++ l) (joined_with base size (came ++ frame ∷ []) run moment covers.1
+    ∙ ap (λ l. others ++ ends_at base size l moment) (append_assoc came (frame ∷ []) run))
+    ∙ sym (append_assoc first others (ends_at base size (came ++ (frame ∷ run)) moment))
+
+-- For callers: a frame that stands for a run crosses just what the run's frames cross, one after the other.
+pub joined_ends : (base size : ℕ) (came run : List Moment) (moment : Moment) → StandsForRun base came run moment
+    → ends_at base size came moment ≡ outputs_after (ends_at base size) came run
+joined_ends base size came run moment stands =
+    let each = outputs_after (ends_at base size) came run in
+    joined_with base size came run moment stands.covers_all
+    ∙ ap (λ l. each ++ l)
+    (ends_none base size (came ++ run) moment (λ end. any_stands base came run moment end stands))
+    ∙ append-nil each
 
 -- Two lists of what a clock with a base may be told make it stand alike.
 record StandAlike (base : ℕ) (told others : List Told) : Type 0 where

@@ -1,9 +1,9 @@
 -- One more frame, one more report: what the lane's clock and its producer do together.
-use Rattle.std.proofs.Common.{◌≡◌, ℕ, Bool, List, [], ◌∷◌, ◌++◌, ◌<◌, Option, Some, None, refl, sym, ap, subst, ◌∙◌, append_assoc, append-nil, arith}
-use Rattle.bucket_meaning.specs.Ends.{Moment, crosses}
+use Rattle.std.proofs.Common.{◌≡◌, ℕ, Bool, List, [], ◌∷◌, ◌++◌, ◌<◌, length, Option, Some, None, refl, sym, ap, subst, ◌∙◌, append_assoc, append-nil, arith}
+use Rattle.bucket_meaning.specs.Ends.{Moment, crosses, ends_at}
 use Rattle.bucket_clock.specs.declared.crossings.Crossings.{Crossings}
 use Rattle.bucket_clock.specs.Sound.{Times}
-use Rattle.bucket_clock.specs.Clock.{Told, Saw, Answers, boundaries, last_time, moments_told}
+use Rattle.bucket_clock.specs.Clock.{Told, Saw, Answers, ClockStandsFor, boundaries_at, boundaries, last_time, moments_told}
 use Rattle.bucket_clock.proofs.ClockLemmas.{none_made}
 use Rattle.metric_producer.specs.Calls.{Call, Crossed, Took}
 use Rattle.metric_producer.specs.Moves.{Moves, MovesAll}
@@ -14,7 +14,7 @@ use Rattle.metric_producer.proofs.ClockOfCalls.{handed_on_is}
 use Rattle.metric_producer.specs.declared.row.Row.{Row}
 use Rattle.bucket_meaning.specs.Kept.{Taken}
 use Rattle.metric_producer.specs.Collecting.{Law, demands_of, Gives}
-use Rattle.metric_lane.specs.LaneClock.{HasClock, MayCross, ClockCrosses, NoEndBefore}
+use Rattle.metric_lane.specs.LaneClock.{HasClock, MayCross, ClockCrosses, CountsEnds, NoEndBefore}
 use Rattle.metric_lane.specs.LaneStands.{GetsFrame, GetsCut, GetsReport, told_at}
 use Rattle.metric_lane.specs.declared.lane.Lane.{Lane}
 use Rattle.metric_lane.proofs.JoinedEnds.{beyond}
@@ -64,6 +64,21 @@ answered Event After (Some old) (Some new) base size told moment answer crosses 
       };
     }
 
+-- where there are no buckets a frame crosses no end
+pub counts_none : (moment : Moment) → CountsEnds None moment 0
+counts_none moment base size told has may =
+    ap length (sym (no_ends base size (moments_told told) moment (omega (arith, has))))
+
+-- a lane's clock crosses as many ends as it tells, whatever it was told
+pub counts_some : (clock : Times) (moment : Moment) (n : ℕ)
+    → ((told : List Told) → ClockStandsFor clock told
+    → n ≡ length (boundaries_at clock.base clock.size told (Saw moment)))
+    → CountsEnds (Some clock) moment n
+counts_some clock moment n tells base size told has may =
+    tells told has.stands
+    ∙ ap (λ b. length (ends_at b clock.size (moments_told told) moment)) has.base_is
+    ∙ ap (λ k. length (ends_at base k (moments_told told) moment)) has.size_is
+
 -- a frame before the next end crosses none, and the clock stays as it is
 none_crossed : (clock : Option Times) (moment : Moment) (time : ℕ) → NoEndBefore time clock → moment.at < time
     → ClockCrosses clock clock moment None
@@ -76,6 +91,17 @@ none_crossed (Some clock) moment time none before = λ may.
       none_made clock moment later.sound.least_size later.sound.in_bucket may.0 (reach_of moment)
           (omega (arith, end, before)) (reaches moment) (omega (arith, end, before, most)),
     )
+
+-- For callers: so it crosses none of the ends that the clock was made for.
+pub no_ends_before : (clock : Option Times) (base size : ℕ) (told : List Told) (moment : Moment) (time : ℕ)
+    → HasClock clock base size told → NoEndBefore time clock → moment.at < time → MayCross clock moment.at
+    → ends_at base size (moments_told told) moment ≡ []
+no_ends_before None base size told moment time has later before may =
+    no_ends base size (moments_told told) moment (omega (arith, has))
+no_ends_before (Some clock) base size told moment time has later before may =
+    let made = (none_crossed (Some clock) moment time later before may).1 told has.stands in
+    sym (made.0 ∙ ap (λ b. ends_at b clock.size (moments_told told) moment) has.base_is
+    ∙ ap (λ k. ends_at base k (moments_told told) moment) has.size_is)
 
 -- one call, as a list of calls
 pub moves_one : {P Params Event After X K C R : Type 0} (law : Law P Params Event After X K C R) (old new : P)

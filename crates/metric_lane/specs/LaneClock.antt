@@ -1,10 +1,10 @@
 -- The clock of a lane, and what frames and cuts do to it. A metric without buckets has none.
-use Rattle.std.specs.Prelude.{◌≡◌, ℕ, ◌<◌, ◌≤◌, Bool, true, false, List, [], ◌∷◌, Option, Some, None}
+use Rattle.std.specs.Prelude.{◌≡◌, ℕ, ◌<◌, ◌≤◌, Bool, true, false, List, [], ◌∷◌, length, Option, Some, None}
 use Rattle.bucket_meaning.specs.Limits.{time_limit}
-use Rattle.bucket_meaning.specs.Ends.{Moment}
+use Rattle.bucket_meaning.specs.Ends.{Moment, ends_at}
 use Rattle.bucket_clock.specs.declared.crossings.Crossings.{Crossings}
 use Rattle.bucket_clock.specs.Sound.{Times, IsSound}
-use Rattle.bucket_clock.specs.Clock.{Told, Saw, Cut, ends_of, Answers, ClockStandsFor, TakesCall}
+use Rattle.bucket_clock.specs.Clock.{Told, Saw, Cut, moments_told, ends_of, Answers, ClockStandsFor, TakesCall}
 
 -- a clock with this base and this size that was told this
 pub record IsClockFor (clock : Times) (base size : ℕ) (told : List Told) : Type 0 where
@@ -42,6 +42,12 @@ ClockAnswers old (Some new) moment answer = Answers old moment answer new
 abbrev pub ClockCrosses : Option Times → Option Times → Moment → Option Crossings → Type 0
 ClockCrosses None new moment answer = (new ≡ None) × (answer ≡ None)
 ClockCrosses (Some old) new moment answer = MayCross (Some old) moment.at → ClockAnswers old new moment answer
+
+-- this is how many full ends a frame crosses that may come, whatever the lane's clock was told
+abbrev pub CountsEnds : Option Times → Moment → ℕ → Type 0
+CountsEnds clock moment n =
+    (base size : ℕ) (told : List Told) → HasClock clock base size told → MayCross clock moment.at
+    → n ≡ length (ends_at base size (moments_told told) moment)
 
 -- the clock was cut
 abbrev pub ClockIsCut : Times → Option Times → ℕ → Bool → Type 0

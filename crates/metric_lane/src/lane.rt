@@ -1,12 +1,19 @@
 //! A producer with its clock.
-ghost use Rattle.std.specs.Prelude.{◌≡◌, ◌<◌, ◌≤◌, [], List, OnOk, IfOk};
+ghost use Rattle.std.specs.Prelude.{◌≡◌, ◌<◌, ◌≤◌, [], List, Some, OnOk, IfOk};
 ghost use Rattle.std.specs.Option.{option_copied};
 ghost use Rattle.bucket_meaning.specs.Limits.{time_limit, longest_bucket};
 ghost use Rattle.bucket_clock.specs.Clock.{frame_at};
 ghost use Rattle.metric_producer.specs.Calls.{Call, Got, Learned};
 ghost use Rattle.metric_producer.specs.LaneCalls.{coming};
 ghost use Rattle.metric_producer.specs.Collecting.{demands_of};
-ghost use Rattle.metric_lane.specs.LaneClock.{IsNewClock, ClockCrosses, ClockCuts, EndsNoSooner, NoEndBefore};
+ghost use Rattle.metric_lane.specs.LaneClock.{
+  IsNewClock,
+  ClockCrosses,
+  CountsEnds,
+  ClockCuts,
+  EndsNoSooner,
+  NoEndBefore,
+};
 ghost use Rattle.metric_lane.specs.LaneStands.{
   LaneHas,
   GetsFrame,
@@ -90,6 +97,16 @@ impl<P: Producer> Lane<P> {
         match &self.clock {
             None => u64::MAX,
             Some(clock) => end_of(clock),
+        }
+    }
+
+    /// How many full ends a frame crosses, before it comes: none where there are no buckets. The lane stays as it is.
+    pub fn ends_crossed(&self, at: u64, is_pull: bool) -> u64
+        ensures { CountsEnds self.now.clock (frame_at at is_pull) result }
+    {
+        match &self.clock {
+            None => 0,
+            Some(clock) => ends_number(clock, at, is_pull),
         }
     }
 
@@ -187,6 +204,16 @@ fn end_of(clock: &Clock) -> u64
 {
     let _base = clock.base();
     clock.next_end()
+}
+
+// How many full ends the frame crosses; none at a time outside of the open part's, which no frame has.
+fn ends_number(clock: &Clock, at: u64, is_pull: bool) -> u64
+    ensures { CountsEnds (Some clock.now) (frame_at at is_pull) result }
+{
+    if at < clock.part_start() || at >= TIME_LIMIT {
+        return 0;
+    }
+    clock.ends_crossed(at, is_pull)
 }
 
 // What the frame crosses. A time outside of the open part's, which no frame has, crosses nothing.

@@ -6,6 +6,7 @@ pub mod AmountsBalance
 pub mod NumbersBalance
 pub mod BalanceLemmas
 mod WorkedHistories
+mod WorkedAlerts
 mod WorkedConditions
 mod WorkedStates
 mod WorkedDurations
@@ -20,6 +21,7 @@ mod WorkedPulls
 mod WorkedPulledValues
 mod WorkedPulledGauges
 pub mod PredicateStepsLemmas
+pub mod AlertStepsLemmas
 pub mod TouchedLemmas
 pub mod TouchedDurations
 pub mod SnapshotStepsLemmas

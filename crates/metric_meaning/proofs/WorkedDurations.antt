@@ -411,6 +411,8 @@ as_a_tree : report_of
       predicate_drops = [];
       state_drops = [];
       state_atoms_dropped = 0;
+      alarms = [];
+      alarms_not_kept = [];
     }
 unfolding report_of
 as_a_tree = refl

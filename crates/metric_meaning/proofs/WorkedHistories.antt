@@ -22,7 +22,7 @@ use Rattle.report_writer.specs.declared.tree.MetricBody.TheVariants.{Counts}
 use Rattle.metric_meaning.specs.Reports.{report_of}
 
 -- the metric 100 counts what the matcher at 0 means, by field 1 of the atoms of id 5, in buckets of 1,000 with two keys
-abbrev guarded : LMetric
+abbrev pub guarded : LMetric
 guarded = record {
   id = pos 100;
   shown = true;
@@ -50,7 +50,7 @@ abbrev pub logged : ℕ → LogFrame → List Bool → Step
 logged at frame truths = record { at = at; what = Logged frame; truths = truths }
 
 -- an atom of id 5 whose field 1 is this text, which the matcher means
-abbrev texted : ℕ → ℕ → Step
+abbrev pub texted : ℕ → ℕ → Step
 texted at letter =
     logged at (AtomAt at (record {
       id = 5;
@@ -138,11 +138,11 @@ abbrev configured : Linked
 configured = record { matchers = []; predicates = []; states = []; metrics = guarded ∷ []; alerts = [] }
 
 -- a leaf with a text
-abbrev text_leaf : ℕ → LeafTree
+abbrev pub text_leaf : ℕ → LeafTree
 text_leaf letter = record { place = 0; value = Some (Str (letter ∷ [])) }
 
 -- a bucket with a count
-abbrev bucket : ℕ → ℕ → ℤ → NumBucket
+abbrev pub bucket : ℕ → ℕ → ℤ → NumBucket
 bucket start end count = record { start = start; end = end; value = count }
 
 -- a report groups the rows of two buckets by their keys, and tells the clock at the report before
@@ -173,6 +173,8 @@ two_buckets : report_of
       predicate_drops = [];
       state_drops = [];
       state_atoms_dropped = 0;
+      alarms = [];
+      alarms_not_kept = [];
     }
 unfolding report_of
 two_buckets = refl

@@ -10,6 +10,7 @@ pub mod Arrivals
 pub mod StepMarks
 pub mod Ways
 pub mod CountSteps
+pub mod AlertSteps
 pub mod DurationSteps
 pub mod EventSteps
 pub mod ValueLeaves
@@ -27,5 +28,6 @@ pub mod ValueTrees
 pub mod GaugeTrees
 pub mod Touched
 pub mod StateDrops
+pub mod AlarmTrees
 pub mod Reports
 pub mod Balance

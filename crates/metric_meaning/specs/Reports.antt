@@ -1,5 +1,6 @@
 -- The report of a history, as a tree.
 use Rattle.std.specs.Prelude.{ℕ, ℤ, pos, ◌-◌, ◌^◌, min, Bool, false, List, [], ◌∷◌, map, filter}
+use Rattle.std.specs.List.{flat_map}
 use Rattle.bucket_meaning.specs.Kept.{Taken}
 use Rattle.config_links.specs.declared.linked.LMetric.{LMetric}
 use Rattle.config_links.specs.declared.linked.LKind.{LKind}
@@ -27,6 +28,7 @@ use Rattle.metric_meaning.specs.PushedGaugeSteps.{pushed_gauge_shown}
 use Rattle.metric_meaning.specs.GaugeTrees.{gauge_body}
 use Rattle.metric_meaning.specs.PulledValueSteps.{pulled_values_shown}
 use Rattle.metric_meaning.specs.PulledGaugeSteps.{pulled_gauge_shown}
+use Rattle.metric_meaning.specs.AlarmTrees.{alarm_trees, alarm_drops}
 
 -- a time in a report ends where a signed number of 64 bits does
 abbrev pub time_bucket : Row ℕ → NumBucket
@@ -102,4 +104,6 @@ report_of history uid id include_current now = record {
   predicate_drops = predicate_drops history.installed.linked.predicates history.steps;
   state_drops = drops_of_states history.installed.linked.states (log_of_history history);
   state_atoms_dropped = dropped_for history.installed.linked.states (log_of_history history);
+  alarms = flat_map (alarm_trees history.installed history.steps) history.installed.linked.alerts;
+  alarms_not_kept = flat_map (alarm_drops history.installed history.steps) history.installed.linked.alerts;
 }

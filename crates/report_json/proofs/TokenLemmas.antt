@@ -1,8 +1,8 @@
 -- On specs/Tokens.antt: the tokens of a number that may be below 0, and of a list.
-use Rattle.std.proofs.Common.{◌≡◌, ℤ, pos, negsuc, List, [], ◌∷◌, ◌++◌, map, refl, sym, ap, ◌∙◌, append_assoc}
+use Rattle.std.proofs.Common.{◌≡◌, ℕ, ℤ, pos, negsuc, List, [], ◌∷◌, ◌++◌, map, refl, sym, ap, ◌∙◌, append_assoc}
 use Rattle.std.specs.List.{flat_map}
 use Rattle.std.specs.Fmt.{signed_decimal}
-use Rattle.json.specs.Token.{Token, begin_array, end_array, number}
+use Rattle.json.specs.Token.{Token, begin_array, end_array, key, number}
 use Rattle.json.specs.Print.{print}
 use Rattle.json.specs.Tree.{items_tokens}
 use Rattle.serde_json.specs.Data.{Data}
@@ -46,3 +46,10 @@ printed shown = print-outline shown
 -- tokens that were written after others, with the rest after them
 pub after : (old new more rest : List Token) → new ≡ old ++ more → new ++ rest ≡ old ++ (more ++ rest)
 after old new more rest is = ap (λ (ts : List Token). ts ++ rest) is ∙ append_assoc old more rest
+
+-- a member that is an array, of items that are these
+pub listed : {X : Type 0} (shown : X → Data) (name : List ℕ) (old new : List Token) (items same : List X)
+    → new ≡ old ++ key name ∷ tokens_of (list_of shown items) → items ≡ same
+    → new ≡ old ++ key name ∷ tokens_of (list_of shown same)
+listed shown name old new items same is equal =
+    is ∙ ap (λ xs. old ++ key name ∷ tokens_of (list_of shown xs)) equal

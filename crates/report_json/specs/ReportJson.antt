@@ -23,6 +23,7 @@ use Rattle.report_writer.specs.declared.tree.MetricBody.{MetricBody}
 use Rattle.report_writer.specs.declared.tree.MetricBody.TheVariants.{Events, Counts, Durations, Values, Gauges}
 use Rattle.report_writer.specs.declared.tree.MetricTree.{MetricTree}
 use Rattle.report_writer.specs.declared.tree.Drop64.{Drop64}
+use Rattle.report_writer.specs.declared.tree.AlarmTree.{AlarmTree}
 use Rattle.report_writer.specs.declared.tree.ReportTree.{ReportTree}
 
 -- a number that isn't below 0
@@ -156,15 +157,24 @@ metric_json metric =
     (member (codes "rows") (rows_json metric.body)
     (member (codes "size") (whole metric.size) no_members))))))))
 
--- what a full table dropped, by an id
+-- what a full table dropped or a full list didn't keep, by an id
 abbrev pub drop_json : Drop64 → Data
 drop_json drop = two (integer drop.id) (whole drop.number)
 
--- a report; there are no alarms
+-- an alarm of an alert, with the key that went above its threshold
+abbrev pub alarm_json : AlarmTree → Data
+alarm_json alarm =
+    object (member (codes "at") (whole alarm.at)
+    (member (codes "id") (integer alarm.id)
+    (member (codes "key") (list_of leaf_json alarm.leaves)
+    (member (codes "slices") (list_of slice_json alarm.slices)
+    (member (codes "sum") (whole alarm.sum) no_members)))))
+
+-- a report
 unfoldable pub report_json : ReportTree → Data
 report_json tree =
-    object (member (codes "alarms") (array no_items)
-    (member (codes "alarms_not_kept") (array no_items)
+    object (member (codes "alarms") (list_of alarm_json tree.alarms)
+    (member (codes "alarms_not_kept") (list_of drop_json tree.alarms_not_kept)
     (member (codes "id") (integer tree.id)
     (member (codes "last") (whole tree.last)
     (member (codes "metrics") (list_of metric_json tree.metrics)

@@ -1,7 +1,7 @@
 //! JSON as text, token by token. Commas and colons come by themselves.
 ghost use Rattle.std.specs.Prelude.{◌≡◌, ◌∷◌, [], ◌++◌, IfOk, OnOk};
 ghost use Rattle.json.specs.Print.{print};
-ghost use Rattle.serde_json.specs.Data.{array, boolean, no_items};
+ghost use Rattle.serde_json.specs.Data.{boolean};
 ghost use Rattle.json.specs.Token.{begin_array, end_array, begin_object, end_object, key, string};
 ghost use Rattle.report_json.specs.ReportJson.{whole, integer, hex_text};
 ghost use Rattle.report_json.specs.Tokens.{tokens_of};
@@ -108,15 +108,6 @@ impl Text {
         ensures { OnOk result (self.new ≡ self.old ++ tokens_of (boolean holds)) }
     {
         self.writer.boolean(holds)
-    }
-
-    /// A member that is an array of nothing.
-    pub fn empty_member(&mut self, name: &str) -> Result<(), AllocError>
-        ensures { OnOk result (self.new ≡ self.old ++ key name.now ∷ tokens_of (array no_items)) }
-    {
-        self.add_key(name)?;
-        self.open_array()?;
-        self.close_array()
     }
 
     /// A member that is a text.

@@ -5,6 +5,7 @@ pub mod ToldLemmas
 pub mod LeavesBack
 pub mod RowsBack
 pub mod MetricBack
+pub mod AlarmsBack
 pub mod Back
 pub mod Widths
 pub mod Verdict

@@ -11,7 +11,7 @@ use Rattle.atom_record.specs.declared.value.Slice.TheVariants.{Plain, Group}
 use Rattle.proto_wire.specs.Spelling.{varint_field, bytes_field}
 use Rattle.proto_wire.specs.Grammar.{Written, AsVarint, AsBytes, AsFixed32, spelling}
 use Rattle.report_writer.specs.ReportNumbers as field
-use Rattle.report_writer.specs.ReportSpelling.{field_if_above, truth_number, repeated_field, leaf_value_field, leaf_raw_field, leaf_message, slice_message, bucket_message, row_message, part_with, part_field, atom_message, samples_message, gauge_message, event_message, rows_field, size_field, unshown_fields, metric_message, drop_message, key_message, config_message, report_message}
+use Rattle.report_writer.specs.ReportSpelling.{field_if_above, truth_number, repeated_field, leaf_value_field, leaf_raw_field, leaf_message, slice_message, bucket_message, row_message, part_with, part_field, atom_message, samples_message, gauge_message, event_message, rows_field, size_field, unshown_fields, drops_fields, alarms_fields, metric_message, drop_message, alarm_message, key_message, config_message, report_message}
 use Rattle.report_writer.specs.declared.tree.LeafTree.{LeafTree}
 use Rattle.report_writer.specs.declared.tree.NumBucket.{NumBucket}
 use Rattle.report_writer.specs.declared.tree.NumTree.{NumTree}
@@ -26,6 +26,7 @@ use Rattle.report_writer.specs.declared.tree.MetricBody.{MetricBody}
 use Rattle.report_writer.specs.declared.tree.MetricBody.TheVariants.{Events, Counts, Durations, Values, Gauges}
 use Rattle.report_writer.specs.declared.tree.MetricTree.{MetricTree}
 use Rattle.report_writer.specs.declared.tree.Drop64.{Drop64}
+use Rattle.report_writer.specs.declared.tree.AlarmTree.{AlarmTree}
 use Rattle.report_writer.specs.declared.tree.ReportTree.{ReportTree}
 use Rattle.report_show.proofs.FieldLemmas.{repeated, if_above}
 
@@ -287,6 +288,19 @@ unfolding drop_message
 drop-spelled drop =
     sym (after (AsSigned field.drops_id drop.id) (spelled-one (AsVarint field.drops_number drop.number)))
 
+abbrev pub alarm_written : AlarmTree → List Written
+alarm_written alarm =
+    AsSigned field.alarm_alert alarm.id ∷ AsVarint field.alarm_time alarm.at ∷ AsVarint field.alarm_sum alarm.sum
+    ∷ (repeated field.data_leaf leaf_message alarm.leaves ++ repeated field.data_slice slice_message alarm.slices)
+
+pub alarm-spelled : (alarm : AlarmTree) → alarm_message alarm ≡ spelled (alarm_written alarm)
+unfolding alarm_message
+alarm-spelled alarm =
+    sym (after (AsSigned field.alarm_alert alarm.id) (after (AsVarint field.alarm_time alarm.at)
+    (after (AsVarint field.alarm_sum alarm.sum)
+    (both (repeated field.data_leaf leaf_message alarm.leaves) _ _ _ (spelled-repeated _ _ alarm.leaves)
+    (spelled-repeated field.data_slice slice_message alarm.slices)))))
+
 abbrev pub key_written : ReportTree → List Written
 key_written tree = AsSigned field.key_uid tree.uid ∷ AsSigned field.key_id tree.id ∷ []
 
@@ -294,24 +308,45 @@ pub key-spelled : (tree : ReportTree) → key_message tree ≡ spelled (key_writ
 unfolding key_message
 key-spelled tree = sym (after (AsSigned field.key_uid tree.uid) (spelled-one (AsSigned field.key_id tree.id)))
 
+abbrev pub alarms_written : ReportTree → List Written
+alarms_written tree =
+    repeated field.report_alarms alarm_message tree.alarms
+    ++ repeated field.report_alarms_not_kept drop_message tree.alarms_not_kept
+
+-- what full tables dropped, and then the alarms
+abbrev pub drops_written : ReportTree → List Written
+drops_written tree =
+    repeated field.report_predicate_drops drop_message tree.predicate_drops
+    ++ (repeated field.report_state_drops drop_message tree.state_drops
+    ++ (if_above field.report_dropped_state_atoms tree.state_atoms_dropped ++ alarms_written tree))
+
+drops-spelled : (tree : ReportTree) → spelled (drops_written tree) ≡ drops_fields tree ++ alarms_fields tree
+drops-spelled tree =
+    let predicates : List ℕ = repeated_field field.report_predicate_drops drop_message tree.predicate_drops in
+    let states : List ℕ = repeated_field field.report_state_drops drop_message tree.state_drops in
+    let atoms : List ℕ = field_if_above field.report_dropped_state_atoms tree.state_atoms_dropped in
+    both (repeated field.report_predicate_drops drop_message tree.predicate_drops) _ _ _
+    (spelled-repeated _ _ tree.predicate_drops)
+    (both (repeated field.report_state_drops drop_message tree.state_drops) _ _ _
+    (spelled-repeated _ _ tree.state_drops)
+    (both (if_above field.report_dropped_state_atoms tree.state_atoms_dropped) _ _ _
+    (spelled-if field.report_dropped_state_atoms tree.state_atoms_dropped)
+    (both (repeated field.report_alarms alarm_message tree.alarms) _ _ _ (spelled-repeated _ _ tree.alarms)
+    (spelled-repeated field.report_alarms_not_kept drop_message tree.alarms_not_kept))))
+    ∙ sym (append_assoc predicates (states ++ atoms) (alarms_fields tree)
+    ∙ ap (λ (l : List ℕ). predicates ++ l) (append_assoc states atoms (alarms_fields tree)))
+
 abbrev pub config_written : ReportTree → List Written
 config_written tree =
     repeated field.report_metric metric_message tree.metrics
-    ++ (AsVarint field.report_last tree.last ∷ AsVarint field.report_now tree.now
-    ∷ (repeated field.report_predicate_drops drop_message tree.predicate_drops
-    ++ (repeated field.report_state_drops drop_message tree.state_drops
-    ++ if_above field.report_dropped_state_atoms tree.state_atoms_dropped)))
+    ++ (AsVarint field.report_last tree.last ∷ AsVarint field.report_now tree.now ∷ drops_written tree)
 
 pub config-spelled : (tree : ReportTree) → config_message tree ≡ spelled (config_written tree)
 unfolding config_message
 config-spelled tree =
     sym (both (repeated field.report_metric metric_message tree.metrics) _ _ _ (spelled-repeated _ _ tree.metrics)
     (after (AsVarint field.report_last tree.last) (after (AsVarint field.report_now tree.now)
-    (both (repeated field.report_predicate_drops drop_message tree.predicate_drops) _ _ _
-    (spelled-repeated _ _ tree.predicate_drops)
-    (both (repeated field.report_state_drops drop_message tree.state_drops) _ _ _
-    (spelled-repeated _ _ tree.state_drops)
-    (spelled-if field.report_dropped_state_atoms tree.state_atoms_dropped))))))
+    (drops-spelled tree))))
 
 abbrev pub report_written : ReportTree → List Written
 report_written tree =

@@ -8,7 +8,7 @@ use Rattle.proto_wire.specs.Fields.{Varint}
 use Rattle.proto_wire.specs.Grammar.{Written, AsVarint, AsBytes}
 use Rattle.report_writer.specs.ReportSpelling.{truth_number}
 use Rattle.report_show.specs.Reading.{contents_in, number_under, payloads_under, held_payload}
-use Rattle.report_show.proofs.FieldLemmas.{told, IsTold, said, contents-told, repeated, if_above, payloads-same, payloads-other, fits-first, fits-second}
+use Rattle.report_show.proofs.FieldLemmas.{told, IsTold, said, contents-told, repeated, if_above, payloads-same, payloads-other, number-other, fits-first, fits-second}
 use Rattle.report_show.proofs.Spelled.{spelled, spelled-append, AsSigned}
 use Rattle.report_show.proofs.NumberLemmas.{low64-same}
 
@@ -135,6 +135,12 @@ module _ {X : Type 0} (number : ℕ) (message : X → List ℕ) where
   found-none other apart items =
       ap (λ (l : List Written). payloads_under other (said l)) (sym (append-nil (repeated number message items)))
       ∙ payloads-other number message other apart items []
+
+  pub number-none : (other : ℕ) → (number == other) ≡ false → (items : List X)
+      → number_under other (said (repeated number message items)) ≡ 0
+  number-none other apart items =
+      ap (λ (l : List Written). number_under other (said l)) (sym (append-nil (repeated number message items)))
+      ∙ number-other number message other apart items []
 
 -- of fields in two parts, each can be counted
 pub first-counts : (xs ys : List Written) → Counted (spelled (xs ++ ys)) → Counted (spelled xs)

@@ -10,7 +10,7 @@ use Rattle.proto_wire.specs.Fields as wire
 use Rattle.report_writer.specs.ReportNumbers as field
 use Rattle.report_writer.specs.declared.tree.LeafTree.{LeafTree}
 use Rattle.report_show.specs.WellFormed as well
-use Rattle.report_show.specs.Reading.{Content, contents_in, low32, held_number, held_bits, leading_number, leading_bytes, leading_id, number_under, payloads_under, value_said, leaf_adding, leaf_adding_first, read_leaf, slice_under, read_slice, read_bucket, read_row, part_of, read_atom, read_samples, read_gauge, read_event, body_said, read_metric, read_drop, read_report}
+use Rattle.report_show.specs.Reading.{Content, contents_in, low32, held_number, held_bits, leading_number, leading_bytes, leading_id, number_under, payloads_under, value_said, leaf_adding, leaf_adding_first, read_leaf, slice_under, read_slice, read_bucket, read_row, part_of, read_atom, read_samples, read_gauge, read_event, body_said, read_metric, read_drop, read_alarm, read_report}
 
 low32-fits : (n : ℕ) → low32 n < 2 ^ 32
 low32-fits n = omega arith
@@ -191,6 +191,18 @@ drop-fits bytes =
       number = first-fits (drop 1 fields);
     }
 
+alarm-fits : (bytes : List ℕ) → well.FitsAlarm (read_alarm bytes)
+unfolding read_alarm
+alarm-fits bytes =
+    let fields : List Content = contents_in bytes in
+    record {
+      id = signed64-fits (leading_number fields) (first-fits fields);
+      at = first-fits (drop 1 fields);
+      sum = first-fits (drop 1 (drop 1 fields));
+      leaves = all-read well.FitsLeaf read_leaf leaf-fits (payloads_under field.data_leaf fields);
+      slices = all-read well.FitsSlice read_slice slice-fits (payloads_under field.data_slice fields);
+    }
+
 -- the tree of any bytes
 pub tree-fits : (bytes : List ℕ) → well.FitsReport (read_report bytes)
 unfolding read_report
@@ -207,4 +219,7 @@ tree-fits bytes =
       predicate_drops = all-read well.FitsDrop read_drop drop-fits (payloads_under field.report_predicate_drops fields);
       state_drops = all-read well.FitsDrop read_drop drop-fits (payloads_under field.report_state_drops fields);
       state_atoms_dropped = in-fits field.report_dropped_state_atoms fields;
+      alarms = all-read well.FitsAlarm read_alarm alarm-fits (payloads_under field.report_alarms fields);
+      alarms_not_kept =
+          all-read well.FitsDrop read_drop drop-fits (payloads_under field.report_alarms_not_kept fields);
     }

@@ -11,7 +11,7 @@ use Rattle.atom_record.specs.declared.value.Value.TheVariants as held
 use Rattle.proto_wire.specs.Spelling.{varint}
 use Rattle.report_writer.specs.ReportSpelling.{bucket_message, row_message, metric_message, key_message, config_message, report_message}
 use Rattle.report_show.specs.WellFormed as well
-use Rattle.report_show.specs.Reading.{read_leaf, read_bucket, read_row, read_metric, read_report}
+use Rattle.report_show.specs.Reading.{read_leaf, read_bucket, read_row, read_metric, read_drop, read_alarm, read_report}
 
 abbrev bucket : NumBucket
 bucket = record { start = 0; end = 3; value = pos 2 }
@@ -40,6 +40,8 @@ worked_tree = record {
   predicate_drops = [];
   state_drops = [];
   state_atoms_dropped = 0;
+  alarms = [];
+  alarms_not_kept = [];
 }
 
 abbrev worked_bytes : List ℕ
@@ -57,6 +59,37 @@ worked = refl
 raw : read_leaf (200 ∷ 62 ∷ 1 ∷ 210 ∷ 62 ∷ 1 ∷ 255 ∷ []) ≡ record { place = 1; value = Some (held.Raw (255 ∷ [])) }
 unfolding read_leaf walk_from walk_turns field_at field_with tag_at tag_of varint_at taken_at
 raw = refl
+
+-- an alarm of a key with one leaf
+alarm : read_alarm (8 ∷ 200 ∷ 1 ∷ 16 ∷ 129 ∷ 148 ∷ 235 ∷ 220 ∷ 3 ∷ 24 ∷ 3 ∷ 34 ∷ 2 ∷ 24 ∷ 7 ∷ []) ≡
+    record {
+      id = pos 200;
+      at = 1000000001;
+      sum = 3;
+      leaves = record { place = 0; value = Some (held.Int (pos 7)) } ∷ [];
+      slices = [];
+    }
+unfolding read_alarm read_leaf walk_from walk_turns field_at field_with tag_at tag_of varint_at taken_at
+alarm = refl
+
+-- a report without a metric, with an alarm of the empty key and five that aren't listed
+alarms : read_report (
+    10 ∷ 4 ∷ 8 ∷ 10 ∷ 16 ∷ 7 ∷ 18 ∷ 22 ∷ 24 ∷ 0 ∷ 32 ∷ 9 ∷ 226 ∷ 62 ∷ 7 ∷ 8 ∷ 200 ∷ 1 ∷ 16 ∷ 8 ∷ 24 ∷ 3 ∷
+    234 ∷ 62 ∷ 5 ∷ 8 ∷ 200 ∷ 1 ∷ 16 ∷ 5 ∷ []) ≡
+    record {
+      uid = pos 10;
+      id = pos 7;
+      last = 0;
+      now = 9;
+      metrics = [];
+      predicate_drops = [];
+      state_drops = [];
+      state_atoms_dropped = 0;
+      alarms = record { id = pos 200; at = 8; sum = 3; leaves = []; slices = [] } ∷ [];
+      alarms_not_kept = record { id = pos 200; number = 5 } ∷ [];
+    }
+unfolding read_report read_alarm read_drop walk_from walk_turns field_at field_with tag_at tag_of varint_at taken_at
+alarms = refl
 
 -- what isn't there is 0 or empty
 nothing : read_bucket [] ≡ record { start = 0; end = 0; value = pos 0 }
@@ -95,6 +128,8 @@ tree_fits = record {
   predicate_drops = All-nil well.FitsDrop;
   state_drops = All-nil well.FitsDrop;
   state_atoms_dropped = omega arith;
+  alarms = All-nil well.FitsAlarm;
+  alarms_not_kept = All-nil well.FitsDrop;
 }
 
 metric_shaped : well.IsShapedMetric metric
@@ -117,6 +152,7 @@ worked_well = record {
     metrics = All-cons well.IsShapedMetric metric [] metric_shaped (All-nil well.IsShapedMetric);
     predicate_drops = All-nil well.IsShapedDrop;
     state_drops = All-nil well.IsShapedDrop;
+    alarms_not_kept = All-nil well.IsShapedDrop;
   };
   counted = subst (λ (l : List ℕ). length l < 2 ^ 64) (sym worked_message) worked_counted;
 }

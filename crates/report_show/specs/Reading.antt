@@ -25,6 +25,7 @@ use Rattle.report_writer.specs.declared.tree.MetricBody.{MetricBody}
 use Rattle.report_writer.specs.declared.tree.MetricBody.TheVariants.{Events, Counts, Durations, Values, Gauges}
 use Rattle.report_writer.specs.declared.tree.MetricTree.{MetricTree}
 use Rattle.report_writer.specs.declared.tree.Drop64.{Drop64}
+use Rattle.report_writer.specs.declared.tree.AlarmTree.{AlarmTree}
 use Rattle.report_writer.specs.declared.tree.ReportTree.{ReportTree}
 
 -- what a field says, but not where it stands: its number, and what it holds
@@ -262,13 +263,27 @@ metric_said fields = record {
 unfoldable pub read_metric : List ℕ → MetricTree
 read_metric bytes = metric_said (contents_in bytes)
 
--- an id, and how many were dropped
+-- an id, and how many were dropped or not kept
 abbrev pub drop_said : List Content → Drop64
 drop_said fields = record { id = cast_signed w64 (leading_number fields); number = leading_number (drop 1 fields) }
 
--- the message of what a table dropped
+-- the message of what a table dropped or a list didn't keep
 unfoldable pub read_drop : List ℕ → Drop64
 read_drop bytes = drop_said (contents_in bytes)
+
+-- an alarm says its alert, its time and its sum first; the parts of its key are told apart by their numbers
+abbrev pub alarm_said : List Content → AlarmTree
+alarm_said fields = record {
+  id = cast_signed w64 (leading_number fields);
+  at = leading_number (drop 1 fields);
+  sum = leading_number (drop 1 (drop 1 fields));
+  leaves = map read_leaf (payloads_under field.data_leaf fields);
+  slices = map read_slice (payloads_under field.data_slice fields);
+}
+
+-- the message of an alarm
+unfoldable pub read_alarm : List ℕ → AlarmTree
+read_alarm bytes = alarm_said (contents_in bytes)
 
 -- the tree of a message that says whose report it is, and of one that says the rest
 abbrev pub tree_said : List Content → List Content → ReportTree
@@ -281,6 +296,8 @@ tree_said whose fields = record {
   predicate_drops = map read_drop (payloads_under field.report_predicate_drops fields);
   state_drops = map read_drop (payloads_under field.report_state_drops fields);
   state_atoms_dropped = number_under field.report_dropped_state_atoms fields;
+  alarms = map read_alarm (payloads_under field.report_alarms fields);
+  alarms_not_kept = map read_drop (payloads_under field.report_alarms_not_kept fields);
 }
 
 -- the tree of a report, from its two fields

@@ -20,6 +20,7 @@ use Rattle.report_writer.specs.declared.tree.MetricBody.{MetricBody}
 use Rattle.report_writer.specs.declared.tree.MetricBody.TheVariants.{Events, Counts, Durations, Values, Gauges}
 use Rattle.report_writer.specs.declared.tree.MetricTree.{MetricTree}
 use Rattle.report_writer.specs.declared.tree.Drop64.{Drop64}
+use Rattle.report_writer.specs.declared.tree.AlarmTree.{AlarmTree}
 use Rattle.report_writer.specs.declared.tree.ReportTree.{ReportTree}
 use Rattle.report_writer.specs.Writable.{IsFieldNumber}
 use Rattle.report_writer.specs.ReportSpelling.{report_message}
@@ -104,10 +105,18 @@ pub record FitsMetric (metric : MetricTree) : Type 0 where
   pub missing : metric.missing < 2 ^ 64
   pub body : FitsBody metric.body
 
--- The numbers of what a table dropped fit their types.
+-- The numbers of what a table dropped or a list didn't keep fit their types.
 pub record FitsDrop (drop : Drop64) : Type 0 where
   pub id : FitsSigned w64 drop.id
   pub number : drop.number < 2 ^ 64
+
+-- The numbers of an alarm and its key fit their types.
+pub record FitsAlarm (alarm : AlarmTree) : Type 0 where
+  pub id : FitsSigned w64 alarm.id
+  pub at : alarm.at < 2 ^ 64
+  pub sum : alarm.sum < 2 ^ 64
+  pub leaves : All FitsLeaf alarm.leaves
+  pub slices : All FitsSlice alarm.slices
 
 -- The numbers of a report fit their types.
 pub record FitsReport (tree : ReportTree) : Type 0 where
@@ -119,6 +128,8 @@ pub record FitsReport (tree : ReportTree) : Type 0 where
   pub predicate_drops : All FitsDrop tree.predicate_drops
   pub state_drops : All FitsDrop tree.state_drops
   pub state_atoms_dropped : tree.state_atoms_dropped < 2 ^ 64
+  pub alarms : All FitsAlarm tree.alarms
+  pub alarms_not_kept : All FitsDrop tree.alarms_not_kept
 
 -- a field of an atom that has no fault has a number from 1 to 127
 abbrev pub IsShapedPart : Part → Type 0
@@ -170,15 +181,17 @@ pub record IsShapedMetric (metric : MetricTree) : Type 0 where
   pub size : IsSizeOf metric.body metric.size
   pub body : IsShapedBody metric.body
 
--- a table is named that dropped something
+-- a table is named that dropped something, and an alert some of whose alarms aren't listed
 abbrev pub IsShapedDrop : Drop64 → Type 0
 IsShapedDrop drop = 1 ≤ drop.number
 
--- The metrics of a report are such as their kinds have, and its tables have dropped something.
+-- The metrics of a report are such as their kinds have, its tables have dropped something, and its alerts have alarms
+-- that aren't listed.
 pub record IsShapedReport (tree : ReportTree) : Type 0 where
   pub metrics : All IsShapedMetric tree.metrics
   pub predicate_drops : All IsShapedDrop tree.predicate_drops
   pub state_drops : All IsShapedDrop tree.state_drops
+  pub alarms_not_kept : All IsShapedDrop tree.alarms_not_kept
 
 -- The numbers fit, the tree is as a report may be, and its bytes can be counted.
 pub record IsWellFormed (tree : ReportTree) : Type 0 where

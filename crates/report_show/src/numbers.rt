@@ -13,6 +13,10 @@ pub const REPORT_STATE_DROPS: u32 = 1002;
 
 pub const REPORT_DROPPED_STATE_ATOMS: u32 = 1003;
 
+pub const REPORT_ALARMS: u32 = 1004;
+
+pub const REPORT_ALARMS_NOT_KEPT: u32 = 1005;
+
 /// A metric. Gauges are what has none of the other numbers.
 pub const SHOWN_EVENTS: u32 = 4;
 
@@ -35,7 +39,7 @@ pub const SHOWN_MISSING: u32 = 1003;
 /// The rows of a metric.
 pub const WRAPPER_DATA: u32 = 1;
 
-/// A row of the kinds with buckets.
+/// A row of the kinds with buckets. An alarm's key has the same numbers.
 pub const DATA_BUCKET: u32 = 3;
 
 pub const DATA_LEAF: u32 = 4;

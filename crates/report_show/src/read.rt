@@ -13,8 +13,8 @@ use crate::numbers;
 use atom_record::{Slice, Value};
 use proto_wire::{Body, Field, Records};
 use report_writer::{
-    AtomBucket, AtomMsg, Drop64, EventTree, GaugeTree, LeafTree, MetricBody, MetricTree, NumBucket,
-    NumTree, Part, PartBody,
+    AlarmTree, AtomBucket, AtomMsg, Drop64, EventTree, GaugeTree, LeafTree, MetricBody, MetricTree,
+    NumBucket, NumTree, Part, PartBody,
 };
 use sd_base::Seq;
 use std::alloc::{AllocError, Global};
@@ -303,5 +303,28 @@ impl Said for Drop64 {
         let id = next_number(&mut records).cast_signed();
         let number = next_number(&mut records);
         Ok(Drop64 { id, number })
+    }
+}
+
+impl Said for AlarmTree {
+    ghost use Rattle.report_show.specs.Reading.{read_alarm};
+
+    ghost said = { read_alarm };
+
+    #[tactic(auto, unfolding(crate::specs::Reading::read_alarm))]
+    fn read(alloc: Global, bytes: &[u8]) -> Result<AlarmTree, AllocError> {
+        let mut records = Records::new(bytes, 0, 0);
+        let id = next_number(&mut records).cast_signed();
+        let at = next_number(&mut records);
+        let sum = next_number(&mut records);
+        let leaves = read_all(alloc, bytes, numbers::DATA_LEAF)?;
+        let slices = read_all(alloc, bytes, numbers::DATA_SLICE)?;
+        Ok(AlarmTree {
+            id,
+            at,
+            sum,
+            leaves,
+            slices,
+        })
     }
 }

@@ -28,6 +28,8 @@ fn tree_from(alloc: Global, key: &[u8], config: &[u8]) -> Result<ReportTree, All
     let metrics = read_all(alloc, config, numbers::REPORT_METRIC)?;
     let predicate_drops = read_all(alloc, config, numbers::REPORT_PREDICATE_DROPS)?;
     let state_drops = read_all(alloc, config, numbers::REPORT_STATE_DROPS)?;
+    let alarms = read_all(alloc, config, numbers::REPORT_ALARMS)?;
+    let alarms_not_kept = read_all(alloc, config, numbers::REPORT_ALARMS_NOT_KEPT)?;
     Ok(ReportTree {
         uid,
         id,
@@ -37,6 +39,8 @@ fn tree_from(alloc: Global, key: &[u8], config: &[u8]) -> Result<ReportTree, All
         predicate_drops,
         state_drops,
         state_atoms_dropped: number_in(config, numbers::REPORT_DROPPED_STATE_ATOMS),
+        alarms,
+        alarms_not_kept,
     })
 }
 

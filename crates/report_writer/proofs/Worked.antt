@@ -19,8 +19,9 @@ use Rattle.report_writer.specs.declared.tree.MetricBody.{MetricBody}
 use Rattle.report_writer.specs.declared.tree.MetricBody.TheVariants.{Events, Counts, Durations, Values, Gauges}
 use Rattle.report_writer.specs.declared.tree.MetricTree.{MetricTree}
 use Rattle.report_writer.specs.declared.tree.Drop64.{Drop64}
+use Rattle.report_writer.specs.declared.tree.AlarmTree.{AlarmTree}
 use Rattle.report_writer.specs.declared.tree.ReportTree.{ReportTree}
-use Rattle.report_writer.specs.ReportSpelling.{leaf_message, slice_message, bucket_message, row_message, atom_message, samples_message, gauge_message, event_message, metric_message, drop_message, key_message, config_message, report_message}
+use Rattle.report_writer.specs.ReportSpelling.{leaf_message, slice_message, bucket_message, row_message, atom_message, samples_message, gauge_message, event_message, metric_message, drop_message, alarm_message, key_message, config_message, report_message}
 use Rattle.report_writer.specs.AtomMessage.{message_of}
 
 abbrev leaf : ℕ → Option Value → LeafTree
@@ -45,6 +46,8 @@ report last now metric drops = record {
   predicate_drops = drops;
   state_drops = [];
   state_atoms_dropped = 0;
+  alarms = [];
+  alarms_not_kept = [];
 }
 
 -- an atom with one field that holds a number
@@ -107,6 +110,28 @@ values_tree = record {
   predicate_drops = [];
   state_drops = record { id = pos 27; number = 5 } ∷ [];
   state_atoms_dropped = 4;
+  alarms = [];
+  alarms_not_kept = [];
+}
+
+abbrev alarm : List LeafTree → List Slice → AlarmTree
+alarm leaves slices = record { id = pos 200; at = 1000000001; sum = 3; leaves = leaves; slices = slices }
+
+-- alarms of two alerts on metrics that aren't shown, one of which had five more
+abbrev alarms_tree : ReportTree
+alarms_tree = record {
+  uid = pos 10;
+  id = pos 7;
+  last = 0;
+  now = 2000000001;
+  metrics = [];
+  predicate_drops = [];
+  state_drops = [];
+  state_atoms_dropped = 0;
+  alarms =
+      alarm (leaf 0 (Some (held.Int (pos 7))) ∷ []) []
+      ∷ record { id = negsuc 0; at = 0; sum = 18446744073709551615; leaves = []; slices = Group 27 (pos 1) ∷ [] } ∷ [];
+  alarms_not_kept = record { id = pos 200; number = 5 } ∷ [];
 }
 
 abbrev part : ℕ → PartBody → Part
@@ -228,6 +253,18 @@ drop : drop_message (record { id = negsuc 0; number = 3 }) ≡
 unfolding drop_message varint
 drop = refl
 
+-- an alarm, whose leaves stand before its slices
+alarm_of_key : alarm_message (alarm (leaf 0 (Some (held.Int (pos 7))) ∷ []) (Plain 27 (pos 2) ∷ [])) ≡
+    8 ∷ 200 ∷ 1 ∷ 16 ∷ 129 ∷ 148 ∷ 235 ∷ 220 ∷ 3 ∷ 24 ∷ 3 ∷ 34 ∷ 2 ∷ 24 ∷ 7 ∷ 50 ∷ 4 ∷ 8 ∷ 27 ∷ 24 ∷ 2 ∷ []
+unfolding alarm_message leaf_message slice_message varint
+alarm_of_key = refl
+
+-- an alarm of the empty key
+alarm_of_no_key : alarm_message (alarm [] []) ≡
+    8 ∷ 200 ∷ 1 ∷ 16 ∷ 129 ∷ 148 ∷ 235 ∷ 220 ∷ 3 ∷ 24 ∷ 3 ∷ []
+unfolding alarm_message varint
+alarm_of_no_key = refl
+
 -- an event metric has no size of a bucket
 events_report : report_message (events_tree 5) ≡
     10 ∷ 4 ∷ 8 ∷ 10 ∷ 16 ∷ 7 ∷ 18 ∷ 22 ∷ 10 ∷ 16 ∷ 8 ∷ 100 ∷ 34 ∷ 10 ∷ 10 ∷ 8 ∷ 8 ∷ 4 ∷ 18 ∷ 4 ∷ 42 ∷ 2 ∷ 8 ∷ 7 ∷
@@ -283,6 +320,15 @@ values_report : report_message values_tree ≡
     24 ∷ 0 ∷ 32 ∷ 9 ∷ 210 ∷ 62 ∷ 4 ∷ 8 ∷ 27 ∷ 16 ∷ 5 ∷ 216 ∷ 62 ∷ 4 ∷ []
 unfolding report_message key_message config_message metric_message varint drop_message
 values_report = refl
+
+-- alarms stand in their order, and then how many aren't listed
+alarms_report : report_message alarms_tree ≡
+    10 ∷ 4 ∷ 8 ∷ 10 ∷ 16 ∷ 7 ∷ 18 ∷ 67 ∷ 24 ∷ 0 ∷ 32 ∷ 129 ∷ 168 ∷ 214 ∷ 185 ∷ 7 ∷ 226 ∷ 62 ∷ 15 ∷ 8 ∷ 200 ∷ 1 ∷ 16 ∷
+    129 ∷ 148 ∷ 235 ∷ 220 ∷ 3 ∷ 24 ∷ 3 ∷ 34 ∷ 2 ∷ 24 ∷ 7 ∷ 226 ∷ 62 ∷ 30 ∷ 8 ∷ 255 ∷ 255 ∷ 255 ∷ 255 ∷ 255 ∷ 255 ∷
+    255 ∷ 255 ∷ 255 ∷ 1 ∷ 16 ∷ 0 ∷ 24 ∷ 255 ∷ 255 ∷ 255 ∷ 255 ∷ 255 ∷ 255 ∷ 255 ∷ 255 ∷ 255 ∷ 1 ∷ 50 ∷ 4 ∷ 8 ∷ 27 ∷
+    16 ∷ 1 ∷ 234 ∷ 62 ∷ 5 ∷ 8 ∷ 200 ∷ 1 ∷ 16 ∷ 5 ∷ []
+unfolding report_message key_message config_message varint alarm_message drop_message leaf_message slice_message
+alarms_report = refl
 
 -- an id above every field number is shown as the greatest
 great_id : message_of (record { id = 600000000; fields = [] }) ≡

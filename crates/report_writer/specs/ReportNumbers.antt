@@ -41,13 +41,33 @@ report_state_drops = 1002
 abbrev pub report_dropped_state_atoms : ℕ
 report_dropped_state_atoms = 1003
 
--- PredicateDrops, StateDrops: the predicate or the atom
+-- ConfigMetricsReport: each alarm that is listed
+abbrev pub report_alarms : ℕ
+report_alarms = 1004
+
+-- ConfigMetricsReport: how many alarms aren't listed
+abbrev pub report_alarms_not_kept : ℕ
+report_alarms_not_kept = 1005
+
+-- PredicateDrops, StateDrops, AlarmsNotKept: the predicate, the atom or the alert
 abbrev pub drops_id : ℕ
 drops_id = 1
 
--- PredicateDrops, StateDrops: how many
+-- PredicateDrops, StateDrops, AlarmsNotKept: how many
 abbrev pub drops_number : ℕ
 drops_number = 2
+
+-- Alarm: the alert
+abbrev pub alarm_alert : ℕ
+alarm_alert = 1
+
+-- Alarm: when the key arrived
+abbrev pub alarm_time : ℕ
+alarm_time = 2
+
+-- Alarm: the key's arrivals in the window
+abbrev pub alarm_sum : ℕ
+alarm_sum = 3
 
 -- StatsLogReport: the metric
 abbrev pub shown_id : ℕ
@@ -109,11 +129,11 @@ event_atom = 2
 abbrev pub data_bucket : ℕ
 data_bucket = 3
 
--- data of the other kinds: each value of the key
+-- data of the other kinds, Alarm: each value of the key
 abbrev pub data_leaf : ℕ
 data_leaf = 4
 
--- data of the other kinds: each slice of the key
+-- data of the other kinds, Alarm: each slice of the key
 abbrev pub data_slice : ℕ
 data_slice = 6
 

@@ -23,6 +23,7 @@ use Rattle.report_writer.specs.declared.tree.MetricBody.{MetricBody}
 use Rattle.report_writer.specs.declared.tree.MetricBody.TheVariants.{Events, Counts, Durations, Values, Gauges}
 use Rattle.report_writer.specs.declared.tree.MetricTree.{MetricTree}
 use Rattle.report_writer.specs.declared.tree.Drop64.{Drop64}
+use Rattle.report_writer.specs.declared.tree.AlarmTree.{AlarmTree}
 use Rattle.report_writer.specs.declared.tree.ReportTree.{ReportTree}
 
 -- a number that may be below 0 is spelled as the 64 bits of its two's complement
@@ -79,7 +80,7 @@ bucket_message bucket =
     varint_field field.bucket_start bucket.start
     ++ (varint_field field.bucket_end bucket.end ++ signed_field field.bucket_number bucket.value)
 
--- the fields by which rows of one metric are told apart
+-- the fields by which rows of one metric are told apart, and the alarms of one alert
 abbrev pub key_fields : List LeafTree → List Slice → List ℕ
 key_fields leaves slices =
     repeated_field field.data_leaf leaf_message leaves ++ repeated_field field.data_slice slice_message slices
@@ -156,6 +157,13 @@ metric_message metric =
 unfoldable pub drop_message : Drop64 → List ℕ
 drop_message drop = signed_field field.drops_id drop.id ++ varint_field field.drops_number drop.number
 
+-- an alarm, with the key that went above the alert's threshold
+unfoldable pub alarm_message : AlarmTree → List ℕ
+alarm_message alarm =
+    signed_field field.alarm_alert alarm.id
+    ++ (varint_field field.alarm_time alarm.at
+    ++ (varint_field field.alarm_sum alarm.sum ++ key_fields alarm.leaves alarm.slices))
+
 -- whose report it is
 unfoldable pub key_message : ReportTree → List ℕ
 key_message tree = signed_field field.key_uid tree.uid ++ signed_field field.key_id tree.id
@@ -167,11 +175,18 @@ drops_fields tree =
     ++ (repeated_field field.report_state_drops drop_message tree.state_drops
     ++ field_if_above field.report_dropped_state_atoms tree.state_atoms_dropped)
 
+-- the fields that tell the alarms, and how many aren't listed
+abbrev pub alarms_fields : ReportTree → List ℕ
+alarms_fields tree =
+    repeated_field field.report_alarms alarm_message tree.alarms
+    ++ repeated_field field.report_alarms_not_kept drop_message tree.alarms_not_kept
+
 -- the part of a report that speaks of one configuration
 unfoldable pub config_message : ReportTree → List ℕ
 config_message tree =
     repeated_field field.report_metric metric_message tree.metrics
-    ++ (varint_field field.report_last tree.last ++ (varint_field field.report_now tree.now ++ drops_fields tree))
+    ++ (varint_field field.report_last tree.last
+    ++ (varint_field field.report_now tree.now ++ (drops_fields tree ++ alarms_fields tree)))
 
 -- a report
 unfoldable pub report_message : ReportTree → List ℕ

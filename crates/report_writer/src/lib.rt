@@ -13,6 +13,6 @@ mod tree;
 pub use atom::atom_msg;
 pub use report::write;
 pub use tree::{
-    AtomBucket, AtomMsg, Drop64, EventTree, GaugeTree, LeafTree, MetricBody, MetricTree, NumBucket,
-    NumTree, Part, PartBody, ReportTree,
+    AlarmTree, AtomBucket, AtomMsg, Drop64, EventTree, GaugeTree, LeafTree, MetricBody, MetricTree,
+    NumBucket, NumTree, Part, PartBody, ReportTree,
 };

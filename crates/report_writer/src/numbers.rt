@@ -23,10 +23,21 @@ pub const REPORT_STATE_DROPS: u32 = 1002;
 
 pub const REPORT_DROPPED_STATE_ATOMS: u32 = 1003;
 
-/// What a full table dropped.
+pub const REPORT_ALARMS: u32 = 1004;
+
+pub const REPORT_ALARMS_NOT_KEPT: u32 = 1005;
+
+/// What a full table dropped, or a full list didn't keep.
 pub const DROPS_ID: u32 = 1;
 
 pub const DROPS_NUMBER: u32 = 2;
+
+/// An alarm, whose key has the numbers of a row's.
+pub const ALARM_ALERT: u32 = 1;
+
+pub const ALARM_TIME: u32 = 2;
+
+pub const ALARM_SUM: u32 = 3;
 
 /// A metric.
 pub const SHOWN_ID: u32 = 1;

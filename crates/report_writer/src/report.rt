@@ -1,13 +1,14 @@
-//! A whole report: whose it is, its metrics, and what full tables dropped.
+//! A whole report: whose it is, its metrics, what full tables dropped, and its alarms.
 //!
 //! A tree has a field `now`, so an `ensures` writes `tree.entry.now` for what the reference `tree` points to.
 ghost use Rattle.std.specs.Prelude.{◌≡◌, ◌++◌, IfOk, OnOk};
 ghost use Rattle.report_writer.specs.ReportSpelling as spelled;
 ghost use Rattle.report_writer.specs.Writable.{IsWritableReport};
 
+use crate::key::put_key;
 use crate::message::{Message, put_if_above, put_messages, put_signed};
 use crate::numbers;
-use crate::tree::{Drop64, ReportTree};
+use crate::tree::{AlarmTree, Drop64, ReportTree};
 use proto_wire::Writer;
 use std::alloc::{AllocError, Global};
 
@@ -20,6 +21,20 @@ impl Message for Drop64 {
     fn put_fields(&self, _alloc: Global, out: &mut Writer) -> Result<(), AllocError> {
         put_signed(out, numbers::DROPS_ID, self.id)?;
         out.varint_field(numbers::DROPS_NUMBER, self.number)
+    }
+}
+
+impl Message for AlarmTree {
+    ghost use Rattle.report_writer.specs.ReportSpelling.{alarm_message};
+
+    ghost spelled = { alarm_message };
+
+    #[tactic(auto, unfolding(crate::specs::ReportSpelling::alarm_message))]
+    fn put_fields(&self, alloc: Global, out: &mut Writer) -> Result<(), AllocError> {
+        put_signed(out, numbers::ALARM_ALERT, self.id)?;
+        out.varint_field(numbers::ALARM_TIME, self.at)?;
+        out.varint_field(numbers::ALARM_SUM, self.sum)?;
+        put_key(alloc, out, self.leaves.as_slice(), self.slices.as_slice())
     }
 }
 
@@ -46,6 +61,15 @@ fn put_drops(alloc: Global, out: &mut Writer, tree: &ReportTree) -> Result<(), A
     put_if_above(out, numbers::REPORT_DROPPED_STATE_ATOMS, atoms)
 }
 
+// Adds the alarms, and how many aren't listed.
+fn put_alarms(alloc: Global, out: &mut Writer, tree: &ReportTree) -> Result<(), AllocError>
+    ensures { OnOk result (out.new ≡ out.old ++ spelled.alarms_fields tree.entry.now) }
+{
+    put_messages(alloc, out, numbers::REPORT_ALARMS, tree.alarms.as_slice())?;
+    let not_kept = tree.alarms_not_kept.as_slice();
+    put_messages(alloc, out, numbers::REPORT_ALARMS_NOT_KEPT, not_kept)
+}
+
 // Adds the fields of the part that speaks of the configuration.
 #[tactic(auto, unfolding(crate::specs::ReportSpelling::config_message))]
 fn put_config(alloc: Global, out: &mut Writer, tree: &ReportTree) -> Result<(), AllocError>
@@ -55,7 +79,8 @@ fn put_config(alloc: Global, out: &mut Writer, tree: &ReportTree) -> Result<(), 
     put_messages(alloc, out, numbers::REPORT_METRIC, tree.metrics.as_slice())?;
     out.varint_field(numbers::REPORT_LAST, tree.last)?;
     out.varint_field(numbers::REPORT_NOW, tree.now)?;
-    put_drops(alloc, out, tree)
+    put_drops(alloc, out, tree)?;
+    put_alarms(alloc, out, tree)
 }
 
 fn write_config(alloc: Global, tree: &ReportTree) -> Result<Vec<u8>, AllocError>

@@ -106,11 +106,24 @@ pub struct MetricTree {
     pub body: MetricBody,
 }
 
-/// How many a full table dropped, by an id.
+/// How many a full table dropped or a full list didn't keep, by an id.
 #[derive(Clone, Copy)]
 pub struct Drop64 {
     pub id: i64,
     pub number: u64,
+}
+
+/// One alarm of an alert: a key whose sum went above the alert's threshold.
+#[derive(Drop)]
+pub struct AlarmTree {
+    /// The alert.
+    pub id: i64,
+    /// When the key arrived.
+    pub at: u64,
+    /// The key's arrivals in the alert's window, up to and with this one.
+    pub sum: u64,
+    pub leaves: Seq<LeafTree>,
+    pub slices: Seq<Slice>,
 }
 
 /// A report of one configuration of a client.
@@ -131,4 +144,8 @@ pub struct ReportTree {
     pub state_drops: Seq<Drop64>,
     /// State atoms that met a full table of ids.
     pub state_atoms_dropped: u64,
+    /// The alarms since the report before that are listed.
+    pub alarms: Seq<AlarmTree>,
+    /// Alarms past those that are listed, by the alerts' ids, those above 0 alone.
+    pub alarms_not_kept: Seq<Drop64>,
 }

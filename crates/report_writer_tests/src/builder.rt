@@ -2,8 +2,8 @@
 use super::words::{leaf_of, part_of, range_of, slice_of, small};
 use atom_record::Slice;
 use report_writer::{
-    AtomBucket, AtomMsg, Drop64, EventTree, GaugeTree, LeafTree, MetricBody, MetricTree, NumBucket,
-    NumTree, Part, ReportTree,
+    AlarmTree, AtomBucket, AtomMsg, Drop64, EventTree, GaugeTree, LeafTree, MetricBody, MetricTree,
+    NumBucket, NumTree, Part, ReportTree,
 };
 use sd_base::Seq;
 use std::alloc::{AllocError, Global};
@@ -111,7 +111,15 @@ impl Line {
     }
 }
 
-/// A tree so far, and what is open in it: a metric, a row, a bucket of samples, an event, an atom.
+/// An alarm without its key.
+#[derive(Clone, Copy)]
+struct Alarm {
+    id: i64,
+    at: u64,
+    sum: u64,
+}
+
+/// A tree so far, and what is open in it: a metric, a row, a bucket of samples, an event, an atom, an alarm.
 #[derive(Drop)]
 pub struct Builder {
     alloc: Global,
@@ -125,6 +133,7 @@ pub struct Builder {
     event: Option<u64>,
     atom: Option<u32>,
     parts: Seq<Part>,
+    alarm: Option<Alarm>,
 }
 
 /// A report without a metric.
@@ -138,6 +147,8 @@ fn empty_tree(alloc: Global) -> ReportTree {
         predicate_drops: Seq::new(alloc),
         state_drops: Seq::new(alloc),
         state_atoms_dropped: 0,
+        alarms: Seq::new(alloc),
+        alarms_not_kept: Seq::new(alloc),
     }
 }
 
@@ -155,6 +166,7 @@ impl Builder {
             event: None,
             atom: None,
             parts: Seq::new(alloc),
+            alarm: None,
         }
     }
 
@@ -221,7 +233,9 @@ impl Builder {
         }
         match name {
             "event" | "atom" => self.begin_atom(name, rest),
-            "predicate" | "state" => self.push_drop(name, rest),
+            "predicate" | "state" | "alarms_not_kept" => self.push_drop(name, rest),
+            "alarm" => self.begin_alarm(rest),
+            "at" | "sum" => self.set_alarm(name, rest),
             "uid" | "id" => self.set_owner(name, rest),
             "last" | "now" | "atoms_dropped" => self.set_time(name, rest),
             _ => self.set_metric(name, rest),
@@ -255,17 +269,37 @@ impl Builder {
         Ok(())
     }
 
-    /// Takes how many keys a predicate or the keys of a state's atoms dropped, as `ID=NUMBER`.
+    fn begin_alarm(&mut self, rest: &str) -> Result<(), Refusal> {
+        let Some(id) = signed(rest) else {
+            return Err(Refusal::Word);
+        };
+        self.end_metric()?;
+        self.alarm = Some(Alarm { id, at: 0, sum: 0 });
+        Ok(())
+    }
+
+    /// Sets a number of the open alarm.
+    fn set_alarm(&mut self, name: &str, rest: &str) -> Result<(), Refusal> {
+        let (Some(alarm), Some(number)) = (self.alarm, unsigned(rest)) else {
+            return Err(Refusal::Word);
+        };
+        self.alarm = Some(alarm_with(alarm, name, number));
+        Ok(())
+    }
+
+    /// Takes how many keys a predicate or the keys of a state's atoms dropped, or alarms of an alert aren't listed, as
+    /// `ID=NUMBER`.
     fn push_drop(&mut self, name: &str, rest: &str) -> Result<(), Refusal> {
         let (first, second) = rest.split_once('=').unwrap_or((rest, ""));
         let (Some(id), Some(number)) = (signed(first), unsigned(second)) else {
             return Err(Refusal::Word);
         };
         let dropped = Drop64 { id, number };
-        if name == "state" {
-            return Ok(self.tree.state_drops.push(dropped)?);
+        match name {
+            "state" => Ok(self.tree.state_drops.push(dropped)?),
+            "alarms_not_kept" => Ok(self.tree.alarms_not_kept.push(dropped)?),
+            _ => Ok(self.tree.predicate_drops.push(dropped)?),
         }
-        Ok(self.tree.predicate_drops.push(dropped)?)
     }
 
     fn set_owner(&mut self, name: &str, rest: &str) -> Result<(), Refusal> {
@@ -352,9 +386,26 @@ impl Builder {
         }
     }
 
-    /// Ends the open metric.
+    /// Ends the open alarm, whose key is that of the open row.
+    fn end_alarm(&mut self) -> Result<(), AllocError> {
+        let Some(alarm) = self.alarm else {
+            return Ok(());
+        };
+        self.alarm = None;
+        let line = mem::replace(&mut self.line, Line::new(self.alloc));
+        self.tree.alarms.push(AlarmTree {
+            id: alarm.id,
+            at: alarm.at,
+            sum: alarm.sum,
+            leaves: line.leaves,
+            slices: line.slices,
+        })
+    }
+
+    /// Ends the open metric or alarm.
     fn end_metric(&mut self) -> Result<(), AllocError> {
         self.end_row()?;
+        self.end_alarm()?;
         let Some(head) = self.metric else {
             return Ok(());
         };
@@ -369,6 +420,17 @@ impl Builder {
         self.end_metric()?;
         Ok(self.tree)
     }
+}
+
+/// An alarm with its time or its sum changed.
+fn alarm_with(alarm: Alarm, name: &str, number: u64) -> Alarm {
+    let mut changed = alarm;
+    if name == "at" {
+        changed.at = number;
+    } else {
+        changed.sum = number;
+    }
+    changed
 }
 
 /// A metric with one of its numbers changed.

@@ -1,5 +1,5 @@
 //! Metrics that count.
-ghost use Rattle.std.specs.Prelude.{◌≡◌, ◌+◌, ◌≤◌, ◌∷◌, ◌<◌, [], length, OnOk, IfOk};
+ghost use Rattle.std.specs.Prelude.{◌≡◌, ◌+◌, ◌≤◌, ◌∷◌, ◌<◌, [], length, slice_get, OnOk, IfOk};
 ghost use Rattle.std.specs.Option.{option_copied};
 ghost use Rattle.bucket_clock.specs.Clock.{frame_at};
 ghost use Rattle.bucket_meaning.specs.Limits.{time_limit};
@@ -11,7 +11,6 @@ ghost use Rattle.metric_meaning.specs.CountSteps.{arrival_by};
 ghost use Rattle.metric_meaning.specs.CountTrees.{count_tree};
 ghost use Rattle.count_metric.specs.CountStands.{count_law};
 ghost use Rattle.metric_lane.specs.LaneClock.{NoEndBefore};
-ghost use Rattle.metric_lane.specs.LaneStands.{GetsFrame};
 ghost use Rattle.report_writer.specs.Writable.{IsWritableMetric};
 ghost use Rattle.client_engine.specs.Handed.{IsOfScene};
 ghost use Rattle.client_engine.specs.NextSteps.{TakesReport};
@@ -19,7 +18,9 @@ ghost use Rattle.client_engine.specs.AskedFew.{AsksFew, arrival_questions};
 ghost use Rattle.client_engine.specs.Bringing.{handed_with, brought_step, TakesBroughtWhile};
 ghost use Rattle.metric_meaning.specs.Arrivals.{is_active_in};
 ghost use Rattle.session_frames.specs.FrameReading.{log_time};
-ghost use Rattle.client_engine.specs.CountsAlong.{CountsAlong, counts_shown_by, shown_count, shown_group};
+ghost use Rattle.client_engine.specs.CountsAlong.{CountsAlong, CrossesWatched, counts_shown_by, shown_count, shown_group};
+ghost use Rattle.client_engine.specs.Finding.{CanBeBrought};
+ghost use Rattle.client_engine.specs.Watches.{WatchesAlong};
 
 use crate::arriving::{arriving, metric_key_into};
 use crate::brought::Brought;
@@ -28,6 +29,8 @@ use crate::groups::{RowShape, groups_of};
 use crate::leaves::leaves_of;
 use crate::moments::comes_by_pull;
 use crate::request::ReportRequest;
+use crate::watches::{tell_ends, tell_key, tell_report};
+use alert_watch::AlertWatch;
 use atom_record::{DimKey, MetricKey};
 use condition_links::Steps;
 use config_links::LMetric;
@@ -101,10 +104,11 @@ impl RowShape for CountRows {
     }
 }
 
-/// A lane of counts, and the room in which the keys that arrive are made.
+/// A lane of counts, the watches of its metric's alerts, and the room in which the keys that arrive are made.
 #[derive(Drop)]
 pub struct CountLane {
     lane: Lane<CountProducer>,
+    watches: Vec<AlertWatch>,
     /// The key that arrived last. Nothing of it is read again.
     key: MetricKey,
 }
@@ -112,40 +116,56 @@ pub struct CountLane {
 impl Model for CountLane {
     ghost use Rattle.client_engine.specs.CountsAlong as along;
 
-    ghost Value = { along.CountLane };
+    ghost Value = { along.WatchedLane };
 
-    ghost view = { λ it. it.lane };
+    ghost view = { λ it. record { lane = it.lane; watches = it.watches.items } };
 }
 
 impl CountLane {
     /// A time before which no bucket ends. A frame before it that brings nothing leaves the lane as it is.
     pub fn next_end(&self) -> u64
-        ensures { NoEndBefore result self.now.clock }
+        ensures { NoEndBefore result self.now.lane.clock }
     {
         self.lane.next_end()
     }
 
     /// The one frame comes that stands for a run which brings nothing: hands on what it crosses.
     pub fn cross(&mut self, at: u64, is_pull: bool) -> Result<(), AllocError>
-        ensures { OnOk result (GetsFrame count_law self.old self.new (frame_at at is_pull)) }
+        ensures { OnOk result (CrossesWatched (frame_at at is_pull) self.old self.new) }
     {
+        tell_ends(&mut self.watches, &self.lane, at, is_pull);
         self.lane.cross(at, is_pull)
+    }
+
+    /// The watch of the alert that has this turn among those on the metric, if there are so many.
+    pub fn watch(&self, turn: usize) -> Option<&AlertWatch>
+        ensures { option_copied result ≡ slice_get self.now.watches turn }
+    {
+        self.watches.get(turn)
     }
 }
 
-/// The lane of a metric that counts, with overflow rows or without, which begins at `base`.
-pub fn begin(alloc: Global, base: u64, metric: &LMetric, overflow: bool) -> CountLane
+/// The lane of a metric that counts, with overflow rows or without, which begins at `base`, with the watches of its
+/// alerts.
+pub fn begin(
+    alloc: Global,
+    base: u64,
+    metric: &LMetric,
+    overflow: bool,
+    watches: Vec<AlertWatch>,
+) -> CountLane
     requires fits { base < time_limit }
     requires counts { metric.now.kind ≡ Count overflow }
     requires sized { IsSize metric.now.size }
     requires bound { IsBound metric.now.bound }
     ensures { (installed : Installation) → installed.base ≡ base
-        → CountsAlong metric.now installed [] result }
+        → WatchesAlong metric.now installed [] watches.items → CountsAlong metric.now installed [] result }
 {
     let bound = metric.bound as usize;
     let producer = CountProducer::new(alloc, base, metric.size, bound, overflow);
     CountLane {
         lane: Lane::new(base, metric.size, producer),
+        watches,
         key: MetricKey {
             dims: DimKey::new(alloc),
             slices: Seq::new(alloc),
@@ -164,15 +184,20 @@ pub fn log<L: Ledger>(
     asks: &mut Steps<L>,
 ) -> Result<(), AllocError>
     requires within { MayBeWithin (length conditions.old.predicates) metric.now.condition }
+    requires matched { CanBeBrought brought.now }
     ensures logs { OnOk result (TakesBroughtWhile (CountsAlong metric.now) is_active metric.now
         conditions.old brought.now lane.old lane.new) }
     ensures known { conditions.new ≡ conditions.old }
     ensures asks { AsksFew (CountsAlong metric.now) (metric.now ∷ [])
         conditions.old brought.now lane.old asks.old asks.new }
 {
-    let CountLane { lane, key } = lane;
+    let CountLane { lane, watches, key } = lane;
     let key = arrival(alloc, metric, is_active, brought, conditions, asks, key)?;
-    lane.log_of(time_of(brought.frame), comes_by_pull(brought.frame), key)
+    let at = time_of(brought.frame);
+    let is_pull = comes_by_pull(brought.frame);
+    tell_ends(watches, lane, at, is_pull);
+    tell_key(watches, at, key)?;
+    lane.log_of(at, is_pull, key)
 }
 
 /// A report, and what it shows of the metric.
@@ -188,6 +213,7 @@ pub fn report(
     ensures writable { IfOk result IsWritableMetric }
 {
     let closed = lane.lane.report(request.at, request.include_current)?;
+    tell_report(&mut lane.watches, request.include_current);
     counts_tree(alloc, base, metric, closed)
 }
 

@@ -16,7 +16,7 @@ ghost use Rattle.client_engine.specs.NextSteps.{TakesReport};
 ghost use Rattle.client_engine.specs.AskedFew.{AsksFew};
 ghost use Rattle.client_engine.specs.Bringing.{TakesBrought};
 ghost use Rattle.client_engine.specs.Opens.{IsOpeningOf};
-ghost use Rattle.client_engine.specs.Finding.{MayAsk, CanBeMatched, CanBeMeant, meant_in, found_among};
+ghost use Rattle.client_engine.specs.Finding.{MayAsk, CanBeBrought, CanBeMeant, meant_in, found_among};
 ghost use Rattle.client_engine.specs.PulledValuesAlong.{pulled_kind_at, PulledValuesAlong, GetsPull};
 
 use crate::asked::Nothing;
@@ -83,7 +83,7 @@ pub fn log<L: Ledger>(
     asks: &mut Steps<L>,
 ) -> Result<(), AllocError>
     requires within { MayBeWithin (length conditions.old.predicates) metric.now.condition }
-    requires matched { CanBeMatched brought.now }
+    requires matched { CanBeBrought brought.now }
     ensures logs { OnOk result (TakesBrought (PulledValuesAlong metric.now)
         conditions.old brought.now lane.old lane.new) }
     ensures known { conditions.new ≡ conditions.old }

@@ -1,5 +1,5 @@
 -- The atom acts on one predicate more, unless it did before.
-use Rattle.std.proofs.Common.{◌≡◌, ◌+◌, ◌∙◌, true, false, get_or, set, sym, refl, arith}
+use Rattle.std.proofs.Common.{◌≡◌, ◌∙◌, true, false, get_or, set, sym, refl, arith}
 use Rattle.client_engine.proofs.KeptPredicatesLemmas.{none_acted, acting_within, still_kept, one_acted, spec_there}
 use Rattle.client_engine.proofs.MarksLemmas.{none_to_mark, one_more_marked, all_are_marked, here_marked, stay_marked, marked_within}
 use Rattle.client_engine.proofs.tables.act_on_each.Goals as goal

@@ -8,7 +8,8 @@ use Rattle.client_engine.specs.declared.opening.Opening.{Opening}
 use Rattle.client_engine.specs.declared.track.Track.{Track}
 use Rattle.client_engine.specs.Tracks.{metric_in, AsksWithin, AreNew}
 use Rattle.client_engine.specs.Waking.{Listens}
-use Rattle.client_engine.proofs.InstanceLemmas.{sound_kept, all_tracked, sound_asked, sound_askable, linked_whole, fresh}
+use Rattle.client_engine.specs.Watches.{CanBeWatched}
+use Rattle.client_engine.proofs.InstanceLemmas.{sound_kept, all_tracked, sound_asked, sound_askable, all_watchable, linked_whole, fresh}
 use Rattle.client_engine.proofs.instance.Instance.new.Goals as goal
 
 -- the predicates can be kept
@@ -30,6 +31,11 @@ pub new-requires-2-clause-askable : goal.new-requires-2-clause-askable
 new-requires-2-clause-askable c =
     subst (All MayAsk) (sym c.as_slice.ensures) (sound_askable c.args.linked c.requires.sound)
 
+-- the alerts can be watched
+pub new-requires-2-clause-alerts : goal.new-requires-2-clause-alerts
+new-requires-2-clause-alerts c =
+    subst (All CanBeWatched) (sym c.as_slice-2.ensures) (all_watchable c.args.linked c.requires.sound)
+
 -- so it is of the instance
 pub invariant_of-result : goal.invariant_of-result
 invariant_of-result c =
@@ -41,7 +47,7 @@ invariant_of-result c =
           (subst (All (AsksWithin (length c.args.linked.predicates))) (sym c.in_ok-tracks.ensures.new.metrics_are)
           (sound_asked c.args.linked c.requires.sound))),
       subst (λ (tracks : List Track). Listens c.in_ok-listeners.listeners known.predicates (map metric_in tracks))
-          c.as_slice-2.ensures.value c.in_ok-listeners.ensures,
+          c.as_slice-3.ensures.value c.in_ok-listeners.ensures,
       c.in_ok-tracks.ensures.due,
       c.in_ok-tracks.ensures.marks,
     )
@@ -52,7 +58,12 @@ returns-clause-fresh c = λ log pulls states.
     let linked = c.args.linked in
     let same = c.new-2.ensures.known in
     let tracks = c.in_ok-tracks.tracks.list.items in
-    let opening : Opening = record { base = c.args.base; matchers = c.as_slice.result; pulls = c.args.pulls } in
+    let opening : Opening = record {
+      base = c.args.base;
+      matchers = c.as_slice.result;
+      alerts = c.as_slice-2.result;
+      pulls = c.args.pulls;
+    } in
     let it : Running = record {
       matchers = linked.matchers;
       known = c.new-2.new.conditions;
@@ -64,7 +75,7 @@ returns-clause-fresh c = λ log pulls states.
     } in
     fresh linked opening it refl
     (ap (λ (known : Known). known.predicates) same ∙ c.in_ok-conditions.ensures.predicates) refl refl refl refl
-    c.as_slice.ensures (subst (KnowsAfter []) (sym same) c.in_ok-conditions.ensures.knows)
+    c.as_slice.ensures c.as_slice-2.ensures (subst (KnowsAfter []) (sym same) c.in_ok-conditions.ensures.knows)
     (subst (λ known. AreNew opening known linked.metrics tracks) (sym same) c.in_ok-tracks.ensures.new) c.requires.sound log pulls
 
 -- the configuration is the one that was installed

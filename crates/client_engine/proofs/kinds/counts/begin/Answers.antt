@@ -5,6 +5,7 @@ use Rattle.client_engine.proofs.CountsLemmas.{counts_begin}
 use Rattle.client_engine.proofs.kinds.counts.begin.Goals as goal
 
 pub returns : goal.returns
-returns c = λ installed is.
-    counts_begin installed c.args.base c.args.metric.now c.args.overflow c.new.result is c.requires.fits c.requires.counts
-    (c.new.ensures (count_params c.args.base c.args.metric.now c.args.overflow) [] refl refl c.new-producer.ensures)
+returns c = λ installed is along.
+    counts_begin installed c.args.base c.args.metric.now c.args.overflow c.new.result c.args.watches.items is
+    c.requires.fits c.requires.counts
+    (c.new.ensures (count_params c.args.base c.args.metric.now c.args.overflow) [] refl refl c.new-producer.ensures) along
