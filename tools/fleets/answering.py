@@ -9,17 +9,19 @@ import time
 
 from session_text.commands import ENDED, fault_words
 from session_text.faults import Fault
-from session_text.reports import ALARM, TURNED_AWAY, Names, Reply, Rows, text_of
+from session_text.reports import ALARM, TURNED_AWAY, Names, Reply, Rows, Told, text_of
 from session_text.replies import NAMES, WITH_REPORT
 
-from .plan import Result
+from .plan import Lot, Result
 from .sources import MOST_HELD, Deadline, session
 from .splicing import Splice
+from .tables import tables_of
 
 WELL, FAULT = 0, 7
 # What is no time of a frame any more.
 NO_TIME = 2**63
 TURNED = frozenset(TURNED_AWAY.values())
+WORDS = Told(text_of)
 REPLY = struct.Struct("<QBiq")
 
 # The program that is at work for this process, which is ended with it.
@@ -66,7 +68,7 @@ def all_of(file):
 
 def replayed(program, pieces, size, deadline):
     """What a program answers to a session in pieces: the replies, the note, the status."""
-    with room_for(size) as given, room_for(size) as written, tempfile.TemporaryFile() as noted:
+    with room_for(size) as given, room_for(size) as written, room_for(0) as noted:
         for piece in pieces:
             given.write(piece)
         given.seek(0)
@@ -105,21 +107,17 @@ class Cells:
         self.end = None
 
     def add(self, reply):
-        """Adds the rows of a report. Neighbours have the same key, which is told once."""
-        report = Rows(reply, self.names[reply.config - 1])
+        """Adds the rows of a report."""
+        report = Rows(reply, self.names[reply.config - 1], WORDS)
         self.end = report.now
-        key, states, words = None, None, ("", "")
-        for row in report.all():
-            if row.what in TURNED:
-                self.turned_away.append((self.name, *row[:6], row.begin, row.to, row.value))
-                continue
-            if row.key is not key or row.states is not states:
-                key, states, words = row.key, row.states, (text_of(row.key), text_of(row.states))
-            if row.what == ALARM:
-                self.alarms.append((self.name, *row[:4], *words, row.begin, row.value))
-                continue
-            value = row.value if isinstance(row.value, int) else text_of(row.value)
-            self.rows.append((self.name, *row[:6], *words, row.begin, row.to, value))
+        for head, cells in report.parts():
+            *of, what, key, states = head
+            if what in TURNED:
+                self.turned_away += [(self.name, *of, what, *cell) for cell in cells]
+            elif what == ALARM:
+                self.alarms += [(self.name, *of[:4], key, states, at, total) for at, _, total in cells]
+            else:
+                self.rows.append(((self.name, *of, what, key or "", states or ""), cells))
 
 
 def why_not(status, note):
@@ -162,9 +160,13 @@ def answered(name, plan):
             zero, status, note, is_well = answered_well(content, plan, cells, deadline)
             fault = None if is_well else why_not(status, note)
             status = FAULT if fault and status == WELL else status
-    except Fault as error:
-        status, fault = FAULT, str(error)
-    except (MemoryError, OSError) as error:
-        status, fault = FAULT, f"{type(error).__name__}: {error}"
+    except (Fault, MemoryError, OSError) as error:
+        status, fault = FAULT, str(error) if isinstance(error, Fault) else f"{type(error).__name__}: {error}"
+        cells = Cells(name, plan.leaves)
     told = (size, zero if zero is None or zero < NO_TIME else None, cells.end, round(time.monotonic() - begin, 6))
     return Result(name, status, fault, note.strip() or None, *told, cells.rows, cells.turned_away, cells.alarms)
+
+
+def answered_all(names, plan):
+    """What comes of sessions, one after the other."""
+    return Lot(names, tables_of((answered(name, plan) for name in names), plan.room))

@@ -13,10 +13,19 @@ FIRST = 10
 # So many configurations a run has where its own two are compared.
 BOTH = 2
 
-ROWS = 'SELECT metric, kind, what, key, states, "from", "to", value FROM rows WHERE session = ? AND config = ?'
-TURNED = 'SELECT metric, kind, what, \'\', \'\', "from", "to", value FROM turned_away WHERE session = ? AND config = ?'
-
-ALARMS = "SELECT alert, 'alert', 'alarm', key, states, at, at, sum FROM alarms WHERE session = ? AND config = ?"
+# The tables that are compared, with what a place and a value are there.
+COMPARED = {
+    "rows": 'metric, kind, what, key, states, "from", "to", value',
+    "turned_away": 'metric, kind, what, \'\', \'\', "from", "to", value',
+    "alarms": "alert, 'alert', 'alarm', key, states, at, at, sum",
+}
+# Where the lines of each session stand, which are neighbours; and those of one session.
+MADE = "CREATE TEMP TABLE {0}_places (session TEXT PRIMARY KEY, first INTEGER, last INTEGER) WITHOUT ROWID"
+FOUND = "INSERT INTO {0}_places SELECT session, min(rowid), max(rowid) FROM {0} GROUP BY session"
+OF_SESSION = """
+SELECT {1} FROM {0}_places JOIN {0} USING (session)
+WHERE session = ? AND config = ? AND {0}.rowid BETWEEN first AND last
+"""
 
 
 @contextlib.contextmanager
@@ -28,6 +37,9 @@ def opened(name):
         raise Fault(f"{name}: expected tables of tools/fleet run: {error}") from None
     try:
         tables.execute("SELECT 1 FROM sessions, configs LIMIT 1")
+        for table in COMPARED:
+            tables.execute(MADE.format(table))
+            tables.execute(FOUND.format(table))
         yield tables
     except sqlite3.Error as error:
         raise Fault(f"{name}: expected tables of tools/fleet run, a file of SQLite: {error}") from None
@@ -49,8 +61,8 @@ class Half:
     def found(self, name):
         """The rows of a session, its numbers that were turned away and its alarms, by what they are of."""
         found = defaultdict(list)
-        for ask in (ROWS, TURNED, ALARMS):
-            for *place, value in self.tables.execute(ask, (name, self.number)):
+        for table, columns in COMPARED.items():
+            for *place, value in self.tables.execute(OF_SESSION.format(table, columns), (name, self.number)):
                 found[Place(*place)].append(value)
         return found
 

@@ -16,11 +16,12 @@ from concurrent.futures.process import BrokenProcessPool
 
 from session_text.faults import Fault
 
-from .answering import FAULT, answered, end_at_once
-from .plan import Result
+from .answering import FAULT, answered_all, end_at_once
+from .plan import Lot, Result
+from .tables import tables_of
 
 # So many sessions go to a process at once at most, and so many such lots wait for each processor.
-LOT = 16
+LOT = 32
 AHEAD = 3
 # A session whose process died is tried so often in all.
 TRIES = 3
@@ -53,15 +54,11 @@ def begin_worker():
     signal.signal(signal.SIGTERM, end_at_once)
 
 
-def answered_all(names, plan):
-    """The results of sessions, one after the other."""
-    return [answered(name, plan) for name in names]
-
-
-def dead(name):
-    """The result of a session whose process died again and again."""
+def dead(names, plan):
+    """What comes of sessions whose process died again and again."""
     fault = f"its process died, {TRIES} times"
-    return Result(name, FAULT, fault, None, None, None, None, None, [], [], [])
+    results = (Result(name, FAULT, fault, None, None, None, None, None, [], [], []) for name in names)
+    return Lot(names, tables_of(results, plan.room))
 
 
 def windowed(submit, lots, most):
@@ -97,11 +94,11 @@ class Pool:
             self.renew()
             return self.pool.submit(answered_all, lot, self.plan)
 
-    def results(self, lots, most):
-        """The results of lots."""
+    def done(self, lots, most):
+        """What comes of lots."""
         for future in windowed(self.submit, lots, most):
             with contextlib.suppress(BrokenProcessPool):
-                yield from future.result()
+                yield future.result()
 
     def __enter__(self):
         return self
@@ -120,27 +117,29 @@ class Round:
 
     def __call__(self, names):
         with Pool(self.plan, self.workers) as pool:
-            yield from pool.results(lots_of(names, self.size), self.workers * self.ahead)
+            yield from pool.done(lots_of(names, self.size), self.workers * self.ahead)
 
 
-def tried(names, rounds):
-    """The results of all sessions by some rounds, each of which does what those before have no result of, since a
+def tried(names, plan, rounds):
+    """What comes of all sessions by some rounds, in lots. A round does what those before have nothing of, since a
     process died."""
     left = dict.fromkeys(names)
     for one_round in rounds:
         if left:
-            for result in one_round(list(left)):
-                del left[result.session]
-                yield result
-    yield from map(dead, left)
+            for lot in one_round(list(left)):
+                for name in lot.sessions:
+                    del left[name]
+                yield lot
+    if left:
+        yield dead(list(left), plan)
 
 
 def on_processors(names, plan, workers):
-    """The results of all sessions by processes of this machine: in lots; where a process died each session of these by
+    """What comes of all sessions by processes of this machine: in lots; where a process died each session of these by
     itself; and last one after the other, so that none is told for another one."""
-
     size = lot_size(len(names), workers)
-    yield from tried(names, (Round(plan, size, workers, AHEAD), Round(plan, 1, workers, 1), Round(plan, 1, 1, 1)))
+    rounds = (Round(plan, size, workers, AHEAD), Round(plan, 1, workers, 1), Round(plan, 1, 1, 1))
+    yield from tried(names, plan, rounds)
 
 
 def library():
@@ -179,7 +178,7 @@ def submitted(client, told, lot):
 
 
 def by_cluster(lots, submit, running, most):
-    """The results of lots by the workers of a cluster. A lot that is given up there has none."""
+    """What comes of lots by the workers of a cluster. Of a lot that is given up there nothing does."""
     waiting = 0
     for lot in itertools.chain(lots, [None]):
         if lot is not None:
@@ -189,13 +188,13 @@ def by_cluster(lots, submit, running, most):
             future = next(running)
             waiting -= 1
             if future.status == "finished":
-                yield from (Result(*one) for one in future.result())
+                yield Lot(*future.result())
             elif future.status == "error" and type(future.exception()).__name__ != GIVEN_UP:
                 raise Fault(f"a worker of the cluster failed: {future.exception()!r}")
 
 
 def on_cluster(names, plan, address):
-    """The results of all sessions by the workers of a Dask scheduler, to which the program goes once. What a worker had
+    """What comes of all sessions by the workers of a Dask scheduler, to which the program goes once. What a worker had
     at work that died is done by another."""
     distributed = library()
     try:
@@ -208,7 +207,7 @@ def on_cluster(names, plan, address):
         client.upload_file(str(CARRIED))
         content = archive(plan.program)
         sent = client.scatter(content, broadcast=True)
-        told = (tuple(plan._replace(program=None)), sent, hashlib.sha256(content).hexdigest())
+        told = (tuple(plan._replace(program=None, room=None)), sent, hashlib.sha256(content).hexdigest())
         running = distributed.as_completed(loop=client.loop)
 
         submit = functools.partial(submitted, client, told)
@@ -217,4 +216,4 @@ def on_cluster(names, plan, address):
             """Sessions in lots of a size."""
             return lambda left: by_cluster(lots_of(left, size), submit, running, AHEAD * workers)
 
-        yield from tried(names, [one_round(lot_size(len(names), workers)), *[one_round(1)] * (TRIES - 1)])
+        yield from tried(names, plan, [one_round(lot_size(len(names), workers)), *[one_round(1)] * (TRIES - 1)])

@@ -1,4 +1,5 @@
 """A session with configurations put into it, beside whatever else happens there."""
+import re
 import struct
 
 from session_text.commands import COMMANDS, frame, frames_of
@@ -32,8 +33,8 @@ def first_log(content):
 
 
 def is_in(content, uid):
-    """Whether a client has commands in a session."""
-    if content.find(struct.pack("<i", uid)) < 0:
+    """Whether a client has commands in a session. Mostly its number isn't there at all, which an expression sees soon."""
+    if not re.search(re.escape(struct.pack("<i", uid)), content):
         return False
     return any(whose and whose.client == uid for _, whose, _ in frames_of(content))
 

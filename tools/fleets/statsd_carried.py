@@ -36,10 +36,10 @@ def folder_of(archive, checksum):
 
 
 def answered(names, plan, archive, checksum):
-    """The results of sessions, as plain tuples. The plan comes as one, too, without a program."""
+    """What comes of sessions, as a plain tuple. The plan comes as one, too, without a program and a folder."""
     folder = folder_of(archive, checksum)
-    from fleets.answering import answered as one_answered
+    from fleets.answering import answered_all
     from fleets.plan import Plan
 
-    whole = Plan(*plan)._replace(program=os.path.join(folder, "bin", "statsd"))
-    return [tuple(one_answered(name, whole)) for name in names]
+    whole = Plan(*plan)._replace(program=os.path.join(folder, "bin", "statsd"), room=folder)
+    return tuple(answered_all(names, whole))

@@ -1,10 +1,13 @@
 """The tables of a run: a file of SQLite, which CSV and lines of JSON are made of."""
 import contextlib
 import csv
+import functools
+import itertools
 import json
 import os
 import pathlib
 import sqlite3
+import tempfile
 
 from session_text.faults import Fault
 from session_text.reports import COLUMNS, alerts_of, metrics_of
@@ -19,6 +22,10 @@ TABLES = {
     "sessions": SESSION_COLUMNS,
 }
 
+# The columns that each row of a part has of its own, and how many rows of one are added at once.
+OWN = ("from", "to", "value")
+AT_ONCE = 16
+
 TYPES = {"session": "TEXT NOT NULL", "seconds": "REAL", "value": ""}
 TYPES |= dict.fromkeys(("kind", "what", "key", "states", "fault", "note"), "TEXT")
 
@@ -31,11 +38,16 @@ def columns_of(table):
     return ", ".join(f'"{name}"' for name in TABLES[table])
 
 
-def schema():
-    """The tables as SQL makes them."""
+def schema_of_sessions():
+    """The tables with what came of sessions, as SQL makes them."""
     for table, names in TABLES.items():
         told = ", ".join(f'"{name}" {TYPES.get(name, "INTEGER")}'.strip() for name in names)
         yield f"CREATE TABLE {table} ({told})"
+
+
+def schema():
+    """All tables as SQL makes them."""
+    yield from schema_of_sessions()
     yield "CREATE UNIQUE INDEX sessions_by_name ON sessions (session)"
     yield "CREATE TABLE configs (config INTEGER PRIMARY KEY, file TEXT, content BLOB)"
     yield "CREATE TABLE metrics (config INTEGER, metric INTEGER, kind TEXT, bucket INTEGER)"
@@ -50,6 +62,26 @@ def told(name):
         yield
     except sqlite3.Error as error:
         raise Fault(f"{name}: expected tables that can be read and written: {error}") from None
+
+
+def tables_of(results, room):
+    """The tables of results, as the bytes of a file of SQLite, which a store takes as a whole. It stands in a folder
+    meanwhile."""
+    with tempfile.NamedTemporaryFile(dir=room, suffix=SQLITE) as file, told(file.name):
+        with contextlib.closing(sqlite3.connect(file.name, isolation_level=None)) as tables:
+            tables.execute("PRAGMA journal_mode = OFF")
+            tables.execute("PRAGMA synchronous = OFF")
+            tables.execute("BEGIN")
+            for line in schema_of_sessions():
+                tables.execute(line)
+            for one in results:
+                for shared, cells in one.rows:
+                    add_part(tables, shared, cells)
+                tables.executemany(insert("turned_away"), one.turned_away)
+                tables.executemany(insert("alarms"), one.alarms)
+                tables.execute(insert("sessions"), one[: len(SESSION_COLUMNS)])
+            tables.execute("COMMIT")
+        return file.read()
 
 
 class Store:
@@ -97,16 +129,28 @@ class Store:
         """The sessions that are done."""
         return {name for name, in self.tables.execute("SELECT session FROM sessions")}
 
-    def add(self, results):
-        """Adds the results of sessions, all or none. A signal that comes meanwhile is one at the end of this."""
-        with told(self.name), held():
+    @contextlib.contextmanager
+    def attached(self, content, name):
+        """Tables of sessions beside these, by a name."""
+        with tempfile.NamedTemporaryFile(suffix=SQLITE) as file:
+            file.write(content)
+            file.flush()
+            self.tables.execute(f"ATTACH ? AS {name}", (file.name,))
+            try:
+                yield name
+            finally:
+                self.tables.execute(f"DETACH {name}")
+
+    def add(self, lots):
+        """Adds lots of sessions, all or none. A signal that comes meanwhile is one at the end of this."""
+        with told(self.name), held(), contextlib.ExitStack() as beside:
+            names = [
+                beside.enter_context(self.attached(lot.tables, f"lot{number}")) for number, lot in enumerate(lots)
+            ]
             self.tables.execute("BEGIN")
             try:
-                for one in results:
-                    self.tables.executemany(insert("rows"), one.rows)
-                    self.tables.executemany(insert("turned_away"), one.turned_away)
-                    self.tables.executemany(insert("alarms"), one.alarms)
-                    self.tables.execute(insert("sessions"), one[: len(SESSION_COLUMNS)])
+                for name, table in itertools.product(names, TABLES):
+                    self.tables.execute(f"INSERT INTO main.{table} SELECT * FROM {name}.{table}")
                 self.tables.execute("COMMIT")
             except BaseException:
                 self.tables.execute("ROLLBACK")
@@ -119,16 +163,13 @@ class Store:
         return self.tables.execute(ask).fetchone()
 
     def finish(self):
-        """Ends the run: the rows of a session are found by an index, or the files that were asked for are written."""
-        with told(self.name):
-            self.tables.execute("CREATE INDEX IF NOT EXISTS rows_by_session ON rows (session)")
-            self.tables.execute("CREATE INDEX IF NOT EXISTS turned_away_by_session ON turned_away (session)")
-            self.tables.execute("CREATE INDEX IF NOT EXISTS alarms_by_session ON alarms (session)")
-            if self.how != SQLITE:
-                for table in TABLES:
-                    self.write(table)
-        self.close()
+        """Ends the run: where other files were asked for, they are written in the order of the sessions' names."""
         if self.how != SQLITE:
+            with told(self.name):
+                for table in TABLES:
+                    self.tables.execute(f"CREATE INDEX IF NOT EXISTS {table}_by_session ON {table} (session)")
+                    self.write(table)
+            self.close()
             self.file.unlink()
 
     def write(self, table):
@@ -155,6 +196,20 @@ class Store:
 def insert(table):
     """How a line of a table is added."""
     return f"INSERT INTO {table} VALUES ({', '.join('?' * len(TABLES[table]))})"
+
+
+@functools.lru_cache(maxsize=None)
+def insert_rows(count):
+    """How so many rows of a part are added: what they share is given once, and then what each has of its own."""
+    shared, own = ", ".join("?" * (len(TABLES["rows"]) - len(OWN))), ", ".join("?" * len(OWN))
+    return f"INSERT INTO rows SELECT {shared}, * FROM (VALUES {', '.join([f'({own})'] * count)})"
+
+
+def add_part(tables, shared, cells):
+    """Adds the rows of a part. Several at once cost a third less than one by one."""
+    for first in range(0, len(cells), AT_ONCE):
+        some = cells[first : first + AT_ONCE]
+        tables.execute(insert_rows(len(some)), (*shared, *itertools.chain.from_iterable(some)))
 
 
 def how_of(name):

@@ -1,8 +1,10 @@
 """Replies as values, and reports as rows: one for each bucket of a key, each event, each sample, each alarm, and each
 number that was turned away. docs/REPORT.md has the columns."""
+import functools
 import struct
 from collections import defaultdict, namedtuple
 
+from . import spelling
 from .config import ALERT, METRIC, bucket_size, entities, records, signed, tree, varint_at
 from .faults import Fault
 from .layout import INSTALLED, REPLACED
@@ -35,6 +37,8 @@ ROW, GATHERED, ALARM = SHOWN = ("row", "overflow", "alarm")
 # Alarms are of alerts, and of their metrics' keys.
 ALARMS, ALARMS_NOT_KEPT = 1004, 1005
 PLACE = 1001
+# The field of the buckets of a key, which stand in front.
+BUCKETS = 3
 POSITIONS = {1: "FIRST", 2: "LAST", 3: "ANY", 4: "ALL"}
 
 # The types of leaves by their numbers: their names, and how their payloads are read.
@@ -74,16 +78,6 @@ def number_of(found, field, bits=64):
     return signed(varint_at(found[field][0], 0)[0], bits) if field in found else None
 
 
-def numbers_of(content):
-    """The numbers of a message that has numbers alone."""
-    found, at, size = {}, 0, len(content)
-    while at < size:
-        tag, at = varint_at(content, at)
-        value, at = varint_at(content, at)
-        found[tag >> 3] = value if value < 2**63 else value - 2**64
-    return found
-
-
 def leaf_names(fields):
     """The leaves of fields as a session writes them, with the position that picks their elements."""
     names = []
@@ -120,16 +114,16 @@ class Names:
     def __init__(self, config=None, leaves=None):
         self.leaves = (leaves_of(config) if config is not None else {}) if leaves is None else leaves
 
-    def name(self, metric, place):
-        """The name of a leaf."""
-        names = self.leaves.get(metric, [])
-        return names[place] if place < len(names) else f"#{place}"
+    def of(self, metric):
+        """The names of the leaves of a metric."""
+        return tuple(self.leaves.get(metric, ()))
 
 
-def leaf_of(content, metric, names):
-    """A value of a key."""
+def leaf_of(content, names):
+    """A value of a key, whose leaves have these names."""
     found = fields_of(content)
-    name = names.name(metric, number_of(found, PLACE) or 0)
+    place = number_of(found, PLACE) or 0
+    name = names[place] if place < len(names) else f"#{place}"
     for number, (kind, read) in LEAVES.items():
         if number in found:
             return Leaf(name, kind, read(found[number][0]))
@@ -152,19 +146,50 @@ def atom_of(content):
     )
 
 
-class Rows:
-    """The rows of one report."""
+class Told:
+    """Keys, states and atoms as columns have them: as values, or what is made of these. Many are kept, since they come
+    again and again."""
 
-    def __init__(self, reply, names):
+    def __init__(self, made=lambda column: column):
+        self.made = made
+        self.key = functools.lru_cache(spelling.KEPT)(self.key_of)
+        self.atoms = functools.lru_cache(spelling.KEPT)(self.atoms_of)
+
+    def key_of(self, names, content):
+        """What rows or an alarm are of, by what stands behind their numbers: what they are, the key and the states."""
+        found = fields_of(content)
+        if BUCKETS in found:
+            raise Fault("expected a report as it is spelled, and there is another bucket")
+        key = tuple(leaf_of(leaf, names) for leaf in found[4])
+        return GATHERED if OVERFLOW in found else ROW, self.made(key), self.made(tuple(map(slice_of, found[6])))
+
+    def atoms_of(self, content):
+        """The atoms of a bucket, or that of an event."""
+        return tuple(self.made(atom_of(atom)) for atom in spelling.messages(content))
+
+
+VALUES = Told()
+
+
+class Rows:
+    """The rows of one report, whose keys, states and atoms are told as values or otherwise."""
+
+    def __init__(self, reply, names, told=VALUES):
         whole = fields_of(reply.report)
         self.head = (reply.number, reply.client, reply.config)
-        self.names = names
+        self.names, self.told = names, told
         self.body = fields_of(whole[2][0]) if 2 in whole else defaultdict(list)
         self.last, self.now = number_of(self.body, 3), number_of(self.body, 4)
         self.base = None
 
     def all(self):
         """All rows, metric by metric, then what predicates and states turned away, and then alarms."""
+        for head, cells in self.parts():
+            for cell in cells:
+                yield Row(*head, *cell)
+
+    def parts(self):
+        """The same in parts, as those of one key: the columns that all rows of a part have, and the others of each."""
         for metric in self.body[1]:
             yield from self.metric(fields_of(metric))
         for number, kind, since in ((1001, "predicate", self.base), (1002, "state_atom", 0)):
@@ -172,52 +197,45 @@ class Rows:
                 yield self.turned_away(number_of(drops, 1), kind, "dropped", since, number_of(drops, 2))
         if 1003 in self.body:
             yield self.turned_away(None, "state_atoms", "dropped", 0, number_of(self.body, 1003))
-        yield from map(self.alarm, map(fields_of, self.body[ALARMS]))
+        yield from map(self.alarm, self.body[ALARMS])
         for unlisted in map(fields_of, self.body[ALARMS_NOT_KEPT]):
             yield self.turned_away(number_of(unlisted, 1), ALERT, "not_kept", self.last, number_of(unlisted, 2))
 
-    def alarm(self, found):
+    def alarm(self, content):
         """An alarm, at the time when it came, with its sum."""
-        alert, at = number_of(found, 1), number_of(found, 2)
-        key, states = self.key((ALERT, alert), found)
-        return Row(*self.head, alert, ALERT, ALARM, key, states, at, at, number_of(found, 3) % 2**64)
-
-    def key(self, metric, found):
-        """The values and the states that a row or an alarm is of."""
-        return tuple(leaf_of(leaf, metric, self.names) for leaf in found[4]), tuple(map(slice_of, found[6]))
+        (alert, at, total), end = spelling.numbers_at(spelling.ALARM, content)
+        _, key, states = self.told.key(self.names.of((ALERT, alert)), content[end:])
+        return (*self.head, alert, ALERT, ALARM, key, states), [(at, at, total % 2**64)]
 
     def turned_away(self, metric, kind, what, since, count):
         """A number that was turned away between two times."""
-        return Row(*self.head, metric, kind, what, None, None, since, self.now, count)
+        return (*self.head, metric, kind, what, None, None), [(since, self.now, count)]
 
     def metric(self, found):
         """The rows of a metric."""
         metric, kind = number_of(found, 1), next((kind for kind in KINDS if kind in found), None)
         self.base = number_of(found, 9)
         for wrapper in found[kind] if kind else []:
-            for data in map(fields_of, fields_of(wrapper)[1]):
-                yield from self.event(metric, data) if kind == EVENT else self.keyed(metric, kind, data)
+            yield from self.events(metric, wrapper) if kind == EVENT else self.keyed(metric, kind, wrapper)
         for number, what in TURNED_AWAY.items():
             if number in found:
                 yield self.turned_away(metric, KINDS.get(kind), what, self.last, number_of(found, number))
 
-    def event(self, metric, data):
-        """An event."""
-        at = number_of(data, 1)
-        yield Row(*self.head, metric, "event", ROW, None, None, at, at, atom_of(data[2][0]))
+    def events(self, metric, wrapper):
+        """The events of a metric."""
+        cells = []
+        for event in spelling.messages(wrapper):
+            (at,), end = spelling.numbers_at(spelling.TIME, event)
+            cells += [(at, at, atom) for atom in self.told.atoms(event[end:])]
+        yield (*self.head, metric, KINDS[EVENT], ROW, None, None), cells
 
-    def keyed(self, metric, kind, data):
-        """The rows of a key: one a bucket, and of samples one each."""
-        head = (*self.head, metric, KINDS[kind], GATHERED if OVERFLOW in data else ROW, *self.key(metric, data))
-        for bucket in data[3]:
-            if kind == GAUGE:
-                found = fields_of(bucket)
-                begin, end, values = number_of(found, 1), number_of(found, 2), map(atom_of, found[3])
-            else:
-                found = numbers_of(bucket)
-                begin, end, values = found.get(1), found.get(2), (found.get(3),)
-            for value in values:
-                yield Row(*head, begin, end, value)
+    def keyed(self, metric, kind, wrapper):
+        """The rows of each key: one a bucket, and of samples one each."""
+        names = self.names.of(metric)
+        for data in spelling.messages(wrapper):
+            is_sampled = kind == GAUGE
+            cells, rest = spelling.samples_in(data, self.told.atoms) if is_sampled else spelling.buckets_in(data)
+            yield (*self.head, metric, KINDS[kind], *self.told.key(names, rest)), cells
 
 
 def rows_of(replies, configs=()):

@@ -11,7 +11,7 @@ use Rattle.bucket_meaning.specs.Kept.{count_in_u64}
 use Rattle.metric_kinds.specs.Keys.{is_same_key}
 use Rattle.config_types.specs.declared.parameters.AlertSpec.{AlertSpec}
 use Rattle.alert_watch.specs.declared.alarm.Alarm.{Alarm}
-use Rattle.alert_watch.specs.Windows.{Arrival, Notice, KeyArrived, PartsEnded, AlarmsTold, admitted_of, AlertBooks, window_sum, is_over, with_alarm, with_arrival, with_notice, alert_books_from, alert_books, no_alert_books, alarms_told, most_alarms}
+use Rattle.alert_watch.specs.Windows.{Arrival, Notice, KeyArrived, PartsEnded, AlarmsTold, admitted_of, AlertBooks, window_sum, is_over, with_alarm, with_arrival, with_notice, alert_books_from, alert_books, no_alert_books, most_alarms}
 use Rattle.alert_watch.specs.Watches.{KeyCounts, WatchContents, IsPartTable, IsWatch, CountsPart, CountParts, HasAlertBooks, WatchStandsFor, TakesNotice, TellsAlarms}
 use Rattle.alert_watch.specs.WindowParts.{IsEmptyTable, table_sum, finds_room, CountsOne, Turns}
 use Rattle.alert_watch.specs.WatchSteps.{no_table, open_table, CountsIn, is_over_after, rung_with, RingsWith}
@@ -450,12 +450,3 @@ tells_untold watch notices stands =
       listed = take most_alarms (alert_books watch.spec notices).untold;
       not_kept = n;
     }) stands.not_kept
-
--- For callers: the end of a part, as that of a report's cut, leaves the alarms that a report tells.
-pub told_after_end : (spec : AlertSpec) (notices : List Notice) (n : ℕ)
-    → alarms_told spec (notices ++ PartsEnded n ∷ []) ≡ alarms_told spec notices
-told_after_end spec notices n =
-    ap (λ (books : AlertBooks). record {
-      listed = take most_alarms books.untold;
-      not_kept = count_in_u64 (length books.untold - most_alarms);
-    }) (alert_books_push spec no_alert_books notices (PartsEnded n))

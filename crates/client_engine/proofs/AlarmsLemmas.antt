@@ -150,7 +150,8 @@ take_found xs place x is =
 module _ (alerts : List LAlert) (tracks : List Track) (place : ℕ) (alert : LAlert)
     (there : slice_get alerts place ≡ Some alert) (shown : AlarmsShown) (are : AreShown alerts tracks place shown) where
   -- what one more alert adds
-  adds : {X : Type 0} (f : LAlert → List X) → flat_map f (take (place + 1) alerts) ≡ flat_map f (take place alerts) ++ f alert
+  adds : {X : Type 0} (f : LAlert → List X)
+      → flat_map f (take (place + 1) alerts) ≡ flat_map f (take place alerts) ++ f alert
   adds f =
       ap (flat_map f) (take_found alerts place alert there)
       ∙ flat_map-append f (take place alerts) (alert ∷ [])

@@ -129,7 +129,8 @@ module _ (installed : Installation) (metric : LMetric) where
     nothing_comes own (before ++ step ∷ []) run leave.1,
   )
     where
-      is_frame : (what : What) → LeavesAlone installed.linked metric (record step { what = what }) → IsFrame installed metric what
+      is_frame : (what : What) → LeavesAlone installed.linked metric (record step { what = what })
+          → IsFrame installed metric what
       is_frame (Logged frame) leaves = tt
       is_frame (Reported include_current) leaves = leaves
 
@@ -150,7 +151,8 @@ module _ (installed : Installation) (metric : LMetric) where
         → AsksNothing (value_asking installed metric source aggregation) before step
     values_none source aggregation is =
         none_at (value_asking installed metric source aggregation) before step leaves
-        (λ frame at. ap (λ atom. coming step.at (option_map keyed_int (option_and_then (keyed_integer scene metric source)
+        (λ frame at. ap (λ atom. coming step.at
+        (option_map keyed_int (option_and_then (keyed_integer scene metric source)
         atom)))
         (none_comes scene step
         (ap (kind_matchers metric.what) is) leaves))
@@ -244,12 +246,15 @@ module _ (metric : LMetric) (moment : Moment) where
   counts_run old new crosses installed steps run has leave may = record {
     overflow = has.overflow;
     counts = has.counts;
-    along = takes_run count_law joining_counts.counts_join (count_asking installed metric has.overflow) old.lane new.lane
+    along = takes_run count_law joining_counts.counts_join
+        (count_asking installed metric has.overflow) old.lane new.lane
         crosses.0 installed (counts_ask_well installed metric has.overflow) refl
-        (λ before step leaves. counts_none installed metric before step leaves has.overflow has.counts) steps run leave may
+        (λ before step leaves. counts_none installed metric before step leaves has.overflow
+        has.counts) steps run leave may
         has.along;
     watches = watches_run metric installed has.overflow steps run moment old.lane old.watches new.watches has.along may
-        crosses.1 (nothing_comes installed metric (ap (kind_matchers metric.what) has.counts) steps run leave) has.watches;
+        crosses.1 (nothing_comes installed metric
+        (ap (kind_matchers metric.what) has.counts) steps run leave) has.watches;
   }
 
   pub values_run : (old new : ValueLane) → GetsFrame pushed_law old new moment
@@ -258,9 +263,11 @@ module _ (metric : LMetric) (moment : Moment) where
     source = has.source;
     aggregation = has.aggregation;
     values = has.values;
-    along = takes_run pushed_law joining_values.pushed_join (value_asking installed metric has.source has.aggregation) old
+    along = takes_run pushed_law joining_values.pushed_join
+        (value_asking installed metric has.source has.aggregation) old
         new crosses installed (values_ask_well installed metric has.source has.aggregation) refl
-        (λ before step leaves. values_none installed metric before step leaves has.source has.aggregation has.values) steps
+        (λ before step leaves. values_none installed metric before step leaves has.source
+        has.aggregation has.values) steps
         run leave may has.along;
   }
 
@@ -270,7 +277,8 @@ module _ (metric : LMetric) (moment : Moment) where
     events = has.events;
     along = takes_run event_law joining_gauges.events_join (event_asking installed metric) old new crosses installed
         (events_ask_well installed metric) refl
-        (λ before step leaves. events_none installed metric before step leaves has.events) steps run leave may has.along;
+        (λ before step leaves. events_none installed metric before step leaves has.events) steps
+        run leave may has.along;
   }
 
   pub gauges_run : (old new : GaugeLane) → GetsFrame gauge_law old new moment
@@ -279,9 +287,11 @@ module _ (metric : LMetric) (moment : Moment) where
     fields = has.fields;
     samples = has.samples;
     gauge = has.gauge;
-    along = takes_run gauge_law joining_gauges.pushed_join (pushed_gauge_asking installed metric has.fields has.samples) old
+    along = takes_run gauge_law joining_gauges.pushed_join
+        (pushed_gauge_asking installed metric has.fields has.samples) old
         new crosses installed (pushed_gauges_ask_well installed metric has.fields has.samples) refl
-        (λ before step leaves. gauges_none installed metric before step leaves has.fields has.samples has.gauge) steps run
+        (λ before step leaves. gauges_none installed metric before step leaves has.fields
+        has.samples has.gauge) steps run
         leave may has.along;
   }
 
@@ -385,7 +395,8 @@ acts_run linked metric acts steps (step ∷ run) leave along =
       of_what (Logged (AtomAt at atom)) leaves =
           atom_stays metric steps acts along step.at at atom step.truths
           (starting_off linked.predicates metric step.truths leaves.0)
-      of_what (Logged (Pull at id outcome)) leaves = pull_stays metric steps acts along step.at at id outcome step.truths
+      of_what (Logged (Pull at id outcome)) leaves = pull_stays metric steps acts along step.at at
+          id outcome step.truths
       of_what (Reported include_current) leaves = absurd leaves
 
 -- so a metric takes a run that leaves it alone where its lane does

@@ -45,7 +45,8 @@ timely_after news last before (step ∷ steps) in_time =
     (timely_after news (last_at last (bare_step step)) (before ++ step ∷ []) steps in_time.1)
 
 -- steps that come in time are timely for a lane
-pub timely_from : {News : Type 0} (news : List Step → Step → News) (last : ℕ) (steps : List Step) → ComeInTime last steps
+pub timely_from : {News : Type 0} (news : List Step → Step → News) (last : ℕ) (steps : List Step)
+    → ComeInTime last steps
     → AreTimely last (lane_steps news steps)
 timely_from news last steps in_time = timely_after news last [] steps in_time
 

@@ -141,7 +141,8 @@ instance_caught old new moment same stays takes history run has untouching in_ti
     let installed = history.installed in
     let steps = history.steps in
     let known : new.known ≡ old.known = ap (λ (it : Running). it.known) same in
-    let predicates : old.known.predicates ≡ installed.linked.predicates = ap (λ (l : Linked). l.predicates) has.linked in
+    let predicates : old.known.predicates
+    ≡ installed.linked.predicates = ap (λ (l : Linked). l.predicates) has.linked in
     let tables : tables_after old.known.predicates (steps ++ run) ≡ tables_after old.known.predicates steps =
     subst (λ ps. tables_after ps (steps ++ run) ≡ tables_after ps steps) (sym predicates)
     (run_tables installed.linked steps run untouching) in

@@ -54,7 +54,8 @@ kept_there Truths was now keys place key truth keeps is kept =
       by (Some known) told kept = same_Some truth known.truth kept ∙ keeps place key known (sym is) told
 
 -- what is handed has what is so of an inner key
-pub known_there : (given : Handed) (scene : Scene) (metric : LMetric) (fields : FieldSet) (key : LeafKey) (truth : Truth)
+pub known_there : (given : Handed) (scene : Scene) (metric : LMetric) (fields : FieldSet)
+    (key : LeafKey) (truth : Truth)
     (out : MetricKey) → IsOfScene given scene
     → fields ≡ inner_fields (slice_get given.known.predicates metric.what)
     → truth ≡ (known_in scene metric key).truth

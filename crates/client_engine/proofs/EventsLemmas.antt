@@ -54,7 +54,8 @@ pub events_log : (given : Handed) (metric : LMetric) (shown : LogFrame) (truths 
 events_log given metric shown truths old new atom active is logs installed steps frame active_is has may = record {
   events = has.events;
   along = arrivals_log (event_asking installed metric) event_law installed metric (λ scene found. found)
-      (events_arrive installed metric) given shown frame truths old new atom steps active active_is is logs has.along may;
+      (events_arrive installed metric) given shown frame truths old new atom steps active active_is
+      is logs has.along may;
 }
 
 -- what a lane of events hands out is what a report shows of the metric

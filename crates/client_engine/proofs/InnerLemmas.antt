@@ -251,7 +251,8 @@ module _ {P X K C V : Type 0} (law : Law P DurationParams InnerEvent InnerDelta 
 
   -- an atom brings the event that it makes, and the changes that are found once that came
   pub atom_comes : (steps : List Step) (shown frame : LogFrame) (truths : List Bool) (given : Handed)
-      (crossed middle : P) (event : Option InnerEvent) (listed : ℕ) (stays : Stays) (changes : List InnerChange) (at : ℕ)
+      (crossed middle : P) (event : Option InnerEvent) (listed : ℕ) (stays : Stays)
+      (changes : List InnerChange) (at : ℕ)
       (atom : Atom) → shown ≡ AtomAt at atom
       → event ≡ event_in (slice_get given.known.predicates metric.what) truths atom
       → IsFoundAt law metric given truths atom crossed middle listed stays changes
@@ -286,8 +287,10 @@ module _ {P X K C V : Type 0} (law : Law P DurationParams InnerEvent InnerDelta 
             (sym (ap (λ states. tells_one states atom.id metric.slices) may.found.states))
             (there.listed_there params calls before))) in
             ap (delta_with (is_some event))
-            (there.changes_there params acted (scene_after installed (with_logged steps frame truths)) stands may.found keeps
+            (there.changes_there params acted
+            (scene_after installed (with_logged steps frame truths)) stands may.found keeps
             ∙ ap (λ (s : PredicateState LeafKey). changes_from (last_known spec acted) now 0 (keys_of s.counts))
             knows.state
-            ∙ changes_alike (last_known spec acted) (told_after installed metric spec steps) now 0 listed_now knows.told);
+            ∙ changes_alike (last_known spec acted)
+            (told_after installed metric spec steps) now 0 listed_now knows.told);
       }

@@ -170,7 +170,8 @@ pub instance_logs : (old new : Running) (shown : LogFrame) (truths : List Bool) 
     → KnowsStep (logged_step shown truths) old.known new.known
     → TakesFrame AllStandFor (handed new.known old.matchers old.states book) shown truths old.tracks new.tracks
     → log_time shown < time_limit → Logs old shown truths book new
-instance_logs old new shown truths book same stays knows_step steps_on fits history frame has later view shown_is book_is =
+instance_logs old new shown truths book same stays knows_step steps_on fits history frame has later
+    view shown_is book_is =
     let step = logged_step frame truths in
     let installed = history.installed in
     let linked = installed.linked in
@@ -207,7 +208,8 @@ pub instance_reports : (old new : Running) (request : ReportRequest) (book : Boo
     → new ≡ record old { tracks = new.tracks; last = request.at }
     → linked_of new ≡ linked_of old → tree ≡ tree_with request old.last trees drops alarms
     → drops.of_predicates ≡ drops_in old.known.predicates old.known.tables → AreStateDrops old.states book drops
-    → AreAlarmsOf old.alerts old.tracks alarms → AllReport old.base request old.tracks new.tracks trees → Reports old request book new tree
+    → AreAlarmsOf old.alerts old.tracks alarms → AllReport old.base request old.tracks new.tracks trees
+    → Reports old request book new tree
 unfolding report_of
 instance_reports old new request book tree trees drops alarms same stays tree_is predicate_drops_are state_drops_are
     alarms_are reports history has now =

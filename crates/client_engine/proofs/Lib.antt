@@ -47,3 +47,6 @@ pub mod UntouchingLemmas
 pub mod CaughtUpLemmas
 pub mod LastStepLemmas
 pub mod AskedLemmas
+pub mod SavedLanesLemmas
+pub mod SavedInstancesLemmas
+pub mod SavedListsLemmas

@@ -72,9 +72,11 @@ module _ (given : Handed) (metric : LMetric) (shown : LogFrame) (truths : List B
         spec = has.spec;
         longest = has.longest;
         timed = has.timed;
-        along = inner_takes sparse_law metric has.spec installed way well refl tell has.timed shown frame truths given old
+        along = inner_takes sparse_law metric has.spec installed way well refl tell has.timed shown
+            frame truths given old
             crossed crossed crossed None None steps crosses (no_calls sparse_law crossed) (no_calls sparse_law crossed)
-            (others_pass sparse_law metric has.spec installed way well refl tell has.timed steps shown frame truths given
+            (others_pass sparse_law metric has.spec installed way well refl tell has.timed steps
+            shown frame truths given
             crossed.producer other may) may has.along;
       }
 
@@ -92,21 +94,25 @@ module _ (given : Handed) (metric : LMetric) (shown : LogFrame) (truths : List B
         spec = has.spec;
         longest = has.longest;
         timed = has.timed;
-        along = inner_takes sparse_law metric has.spec installed way well refl tell has.timed shown frame truths given old
+        along = inner_takes sparse_law metric has.spec installed way well refl tell has.timed shown
+            frame truths given old
             crossed crossed crossed None None steps crosses (no_calls sparse_law crossed) (no_calls sparse_law crossed)
-            (untouched_pass sparse_law metric has.spec installed way well refl tell has.timed steps shown frame truths given
+            (untouched_pass sparse_law metric has.spec installed way well refl tell has.timed steps
+            shown frame truths given
             crossed.producer at atom is times untouched untold may) may has.along;
       }
 
   -- an atom brings its event, and then what changed
-  pub longest_turn : (at : ℕ) (atom : Atom) → shown ≡ AtomAt at atom → (middle new : LongestLane) (event : Option InnerEvent)
+  pub longest_turn : (at : ℕ) (atom : Atom) → shown ≡ AtomAt at atom
+      → (middle new : LongestLane) (event : Option InnerEvent)
       (listed : ℕ) (stays : Stays) (changes : List InnerChange)
       → GetsCalls sparse_law crossed middle (coming (log_time shown) event)
       → GetsCalls sparse_law middle new (learning (log_time shown) (delta_with (is_some event) changes))
       → event ≡ event_in (slice_get given.known.predicates metric.what) truths atom
       → IsFoundAt sparse_law metric given truths atom crossed.producer middle.producer listed stays changes
       → TakesFrame (LongestAlong metric) given shown truths old new
-  longest_turn at atom is middle new event listed stays changes acts learns event_there found installed steps frame has may =
+  longest_turn at atom is middle new event listed stays changes acts learns event_there found
+      installed steps frame has may =
       let way = longest_way installed metric has.spec in
       let well = longest_ask_well installed metric has.spec has.timed in
       let tell = crossed_tell installed metric has.spec in
@@ -114,7 +120,8 @@ module _ (given : Handed) (metric : LMetric) (shown : LogFrame) (truths : List B
         spec = has.spec;
         longest = has.longest;
         timed = has.timed;
-        along = inner_takes sparse_law metric has.spec installed way well refl tell has.timed shown frame truths given old
+        along = inner_takes sparse_law metric has.spec installed way well refl tell has.timed shown
+            frame truths given old
             crossed middle new event (delta_with (is_some event) changes) steps crosses acts learns
             (atom_comes sparse_law metric has.spec installed way well refl tell has.timed steps shown frame truths given
             crossed.producer middle.producer event listed stays changes at atom is event_there found may) may has.along;
@@ -133,7 +140,8 @@ pub longest_few : (metric : LMetric) (conditions : Known) (brought : Brought) (o
     || tells_one brought.states.now atom.id metric.slices) ≡ true
     → AsksOfAll sparse_law.stands middle.producer stays before after
     → AsksFew (LongestAlong metric) (metric ∷ []) conditions brought old before after
-longest_few metric conditions brought old crossed middle event listed stays before after at atom is crosses acts event_is
+longest_few metric conditions brought old crossed middle event listed stays before after at atom
+    is crosses acts event_is
     stays_are changes asks installed steps frame has may =
     let truths = brought.matched.now in
     let few = atom_few sparse_law metric has.spec installed (longest_way installed metric has.spec)
@@ -149,7 +157,8 @@ longest_few metric conditions brought old crossed middle event listed stays befo
     + (if is_touched installed.linked.predicates metric truths then n else 0)) (sym many) few))
 
 -- what a lane hands out is what a report shows of the metric
-pub longest_report : (metric : LMetric) (base : ℕ) (request : ReportRequest) (old new : LongestLane) (closed : Taken (Row ℕ))
+pub longest_report : (metric : LMetric) (base : ℕ) (request : ReportRequest) (old new : LongestLane)
+    (closed : Taken (Row ℕ))
     → GetsReport sparse_law old new request.at request.include_current closed
     → (tree : MetricTree) → tree ≡ durations_shown_by base metric closed
     → TakesReport (LongestAlong metric) metric base request old new tree

@@ -121,7 +121,8 @@ module _ (spec : PredSpec) (state : PredicateState LeafKey) where
   after_old StopAll acted = none_old
 
 -- of as many inner keys as were listed before an event, if one comes, each was listed before it
-pub are_old : (spec : PredSpec) (calls : List DurationCall) (at : ℕ) (event : Option InnerEvent) (place : ℕ) (key : LeafKey)
+pub are_old : (spec : PredSpec) (calls : List DurationCall) (at : ℕ) (event : Option InnerEvent)
+    (place : ℕ) (key : LeafKey)
     → place < length (inner_keys spec calls)
     → slice_get (inner_keys spec (calls ++ coming at event)) place ≡ Some key
     → is_among same_leaves key (inner_keys spec calls) ≡ true

@@ -95,7 +95,8 @@ pulled_gauges_log given metric shown truths old middle new crosses gets installe
   along = told_log (pulled_gauge_way installed metric has.fields has.samples has.mode has.trigger)
       (pulled_gauge_params installed.base metric (sample_spec has.samples has.mode))
       (gauge_telling metric has.fields has.trigger) installed metric pulled_law
-      (pulled_gauges_ask_well installed metric has.fields has.samples has.mode has.trigger) refl given shown frame truths
+      (pulled_gauges_ask_well installed metric has.fields has.samples has.mode has.trigger) refl
+      given shown frame truths
       old middle new steps crosses
       (λ scene found. gets scene found has.fields has.samples has.mode has.trigger has.gauge) has.along may;
 }
@@ -109,7 +110,8 @@ pub pulled_gauges_report : (metric : LMetric) (base : ℕ) (request : ReportRequ
 pulled_gauges_report metric base request old new closed reports tree is installed steps has may =
     let both = along_reports (pulled_gauge_asking installed metric has.fields has.samples has.mode has.trigger)
     pulled_law (pulled_gauges_ask_well installed metric has.fields has.samples has.mode has.trigger)
-    steps (pulled_gauges_agree installed metric has.fields has.samples has.mode has.trigger has.gauge) request old new closed
+    steps (pulled_gauges_agree installed metric has.fields has.samples has.mode has.trigger has.gauge)
+    request old new closed
     reports has.along may.in_time in (
       record {
         fields = has.fields;

@@ -60,7 +60,8 @@ pulled_values_begin metric source spec values installed base new told opened lan
       values = values;
       along = told_begins (pulled_value_way installed metric source spec)
           (pulled_value_params installed.base metric spec) (value_telling metric source) installed metric pulled_law
-          (pulled_values_ask_well installed metric source spec) (subst (λ b. b < time_limit) (sym base_is) fits) new told
+          (pulled_values_ask_well installed metric source spec)
+          (subst (λ b. b < time_limit) (sym base_is) fits) new told
           opened lane base snapshot now
           (subst (λ b. pulled_law.stands new (pulled_value_params b metric spec) []) (sym base_is) stands) gets learns
           (sym base_is) snapshot_is now_is

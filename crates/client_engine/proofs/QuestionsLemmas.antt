@@ -18,7 +18,8 @@ use Rattle.client_engine.specs.Questions.{touched_questions, metric_questions, q
 -- a frame that is shown as another costs as much
 pub shown_questions : (metrics : List LMetric) (installed : Installation) (steps : List Step) (log : List LogFrame)
     (frame : LogFrame) (truths : List Bool)
-    → questions_of metrics installed steps (shown_as log frame) truths ≡ questions_of metrics installed steps frame truths
+    → questions_of metrics installed steps (shown_as log frame) truths
+    ≡ questions_of metrics installed steps frame truths
 shown_questions metrics installed steps log (Tick at) truths = refl
 shown_questions metrics installed steps log (AtomAt at atom) truths = refl
 shown_questions metrics installed steps log (Pull at id outcome) truths = refl

@@ -71,7 +71,8 @@ module _ {Params News Event After X K C R : Type 0} (asking : Asking Params News
   seen_run before [] none = refl
   seen_run before (step ∷ run) none =
       one_seen before step.at step.what step.truths
-      (outputs_after (lane_step_after asking.news) (before ++ step ∷ []) run) (run_seen (before ++ step ∷ []) run) none.0
+      (outputs_after (lane_step_after asking.news) (before ++ step ∷ []) run)
+      (run_seen (before ++ step ∷ []) run) none.0
       (seen_run (before ++ step ∷ []) run none.1)
 
   -- so it sees it after other steps
@@ -151,7 +152,8 @@ module _ {P Params News Event After X K C V : Type 0} (asking : Asking Params Ne
       (standing_of demands (calls_with demands asking.asks asking.opens seen))
       (all_along_opened demands along.fits asking.opens well.opens asking.asks seen
       (timely_from asking.news demands.base steps in_time) (asks_well asking law.collecting well steps))
-      lane.clock at along.collects.clock (subst (λ time. time ≤ at) (sym (last_seen asking demands.base [] steps)) later)
+      lane.clock at along.collects.clock
+      (subst (λ time. time ≤ at) (sym (last_seen asking demands.base [] steps)) later)
       fits
 
 module _ {P Params News Event After X K C V : Type 0} (asking : Asking Params News Event After X K C (Row V))

@@ -98,7 +98,8 @@ module _ (scene : Scene) (metric : LMetric) (truths : List Bool) where
       → None ≡ arriving_by scene metric (logged_step shown truths)
   none_arrives (Tick at) off = refl
   none_arrives (AtomAt at atom) off =
-      ap (λ b. if b && (is_active_in scene metric at && holds_in scene metric (atom_reading atom)) then Some atom else None)
+      ap (λ b. if b && (is_active_in scene metric at && holds_in scene metric (atom_reading atom))
+      then Some atom else None)
       (sym (off at atom refl))
   none_arrives (Pull at id outcome) off = refl
 
@@ -132,7 +133,8 @@ module _ (predicates : List LPredicate) (metric : LMetric) (truths : List Bool) 
   -- where neither what is counted holds nor a matcher that touches the condition, a pulled metric isn't touched
   pub pulled_untouched : one_holds truths (metric.what ∷ []) ≡ false
       → one_holds truths (touchers_named predicates metric.condition) ≡ false
-      → (truth_at metric.what truths || (acts_below predicates truths metric.condition || acts_below predicates truths None))
+      → (truth_at metric.what truths
+      || (acts_below predicates truths metric.condition || acts_below predicates truths None))
       ≡ false
   pulled_untouched own off =
       let what = truth_at metric.what truths in
@@ -243,7 +245,8 @@ module _ (given : Handed) (metric : LMetric) (truths : List Bool) (time : ℕ) w
       pulled_values_log given metric (AtomAt at atom) truths lane lane lane
       (crosses_none given metric (AtomAt at atom) truths time early no_pull sleeps pulled_values.pulled_law lane later)
       (λ scene found source spec values.
-      atom_untold pulled_values.pulled_law (value_telling metric source) given scene metric (AtomAt at atom) truths found
+      atom_untold pulled_values.pulled_law (value_telling metric source) given scene metric
+      (AtomAt at atom) truths found
       lane at atom refl
       (ap (λ kind. is_touched given.known.predicates (record metric { kind = kind }) truths) values
       ∙ pulled_untouched given.known.predicates metric truths
@@ -267,7 +270,8 @@ module _ (given : Handed) (metric : LMetric) (truths : List Bool) (time : ℕ) w
       pulled_gauges_log given metric (AtomAt at atom) truths lane lane lane
       (crosses_none given metric (AtomAt at atom) truths time early no_pull sleeps pulled_gauges.pulled_law lane later)
       (λ scene found fields samples mode trigger gauge.
-      atom_untold pulled_gauges.pulled_law (gauge_telling metric fields trigger) given scene metric (AtomAt at atom) truths
+      atom_untold pulled_gauges.pulled_law (gauge_telling metric fields trigger) given scene metric
+      (AtomAt at atom) truths
       found lane at atom refl
       (ap (λ kind. is_touched given.known.predicates (record metric { kind = kind }) truths) gauge
       ∙ gauge_untouched given.known.predicates metric truths trigger

@@ -186,7 +186,8 @@ module _ {P Params Event X K C V : Type 0} (way : Way X K C (Row V)) (params : P
 
   -- a lane of such a producer has seen no step
   pub told_begins : AsksWell (told_asking way params telling installed metric) law.collecting
-      → (law.collecting.demands params).base < time_limit → (new told opened : P) (lane : Lane P Event Truth V) (base : ℕ)
+      → (law.collecting.demands params).base < time_limit
+      → (new told opened : P) (lane : Lane P Event Truth V) (base : ℕ)
       (snapshot : Event) (now : Truth)
       → law.stands new params [] → Moves law new told (Got base snapshot) → Moves law told opened (Learned base now)
       → base ≡ installed.base → snapshot ≡ telling.snapshot (snapshot_found installed metric [])
@@ -237,7 +238,8 @@ module _ {P Params Event X K C V : Type 0} (law : Law P Params Event Truth X K C
         (sym untouched ∙ touched_there) (gets_none lane))
 
     -- of another one the condition is, and then what its matchers say
-    pub atom_told : (old middle new : Lane P Event Truth V) (at : ℕ) (atom : Atom) (now : Truth) → frame ≡ AtomAt at atom
+    pub atom_told : (old middle new : Lane P Event Truth V) (at : ℕ) (atom : Atom) (now : Truth)
+        → frame ≡ AtomAt at atom
         → is_touched given.known.predicates metric truths ≡ true
         → now ≡ condition_truth given.known.predicates given.known.tables metric nothing_read
         → GetsCall law old middle (Learned at now)

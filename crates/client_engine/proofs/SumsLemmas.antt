@@ -46,7 +46,8 @@ use Rattle.client_engine.proofs.InnerLemmas.{IsFoundAt, IsOther, timed_well, no_
 
 -- a new lane has seen no step of what was installed at this clock, where the metric is sound
 pub sums_begin : (metric : LMetric) (spec : PredSpec) (installed : Installation) (base : ℕ) (lane : SumLane)
-    → installed.base ≡ base → IsSoundIn installed.linked metric → metric.kind ≡ kinds.SumDuration spec → base < time_limit
+    → installed.base ≡ base → IsSoundIn installed.linked metric
+    → metric.kind ≡ kinds.SumDuration spec → base < time_limit
     → LaneHas sum_law lane (duration_params base metric spec) [] [] → SumsAlong metric installed [] lane
 sums_begin metric spec installed base lane base_is sound is fits has =
     let kind = subst (IsSoundKind installed.linked metric) is sound.sound.kind in
@@ -93,7 +94,8 @@ module _ (given : Handed) (metric : LMetric) (shown : LogFrame) (truths : List B
         timed = has.timed;
         along = inner_takes sum_law metric has.spec installed way well refl tell has.timed shown frame truths given old
             crossed crossed crossed None None steps crosses (no_calls sum_law crossed) (no_calls sum_law crossed)
-            (untouched_pass sum_law metric has.spec installed way well refl tell has.timed steps shown frame truths given
+            (untouched_pass sum_law metric has.spec installed way well refl tell has.timed steps
+            shown frame truths given
             crossed.producer at atom is times untouched untold may) may has.along;
       }
 
@@ -105,7 +107,8 @@ module _ (given : Handed) (metric : LMetric) (shown : LogFrame) (truths : List B
       → event ≡ event_in (slice_get given.known.predicates metric.what) truths atom
       → IsFoundAt sum_law metric given truths atom crossed.producer middle.producer listed stays changes
       → TakesFrame (SumsAlong metric) given shown truths old new
-  sums_turn at atom is middle new event listed stays changes acts learns event_there found installed steps frame has may =
+  sums_turn at atom is middle new event listed stays changes acts learns event_there found
+      installed steps frame has may =
       let way = sum_way installed metric has.spec in
       let well = sums_ask_well installed metric has.spec has.timed in
       let tell = crossed_tell installed metric has.spec in

@@ -23,7 +23,8 @@ use Rattle.metric_meaning.specs.Touched.{acts_on, acts_at, acts_below}
 use Rattle.client_engine.specs.Touchers.{matchers_found, matchers_below, touchers, all_touchers, one_holds}
 
 -- a matcher that is named holds
-pub named_holds : (place : Option ℕ) (truths : List Bool) → one_holds truths (place_named place) ≡ named_truth place truths
+pub named_holds : (place : Option ℕ) (truths : List Bool)
+    → one_holds truths (place_named place) ≡ named_truth place truths
 named_holds None truths = refl
 named_holds (Some place) truths = or_false (truth_at place truths) where
   or_false : (b : Bool) → (b || false) ≡ b
@@ -215,7 +216,8 @@ pub list_there : (predicates : List LPredicate) (root : ℕ) → root < length p
 list_there predicates root within =
     slice_get_read (all_touchers predicates) (length (all_touchers predicates)) root (touchers predicates root) refl
     (omega (arith, length-map-range_with_len (touchers predicates) 0 (length predicates), within))
-    (sym (get_or-map-range_with_len (touchers predicates) 0 (length predicates) root root (touchers predicates root) within
+    (sym (get_or-map-range_with_len (touchers predicates) 0 (length predicates) root root
+    (touchers predicates root) within
     (omega arith)))
 
 -- what is found for a root says whether the atom acts below it

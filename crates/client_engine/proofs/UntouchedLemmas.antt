@@ -59,7 +59,8 @@ module _ (installed : Installation) (metric : LMetric) (spec : PredSpec) (steps 
   -- an atom that doesn't act below the condition leaves its truth: it doesn't touch a metric that has this condition, and
   -- times a predicate that isn't there
   condition_left : acts_below installed.linked.predicates truths metric.condition ≡ false → (reading : LeafReading)
-      → condition_truth installed.linked.predicates (tables_after installed.linked.predicates (steps ++ step ∷ [])) metric
+      → condition_truth installed.linked.predicates
+      (tables_after installed.linked.predicates (steps ++ step ∷ [])) metric
       reading
       ≡ condition_truth installed.linked.predicates (tables_after installed.linked.predicates steps) metric reading
   condition_left off reading =

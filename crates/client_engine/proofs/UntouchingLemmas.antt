@@ -70,7 +70,8 @@ none_mapped test f (x ∷ xs) off (suc k) none within =
     none_mapped test f xs (second_off (test (f x)) (list_any test (map f xs)) off) k none (omega (arith, within))
 
 -- what is so of all is so of one that is found
-pub of_found : {X : Type 0} (P : X → Type 0) (xs : List X) (place : ℕ) (x : X) → All P xs → slice_get xs place ≡ Some x → P x
+pub of_found : {X : Type 0} (P : X → Type 0) (xs : List X) (place : ℕ) (x : X) → All P xs
+    → slice_get xs place ≡ Some x → P x
 of_found P xs place x all is =
     subst P (get_or_from_slice_get xs place x x is) (all place x (slice_get_within xs place x is))
 
@@ -199,7 +200,8 @@ module _ (linked : Linked) (id : ℕ) (unheard : is_heard linked id ≡ false) w
   pub told_of_none : (metric : LMetric) → is_told_of linked.matchers metric id ≡ false
   told_of_none metric =
       at_place (slice_get linked.matchers metric.what)
-      (λ matcher is. of_found (λ matcher. list_any same (matched_id matcher) ≡ false) linked.matchers metric.what matcher
+      (λ matcher is. of_found (λ matcher. list_any same (matched_id matcher) ≡ false)
+      linked.matchers metric.what matcher
       (none_given same matched_id linked.matchers
       (first_off (list_any same matched) (list_any same told) none_same)) is) where
         no_pull : (is pulled : Bool) → is ≡ false → (is && pulled) ≡ false
@@ -218,7 +220,8 @@ module _ (linked : Linked) (id : ℕ) (unheard : is_heard linked id ≡ false) w
 
 module _ (linked : Linked) where
   -- a step that touches nothing leaves each metric alone
-  untouching_alone : (step : Step) → IsUntouching linked step → All (λ metric. LeavesAlone linked metric step) linked.metrics
+  untouching_alone : (step : Step) → IsUntouching linked step
+      → All (λ metric. LeavesAlone linked metric step) linked.metrics
   untouching_alone step untouching = of_what step.what untouching where
     of_what : (what : What) → let s : Step = record step { what = what } in IsUntouching linked s
         → All (λ metric. LeavesAlone linked metric s) linked.metrics

@@ -84,7 +84,8 @@ first_question metric metrics installed steps (AtomAt at atom) truths =
 first_question metric metrics installed steps (Pull at id outcome) truths = refl
 
 -- what is marked is no more than all
-marked-few : (marks : List Bool) (metrics : List LMetric) (installed : Installation) (steps : List Step) (frame : LogFrame)
+marked-few : (marks : List Bool) (metrics : List LMetric) (installed : Installation)
+    (steps : List Step) (frame : LogFrame)
     (truths : List Bool)
     → marked_questions marks metrics installed steps frame truths ≤ questions_of metrics installed steps frame truths
 marked-few [] metrics installed steps frame truths = omega arith
@@ -94,7 +95,8 @@ marked-few (mark ∷ marks) (metric ∷ metrics) installed steps frame truths =
     let all = first_question metric metrics installed steps frame truths in
     by_mark mark rest all where
       by_mark : (b : Bool)
-          → marked_questions marks metrics installed steps frame truths ≤ questions_of metrics installed steps frame truths
+          → marked_questions marks metrics installed steps frame truths ≤ questions_of metrics
+          installed steps frame truths
           → questions_of (metric ∷ metrics) installed steps frame truths
           ≡ questions_of (metric ∷ []) installed steps frame truths + questions_of metrics installed steps frame truths
           → (if b then questions_of (metric ∷ []) installed steps frame truths else 0)
@@ -169,7 +171,8 @@ module _ (given : Handed) (shown : LogFrame) (truths : List Bool) where
       marked = length-set marks place true ∙ are.marked;
       metrics = map-set_same metric_in now place track none inside metric ∙ are.metrics;
       asleep = λ other rest still. elim (cases_eq other place) [
-        | inl same_place ↦ absurd (true≢false (sym (get_or-set_same marks place true true (marked_within marks place off))
+        | inl same_place ↦ absurd (true≢false
+            (sym (get_or-set_same marks place true true (marked_within marks place off))
             ∙ subst (λ p. get_or (set marks place true) p true ≡ false) same_place still))
         | inr differ ↦ get_or-set_other now place other track rest differ
             ∙ are.asleep other rest (sym (get_or-set_other marks place other true true differ) ∙ still)
@@ -206,7 +209,8 @@ module _ (given : Handed) (shown : LogFrame) (truths : List Bool) where
       → (moment_of shown (log_time shown)).is_pull ≡ false → AllDue time first
       → OthersSleep places given.known.predicates given.states shown truths (map metric_in first)
       → AreAllMarked places marks → TakesFrame AllStandFor given shown truths first now
-  all_woken first now before after due time marks places are early no_pull ends sleep marked installed steps frame all may
+  all_woken first now before after due time marks places are early no_pull ends sleep marked
+      installed steps frame all may
       place none within =
       let inside : place < length first = subst (λ n. place < n) are.len within in
       let stands = all place none inside in
@@ -218,12 +222,14 @@ module _ (given : Handed) (shown : LogFrame) (truths : List Bool) where
               | inl there ↦ absurd (true≢false (sym (marked place there) ∙ off))
               | inr isnt ↦ isnt
             ] in
-            let sleeps : SleepsThrough given.known.predicates given.states shown truths (get_or first place none).metric =
+            let sleeps : SleepsThrough given.known.predicates given.states shown truths
+            (get_or first place none).metric =
             subst (SleepsThrough given.known.predicates given.states shown truths)
             (get_or-map metric_in first place none (metric_in none) inside)
             (sleep place (metric_in none) (omega (arith, inside, length-map first metric_in)) out) in
             subst (TrackStandsFor installed (with_logged steps frame truths)) (sym (are.asleep place none off))
-            (track_sleeps given shown truths time early no_pull (get_or first place none) sleeps (ends place none inside)
+            (track_sleeps given shown truths time early no_pull (get_or first place none) sleeps
+            (ends place none inside)
             installed steps frame stands may)
       ]
 

@@ -39,3 +39,8 @@ pub mod InstanceStands
 pub mod Asleep
 pub mod CaughtUp
 pub mod Woken
+pub mod SavedLanes
+pub mod LaneKinds
+pub mod SavedSizes
+pub mod SavedInstances
+pub mod SavedParts

@@ -1,8 +1,11 @@
 -- What metrics find when their configuration is installed.
-use Rattle.std.specs.Prelude.{◌≡◌, []}
+use Rattle.std.specs.Prelude.{◌≡◌, ◌<◌, [], All}
+use Rattle.bucket_meaning.specs.Limits.{time_limit}
 use Rattle.pull_book.specs.PullBooks.{PullBookStandsFor}
 use Rattle.metric_meaning.specs.Histories.{Installation}
+use Rattle.client_engine.specs.Finding.{MayAsk}
 use Rattle.client_engine.specs.Known.{Known, KnowsAfter}
+use Rattle.client_engine.specs.Watches.{CanBeWatched}
 use Rattle.client_engine.specs.declared.opening.Opening.{Opening}
 
 -- what is found is what was installed: its clock, its matchers, its alerts, its predicates, to which nothing has
@@ -14,3 +17,9 @@ pub record IsOpeningOf (installed : Installation) (opening : Opening) (known : K
   pub predicates : known.predicates ≡ installed.linked.predicates
   pub knows : KnowsAfter [] known
   pub pulls : PullBookStandsFor opening.pulls.now installed.opening
+
+-- metrics can begin there: before the end of time, where each matcher may be asked and each alert can be watched
+pub record CanOpen (opening : Opening) : Type 0 where
+  pub in_time : opening.base < time_limit
+  pub askable : All MayAsk opening.matchers.now
+  pub watchable : All CanBeWatched opening.alerts.now

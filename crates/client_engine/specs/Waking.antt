@@ -28,7 +28,8 @@ told_touchers predicates metric = of_kind metric.kind where
   of_kind : LKind → List ℕ
   of_kind (PulledValue atom_id leaf spec) = touchers_named predicates metric.condition
   of_kind (PulledGauge fields samples mode trigger) = touchers_named predicates metric.condition
-  of_kind (SumDuration spec) = touchers_named predicates metric.condition ++ touchers_named predicates (Some metric.what)
+  of_kind (SumDuration spec) = touchers_named predicates metric.condition
+      ++ touchers_named predicates (Some metric.what)
   of_kind (MaxSparse spec) = touchers_named predicates metric.condition ++ touchers_named predicates (Some metric.what)
   of_kind _ = []
 

@@ -46,6 +46,15 @@ pub fn hear(acts: &mut ActBook, metric: &LMetric, brought: &Brought<'_>) -> bool
     if metric.activations.is_empty() {
         return true;
     }
+    hear_of(acts, metric, brought)
+}
+
+// Tells and asks the book, whether or not there are activations.
+#[inline(never)]
+fn hear_of(acts: &mut ActBook, metric: &LMetric, brought: &Brought<'_>) -> bool
+    ensures told { TellsFrame metric.now brought.now.frame.now brought.now.matched.now acts.old acts.new }
+    ensures active { SaysActive metric.now acts.new (log_time brought.now.frame.now) result }
+{
     tell(acts, metric, brought);
     acts.active(time_of(brought.frame))
 }

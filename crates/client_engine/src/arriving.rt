@@ -1,5 +1,5 @@
 //! The atom that arrives at a metric with a frame of the log, and its key.
-ghost use Rattle.std.specs.Prelude.{◌≡◌, ◌≤◌, ◌+◌, true, List, None, length, OnOk, IfOk};
+ghost use Rattle.std.specs.Prelude.{◌≡◌, ◌≤◌, ◌+◌, List, length, OnOk, IfOk};
 ghost use Rattle.std.specs.Option.{option_copied};
 ghost use Rattle.atom_record.specs.declared.log.LogFrame.{LogFrame};
 ghost use Rattle.config_links.specs.SoundConfig.{MayBeWithin};
@@ -28,8 +28,8 @@ use state_slicer::StateBook;
 use std::alloc::{AllocError, Global};
 use std::sync::ledger::Ledger;
 
-/// The atom that arrives at a metric, if one does, whatever the metric makes of it. Where the metric isn't active or has
-/// no condition, nothing is asked of predicates.
+/// The atom that arrives at a metric, if one does, whatever the metric makes of it. The condition is asked last: where the
+/// metric isn't active or has no condition, nothing is asked of predicates.
 #[inline(always)]
 pub fn arriving<'a, L: Ledger>(
     alloc: Global,
@@ -51,56 +51,19 @@ pub fn arriving<'a, L: Ledger>(
     if !is_active {
         return Ok(None);
     }
-    match metric.condition {
-        None => Ok(plain_arriving(metric, brought)),
-        Some(_) => arriving_on_condition(alloc, metric, brought, conditions, asks),
-    }
-}
-
-// The atom that arrives at a metric, if one does. The condition is asked last.
-#[inline(never)]
-fn arriving_on_condition<'a, L: Ledger>(
-    alloc: Global,
-    metric: &LMetric,
-    brought: &Brought<'a>,
-    conditions: &mut Conditions,
-    asks: &mut Steps<L>,
-) -> Result<Option<&'a Atom>, AllocError>
-    requires within { MayBeWithin (length conditions.old.predicates) metric.now.condition }
-    ensures atom { (scene : Scene) → IsOfScene (handed_with conditions.old brought.now) scene
-        → true ≡ is_active_in scene metric.now (log_time brought.now.frame.now)
-        → IfOk result (λ found. option_copied found
-        ≡ arriving_by scene metric.now (brought_step brought.now)) }
-    ensures known { conditions.new ≡ conditions.old }
-    ensures asks { asks.new ≤ asks.old
-        + arrival_questions brought.now.frame.now brought.now.matched.now metric.now }
-{
     let LogFrame::AtomAt { atom, .. } = brought.frame else {
         return Ok(None);
     };
     if !is_true_at(brought.matched, metric.what) {
         return Ok(None);
+    }
+    if metric.condition.is_none() {
+        return Ok(Some(atom));
     }
     if !conditions.holds(alloc, metric, atom, asks)? {
         return Ok(None);
     }
     Ok(Some(atom))
-}
-
-// The atom that arrives at a metric without a condition, if one does.
-#[inline(always)]
-fn plain_arriving<'a>(metric: &LMetric, brought: &Brought<'a>) -> Option<&'a Atom>
-    requires { metric.now.condition ≡ None }
-    ensures { (scene : Scene) → true ≡ is_active_in scene metric.now (log_time brought.now.frame.now)
-        → option_copied result ≡ arriving_by scene metric.now (brought_step brought.now) }
-{
-    let LogFrame::AtomAt { atom, .. } = brought.frame else {
-        return None;
-    };
-    if !is_true_at(brought.matched, metric.what) {
-        return None;
-    }
-    Some(atom)
 }
 
 /// A metric's key of what is read, as of an atom that arrives.

@@ -9,8 +9,10 @@ ghost use Rattle.metric_meaning.specs.Touched.{acts_below, is_touched};
 ghost use Rattle.metric_calls.specs.DurationCalls.{event_in};
 ghost use Rattle.client_engine.specs.NextSteps.{logged_step};
 ghost use Rattle.client_engine.specs.Known.{KnowsAfter, KnowsStep, drops_in};
-ghost use Rattle.client_engine.specs.KeptPredicates.{CanBeKept};
+ghost use Rattle.client_engine.specs.KeptPredicates.{CanBeKept, AreKept};
 ghost use Rattle.client_engine.specs.Waking.{touchers_named};
+
+mod saved;
 
 use crate::asked::{Asked, InnerKey, ask_all};
 use crate::inner::key_event;
@@ -77,8 +79,21 @@ impl Conditions {
         ensures predicates { IfOk result (λ it. it.predicates ≡ predicates) }
         ensures knows { IfOk result (KnowsAfter []) }
     {
+        let tables = new_tables(alloc, predicates.as_slice())?;
+        Conditions::with_tables(alloc, predicates, tables)
+    }
+
+    /// Predicates that know what their tables say. What is made of the predicates alone is made here.
+    pub fn with_tables(
+        alloc: Global,
+        predicates: Seq<LPredicate>,
+        tables: Vec<PredTable>,
+    ) -> Result<Conditions, AllocError>
+        requires kept { AreKept predicates tables.items }
+        ensures predicates { IfOk result (λ it. it.predicates ≡ predicates) }
+        ensures tables { IfOk result (λ it. it.tables ≡ tables.items) }
+    {
         let kept = predicates.as_slice();
-        let tables = new_tables(alloc, kept)?;
         let touchers = touchers_of_all(alloc, kept)?;
         let actors = actors_of_all(alloc, kept)?;
         let marks = no_marks(alloc, kept.len())?;
@@ -114,6 +129,20 @@ impl Conditions {
         if self.tables.is_empty() {
             return Ok(());
         }
+        self.log_some(alloc, frame, matched)
+    }
+
+    // The same where there are predicates.
+    #[inline(never)]
+    fn log_some(
+        &mut self,
+        alloc: Global,
+        frame: &LogFrame,
+        matched: &[bool],
+    ) -> Result<(), AllocError>
+        ensures knows { OnOk result (KnowsStep (logged_step frame.now matched.now) self.old self.new) }
+        ensures predicates { self.new.predicates ≡ self.old.predicates }
+    {
         match frame {
             LogFrame::AtomAt { atom, .. } => {
                 find_matched(self.actors.as_slice(), matched, &mut self.acting)?;
@@ -177,6 +206,7 @@ impl Conditions {
     }
 
     /// Whether a metric's condition is true for what its links read, by what predicates know now.
+    #[inline(never)]
     pub fn holds<A: Asked, L: Ledger>(
         &mut self,
         alloc: Global,

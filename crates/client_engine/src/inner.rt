@@ -1,7 +1,8 @@
 //! The inner keys of a metric of durations, which are the keys of the predicate that it times: what atoms do to them,
 //! and what is told of them.
-ghost use Rattle.std.specs.Prelude.{◌≡◌, ◌≤◌, ◌+◌, ◌||◌, if◌then◌else◌, [], List, length, slice_get, OnOk, IfOk};
+ghost use Rattle.std.specs.Prelude.{◌≡◌, ◌<◌, ◌≤◌, ◌+◌, ◌||◌, if◌then◌else◌, [], List, length, slice_get, OnOk, IfOk};
 ghost use Rattle.std.specs.Option.{option_copied};
+ghost use Rattle.bucket_meaning.specs.Limits.{most_keys};
 ghost use Rattle.config_links.specs.SoundConfig.{MayBeWithin};
 ghost use Rattle.duration_metric.specs.InnerKeys.{DurationParams, DurationCall, inner_keys, last_known, told_truth, was_told};
 ghost use Rattle.duration_metric.specs.SumStands.{SumStandsFor};
@@ -41,8 +42,9 @@ pub trait Inners {
 
     /// The number of inner keys.
     fn len(&self) -> usize
-        ensures { (params : DurationParams) (calls : List DurationCall) → stands self.now params calls
-            → result ≡ length (inner_keys params.spec calls) };
+        ensures value { (params : DurationParams) (calls : List DurationCall) → stands self.now params calls
+            → result ≡ length (inner_keys params.spec calls) }
+        ensures few { result ≤ most_keys };
 
     /// The inner key at a place.
     fn key(&self, place: usize) -> Option<&DimKey>
@@ -223,6 +225,7 @@ fn add_change<K: Inners, L: Ledger>(
     asks: &mut Steps<L>,
 ) -> Result<(), AllocError>
     requires within { MayBeWithin (length conditions.old.predicates) asker.now.metric.now.condition }
+    requires few { place < most_keys }
     ensures adds { OnOk result (AddsChange K.stands keys.now place asker.now
         conditions.old changes.old changes.new) }
     ensures known { conditions.new ≡ conditions.old }
@@ -240,11 +243,11 @@ fn add_change<K: Inners, L: Ledger>(
     if keys.was_told(place, truth, &out) {
         return Ok(());
     }
-    // There are fewer inner keys than fit.
-    let Ok(place) = u32::try_from(place) else {
-        return Err(AllocError);
-    };
-    changes.push(InnerChange { place, truth, out })
+    changes.push(InnerChange {
+        place: place as u32,
+        truth,
+        out,
+    })
 }
 
 // The truth that is told of the inner key at a place: the one that was told last where that stays, or else the one that

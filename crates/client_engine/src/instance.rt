@@ -5,6 +5,9 @@ ghost use Rattle.pull_book.specs.PullBooks.{PullBookStandsFor};
 ghost use Rattle.state_slicer.specs.StateBooks.{StateBookStandsFor};
 ghost use Rattle.client_engine.specs.Running.{linked_of};
 
+mod parts;
+mod saved;
+
 use crate::alarms::alarms_of;
 use crate::brought::Brought;
 use crate::conditions::Conditions;
@@ -17,6 +20,7 @@ use crate::tracks::Tracks;
 use atom_record::LogFrame;
 use condition_links::Steps;
 use config_links::{LAlert, LMatcher, LState, Linked};
+use parts::Parts;
 use pull_book::PullBook;
 use report_writer::ReportTree;
 use sd_base::Seq;
@@ -119,18 +123,16 @@ impl Instance {
             pulls,
         };
         let tracks = Tracks::new(alloc, metrics, &opening, &mut conditions)?;
-        let listeners = Listeners::new(alloc, tracks.list.as_slice(), &conditions)?;
-        Ok(Instance {
-            alloc,
+        let parts = Parts {
             matchers,
             conditions,
             states,
             tracks,
             alerts,
-            listeners,
             base,
             last: base,
-        })
+        };
+        parts.listening(alloc)
     }
 
     /// The matchers of the configuration, in config order.

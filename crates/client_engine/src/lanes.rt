@@ -1,7 +1,6 @@
 //! The lane of a metric, by its kind.
-ghost use Rattle.std.specs.Prelude.{◌≡◌, ◌<◌, [], ◌∷◌, length, All, OnOk, IfOk};
+ghost use Rattle.std.specs.Prelude.{◌≡◌, [], ◌∷◌, length, OnOk, IfOk};
 ghost use Rattle.bucket_clock.specs.Clock.{frame_at};
-ghost use Rattle.bucket_meaning.specs.Limits.{time_limit};
 ghost use Rattle.config_links.specs.SoundConfig.{MayBeWithin};
 ghost use Rattle.config_links.specs.declared.linked.LMetric.{LMetric};
 ghost use Rattle.metric_lane.specs.LaneClock.{NoEndBefore};
@@ -12,11 +11,10 @@ ghost use Rattle.client_engine.specs.SoundMetrics.{IsInstalledAt};
 ghost use Rattle.client_engine.specs.AskedFew.{AsksFew};
 ghost use Rattle.client_engine.specs.Bringing.{TakesBroughtWhile};
 ghost use Rattle.client_engine.specs.CaughtUp.{TakesRun};
-ghost use Rattle.client_engine.specs.Opens.{IsOpeningOf};
-ghost use Rattle.client_engine.specs.Finding.{MayAsk, CanBeBrought};
+ghost use Rattle.client_engine.specs.Opens.{IsOpeningOf, CanOpen};
+ghost use Rattle.client_engine.specs.Finding.{CanBeBrought};
 ghost use Rattle.client_engine.specs.TrackStands.{LaneAlong};
 ghost use Rattle.client_engine.specs.Tracks.{CanBeTracked};
-ghost use Rattle.client_engine.specs.Watches.{CanBeWatched};
 ghost use Rattle.client_engine.specs.Woken.{clock_of_lane};
 
 use crate::brought::Brought;
@@ -172,11 +170,9 @@ pub fn lane_of(
     opening: &Opening<'_>,
     conditions: &mut Conditions,
 ) -> Result<MetricLane, AllocError>
-    requires fits { opening.now.base < time_limit }
+    requires opens { CanOpen opening.now }
     requires tracked { CanBeTracked metric.now }
     requires within { MayBeWithin (length conditions.old.predicates) metric.now.condition }
-    requires askable { All MayAsk opening.now.matchers.now }
-    requires alerts { All CanBeWatched opening.now.alerts.now }
     ensures stands { IfOk result (λ lane. (installed : Installation)
         → IsOpeningOf installed opening.now conditions.old → IsInstalledAt installed.linked place metric.now
         → LaneAlong metric.now installed [] lane) }

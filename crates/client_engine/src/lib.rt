@@ -27,6 +27,7 @@ mod opening;
 mod parts;
 mod request;
 mod samples;
+mod saved;
 mod slices;
 mod snapshots;
 mod state_drops;

@@ -18,7 +18,7 @@ pub fn message_rows(
     ensures rows { IfOk result (λ shown. shown ≡ map message_row rows) }
     ensures writable { IfOk result (All HasWritableAtoms) }
 {
-    let mut shown = Seq::new(alloc);
+    let mut shown = Seq::with_capacity(alloc, rows.len())?;
     for row in rows.into_vec() {
         shown.push(with_messages(alloc, row)?)?;
     }
@@ -50,7 +50,7 @@ fn messages(alloc: Global, atoms: &[Atom]) -> Result<Seq<AtomMsg>, AllocError>
     ensures messages { IfOk result (λ shown. shown ≡ map message_of atoms.now) }
     ensures writable { IfOk result (All IsWritableAtom) }
 {
-    let mut shown = Seq::new(alloc);
+    let mut shown = Seq::with_capacity(alloc, atoms.len())?;
     for atom in atoms {
         shown.push(atom_msg(alloc, atom)?)?;
     }

@@ -1,15 +1,14 @@
 //! What an instance does with each of its parts.
-ghost use Rattle.std.specs.Prelude.{◌≡◌, ◌<◌, [], ◌∷◌, ◌++◌, length, map, if◌then◌else◌, OnOk, IfOk};
+ghost use Rattle.std.specs.Prelude.{◌≡◌, [], ◌∷◌, ◌++◌, length, map, if◌then◌else◌, OnOk, IfOk};
 ghost use Rattle.std.specs.List.{All};
 ghost use Rattle.bucket_clock.specs.Clock.{frame_at};
-ghost use Rattle.bucket_meaning.specs.Limits.{time_limit};
 ghost use Rattle.client_engine.specs.AskedFew.{AsksFew};
 ghost use Rattle.client_engine.specs.Bringing.{TakesBrought};
 ghost use Rattle.client_engine.specs.CaughtUp.{AllTakeRun};
-ghost use Rattle.client_engine.specs.Finding.{MayAsk, CanBeBrought};
+ghost use Rattle.client_engine.specs.Finding.{CanBeBrought};
+ghost use Rattle.client_engine.specs.Opens.{CanOpen};
 ghost use Rattle.client_engine.specs.Tracks.{CanBeTracked, metric_in, AsksWithin, AllAskWithin, AreNew, AllStandFor, AllReport};
 ghost use Rattle.client_engine.specs.InstanceParts.{tree_with};
-ghost use Rattle.client_engine.specs.Watches.{CanBeWatched};
 
 use crate::alarms::AlarmsShown;
 use crate::brought::Brought;
@@ -39,11 +38,9 @@ pub fn tracks_of(
     opening: &Opening<'_>,
     conditions: &mut Conditions,
 ) -> Result<Vec<Track>, AllocError>
-    requires fits { opening.now.base < time_limit }
+    requires opens { CanOpen opening.now }
     requires ready { All CanBeTracked metrics }
     requires within { All (AsksWithin (length conditions.old.predicates)) metrics }
-    requires askable { All MayAsk opening.now.matchers.now }
-    requires alerts { All CanBeWatched opening.now.alerts.now }
     ensures new { IfOk result (λ tracks. AreNew opening.now conditions.old metrics tracks.items) }
     ensures known { conditions.new ≡ conditions.old }
 {

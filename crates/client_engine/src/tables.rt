@@ -37,8 +37,8 @@ pub fn new_tables(alloc: Global, predicates: &[LPredicate]) -> Result<Vec<PredTa
     Ok(tables)
 }
 
-// How the table of a predicate is kept.
-fn spec_of(body: &LPredBody) -> PredSpec
+/// How the table of a predicate is kept.
+pub fn spec_of(body: &LPredBody) -> PredSpec
     ensures { result ≡ table_spec body.now }
 {
     match body {

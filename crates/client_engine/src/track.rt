@@ -1,8 +1,7 @@
 //! A metric of a configuration, the lane that collects for it, and what atoms said of its activations.
-ghost use Rattle.std.specs.Prelude.{◌≡◌, ◌<◌, [], ◌∷◌, length, slice_get, All, OnOk, IfOk};
+ghost use Rattle.std.specs.Prelude.{◌≡◌, [], ◌∷◌, length, slice_get, OnOk, IfOk};
 ghost use Rattle.std.specs.Option.{option_copied};
 ghost use Rattle.bucket_clock.specs.Clock.{frame_at};
-ghost use Rattle.bucket_meaning.specs.Limits.{time_limit};
 ghost use Rattle.config_links.specs.SoundConfig.{MayBeWithin};
 ghost use Rattle.metric_meaning.specs.Histories.{Installation};
 ghost use Rattle.report_writer.specs.Writable.{IsWritableMetric};
@@ -12,11 +11,10 @@ ghost use Rattle.client_engine.specs.SoundMetrics.{IsInstalledAt};
 ghost use Rattle.client_engine.specs.AskedFew.{AsksFew};
 ghost use Rattle.client_engine.specs.Bringing.{TakesBrought};
 ghost use Rattle.client_engine.specs.CaughtUp.{TrackTakesRun};
-ghost use Rattle.client_engine.specs.Opens.{IsOpeningOf};
-ghost use Rattle.client_engine.specs.Finding.{MayAsk, CanBeBrought};
+ghost use Rattle.client_engine.specs.Opens.{IsOpeningOf, CanOpen};
+ghost use Rattle.client_engine.specs.Finding.{CanBeBrought};
 ghost use Rattle.client_engine.specs.TrackStands.{TrackStandsFor};
 ghost use Rattle.client_engine.specs.Tracks.{CanBeTracked};
-ghost use Rattle.client_engine.specs.Watches.{CanBeWatched};
 ghost use Rattle.client_engine.specs.Woken.{IsDue};
 
 use crate::activity::{book_of, hear};
@@ -50,11 +48,9 @@ impl Track {
         opening: &Opening<'_>,
         conditions: &mut Conditions,
     ) -> Result<Track, AllocError>
-        requires fits { opening.now.base < time_limit }
+        requires opens { CanOpen opening.now }
         requires tracked { CanBeTracked metric }
         requires within { MayBeWithin (length conditions.old.predicates) metric.condition }
-        requires askable { All MayAsk opening.now.matchers.now }
-        requires alerts { All CanBeWatched opening.now.alerts.now }
         ensures metric { IfOk result (λ track. track.metric ≡ metric) }
         ensures stands { IfOk result (λ track. (installed : Installation)
             → IsOpeningOf installed opening.now conditions.old → IsInstalledAt installed.linked place metric

@@ -1,16 +1,15 @@
 //! The metrics of a configuration with their lanes, and when the next bucket of theirs ends.
-ghost use Rattle.std.specs.Prelude.{◌≡◌, ◌<◌, length, map, replicate, false, OnOk, IfOk};
+ghost use Rattle.std.specs.Prelude.{◌≡◌, length, map, replicate, false, OnOk, IfOk};
 ghost use Rattle.std.specs.List.{All};
 ghost use Rattle.bucket_clock.specs.Clock.{frame_at};
-ghost use Rattle.bucket_meaning.specs.Limits.{time_limit};
 ghost use Rattle.client_engine.specs.AskedFew.{AsksFew};
 ghost use Rattle.client_engine.specs.Bringing.{TakesBrought, handed_with};
 ghost use Rattle.client_engine.specs.CaughtUp.{AllTakeRun};
-ghost use Rattle.client_engine.specs.Finding.{MayAsk, CanBeBrought};
+ghost use Rattle.client_engine.specs.Finding.{CanBeBrought};
+ghost use Rattle.client_engine.specs.Opens.{CanOpen};
 ghost use Rattle.client_engine.specs.Tracks.{CanBeTracked, metric_in, AsksWithin, AllAskWithin, AreNew, AllStandFor, AllReport};
 ghost use Rattle.client_engine.specs.Waking.{OthersSleep};
 ghost use Rattle.client_engine.specs.Marks.{IsMarked, AreAllMarked, KeepsMarks};
-ghost use Rattle.client_engine.specs.Watches.{CanBeWatched};
 ghost use Rattle.client_engine.specs.Woken.{AllDue, AreWoken, OnMoreWoken, FewAsked, WakesThese};
 
 use crate::brought::Brought;
@@ -48,17 +47,24 @@ impl Tracks {
         opening: &Opening<'_>,
         conditions: &mut Conditions,
     ) -> Result<Tracks, AllocError>
-        requires fits { opening.now.base < time_limit }
+        requires opens { CanOpen opening.now }
         requires ready { All CanBeTracked metrics }
         requires within { All (AsksWithin (length conditions.old.predicates)) metrics }
-        requires askable { All MayAsk opening.now.matchers.now }
-        requires alerts { All CanBeWatched opening.now.alerts.now }
         ensures new { IfOk result (λ it. AreNew opening.now conditions.old metrics it.list.items) }
         ensures known { conditions.new ≡ conditions.old }
         ensures due { IfOk result (λ it. AllDue it.due it.list.items) }
         ensures marks { IfOk result (λ it. length it.marks.items ≡ length it.list.items) }
     {
         let list = tracks_of(alloc, metrics, opening, conditions)?;
+        Tracks::of(alloc, list)
+    }
+
+    /// These tracks. What is made of them alone is made here.
+    pub fn of(alloc: Global, list: Vec<Track>) -> Result<Tracks, AllocError>
+        ensures list { IfOk result (λ it. it.list.items ≡ list.items) }
+        ensures due { IfOk result (λ it. AllDue it.due it.list.items) }
+        ensures marks { IfOk result (λ it. length it.marks.items ≡ length it.list.items) }
+    {
         let marks = no_marks(alloc, list.len())?;
         let due = least_end(list.as_slice());
         Ok(Tracks { list, marks, due })

@@ -33,12 +33,21 @@ pub fn watches_of(
 }
 
 /// Tells the watches of a metric how many parts of it end with a frame, before the frame comes to the metric's lane.
+#[inline(always)]
 pub fn tell_ends(watches: &mut Vec<AlertWatch>, lane: &Lane<CountProducer>, at: u64, is_pull: bool)
     ensures { TakeEnds lane.now.clock (frame_at at is_pull) watches.old.items watches.new.items }
 {
-    if watches.is_empty() {
-        return;
+    if !watches.is_empty() {
+        tell_crossed(watches, lane, at, is_pull);
     }
+}
+
+// Tells them so. It is no part of what a metric without alerts runs through.
+#[cold]
+#[inline(never)]
+fn tell_crossed(watches: &mut Vec<AlertWatch>, lane: &Lane<CountProducer>, at: u64, is_pull: bool)
+    ensures { TakeEnds lane.now.clock (frame_at at is_pull) watches.old.items watches.new.items }
+{
     let ended = lane.ends_crossed(at, is_pull);
     if ended > 0 {
         close_all(watches, ended);
@@ -57,6 +66,7 @@ fn close_all(watches: &mut Vec<AlertWatch>, ended: u64)
 }
 
 /// Tells the watches of a metric the key that arrives, if one does.
+#[inline(always)]
 pub fn tell_key(
     watches: &mut Vec<AlertWatch>,
     at: u64,
@@ -67,12 +77,14 @@ pub fn tell_key(
         watches.old.items watches.new.items) }
 {
     match key {
-        Some(key) => tell_arrival(watches, at, key),
-        None => Ok(()),
+        Some(key) if !watches.is_empty() => tell_arrival(watches, at, key),
+        _ => Ok(()),
     }
 }
 
 // Tells each that a key arrives.
+#[cold]
+#[inline(never)]
 fn tell_arrival(watches: &mut Vec<AlertWatch>, at: u64, key: &MetricKey) -> Result<(), AllocError>
     requires in_time { at < time_limit }
     ensures { OnOk result (AllTakeNotices (KeyArrived at key.now ∷ []) watches.old.items watches.new.items) }

@@ -1,17 +1,20 @@
 //! An instance that is fed, and the book of states beside it.
+ghost use Rattle.std.specs.Prelude.{◌≡◌, ◌<◌, [], ◌∷◌, IfOk};
+ghost use Rattle.report_writer.specs.Writable.{IsWritableReport};
 ghost use Rattle.session_frames.specs.Faultless.{IsFaultlessLog};
-ghost use Rattle.std.specs.Prelude.{◌≡◌, ◌<◌};
 
-use atom_record::{LogFrame, PullOutcome, parse_atom};
+use super::saved::{again, items_of, linked_of};
+use atom_record::{Atom, LogFrame, PullOutcome, parse_atom};
 use client_engine::{Instance, LiveId, LogView, ReportRequest};
 use condition_links::Steps;
-use config_decode::decode;
-use config_links::link;
+use flat_form::Items;
 use pull_book::PullBook;
-use report_writer::ReportTree;
+use report_writer::{ReportTree, write};
+use sd_base::Seq;
 use state_slicer::StateBook;
 use std::alloc::{AllocError, Global};
 use std::marker::Brand;
+use std::mem;
 use std::sync::ledger::{Blank, Ledger};
 
 /// Frames of the log come before this.
@@ -20,29 +23,35 @@ const LATE: u64 = 1 << 63;
 /// The latest install of a row.
 const MOST_BASE: u64 = 1_000;
 
-/// The most bytes of a row's configuration.
-const MOST_BYTES: usize = 1_000;
-
-/// An instance and the states that the log gave. There is none before its install, and after want of memory it is of
-/// no use.
+/// An instance and the states that the log gave. There is none before its install, nor where it couldn't be built
+/// again, and after want of memory it is of no use.
 #[derive(Drop)]
 pub struct Fed {
     alloc: Global,
+    config: Vec<u8>,
     instance: Option<Instance>,
     states: StateBook,
+    /// How often the instance is still saved and built again.
+    saves: u64,
+    /// The bytes of the reports.
+    reports: Vec<u8>,
 }
 
 impl Fed {
-    pub fn new(alloc: Global) -> Fed {
+    pub fn new(alloc: Global, saves: u64) -> Fed {
         Fed {
             alloc,
+            config: Vec::new(alloc),
             instance: None,
             states: StateBook::new(alloc),
+            saves,
+            reports: Vec::new(alloc),
         }
     }
 
     /// Installs a configuration at a time. Answers whether it has no fault.
     pub fn install(&mut self, config: &[u8], base: Option<u64>) -> Result<bool, AllocError> {
+        self.config.extend_from_slice(config)?;
         self.instance = match base {
             Some(base) => installed(self.alloc, config, base, &self.states)?,
             None => None,
@@ -96,6 +105,23 @@ impl Fed {
         log(&mut self.instance, &self.states, &frame, &[])
     }
 
+    /// Takes a pull that gave two atoms of one id.
+    pub fn pull(&mut self, at: u64, one: &[u8], other: &[u8]) -> Result<bool, AllocError> {
+        let Ok(one) = parse_atom(self.alloc, one) else {
+            return Ok(false);
+        };
+        let Ok(other) = parse_atom(self.alloc, other) else {
+            return Ok(false);
+        };
+        let id = one.id;
+        if at >= LATE || other.id != id {
+            return Ok(false);
+        }
+        let outcome = PullOutcome::Atoms(both(self.alloc, one, other)?);
+        let frame = LogFrame::Pull { at, id, outcome };
+        log(&mut self.instance, &self.states, &frame, &[])
+    }
+
     /// One frame stands for all that went by since the last, of which nothing touched the instance.
     pub fn catch_up(&mut self, at: u64, is_pull: bool) -> Result<bool, AllocError> {
         if at >= LATE {
@@ -121,8 +147,50 @@ impl Fed {
             include_current: is_cut,
             at,
         };
-        Ok(Some(instance.show(request, &self.states)?))
+        let tree = instance.show(request, &self.states)?;
+        put_report(self.alloc, &mut self.reports, &tree)?;
+        Ok(Some(tree))
     }
+
+    /// The bytes of the reports so far, which are let go.
+    pub fn take_reports(&mut self) -> Vec<u8> {
+        mem::replace(&mut self.reports, Vec::new(self.alloc))
+    }
+
+    /// Saves the instance and builds it again, where that is still to be done.
+    pub fn renew(&mut self) {
+        if self.saves == 0 {
+            return;
+        }
+        self.saves -= 1;
+        self.instance = again(self.alloc, self.config.as_slice(), &self.instance);
+    }
+
+    /// The items of the instance, if there is one.
+    pub fn items(&self) -> Result<Option<Items>, AllocError> {
+        let Some(instance) = &self.instance else {
+            return Ok(None);
+        };
+        Ok(Some(items_of(self.alloc, instance)?))
+    }
+}
+
+/// Puts the bytes of a report after others.
+fn put_report(alloc: Global, reports: &mut Vec<u8>, tree: &ReportTree) -> Result<(), AllocError>
+    requires { IsWritableReport tree.now }
+{
+    let bytes = write(alloc, tree)?;
+    reports.extend_from_slice(bytes.as_slice())
+}
+
+/// Both atoms of a pull.
+fn both(alloc: Global, one: Atom, other: Atom) -> Result<Seq<Atom>, AllocError>
+    ensures { IfOk result (λ atoms. atoms ≡ one ∷ other ∷ []) }
+{
+    let mut atoms = Seq::new(alloc);
+    atoms.push(one)?;
+    atoms.push(other)?;
+    Ok(atoms)
 }
 
 /// The instance of a configuration that is installed at a time when the log gave these states, if it has no fault.
@@ -132,13 +200,10 @@ fn installed(
     base: u64,
     states: &StateBook,
 ) -> Result<Option<Instance>, AllocError> {
-    if config.len() > MOST_BYTES || base > MOST_BASE {
+    if base > MOST_BASE {
         return Ok(None);
     }
-    let Ok(config) = decode(alloc, config) else {
-        return Ok(None);
-    };
-    let Ok(linked) = link(alloc, config, 10) else {
+    let Some(linked) = linked_of(alloc, config) else {
         return Ok(None);
     };
     let pulls = PullBook::new(alloc);

@@ -1,9 +1,12 @@
 //! Instances of one configuration, fed by hand: the rows of a table on standard input.
 #![tactic(auto)]
 
+mod bends;
 mod engines;
 mod fed;
 mod feeds;
+mod random;
+mod saved;
 mod shown;
 
 use engines::Engines;

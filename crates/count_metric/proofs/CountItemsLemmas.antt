@@ -15,6 +15,7 @@ use Rattle.metric_producer.specs.declared.row.Row.{Row}
 use Rattle.metric_producer.specs.CellItems.{cell_items}
 use Rattle.count_metric.specs.declared.count.CountProducer.{CountProducer}
 use Rattle.metric_producer.specs.RowItems.{IsRow}
+use Rattle.metric_kinds.specs.Counts.{row_weight}
 use Rattle.count_metric.specs.CountItems.{count_row_items, spilled_cell, count_items, HasBounds}
 
 -- a producer of counts by its parts
@@ -31,7 +32,7 @@ count_form_items =
 abbrev pub IsCountForm : CountForm → Type 0
 IsCountForm =
     IsValidPair Anything
-    (IsValidPair Anything (IsValidPair (IsTable Anything Anything) (IsKeeping (IsRow Anything))))
+    (IsValidPair Anything (IsValidPair (IsTable Anything Anything) (IsKeeping row_weight (IsRow Anything))))
 
 -- the parts of a producer
 abbrev count_form : CountProducer → CountForm

@@ -15,6 +15,7 @@ use Rattle.metric_producer.specs.declared.row.CountCell.{CountCell}
 use Rattle.metric_producer.specs.declared.row.Row.{Row}
 use Rattle.metric_producer.specs.CellItems.{cell_items, cell_savable}
 use Rattle.metric_producer.specs.RowItems.{row_items, IsRow, IsSavableRow, row_savable}
+use Rattle.metric_kinds.specs.Counts.{row_weight}
 use Rattle.count_metric.specs.declared.count.CountProducer.{CountProducer}
 
 -- the items of the rows that a producer of counts keeps
@@ -36,7 +37,7 @@ count_items it = Num it.start ∷ (cell_items (spilled_cell it) ++ count_rest it
 -- its table is one, and its kept rows are within their bound
 pub record HasBounds (it : CountProducer) : Type 0 where
   pub table : IsTable Anything Anything it.table
-  pub kept : IsKeeping (IsRow Anything) it.kept
+  pub kept : IsKeeping row_weight (IsRow Anything) it.kept
 
 -- its keys fit their counts
 abbrev pub IsSavableCount : CountProducer → Type 0
@@ -50,7 +51,7 @@ count_entries it = table_entries key_items number_items it.table + kept_entries 
 pub count_bounded : (it : CountProducer) → HasBounds it → length (count_items it) ≤ most_items 9 (count_entries it)
 count_bounded it is =
     let table = table_bounded key_items number_items Anything Anything it.table is.table in
-    let kept = kept_bounded count_row_items (IsRow Anything) it.kept is.kept in
+    let kept = kept_bounded count_row_items row_weight (IsRow Anything) it.kept is.kept in
     let size = length-append (table_items key_items number_items it.table) (kept_items count_row_items it.kept) in
     omega arith
 
@@ -67,7 +68,7 @@ pub count_savable : (it : CountProducer) → HasBounds it → IsSavableCount it 
 count_savable it is can =
     let table = table_savable key_items number_items Anything Anything IsShortKey Anything key_savable number_savable
     it.table is.table can.0 in
-    let kept = kept_savable count_row_items (IsRow Anything) (IsSavableRow Anything)
+    let kept = kept_savable count_row_items row_weight (IsRow Anything) (IsSavableRow Anything)
     (row_savable cell_items Anything Anything cell_savable) it.kept is.kept can.1 in
     let rest = All-append IsSavable (table_items key_items number_items it.table) (kept_items count_row_items it.kept)
     table kept in

@@ -89,7 +89,7 @@ fn keep_all(
             end,
             value,
         };
-        kept.put(row, 1)?;
+        kept.put(row)?;
     }
     Ok(())
 }
@@ -108,7 +108,7 @@ fn keep_spilled(
     if spilled == 0 {
         return Ok(());
     }
-    kept.put(spilled_row(alloc, start, end, spilled), 1)
+    kept.put(spilled_row(alloc, start, end, spilled))
 }
 
 // The overflow row of a part.
@@ -198,7 +198,19 @@ impl Producer for CountProducer {
 }
 
 impl ReadsEvents for CountProducer {
-    fn event_of(&mut self, at: u64, ev: &MetricKey) -> Result<(), AllocError> {
+    ghost use Rattle.std.specs.Prelude.{Contains, IsOk, length};
+    ghost use Rattle.dim_table.specs.Table.{keys};
+    ghost use Rattle.metric_producer.specs.Calls.{Got};
+    ghost use Rattle.metric_producer.specs.Moves.{Moves};
+    ghost use Rattle.count_metric.specs.CountStands.{count_law};
+
+    fn event_of(&mut self, at: u64, ev: &MetricKey) -> Result<(), AllocError>
+        ensures moves { OnOk result (Moves count_law self.old self.new (Got at ev.now)) }
+
+        // Only a new key that finds room asks for memory.
+        ensures present { Contains (keys self.old.table) ev.now → IsOk result }
+        ensures full { length self.old.table.rows ≡ self.old.table.bound → IsOk result }
+    {
         let _at = at;
         match self.table.admit_copy(ev, 0)? {
             Admit::At(place) => raise(&mut self.table, place),

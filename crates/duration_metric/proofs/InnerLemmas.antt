@@ -99,6 +99,17 @@ pub parts_are : (it : InnerTable) (one other : Table LeafKey Inner) (touched pla
 parts_are it one other touched places gone left keys_are touched_are gone_are =
     λ i. record it { keys = keys_are i; touched = touched_are i; gone = gone_are i }
 
+-- a table that stays as it was, by another word for what it knows
+pub stays_as : (it : InnerTable) (state : PredicateState LeafKey) → state_in it ≡ state → ChangesTo it it state
+stays_as it state is = record {
+  nesting_is = refl;
+  bound_is = refl;
+  state_is = is;
+  known_are = λ known none all. all;
+  counts_are = λ key. refl;
+  steady_is = λ settled steady. steady;
+}
+
 -- a key has another count
 pub sets_count : (old new : InnerTable) (place count : ℕ) (was : Inner)
     → slice_get (values_of old.keys.rows) place ≡ Some was

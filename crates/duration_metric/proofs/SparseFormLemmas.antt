@@ -8,6 +8,7 @@ use Rattle.flat_form.proofs.FlatLaws as laws
 use Rattle.dim_table.specs.TableItems.{table_items, IsTable}
 use Rattle.kept_rows.specs.KeptItems.{kept_items, IsKeeping}
 use Rattle.metric_producer.specs.RowItems.{IsRow}
+use Rattle.metric_kinds.specs.Counts.{row_weight}
 use Rattle.duration_metric.specs.declared.sparse.MaxProducer.{MaxProducer}
 use Rattle.duration_metric.specs.InnerItems.{entry_items}
 use Rattle.duration_metric.specs.SumItems.{time_row_items}
@@ -27,7 +28,8 @@ longest_form_items =
 abbrev pub IsLongestForm : LongestForm → Type 0
 IsLongestForm = IsValidPair (IsValidPair (IsValidPair Anything Anything) (IsValidPair Anything Anything))
     (IsValidPair Anything (IsValidPair Anything (IsValidPair Anything
-    (IsValidPair (IsTable Anything Anything) (IsValidPair (IsTable Anything Anything) (IsKeeping (IsRow Anything)))))))
+    (IsValidPair (IsTable Anything Anything) (IsValidPair (IsTable Anything Anything)
+    (IsKeeping row_weight (IsRow Anything)))))))
 
 -- the parts of a longest duration may
 form_valid : (it : MaxProducer) → IsLongest it → IsLongestForm (longest_form it)

@@ -8,6 +8,7 @@ use Rattle.flat_form.proofs.FlatLaws as laws
 use Rattle.dim_table.specs.TableItems.{table_items, IsTable}
 use Rattle.kept_rows.specs.KeptItems.{kept_items, IsKeeping}
 use Rattle.metric_producer.specs.RowItems.{IsRow}
+use Rattle.metric_kinds.specs.Counts.{row_weight}
 use Rattle.predicate_state.specs.PredicateItems.{flag_number}
 use Rattle.duration_metric.specs.SumParts.{Summing}
 use Rattle.duration_metric.specs.InnerItems.{inner_items, span_items}
@@ -25,7 +26,7 @@ sum_form_items = pair_items number_items (pair_items number_items (pair_items nu
 abbrev pub IsSumForm : SumForm → Type 0
 IsSumForm = IsValidPair Anything (IsValidPair Anything (IsValidPair Anything (IsValidPair Anything
     (IsValidPair (IsTable Anything Anything) (IsValidPair (All Anything) (IsValidPair (All Anything)
-    (IsValidPair (IsTable Anything Anything) (IsKeeping (IsRow Anything)))))))))
+    (IsValidPair (IsTable Anything Anything) (IsKeeping row_weight (IsRow Anything)))))))))
 
 -- the parts of a sum may
 form_valid : (it : Summing) → IsSumProducer it → IsSumForm (sum_form it)

@@ -1,5 +1,5 @@
 -- A count of a tally is written, or taken out.
-use Rattle.std.proofs.Common.{◌≡◌, ◌⊎◌, inl, inr, ℕ, ◌+◌, ◌-◌, ◌≤◌, Bool, true, false, ◌||◌, cond, if◌then◌else◌, List, [], ◌∷◌, Option, Some, None, refl, sym, ap, ◌∙◌, arith, ⊎_elim}
+use Rattle.std.proofs.Common.{◌≡◌, ◌⊎◌, inl, inr, ℕ, ◌+◌, ◌-◌, ◌≤◌, Bool, true, false, ◌||◌, cond, if◌then◌else◌, List, [], ◌∷◌, Option, Some, None, refl, sym, ap, subst, ◌∙◌, arith, ⊎_elim}
 use Rattle.std.specs.Map.{lookup}
 use Rattle.std.specs.Option.{unwrap_or}
 use Rattle.std.proofs.lemmas.Bool.{cases_Bool, false≢true}
@@ -41,6 +41,19 @@ writes_again old mid new key own now is out put other =
       by true = refl
       by false = refl
 
+-- a key that isn't there is taken out where all stays
+writes_none : (old new : List (MetricKey × ℕ)) (key : MetricKey) → new ≡ old → None ≡ lookup (is_same_key key) old
+    → Writes old new key None
+writes_none old new key same none other =
+    ap (λ l. lookup (is_same_key other) l) same
+    ∙ ⊎_elim
+    (λ (here : is_same_key key other ≡ true).
+    ap (λ k. lookup (is_same_key k) old) (sym ((metric_key_exact key other).0 here))
+    ∙ sym none
+    ∙ sym (ap (λ b. cond b None (lookup (is_same_key other) old)) here))
+    (λ (differs : is_same_key key other ≡ false). sym (ap (λ b. cond b None (lookup (is_same_key other) old)) differs))
+    (cases_Bool (is_same_key key other))
+
 -- one more is counted
 pub raises_by : (old new : List (MetricKey × ℕ)) (key : MetricKey) (now : Option ℕ) → Writes old new key now
     → unwrap_or now 0 ≡ tally_at old key + 1 → Raises old new key
@@ -66,6 +79,23 @@ lowers_by old new key now writes less other = ⊎_elim
     let count = ap {B = ℕ} (λ b. if b then 1 else 0) differs in
     omega (arith, left_alone old new key now writes other differs, count))
     (cases_Bool (is_same_key key other))
+
+-- a key that isn't there is put there, and counted once
+pub raises_first : (was old mid new : List (MetricKey × ℕ)) (key own : MetricKey) → old ≡ was → mid ≡ old
+    → None ≡ lookup (is_same_key key) old → own ≡ key → Writes mid new own (Some 1) → Raises was new key
+raises_first was old mid new key own is same none copy put =
+    let zero : tally_at old key ≡ 0 = ap (λ found. unwrap_or found 0) (sym none) in
+    subst (λ l. Raises l new key) is
+    (raises_by old new key (Some 1)
+    (writes_again old mid new key own (Some 1) (sym copy) (writes_none old mid key same none) put) (omega (arith, zero)))
+
+-- for one that isn't there none counts
+pub lowers_none : (was old new : List (MetricKey × ℕ)) (key : MetricKey) → old ≡ was → new ≡ old
+    → None ≡ lookup (is_same_key key) old → Lowers was new key
+lowers_none was old new key is same none =
+    let zero : tally_at old key ≡ 0 = ap (λ found. unwrap_or found 0) (sym none) in
+    subst (λ l. Lowers l new key) is
+    (lowers_by old new key None (writes_none old new key same none) (omega (arith, zero)))
 
 -- a key that goes, and for which none counted
 pub same_by : (old new : List (MetricKey × ℕ)) (key : MetricKey) → Writes old new key None → tally_at old key ≡ 0

@@ -12,6 +12,7 @@ use Rattle.flat_form.specs.Weight.{most_items}
 use Rattle.dim_table.specs.TableItems.{table_items, IsTable, table_entries, table_bounded, table_few, table_savable}
 use Rattle.kept_rows.specs.KeptItems.{kept_items, kept_entries, IsKeeping, AreSavableRows, kept_bounded, kept_few, kept_savable}
 use Rattle.metric_producer.specs.RowItems.{IsRow, IsSavableRow}
+use Rattle.metric_kinds.specs.Counts.{row_weight}
 use Rattle.predicate_state.specs.PredicateItems.{flag_number}
 use Rattle.duration_metric.specs.declared.sparse.MaxProducer.{MaxProducer}
 use Rattle.duration_metric.specs.InnerItems.{entry_items, IsSavableEntry, entry_savable}
@@ -44,7 +45,7 @@ pub record IsLongest (it : MaxProducer) : Type 0 where
   pub leaves_fit : it.keys.spec.leaves < 2 ^ 32
   pub keys : IsTable Anything Anything it.keys.table
   pub table : IsTable Anything Anything it.books.table
-  pub kept : IsKeeping (IsRow Anything) it.books.kept
+  pub kept : IsKeeping row_weight (IsRow Anything) it.books.kept
 
 -- its keys fit their counts
 pub record IsSavableLongest (it : MaxProducer) : Type 0 where
@@ -64,7 +65,7 @@ pub longest_bounded : (it : MaxProducer) → IsLongest it
 longest_bounded it is =
     let keys = table_bounded dims_items entry_items Anything Anything it.keys.table is.keys in
     let table = table_bounded key_items number_items Anything Anything it.books.table is.table in
-    let kept = kept_bounded time_row_items (IsRow Anything) it.books.kept is.kept in
+    let kept = kept_bounded time_row_items row_weight (IsRow Anything) it.books.kept is.kept in
     let books =
     length-append (table_items key_items number_items it.books.table) (kept_items time_row_items it.books.kept) in
     let all = length-append (table_items dims_items entry_items it.keys.table) (longest_books_items it) in
@@ -88,8 +89,8 @@ longest_savable it is can =
     entry_savable it.keys.table is.keys can.keys in
     let table = table_savable key_items number_items Anything Anything IsShortKey Anything key_savable number_savable
     it.books.table is.table can.table in
-    let kept = kept_savable time_row_items (IsRow Anything) (IsSavableRow Anything) time_row_savable it.books.kept
-    is.kept can.kept in
+    let kept = kept_savable time_row_items row_weight (IsRow Anything) (IsSavableRow Anything) time_row_savable
+    it.books.kept is.kept can.kept in
     let books = All-append IsSavable (table_items key_items number_items it.books.table)
     (kept_items time_row_items it.books.kept) table kept in
     let rest = All-append IsSavable (table_items dims_items entry_items it.keys.table) (longest_books_items it) keys

@@ -14,6 +14,7 @@ use Rattle.dim_table.specs.TableItems.{table_items, IsTable, table_entries, tabl
 use Rattle.kept_rows.specs.KeptItems.{kept_items, kept_entries, IsKeeping, AreSavableRows, kept_bounded, kept_few, kept_savable}
 use Rattle.metric_producer.specs.declared.row.Row.{Row}
 use Rattle.metric_producer.specs.RowItems.{row_items, IsRow, IsSavableRow, row_savable}
+use Rattle.metric_kinds.specs.Counts.{row_weight}
 use Rattle.predicate_state.specs.PredicateItems.{flag_number}
 use Rattle.duration_metric.specs.SumParts.{Summing}
 use Rattle.duration_metric.specs.InnerItems.{inner_items, IsSavableInner, inner_savable, span_items, span_savable}
@@ -49,7 +50,7 @@ sum_producer_items it =
 pub record IsSumProducer (it : Summing) : Type 0 where
   pub inner : IsTable Anything Anything it.inner.keys
   pub table : IsTable Anything Anything it.table
-  pub kept : IsKeeping (IsRow Anything) it.kept
+  pub kept : IsKeeping row_weight (IsRow Anything) it.kept
 
 -- its keys fit their counts
 pub record IsSavableSum (it : Summing) : Type 0 where
@@ -73,7 +74,7 @@ sum_bounded it is =
     let touched = elements_bounded number_items it.inner.touched in
     let gone = elements_bounded key_items it.inner.gone in
     let table = table_bounded key_items span_items Anything Anything it.table is.table in
-    let kept = kept_bounded time_row_items (IsRow Anything) it.kept is.kept in
+    let kept = kept_bounded time_row_items row_weight (IsRow Anything) it.kept is.kept in
     let books = length-append (table_items key_items span_items it.table) (kept_items time_row_items it.kept) in
     let left = length-append (list_items key_items it.inner.gone) (sum_books_items it) in
     let places = length-append (list_items number_items it.inner.touched)
@@ -113,8 +114,8 @@ sum_savable it is can =
     let gone = list_savable key_items Anything IsShortKey key_savable it.inner.gone (any_keys it.inner.gone) can.gone in
     let table = table_savable key_items span_items Anything Anything IsShortKey Anything key_savable span_savable
     it.table is.table can.table in
-    let kept = kept_savable time_row_items (IsRow Anything) (IsSavableRow Anything) time_row_savable it.kept is.kept
-    can.kept in
+    let kept = kept_savable time_row_items row_weight (IsRow Anything) (IsSavableRow Anything) time_row_savable it.kept
+    is.kept can.kept in
     let books = All-append IsSavable (table_items key_items span_items it.table) (kept_items time_row_items it.kept)
     table kept in
     let left = All-append IsSavable (list_items key_items it.inner.gone) (sum_books_items it) gone books in

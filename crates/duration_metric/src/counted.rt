@@ -20,11 +20,11 @@ use sd_base::Seq;
 use std::alloc::{AllocError, Global};
 
 /// The places in order.
-pub(crate) fn in_order(places: &[u64], alloc: Global) -> Result<Vec<u64>, AllocError>
-    ensures same { IfOk result (λ sorted. IsPermutation places.now sorted.items) }
+pub(crate) fn in_order(places: Seq<u64>) -> Result<Vec<u64>, AllocError>
+    ensures same { IfOk result (λ sorted. IsPermutation places sorted.items) }
     ensures sorted { IfOk result (λ sorted. IsSorted nat_cmp sorted.items) }
 {
-    let mut sorted = Vec::from_slice(alloc, places)?;
+    let mut sorted = places.into_vec();
     sorted.sort()?;
     Ok(sorted)
 }

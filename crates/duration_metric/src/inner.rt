@@ -132,6 +132,10 @@ impl InnerTable {
         match self.row_of(&key) {
             Some((place, count)) => {
                 let more = add_start(self.nesting, count);
+                // A key that stays as it was isn't looked at again.
+                if more == count {
+                    return Ok(());
+                }
                 self.set_count(place, more)
             }
             None => self.append(key, 1),
@@ -248,9 +252,11 @@ impl InnerTable {
 
     /// The number of inner keys.
     pub(crate) fn len(&self) -> usize
-        ensures { (spec : PredSpec) (calls : List DurationCall) → InnersStandFor self.now spec calls
+        ensures value { (spec : PredSpec) (calls : List DurationCall) → InnersStandFor self.now spec calls
             → result ≡ length (inner_keys spec calls) }
+        ensures few { result ≤ most_keys }
     {
+        let _bound = self.keys.bound();
         self.keys.len()
     }
 

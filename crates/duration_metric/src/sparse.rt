@@ -46,9 +46,11 @@ impl MaxProducer {
 
     /// The number of inner keys.
     pub fn inner_len(&self) -> usize
-        ensures { (params : DurationParams) (calls : List DurationCall) → SparseStandsFor self.now params calls
-            → result ≡ length (inner_keys params.spec calls) }
+        ensures value { (params : DurationParams) (calls : List DurationCall)
+            → SparseStandsFor self.now params calls → result ≡ length (inner_keys params.spec calls) }
+        ensures few { result ≤ most_keys }
     {
+        let _bound = self.keys.table.bound();
         self.keys.table.len()
     }
 

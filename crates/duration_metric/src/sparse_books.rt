@@ -198,5 +198,5 @@ fn keep(
         end,
         value,
     };
-    kept.put(row, 1)
+    kept.put(row)
 }

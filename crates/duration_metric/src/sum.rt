@@ -91,7 +91,7 @@ impl Sums {
         self.inner.tell(now)?;
         let alloc = self.memory.alloc();
         let touched = mem::replace(&mut self.inner.touched, Seq::new(alloc));
-        let places = in_order(touched.as_slice(), alloc)?;
+        let places = in_order(touched)?;
         let gone = mem::replace(&mut self.inner.gone, Seq::new(alloc));
         show_few(gone.as_slice());
         // What begins is counted before what ends, so that a key whose count comes back stays in the tally.
@@ -359,15 +359,12 @@ fn keep(
     if value == 0 {
         return Ok(());
     }
-    kept.put(
-        Row {
-            key,
-            start,
-            end,
-            value,
-        },
-        1,
-    )
+    kept.put(Row {
+        key,
+        start,
+        end,
+        value,
+    })
 }
 
 // Keeps the rows of all spans, in order, or counts them.
@@ -408,7 +405,7 @@ fn keep_bucket(
             end,
             value: size,
         };
-        kept.put(row, 1)?;
+        kept.put(row)?;
     }
     Ok(())
 }

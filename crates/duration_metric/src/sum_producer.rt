@@ -49,8 +49,9 @@ impl SumProducer {
 
     /// The number of inner keys.
     pub fn inner_len(&self) -> usize
-        ensures { (params : DurationParams) (calls : List DurationCall)
+        ensures value { (params : DurationParams) (calls : List DurationCall)
             → SumStandsFor self.now params calls → result ≡ length (inner_keys params.spec calls) }
+        ensures few { result ≤ most_keys }
     {
         self.sums.inner.len()
     }

@@ -50,12 +50,13 @@ impl Tally {
         ensures first { IfOk result (λ is_first. is_first ≡ not (is_counted self.old key.now)) }
         ensures zeros { OnOk result (NewZeros self.old self.new []) }
     {
-        let Some((own, count)) = self.counts.swap_remove_entry(key) else {
+        let Some(count) = self.counts.get_mut(key) else {
             self.counts.insert(key.clone_key(alloc)?, 1)?;
             return Ok(true);
         };
-        self.counts.insert(own, count + 1)?;
-        Ok(count == 0)
+        let is_first = *count == 0;
+        *count += 1;
+        Ok(is_first)
     }
 
     /// Counts one fewer for a key, which stays.
@@ -63,10 +64,10 @@ impl Tally {
         ensures counts { OnOk result (Lowers self.old self.new key.now) }
         ensures zeros { OnOk result (NewZeros self.old self.new (key.now ∷ [])) }
     {
-        let Some((own, count)) = self.counts.swap_remove_entry(key) else {
+        let Some(count) = self.counts.get_mut(key) else {
             return Ok(());
         };
-        self.counts.insert(own, count.saturating_sub(1))?;
+        *count = count.saturating_sub(1);
         Ok(())
     }
 

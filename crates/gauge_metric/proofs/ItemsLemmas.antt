@@ -13,20 +13,20 @@ use Rattle.kept_rows.specs.KeptItems.{kept_items, IsKeeping}
 use Rattle.metric_producer.specs.declared.row.Row.{Row}
 use Rattle.gauge_metric.specs.declared.events.EventProducer.{EventProducer}
 use Rattle.gauge_metric.specs.declared.gauge.PushedGauge.{PushedGauge}
-use Rattle.gauge_metric.specs.EventItems.{atom_row_items, IsAtomRow, events_items, IsEvents}
+use Rattle.gauge_metric.specs.EventItems.{atom_row_items, atom_row_weight, IsAtomRow, events_items, IsEvents}
 use Rattle.gauge_metric.specs.GaugeItems.{gauge_items, IsGauge}
 
 -- no such kept rows stand there, so no events do
 pub events_fail : (items : List Item) (place : ℕ) (e : FlatError)
-    → Builds (IsKeeping IsAtomRow) (kept_items atom_row_items) items place (Err e)
+    → Builds (IsKeeping atom_row_weight IsAtomRow) (kept_items atom_row_items) items place (Err e)
     → Builds IsEvents events_items items place (Err e)
 events_fail items place e fails =
-    laws.form_fails (IsKeeping IsAtomRow) (kept_items atom_row_items) IsEvents events_items
+    laws.form_fails (IsKeeping atom_row_weight IsAtomRow) (kept_items atom_row_items) IsEvents events_items
     (λ (it : EventProducer). it.kept) (λ it. refl) (λ it is. is) items place e fails
 
 -- the events whose kept rows stand there
 pub events_built : (items : List Item) (place : ℕ) (kept : Keeping (Row (List Atom))) (next : ℕ)
-    → IsBuilt (IsKeeping IsAtomRow) (kept_items atom_row_items) items place kept next
+    → IsBuilt (IsKeeping atom_row_weight IsAtomRow) (kept_items atom_row_items) items place kept next
     → IsBuilt IsEvents events_items items place (record { kept = kept; memory = tt }) next
 events_built items place kept next one = record {
   is_valid = one.is_valid;
@@ -48,7 +48,7 @@ gauge_form_items = pair_items number_items (pair_items number_items
 -- any two numbers, a table, and kept rows
 abbrev pub IsGaugeForm : GaugeForm → Type 0
 IsGaugeForm = IsValidPair Anything (IsValidPair Anything
-    (IsValidPair (IsTable Anything (All Anything)) (IsKeeping IsAtomRow)))
+    (IsValidPair (IsTable Anything (All Anything)) (IsKeeping atom_row_weight IsAtomRow)))
 
 -- the parts of a gauge
 abbrev gauge_form : PushedGauge → GaugeForm

@@ -20,7 +20,7 @@ use Rattle.kept_rows.specs.KeptItems.{kept_items, IsKeeping}
 use Rattle.metric_producer.specs.declared.row.Row.{Row}
 use Rattle.gauge_metric.specs.declared.gauge.KeyedAtom.{KeyedAtom}
 use Rattle.gauge_metric.specs.declared.pulled.PulledGauge.{PulledGauge}
-use Rattle.gauge_metric.specs.EventItems.{atom_row_items, IsAtomRow}
+use Rattle.gauge_metric.specs.EventItems.{atom_row_items, atom_row_weight, IsAtomRow}
 use Rattle.gauge_metric.specs.PulledItems.{sample_items, mode_number, mode_of, told_number, told_by_number, snapshot_list, snapshot_in, pulled_items, IsPulledGauge, all_lists, PulledForm, gauge_of_form}
 
 -- a sample by its parts
@@ -56,7 +56,7 @@ pulled_form_items = pair_items number_items (pair_items number_items (pair_items
 abbrev pub IsPulledForm : PulledForm → Type 0
 IsPulledForm = IsValidPair Anything (IsValidPair Anything (IsValidPair Anything (IsValidPair Anything
     (IsValidPair Anything (IsValidPair Anything (IsValidPair (All (All Anything))
-    (IsValidPair (IsTable Anything (All Anything)) (IsKeeping IsAtomRow))))))))
+    (IsValidPair (IsTable Anything (All Anything)) (IsKeeping atom_row_weight IsAtomRow))))))))
 
 -- the last parts of a gauge: its snapshot, its table and its kept rows
 abbrev last_parts : PulledGauge → List (List KeyedAtom) × (Table MetricKey (List Atom) × Keeping (Row (List Atom)))

@@ -7,6 +7,7 @@ use Rattle.flat_form.specs.Flat.{Anything, atom_items, list_items}
 use Rattle.flat_form.specs.Savable.{AreSavable}
 use Rattle.flat_form.specs.SavableLaws.{atom_savable, list_savable}
 use Rattle.flat_form.specs.Weight.{most_items}
+use Rattle.kept_rows.specs.KeptRows.{list_weight}
 use Rattle.kept_rows.specs.KeptItems.{kept_items, kept_entries, IsKeeping, AreSavableRows, kept_bounded, kept_few, kept_savable}
 use Rattle.metric_producer.specs.declared.row.Row.{Row}
 use Rattle.metric_producer.specs.RowItems.{row_items, IsRow, IsSavableRow, row_savable}
@@ -19,6 +20,10 @@ atom_row_items = row_items (list_items atom_items)
 -- any row of atoms
 abbrev pub IsAtomRow : Row (List Atom) → Type 0
 IsAtomRow = IsRow (All Anything)
+
+-- a row of atoms weighs as many as it has, and one at least
+abbrev pub atom_row_weight : Row (List Atom) → ℕ
+atom_row_weight row = list_weight row.value
 
 -- the key of the row fits its counts, and its atoms have no fault
 abbrev pub IsSavableAtomRow : Row (List Atom) → Type 0
@@ -36,7 +41,7 @@ events_items it = kept_items atom_row_items it.kept
 
 -- its kept rows are within their bound
 abbrev pub IsEvents : EventProducer → Type 0
-IsEvents it = IsKeeping IsAtomRow it.kept
+IsEvents it = IsKeeping atom_row_weight IsAtomRow it.kept
 
 -- its atoms have no fault
 abbrev pub AreSavableEvents : EventProducer → Type 0
@@ -48,7 +53,7 @@ events_entries it = kept_entries atom_row_items it.kept
 
 -- a head of three items, and eight at most for each entry
 pub events_bounded : (it : EventProducer) → IsEvents it → length (events_items it) ≤ most_items 3 (events_entries it)
-events_bounded it is = kept_bounded atom_row_items IsAtomRow it.kept is
+events_bounded it is = kept_bounded atom_row_items atom_row_weight IsAtomRow it.kept is
 
 -- an entry is an item at least
 pub events_few : (it : EventProducer) → events_entries it ≤ length (events_items it)
@@ -57,4 +62,4 @@ events_few it = kept_few atom_row_items it.kept
 -- the items of such events can be spelled
 pub events_savable : (it : EventProducer) → IsEvents it → AreSavableEvents it → AreSavable (events_items it)
 events_savable it is can =
-    kept_savable atom_row_items IsAtomRow IsSavableAtomRow atom_row_savable it.kept is can
+    kept_savable atom_row_items atom_row_weight IsAtomRow IsSavableAtomRow atom_row_savable it.kept is can

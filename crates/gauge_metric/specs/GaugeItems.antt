@@ -13,7 +13,7 @@ use Rattle.flat_form.specs.Weight.{most_items}
 use Rattle.dim_table.specs.TableItems.{table_items, IsTable, table_entries, table_bounded, table_few, table_savable}
 use Rattle.kept_rows.specs.KeptItems.{kept_items, kept_entries, IsKeeping, AreSavableRows, kept_bounded, kept_few, kept_savable}
 use Rattle.gauge_metric.specs.declared.gauge.PushedGauge.{PushedGauge}
-use Rattle.gauge_metric.specs.EventItems.{atom_row_items, IsAtomRow, IsSavableAtomRow, atom_row_savable}
+use Rattle.gauge_metric.specs.EventItems.{atom_row_items, atom_row_weight, IsAtomRow, IsSavableAtomRow, atom_row_savable}
 
 -- a gauge's table and its kept rows
 abbrev pub gauge_rest : PushedGauge → List Item
@@ -26,7 +26,7 @@ gauge_items it = Num it.start ∷ Num it.samples ∷ gauge_rest it
 -- its table is one, and its kept rows are within their bound
 pub record IsGauge (it : PushedGauge) : Type 0 where
   pub table : IsTable Anything (All Anything) it.table
-  pub kept : IsKeeping IsAtomRow it.kept
+  pub kept : IsKeeping atom_row_weight IsAtomRow it.kept
 
 -- its keys fit their counts, and its atoms have no fault
 abbrev pub IsSavableGauge : PushedGauge → Type 0
@@ -41,7 +41,7 @@ gauge_entries it = table_entries key_items (list_items atom_items) it.table + ke
 pub gauge_bounded : (it : PushedGauge) → IsGauge it → length (gauge_items it) ≤ most_items 8 (gauge_entries it)
 gauge_bounded it is =
     let table = table_bounded key_items (list_items atom_items) Anything (All Anything) it.table is.table in
-    let kept = kept_bounded atom_row_items IsAtomRow it.kept is.kept in
+    let kept = kept_bounded atom_row_items atom_row_weight IsAtomRow it.kept is.kept in
     let size =
     length-append (table_items key_items (list_items atom_items) it.table) (kept_items atom_row_items it.kept) in
     omega arith
@@ -60,7 +60,8 @@ pub gauge_savable : (it : PushedGauge) → IsGauge it → IsSavableGauge it → 
 gauge_savable it is can =
     let table = table_savable key_items (list_items atom_items) Anything (All Anything) IsShortKey (All HasNoFault)
     key_savable (list_savable atom_items Anything HasNoFault atom_savable) it.table is.table can.0 in
-    let kept = kept_savable atom_row_items IsAtomRow IsSavableAtomRow atom_row_savable it.kept is.kept can.1 in
+    let kept = kept_savable atom_row_items atom_row_weight IsAtomRow IsSavableAtomRow atom_row_savable it.kept
+    is.kept can.1 in
     let body = All-append IsSavable (table_items key_items (list_items atom_items) it.table)
     (kept_items atom_row_items it.kept) table kept in
     items_savable (Num it.start) (Num it.samples ∷ gauge_rest it) tt

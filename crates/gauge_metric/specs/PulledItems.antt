@@ -25,7 +25,7 @@ use Rattle.kept_rows.specs.KeptItems.{kept_items, kept_entries, IsKeeping, AreSa
 use Rattle.metric_producer.specs.declared.row.Row.{Row}
 use Rattle.gauge_metric.specs.declared.gauge.KeyedAtom.{KeyedAtom}
 use Rattle.gauge_metric.specs.declared.pulled.PulledGauge.{PulledGauge}
-use Rattle.gauge_metric.specs.EventItems.{atom_row_items, IsAtomRow, IsSavableAtomRow, atom_row_savable}
+use Rattle.gauge_metric.specs.EventItems.{atom_row_items, atom_row_weight, IsAtomRow, IsSavableAtomRow, atom_row_savable}
 
 -- a sample is its key and its atom
 abbrev pub sample_items : KeyedAtom → List Item
@@ -109,7 +109,7 @@ pulled_items it =
 -- its table is one, and its kept rows are within their bound
 pub record IsPulledGauge (it : PulledGauge) : Type 0 where
   pub table : IsTable Anything (All Anything) it.table
-  pub kept : IsKeeping IsAtomRow it.kept
+  pub kept : IsKeeping atom_row_weight IsAtomRow it.kept
 
 -- its keys fit their counts, and its atoms have no fault
 pub record IsSavablePulled (it : PulledGauge) : Type 0 where
@@ -150,7 +150,7 @@ pub pulled_bounded : (it : PulledGauge) → IsPulledGauge it → length (pulled_
 pulled_bounded it is =
     let snapshot = snapshot_bounded it.snapshot in
     let table = table_bounded key_items (list_items atom_items) Anything (All Anything) it.table is.table in
-    let kept = kept_bounded atom_row_items IsAtomRow it.kept is.kept in
+    let kept = kept_bounded atom_row_items atom_row_weight IsAtomRow it.kept is.kept in
     let rows = table_items key_items (list_items atom_items) it.table ++ kept_items atom_row_items it.kept in
     let all = length-append (snapshot_items it.snapshot) rows in
     let size =
@@ -187,7 +187,8 @@ pulled_savable it is can =
     (all_lists (snapshot_list it.snapshot)) can.snapshot in
     let table = table_savable key_items (list_items atom_items) Anything (All Anything) IsShortKey (All HasNoFault)
     key_savable (list_savable atom_items Anything HasNoFault atom_savable) it.table is.table can.table in
-    let kept = kept_savable atom_row_items IsAtomRow IsSavableAtomRow atom_row_savable it.kept is.kept can.kept in
+    let kept = kept_savable atom_row_items atom_row_weight IsAtomRow IsSavableAtomRow atom_row_savable it.kept
+    is.kept can.kept in
     let table_is = table_items key_items (list_items atom_items) it.table in
     let kept_is = kept_items atom_row_items it.kept in
     let rows = All-append IsSavable table_is kept_is table kept in

@@ -34,7 +34,7 @@ impl EventProducer {
 fn row_of(alloc: Global, at: u64, atom: Atom) -> Result<Row<Seq<Atom>>, AllocError>
     ensures { IfOk result (λ row. row ≡ event_row (record { at = at; atom = atom })) }
 {
-    let mut value = Seq::new(alloc);
+    let mut value = Seq::with_capacity(alloc, 1)?;
     value.push(atom)?;
     let key = MetricKey {
         dims: DimKey::new(alloc),
@@ -72,7 +72,7 @@ impl Producer for EventProducer {
 
     fn event(&mut self, at: u64, ev: Atom) -> Result<(), AllocError> {
         let row = row_of(self.memory.alloc(), at, ev)?;
-        self.kept.put(row, 1)
+        self.kept.put(row)
     }
 
     fn condition(&mut self, at: u64, now: ()) -> Result<(), AllocError> {

@@ -111,24 +111,15 @@ pub(crate) fn keep_all(
         → AddsRows samples_weight kept.old kept.new (map (sample_row start end) sampled)) }
 {
     for (key, value) in sampled {
-        let weight = weight_of(&value);
         let row = Row {
             key,
             start,
             end,
             value,
         };
-        kept.put(row, weight)?;
+        kept.put(row)?;
     }
     Ok(())
-}
-
-// What a row of these samples weighs.
-pub(crate) fn weight_of(atoms: &Seq<Atom>) -> u64
-    ensures least { 1 ≤ result }
-    ensures value { 1 ≤ length atoms.now → result ≡ length atoms.now }
-{
-    (atoms.len() as u64).max(1)
 }
 
 // One more sample comes with a key.

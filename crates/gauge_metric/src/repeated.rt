@@ -6,7 +6,6 @@ ghost use Rattle.gauge_metric.specs.GaugeStands.{sample_row, HaveSamples};
 ghost use Rattle.gauge_metric.specs.PulledStands.{KeepsAgain};
 
 use crate::Row;
-use crate::gauge::weight_of;
 use atom_record::{Atom, MetricKey};
 use bucket_clock::Crossings;
 use dim_table::Guarded;
@@ -57,7 +56,7 @@ fn keep_copies(
             return Ok(());
         };
         let row = copied_row(alloc, start, end, key, atoms)?;
-        kept.put(row, weight_of(atoms))?;
+        kept.put(row)?;
     }
     Ok(())
 }

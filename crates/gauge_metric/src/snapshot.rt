@@ -52,7 +52,7 @@ fn sample_one(
     Ok(())
 }
 
-// Gives a key a row. A key that has one isn't copied.
+// Gives a key a row, with room for one sample. A key that has one isn't copied.
 fn admit_copy(
     table: &mut Guarded<MetricKey, Seq<Atom>>,
     alloc: Global,
@@ -64,7 +64,7 @@ fn admit_copy(
         return Ok(Admit::At(place));
     }
     let own = key.duplicate(alloc)?;
-    table.admit(own, Seq::new(alloc))
+    table.admit(own, Seq::with_capacity(alloc, 1)?)
 }
 
 // Adds a copy of a sample to the row at a place.

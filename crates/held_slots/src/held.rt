@@ -71,9 +71,12 @@ impl HeldSlots {
         requires { AreLive (contents_of table.now) self.now }
         ensures { OnOk result (truths.new.items ≡ map (result_at (contents_of table.now)) self.now) }
     {
-        truths.clear();
-        for number in self.numbers.as_slice() {
-            truths.push(table.result(Slot { number: *number }))?;
+        let numbers = self.numbers.as_slice();
+        truths.resize(numbers.len(), false)?;
+        for place in 0..numbers.len() {
+            truths[place] = table.result(Slot {
+                number: numbers[place],
+            });
         }
         Ok(())
     }

@@ -52,7 +52,7 @@ record Both {J : Type 0} (client : ℤ) (frames : List Frame) (shared alone : Hu
   is_config : config_at id (live frames) ≡ Some config
   held : IsHeldIn (hub_table shared) a
   held_alone : IsHeldIn (hub_table alone) b
-  same : b.instance.matchers ≡ a.instance.matchers
+  same : b.carried.instance.matchers ≡ a.carried.instance.matchers
 
 module _ {J : Type 0} (client : ℤ) (frames : List Frame) (shared alone : Hub J) (id : ℤ)
     (both : Both client frames shared alone id) where
@@ -63,24 +63,25 @@ module _ {J : Type 0} (client : ℤ) (frames : List Frame) (shared alone : Hub J
   live_shared : (i : ℕ) → i < length both.a.slots
       → matcher_at (hub_table shared).slots (get_or both.a.slots i 0) ≢ None
   live_shared i h =
-      held_live (hub_table shared) both.a.slots both.a.instance.matchers both.held.slots i
+      held_live (hub_table shared) both.a.slots both.a.carried.instance.matchers both.held.slots i
       (omega (arith, h, both.held.slots.each))
 
   live_alone : (i : ℕ) → i < length both.a.slots
       → matcher_at (hub_table alone).slots (get_or both.b.slots i 0) ≢ None
   live_alone i h =
-      held_live (hub_table alone) both.b.slots both.b.instance.matchers both.held_alone.slots i
+      held_live (hub_table alone) both.b.slots both.b.carried.instance.matchers both.held_alone.slots i
       (omega (arith, h, as_long, both.held_alone.slots.each))
 
   -- at each place of their lists the slots have one tree
   one_tree : (i : ℕ) → i < length both.a.slots → slot_tree (hub_table alone).slots (get_or both.b.slots i 0)
       ≡ slot_tree (hub_table shared).slots (get_or both.a.slots i 0)
   one_tree i h =
-      held_tree both.b.instance.matchers both.held_alone.in_range both.held_alone.no_cycle (hub_table alone) both.b.slots
+      held_tree both.b.carried.instance.matchers both.held_alone.in_range both.held_alone.no_cycle
+      (hub_table alone) both.b.slots
       (table_sound alone.lives.table) both.held_alone.slots i (omega (arith, h, as_long, both.held_alone.slots.each))
       ∙ ap (λ (ms : List LMatcher). matcher_tree ms i) both.same
-      ∙ sym (held_tree both.a.instance.matchers both.held.in_range both.held.no_cycle (hub_table shared) both.a.slots
-      (table_sound shared.lives.table) both.held.slots i (omega (arith, h, both.held.slots.each)))
+      ∙ sym (held_tree both.a.carried.instance.matchers both.held.in_range both.held.no_cycle (hub_table shared)
+      both.a.slots (table_sound shared.lives.table) both.held.slots i (omega (arith, h, both.held.slots.each)))
 
 -- a slot of the private table stands for what one of the shared table stands for
 record Meets {J : Type 0} (shared alone : Hub J) (s t : ℕ) : Type 0 where
@@ -109,8 +110,8 @@ module _ (says : SimpleMatcher → Atom → Bool) {J : Type 0} (client : ℤ) (a
 
   both_of : (id : ℤ) (a b : LiveInstance) (config : LiveConfig) → live_at client id shared ≡ Some a
       → live_at client id alone ≡ Some b → config_at id (live frames) ≡ Some config
-      → StandsAsleep (last_moment shared) a.instance (history_of says client frames config)
-      → StandsAsleep (last_moment alone) b.instance (history_of says client frames config)
+      → StandsAsleep (last_moment shared) a.carried.instance (history_of says client frames config)
+      → StandsAsleep (last_moment alone) b.carried.instance (history_of says client frames config)
       → Both client frames shared alone id
   both_of id a b config is_a is_b is_config stands stands_alone = record {
     a = a;
@@ -241,7 +242,8 @@ module _ (says : SimpleMatcher → Atom → Bool) {J : Type 0} (client : ℤ) (a
   pub as_alone : RunsAsAlone client shared alone
   as_alone = record {
     renamed = new_name;
-    live = λ id. same_live id (live_at client id shared) (live_at client id alone) (config_at id (live frames)) refl refl
+    live = λ id. same_live id (live_at client id shared) (live_at client id alone)
+        (config_at id (live frames)) refl refl
         refl (h.lives.slots client id) (alone_stands id);
     apart = λ s t in_s in_t same.
         let met = named s in_s in

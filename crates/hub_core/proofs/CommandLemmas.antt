@@ -1,6 +1,6 @@
 -- A configuration that goes in under its name, or is taken out.
 use Rattle.bucket_meaning.specs.Ends.{Moment}
-use Rattle.std.proofs.Common.{◌≡◌, ℕ, ◌+◌, true, false, cond, List, Option, Some, None, is_some, Result, Ok, Err, refl, sym, ap, subst, ◌∙◌}
+use Rattle.std.proofs.Common.{◌≡◌, ℕ, ◌+◌, ℤ, true, false, cond, List, Option, Some, None, is_some, Result, Ok, Err, refl, sym, ap, subst, ◌∙◌}
 use Rattle.std.specs.Prelude.{nat_le, IfOk}
 use Rattle.std.specs.Bool.{MatchBool}
 use Rattle.std.specs.Option.{MatchOption}
@@ -9,14 +9,17 @@ use Rattle.std.specs.Ordering.{int_eq}
 use Rattle.config_types.specs.declared.config.Config.{Config}
 use Rattle.session_frames.specs.declared.reply.ReplyBody.{ReplyBody}
 use Rattle.session_frames.specs.declared.reply.ReplyBody.TheVariants as answers
-use Rattle.config_links.specs.declared.linked.Linked.{Linked}
 use Rattle.hub_core.specs.declared.books.Books.{Books}
+use Rattle.hub_core.specs.declared.configs.Accepted.{Accepted}
 use Rattle.client_engine.specs.declared.live_id.LiveId.{LiveId}
 use Rattle.hub_core.specs.declared.live_instance.LiveInstance.{LiveInstance}
 use Rattle.hub_core.specs.declared.lives.Lives.{Lives}
 use Rattle.hub_meaning.specs.Acceptance.{most_configs, linked_read}
-use Rattle.hub_core.specs.Slots.{last_asked, count_at, others_at, ReportsAt}
+use Rattle.hub_core.specs.BookStands.{BooksStandFor}
+use Rattle.hub_core.specs.Slots.{last_asked, same_id, slot_at, count_at, others_at, ReportsAt}
+use Rattle.atom_record.specs.declared.log.LogFrame.{LogFrame}
 use Rattle.client_engine.specs.Handed.{BookOfStates}
+use Rattle.client_engine.specs.InstanceStands.{IsFresh}
 use Rattle.hub_core.specs.Commands.{change, held_at, others, Changes, StaysWith, Replaces, GoesIn, PutsIn, InstallsLinked, Installs, TakesOut, Removes, body_of_install, body_of_remove}
 use Rattle.hub_core.proofs.LastReportLemmas.{still_there, hides_old, replaces_old, removes_old}
 
@@ -43,18 +46,23 @@ module _ (moment : Moment) (book : BookOfStates) (name : LiveId) (old reported n
   }
 
   -- what goes in replaces what was reported
-  pub puts_in : (books : Books) (linked : Linked) (body : ReplyBody) → books.states ≡ book
-      → GoesIn moment.at books name linked reported new → body ≡ body_of_install last
-      → PutsIn moment books name linked (change old new body)
-  puts_in books linked body same goes is = record {
+  pub puts_in : (books : Books) (accepted : Accepted) → accepted.name ≡ name → (body : ReplyBody)
+      → books.states ≡ book → GoesIn moment.at books accepted reported new → body ≡ body_of_install last
+      → PutsIn moment books accepted (change old new body)
+  puts_in books accepted own body same goes is = record {
     goes = record {
       fresh = goes.fresh;
       is_fresh = goes.is_fresh;
-      changes = after_report (Some goes.fresh) (others name old + 1)
-          (subst (λ n. Changes name (Some goes.fresh) (n + 1) reported new) same_others goes.changes);
+      config = goes.config;
+      changes = subst (λ named. Changes named (Some goes.fresh) (others named old + 1) old new) (sym own)
+          (after_report (Some goes.fresh) (others name old + 1)
+          (subst (λ n. Changes name (Some goes.fresh) (n + 1) reported new) same_others
+          (subst (λ named. Changes named (Some goes.fresh) (others named reported + 1) reported new) own
+          goes.changes)));
     };
-    answer = subst (λ states. Replaces moment states name (held_at name old) body) (sym same)
-        (replaces_old moment book name old.slots.entries reported.slots.entries last report body is);
+    answer = subst (λ named. Replaces moment books.states named (held_at named old) body) (sym own)
+        (subst (λ states. Replaces moment states name (held_at name old) body) (sym same)
+        (replaces_old moment book name old.slots.entries reported.slots.entries last report body is));
   }
 
   -- what stood under the name is taken out
@@ -72,13 +80,34 @@ module _ (moment : Moment) (book : BookOfStates) (name : LiveId) (old reported n
       answer = removes_old moment book name old.slots.entries reported.slots.entries last report live e body is;
     }
 
+-- what came in, installed just now, is put in under its name
+pub goes_in : {E : Type 0} (base : ℕ) (books : Books) (accepted : Accepted) (old : Lives)
+    (fresh : LiveInstance) (result : Result Lives E)
+    → ((opening : List LogFrame) → BooksStandFor books opening
+    → IsFresh accepted.linked base opening fresh.carried.instance) → fresh.carried.config ≡ accepted.config
+    → IfOk result (λ lives. (other : LiveId) → slot_at other lives.slots.entries
+    ≡ cond (same_id accepted.name other) (Some fresh) (slot_at other old.slots.entries))
+    → IfOk result (λ lives. (client : ℤ) → count_at client lives.counts.entries
+    ≡ cond (int_eq accepted.name.uid client) (others accepted.name old + 1) (count_at client old.counts.entries))
+    → IfOk result (GoesIn base books accepted old)
+goes_in base books accepted old fresh (Err e) is_fresh config slots counts = tt
+goes_in base books accepted old fresh (Ok lives) is_fresh config slots counts = record {
+  fresh = fresh;
+  is_fresh = is_fresh;
+  config = config;
+  changes = record { slots = slots; counts = counts };
+}
+
 -- what goes in with room for it, and without a refusal, is installed
-pub installs : {E : Type 0} (moment : Moment) (books : Books) (name : LiveId) (config : Config) (linked : Linked)
-    (old : Lives) (result : Result (Lives × ReplyBody) E) → nat_le most_configs (others name old) ≡ false
-    → linked_read name.uid config ≡ Ok linked → IfOk result (λ r. PutsIn moment books name linked (change old r.0 r.1))
-    → IfOk result (λ r. Installs moment books name (Ok config) (change old r.0 r.1))
-installs moment books name config linked old (Err e) room is puts = tt
-installs moment books name config linked old (Ok r) room is puts =
-    subst (λ full. MatchBool full (StaysWith (answers.ClientFull most_configs) (change old r.0 r.1))
-    (InstallsLinked moment books name (linked_read name.uid config) (change old r.0 r.1))) (sym room)
-    (subst (λ read. InstallsLinked moment books name read (change old r.0 r.1)) (sym is) puts)
+pub installs : {E : Type 0} (moment : Moment) (books : Books) (accepted : Accepted) (decoded : Config) (old : Lives)
+    (result : Result (Lives × ReplyBody) E) → nat_le most_configs (others accepted.name old) ≡ false
+    → linked_read accepted.name.uid decoded ≡ Ok accepted.linked
+    → IfOk result (λ r. PutsIn moment books accepted (change old r.0 r.1))
+    → IfOk result (λ r. Installs moment books accepted.name accepted.config (Ok decoded) (change old r.0 r.1))
+installs moment books accepted decoded old (Err e) room is puts = tt
+installs moment books accepted decoded old (Ok r) room is puts =
+    let done = change old r.0 r.1 in
+    let read = linked_read accepted.name.uid decoded in
+    subst (λ full. MatchBool full (StaysWith (answers.ClientFull most_configs) done)
+    (InstallsLinked moment books accepted.name accepted.config read done)) (sym room)
+    (subst (λ read. InstallsLinked moment books accepted.name accepted.config read done) (sym is) puts)

@@ -1,5 +1,5 @@
 -- What the evaluation of a configuration's matchers rests on, and what it makes of an instance.
-use Rattle.std.proofs.Common.{◌≡◌, ◌≢◌, ℕ, ◌<◌, Bool, List, [], ◌∷◌, length, get_or, None, refl, sym, ap, subst, ◌∙◌, arith}
+use Rattle.std.proofs.Common.{◌≡◌, ◌≢◌, ℕ, ◌<◌, Bool, List, length, get_or, None, refl, sym, ap, subst, ◌∙◌, arith}
 use Rattle.std.proofs.lemmas.List.{get_or_default}
 use Rattle.std.proofs.lemmas.List.FromFn.{length-map-range_with_len}
 use Rattle.std.proofs.lemmas.List.Elements.{All-weaker}
@@ -30,17 +30,17 @@ use Rattle.held_slots.proofs.HoldingLaws.{held_live, evaluation_keeps}
 use Rattle.held_slots.proofs.TruthLaws.{held_truths}
 use Rattle.client_engine.specs.declared.live_id.LiveId.{LiveId}
 use Rattle.hub_core.specs.declared.live_instance.LiveInstance.{LiveInstance}
-use Rattle.hub_core.specs.SharedTable.{IsHeldIn, AllHeld, IsHeldTable, HasSameSlots}
+use Rattle.hub_core.specs.SharedTable.{IsHeldIn, IsHeldTable, HasSameSlots}
 use Rattle.hub_core.specs.Sleeping.{LogsAwake}
 use Rattle.hub_core.specs.SlotLogs.{results_for, questions_for, asked_by_all, EvaluatesFor}
 use Rattle.hub_core.proofs.QuestionLemmas.{questions_are}
 
 -- what was installed holds its matchers, and hears what it says
 pub new_held : (table : SlotTable) (linked : Linked) (live : LiveInstance) → IsSoundConfig linked
-    → linked_of live.instance ≡ linked → HoldMatchers table live.slots linked.matchers
+    → linked_of live.carried.instance ≡ linked → HoldMatchers table live.slots linked.matchers
     → live.hearing.ids ≡ heard_ids linked → live.hearing.all ≡ hears_all linked → IsHeldIn table live
 new_held table linked live sound is holds ids all =
-    let same : live.instance.matchers ≡ linked.matchers = ap (λ (l : Linked). l.matchers) is in
+    let same : live.carried.instance.matchers ≡ linked.matchers = ap (λ (l : Linked). l.matchers) is in
     record {
       slots = subst (HoldMatchers table live.slots) (sym same) holds;
       in_range = subst (λ (ms : List LMatcher). AreInRange (named_places ms)) (sym same)
@@ -54,20 +54,25 @@ pub same_twice : (first second third : LiveInstance) → HasSameSlots first seco
     → HasSameSlots first third
 same_twice first second third one other = record {
   slots = other.slots ∙ one.slots;
-  linked = other.linked ∙ one.linked;
+  carried = record {
+    name = other.carried.name ∙ one.carried.name;
+    config = other.carried.config ∙ one.carried.config;
+    linked = other.carried.linked ∙ one.carried.linked;
+  };
   hearing = other.hearing ∙ one.hearing;
 }
 
 -- the slots of what is held are live
 pub held_are_live : (table : SlotTable) (live : LiveInstance) → IsHeldIn table live → AreLive table live.slots
 held_are_live table live held k d h =
-    let within : k < length live.instance.matchers = omega (arith, h, held.slots.each) in
+    let within : k < length live.carried.instance.matchers = omega (arith, h, held.slots.each) in
     subst (λ (s : ℕ). matcher_at table.slots s ≢ None) (get_or_default live.slots k 0 d h)
-    (held_live table live.slots live.instance.matchers held.slots k within)
+    (held_live table live.slots live.carried.instance.matchers held.slots k within)
 
 module _ (says : SimpleMatcher → Atom → Bool) where
   -- the truths of a configuration's matchers are those that its history has for the frame, and as many as are asked for
-  pub truths_are : (linked : Linked) (frame : LogFrame) → truths_by says linked.matchers frame ≡ truths_at says linked frame
+  pub truths_are : (linked : Linked) (frame : LogFrame)
+      → truths_by says linked.matchers frame ≡ truths_at says linked frame
   truths_are linked (Tick at) = refl
   truths_are linked (AtomAt at atom) = refl
   truths_are linked (Pull at id outcome) = refl
@@ -102,11 +107,11 @@ module _ (says : SimpleMatcher → Atom → Bool) where
   -- the results of what is held are the truths of its matchers
   pub results_are : (before table : SlotTable) (old : LiveInstance) (shown : LogFrame) → IsSoundTable table
       → EvaluatesFor says shown before table → IsHeldIn table old
-      → results_for table shown old.slots ≡ truths_by says old.instance.matchers shown
+      → results_for table shown old.slots ≡ truths_by says old.carried.instance.matchers shown
   results_are before table old (Tick at) sound evaluates held = refl
   results_are before table old (AtomAt at atom) sound evaluates held =
-      held_truths says atom before table old.slots old.instance.matchers held.in_range held.no_cycle sound evaluates
-      held.slots
+      held_truths says atom before table old.slots old.carried.instance.matchers held.in_range held.no_cycle sound
+      evaluates held.slots
   results_are before table old (Pull at id outcome) sound evaluates held = refl
 
   -- an evaluation keeps what is held
@@ -119,7 +124,8 @@ module _ (says : SimpleMatcher → Atom → Bool) where
   evaluated_held before table (AtomAt at atom) rows evaluates held = record {
     all = All-weaker (λ (row : LiveId × LiveInstance). IsHeldIn before row.1)
         (λ (row : LiveId × LiveInstance). IsHeldIn table row.1) (λ row here. record {
-          slots = evaluation_keeps says atom before table row.1.slots row.1.instance.matchers evaluates here.slots;
+          slots = evaluation_keeps says atom before table row.1.slots row.1.carried.instance.matchers evaluates
+              here.slots;
           in_range = here.in_range;
           no_cycle = here.no_cycle;
           hears = here.hears;

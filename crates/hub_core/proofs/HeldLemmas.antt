@@ -1,6 +1,6 @@
 -- How many slots a client has, from change to change.
 use Rattle.std.proofs.Common.{◌≡◌, ◌≢◌, ℕ, ◌+◌, ◌-◌, ◌<◌, ◌≤◌, ◌==◌, ℤ, Bool, true, false, not, cond, List, [], ◌∷◌, length, get_or, position, Option, Some, None, is_some, unwrap_or, refl, sym, ap, subst, ◌∙◌, ⊎_elim, true≢false, arith}
-use Rattle.std.specs.Prelude.{◌&&◌}
+use Rattle.std.specs.Prelude.{◌&&◌, pos}
 use Rattle.std.specs.List.{count_by}
 use Rattle.std.specs.Map.{keys_of}
 use Rattle.std.specs.Ordering.{int_eq}
@@ -48,17 +48,21 @@ held-cons : (uid : ℤ) (row : LiveId × LiveInstance) (rows : List (LiveId × L
     → held_by uid (row ∷ rows) ≡ one_of uid row + held_by uid rows
 held-cons uid row rows = sum_by-cons (one_of uid) row rows
 
--- an instance of an empty configuration, where some instance is asked for
+-- what is live of an empty configuration, where some instance is asked for
 pub nothing : LiveInstance
 nothing = record {
-  instance = record {
-    matchers = [];
-    known = record { predicates = []; tables = [] };
-    states = [];
-    tracks = [];
-    alerts = [];
-    base = 0;
-    last = 0;
+  carried = record {
+    name = record { uid = pos 0; id = pos 0 };
+    config = [];
+    instance = record {
+      matchers = [];
+      known = record { predicates = []; tables = [] };
+      states = [];
+      tracks = [];
+      alerts = [];
+      base = 0;
+      last = 0;
+    };
   };
   slots = [];
   hearing = record { ids = []; all = false };
@@ -142,7 +146,7 @@ held-found name (row ∷ rows) there = by_case (same_id name row.0) refl there (
   by_case false e h rest = omega (arith, held-cons name.uid row rows, rest h)
 
 -- the number hangs on the names alone
-held-names : (uid : ℤ) (rows : List (LiveId × LiveInstance))
+pub held-names : (uid : ℤ) (rows : List (LiveId × LiveInstance))
     → held_by uid rows ≡ count_by (λ (name : LiveId). int_eq name.uid uid) (keys_of rows)
 held-names uid [] = refl
 held-names uid (row ∷ rows) =

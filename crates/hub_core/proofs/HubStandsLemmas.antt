@@ -2,10 +2,11 @@
 use Rattle.std.proofs.Common.{◌≡◌, ℕ, ◌+◌, ◌-◌, ◌<◌, ◌≤◌, ℤ, Bool, true, false, cond, List, [], ◌∷◌, ◌++◌, length, take, Option, Some, None, is_some, Result, Ok, Err, refl, sym, ap, subst, ◌∙◌, arith}
 use Rattle.std.specs.Prelude.{◌&&◌, nat_le}
 use Rattle.std.specs.Bool.{MatchBool}
-use Rattle.std.specs.Option.{MatchOption}
+use Rattle.std.specs.Option.{MatchOption, option_map}
 use Rattle.std.specs.Ordering.{int_eq}
 use Rattle.std.specs.Cmp.{signed_Decides}
 use Rattle.std.proofs.lemmas.List.{append-nil}
+use Rattle.std.proofs.lemmas.Option.{same_Some}
 use Rattle.std.proofs.lemmas.List.Sums.{length-filter}
 use Rattle.atom_record.specs.declared.atom.Atom.{Atom}
 use Rattle.atom_record.specs.declared.log.LogFrame.{LogFrame}
@@ -34,7 +35,7 @@ use Rattle.hub_meaning.specs.Acceptance.{LiveConfig, most_configs, has_other_id,
 use Rattle.hub_meaning.specs.LiveConfigs.{with_config, without_id, config_at, live_with, live_after, live, truths_at, step_at, history_of}
 use Rattle.hub_meaning.specs.ClientAnswers.{final_report, install_answer, remove_answer, report_answer, reply_of, reply_to}
 use Rattle.hub_meaning.proofs.SessionLogLaws.{own-push_own, own-push_other, log_frames-push, log_frames-own, clock_of-push, clock_of-own}
-use Rattle.hub_meaning.proofs.LiveConfigLaws.{live-push, live_placed, live_distinct, history_of-push, history_of-new, history_of-log, one_if, config_at-with_config, config_at-without_id, length-with_config, length-without_id, placed_at}
+use Rattle.hub_meaning.proofs.LiveConfigLaws.{live-push, live_placed, live_distinct, install_bytes-push, install_bytes-new, history_of-push, history_of-new, history_of-log, one_if, config_at-with_config, config_at-without_id, length-with_config, length-without_id, placed_at}
 use Rattle.client_engine.specs.NextSteps.{logged_step, reported_step}
 use Rattle.client_engine.specs.Handed.{BookOfStates}
 use Rattle.client_engine.specs.InstanceStands.{InstanceStandsFor, last_step_time, linked_of, new_history}
@@ -49,8 +50,9 @@ use Rattle.hub_core.specs.SlotLogs.{FoundLogs, AllLog}
 use Rattle.hub_core.specs.declared.log_clock.LogClock.{LogClock}
 use Rattle.hub_core.specs.Sleeping.{moment_of_clock, hears, StandsAsleep}
 use Rattle.hub_core.proofs.SleepingLemmas.{last_from-logged, last_from-reported, pushed_at, asleep_fresh, asleep_reported, asleep_logged, asleep_on, shown_heard, unheard_untouching}
+use Rattle.hub_core.specs.NamedLives.{KeepConfigs}
 use Rattle.hub_core.specs.Slots.{live_id, request_of, slot_at, count_at, ShowsAt}
-use Rattle.hub_core.specs.Commands.{change, held_at, others, Changes, Stays, StaysWith, IsEnded, Replaces, body_of_report, PutsIn, InstallsLinked, Installs, TakesOut, Removes, ReportsLive}
+use Rattle.hub_core.specs.Commands.{change, held_at, others, Changes, Stays, StaysWith, IsEnded, Replaces, body_of_report, accepted_of, PutsIn, InstallsLinked, Installs, TakesOut, Removes, ReportsLive}
 use Rattle.hub_core.specs.HubStands.{LiveStandsFor, SlotStandsFor, LivesStandFor, HubStandsFor, Serves}
 use Rattle.hub_core.proofs.InstallReadingLemmas.{linked_is}
 
@@ -62,6 +64,10 @@ int_eq_refl n = (signed_Decides n n).1 refl
 no_step : (history : History) → with_steps history [] ≡ history
 no_step history = ap (λ (steps : List Step). record history { steps = steps }) (append-nil history.steps)
 
+-- the bytes of what is found, if something is
+abbrev bytes_in : Option LiveInstance → Option (List ℕ)
+bytes_in slot = option_map (λ (live : LiveInstance). live.carried.config) slot
+
 module _ (says : SimpleMatcher → Atom → Bool) where
   -- a frame of the log comes to what is found under a name, if it hears it
   slot_logged : (before : Moment) (uid : ℤ) (frames : List Frame) (shown : LogFrame) (book : BookOfStates)
@@ -69,12 +75,14 @@ module _ (says : SimpleMatcher → Atom → Bool) where
       → ((c : LiveConfig) → config ≡ Some c → c.place < length frames) → before.at ≡ clock_of frames
       → clock_of frames ≤ log_time frame → log_time frame < time_limit
       → shown ≡ shown_as (log_frames frames) frame → StateBookStandsFor book (log_frames frames ++ frame ∷ [])
-      → FoundLogs says before shown book old new → SlotStandsFor says before uid frames old config
+      → FoundLogs says before shown book old new → bytes_in new ≡ bytes_in old
+      → SlotStandsFor says before uid frames old config
       → SlotStandsFor says (with_frame before (moment_of frame (log_time frame))) uid (frames ++ Log frame ∷ []) new
       config
-  slot_logged before uid frames shown book frame None None None placed now in_time fits shown_is book_is logs h = tt
+  slot_logged before uid frames shown book frame None None None placed now in_time fits shown_is book_is logs bytes h =
+      tt
   slot_logged before uid frames shown book frame (Some old) (Some new) (Some config) placed now in_time fits shown_is
-      book_is logs h =
+      book_is logs bytes h =
       let history = history_of says uid frames config in
       let linked = history.installed.linked in
       let log : log_of_history history ≡ log_frames frames = history_of-log says uid frames config in
@@ -84,41 +92,45 @@ module _ (says : SimpleMatcher → Atom → Bool) where
       let pushed : history_of says uid (frames ++ Log frame ∷ []) config ≡ more =
       history_of-push says uid frames (Log frame) config (placed config refl) in
       let later : before.at ≤ log_time frame = omega (arith, in_time, now) in
-      let same : hears (linked_of old.instance) shown ≡ hears linked frame =
+      let same : hears (linked_of old.carried.instance) shown ≡ hears linked frame =
       ap (λ (l : Linked). hears l shown) h.instance.stands.linked ∙ ap (hears linked) shown_is
       ∙ shown_heard linked (log_frames frames) frame in
-      let asleep : StandsAsleep next new.instance more =
+      let asleep : StandsAsleep next new.carried.instance more =
       by_case history (logged_step frame truths) (hears linked frame)
-      (subst (λ heard. MatchBool heard (LogsBy says before shown book old.instance new.instance) (new ≡ old)) same logs)
-      (λ wakes. asleep_logged before old.instance history h.instance frame truths later new.instance
+      (subst (λ heard. MatchBool heard (LogsBy says before shown book old.carried.instance new.carried.instance)
+      (new ≡ old)) same logs)
+      (λ wakes. asleep_logged before old.carried.instance history h.instance frame truths later new.carried.instance
       (wakes history frame h.instance (omega (arith, in_time, h.time))
       (shown_is ∙ ap (λ l. shown_as l frame) (sym log))
       (subst (λ l. StateBookStandsFor book (l ++ frame ∷ [])) (sym log) book_is)))
-      (λ off. asleep_on before old.instance history h.instance frame truths later
+      (λ off. asleep_on before old.carried.instance history h.instance frame truths later
       (unheard_untouching says linked frame off) fits) in
       record {
-        instance = subst (StandsAsleep next new.instance) (sym pushed) asleep;
+        instance = subst (StandsAsleep next new.carried.instance) (sym pushed) asleep;
         time = ap last_step_time pushed ∙ last_from-logged history.installed.base history.steps frame truths
             ∙ sym (clock_of-push frames (Log frame));
+        bytes = same_Some new.carried.config old.carried.config bytes ∙ h.bytes
+            ∙ sym (install_bytes-push frames (Log frame) config (placed config refl));
       } where
         by_case : (history : History) (step : Step) {next : Moment} (heard : Bool)
-            → MatchBool heard (LogsBy says before shown book old.instance new.instance) (new ≡ old)
-            → (LogsBy says before shown book old.instance new.instance
-            → StandsAsleep next new.instance (with_step history step))
-            → (heard ≡ false → StandsAsleep next old.instance (with_step history step))
-            → StandsAsleep next new.instance (with_step history step)
+            → MatchBool heard (LogsBy says before shown book old.carried.instance new.carried.instance) (new ≡ old)
+            → (LogsBy says before shown book old.carried.instance new.carried.instance
+            → StandsAsleep next new.carried.instance (with_step history step))
+            → (heard ≡ false → StandsAsleep next old.carried.instance (with_step history step))
+            → StandsAsleep next new.carried.instance (with_step history step)
         by_case history step {next} true took awake asleep = awake took
         by_case history step {next} false stays awake asleep =
-            subst (λ (it : LiveInstance). StandsAsleep next it.instance (with_step history step)) (sym stays)
+            subst (λ (it : LiveInstance). StandsAsleep next it.carried.instance (with_step history step)) (sym stays)
             (asleep refl)
-  slot_logged before uid frames shown book frame (Some old) new None placed now in_time fits shown_is book_is logs h =
+  slot_logged before uid frames shown book frame (Some old) new None placed now in_time fits shown_is book_is logs bytes
+      h = absurd h
+  slot_logged before uid frames shown book frame None new
+      (Some config) placed now in_time fits shown_is book_is logs bytes h =
       absurd h
-  slot_logged before uid frames shown book frame None new (Some config) placed now in_time fits shown_is book_is logs h =
-      absurd h
-  slot_logged before uid frames shown book frame None (Some new) None placed now in_time fits shown_is book_is logs h =
-      absurd logs
+  slot_logged before uid frames shown book frame None (Some new) None placed now in_time fits shown_is book_is logs
+      bytes h = absurd logs
   slot_logged before uid frames shown book frame (Some old) None (Some config) placed now in_time fits shown_is book_is
-      logs h = absurd logs
+      logs bytes h = absurd logs
 
   -- a frame that is no step to a configuration leaves what is held for it
   slot_idle : (moment : Moment) (uid : ℤ) (frames : List Frame) (frame : Frame) (slot : Option LiveInstance)
@@ -134,8 +146,9 @@ module _ (says : SimpleMatcher → Atom → Bool) where
       ∙ ap (with_steps (history_of says uid frames config)) facts.1
       ∙ no_step (history_of says uid frames config) in
       record {
-        instance = subst (StandsAsleep moment it.instance) (sym same) h.instance;
+        instance = subst (StandsAsleep moment it.carried.instance) (sym same) h.instance;
         time = ap last_step_time same ∙ h.time ∙ sym (clock_of-push frames frame ∙ still);
+        bytes = h.bytes ∙ sym (install_bytes-push frames frame config facts.0);
       }
   slot_idle moment uid frames frame (Some it) None still idle h = absurd h
   slot_idle moment uid frames frame None (Some config) still idle h = absurd h
@@ -153,9 +166,9 @@ module _ (says : SimpleMatcher → Atom → Bool) where
       (frame : LogFrame) → before.at ≡ clock_of frames → clock_of frames ≤ log_time frame → log_time frame < time_limit
       → shown ≡ shown_as (log_frames frames) frame → StateBookStandsFor book (log_frames frames ++ frame ∷ [])
       → AllLog says before shown book old.slots.entries new.slots.entries → new.counts ≡ old.counts
-      → LivesStandFor says before old frames
+      → KeepConfigs old.slots.entries new.slots.entries → LivesStandFor says before old frames
       → LivesStandFor says (with_frame before (moment_of frame (log_time frame))) new (frames ++ Log frame ∷ [])
-  stands_log before old new frames shown book frame now in_time fits shown_is book_is all counts h =
+  stands_log before old new frames shown book frame now in_time fits shown_is book_is all counts configs h =
       let next = with_frame before (moment_of frame (log_time frame)) in
       record {
         slots = λ uid id.
@@ -171,7 +184,7 @@ module _ (says : SimpleMatcher → Atom → Bool) where
             (config_at id (live mine)) (λ c is. (placed_at (length mine) id (live mine) (live_placed mine) c is).0)
             (now ∙ clock) (omega (arith, in_time, clock)) fits (shown_is ∙ ap (λ l. shown_as l frame) log)
             (subst (λ l. StateBookStandsFor book (l ++ frame ∷ [])) log book_is) (all (live_id uid id))
-            (h.slots uid id)));
+            (configs (live_id uid id)) (h.slots uid id)));
         counts = λ uid.
             let mine = own uid frames in
             ap (λ (c : _). count_at uid c.entries) counts ∙ h.counts uid
@@ -203,7 +216,8 @@ module _ (says : SimpleMatcher → Atom → Bool) where
     at_own other s =
         subst (λ l. SlotStandsFor says moment uid l (slot_at (live_id uid other) new.slots.entries) (config_at other
         (live l))) (sym own_now)
-        (subst (λ l. SlotStandsFor says moment uid (before ++ frame ∷ []) (slot_at (live_id uid other) new.slots.entries)
+        (subst (λ l. SlotStandsFor says moment uid (before ++ frame ∷ [])
+        (slot_at (live_id uid other) new.slots.entries)
         (config_at other l)) (sym (live-push before frame)) s)
 
     -- the client's own slots, and those of all others, which stay
@@ -214,7 +228,8 @@ module _ (says : SimpleMatcher → Atom → Bool) where
         → (n other : ℤ) → SlotStandsFor says moment n (own n (frames ++ frame ∷ [])) (slot_at
         (live_id n other) new.slots.entries) (config_at other (live (own n (frames ++ frame ∷ []))))
     all_slots own_slots others_stay n other = by_case (int_eq uid n) refl where
-      by_case : (same : Bool) → int_eq uid n ≡ same → SlotStandsFor says moment n (own n (frames ++ frame ∷ [])) (slot_at
+      by_case : (same : Bool) → int_eq uid n ≡ same
+          → SlotStandsFor says moment n (own n (frames ++ frame ∷ [])) (slot_at
           (live_id n other) new.slots.entries) (config_at other (live (own n (frames ++ frame ∷ []))))
       by_case true e =
           subst (λ m. SlotStandsFor says moment m (own m (frames ++ frame ∷ [])) (slot_at
@@ -455,12 +470,14 @@ module _ (says : SimpleMatcher → Atom → Bool) where
               })
               (subst (SlotStandsFor says moment uid (mine ++ Report uid id include_current ∷ []) (Some r.next))
               (sym is) (record {
-                instance = subst (StandsAsleep moment r.next.instance) (sym history)
-                    (asleep_reported moment it.instance (history_of says uid mine config) s.instance r.next.instance
-                    (request_of uid id include_current moment.at) done.0);
+                instance = subst (StandsAsleep moment r.next.carried.instance) (sym history)
+                    (asleep_reported moment it.carried.instance (history_of says uid mine config) s.instance
+                    r.next.carried.instance (request_of uid id include_current moment.at) done.0);
                 time = ap last_step_time history ∙ last_from-reported (clock_of (take config.place mine))
                     (history_of says uid mine config).steps (request_of uid id include_current moment.at) ∙ s.time
                     ∙ sym (clock_of-push mine (Report uid id include_current));
+                bytes = r.config ∙ s.bytes
+                    ∙ sym (install_bytes-push mine (Report uid id include_current) config at.0);
               }))
               (λ other e other_config other_is.
               let other_id = (placed_at (length mine) other lives_before (live_placed mine) other_config other_is).1 in
@@ -506,7 +523,8 @@ module _ (says : SimpleMatcher → Atom → Bool) where
 
       -- it is accepted
       accepted_case : (decoded : Config) (linked : Linked) → linked ≡ linked_form decoded uid
-          → brought ≡ Ok decoded → PutsIn moment books (live_id uid id) linked (change old new body)
+          → brought ≡ Ok decoded
+          → PutsIn moment books (accepted_of (live_id uid id) config linked) (change old new body)
           → LivesStandFor says moment new (frames ++ Install uid id config ∷ []) × (body
           ≡ install_answer says uid id (own uid frames) brought (config_at id lives_before))
       accepted_case decoded linked form is r =
@@ -520,12 +538,12 @@ module _ (says : SimpleMatcher → Atom → Bool) where
           sym (log_frames-push mine (Install uid id config) ∙ append-nil (log_frames mine)
           ∙ log_frames-own uid frames) in
           let history = history_of-new says uid mine (Install uid id config) put refl in
-          let fresh : StandsAsleep moment r.goes.fresh.instance (history_of says uid
-          (mine ++ Install uid id config ∷ []) put) =
-          subst (StandsAsleep moment r.goes.fresh.instance) (sym history)
-          (subst (λ t. StandsAsleep moment r.goes.fresh.instance (new_history t opening (linked_form decoded uid))) time
-          (asleep_fresh moment r.goes.fresh.instance opening (linked_form decoded uid)
-          (subst (λ l. InstanceStandsFor r.goes.fresh.instance (new_history moment.at opening l)) form
+          let it = r.goes.fresh.carried.instance in
+          let fresh : StandsAsleep moment it (history_of says uid (mine ++ Install uid id config ∷ []) put) =
+          subst (StandsAsleep moment it) (sym history)
+          (subst (λ t. StandsAsleep moment it (new_history t opening (linked_form decoded uid))) time
+          (asleep_fresh moment it opening (linked_form decoded uid)
+          (subst (λ l. InstanceStandsFor it (new_history moment.at opening l)) form
           (r.goes.is_fresh opening (subst (BooksStandFor books) opening_is books_are))))) in
           let at_id : config_at id (live_after mine (Install uid id config) lives_before) ≡ Some put =
           ap (config_at id) after_is ∙ config_at-with_config put id lives_before
@@ -541,6 +559,7 @@ module _ (says : SimpleMatcher → Atom → Bool) where
                   instance = fresh;
                   time = ap last_step_time history
                       ∙ sym (clock_of-push mine (Install uid id config));
+                  bytes = r.goes.config ∙ sym (install_bytes-new mine (Install uid id config) put refl);
                 }))
                 (λ other e other_config other_is. refl)
                 (λ other e. ap (config_at other) after_is ∙ config_at-with_config put other lives_before
@@ -561,7 +580,8 @@ module _ (says : SimpleMatcher → Atom → Bool) where
 
       -- it was linked, or refused by a fault of its references or by its form
       linked_case : (decoded : Config) (read : Result Linked Refusal) → linked_read uid decoded ≡ read
-          → brought ≡ accepted_as decoded read → InstallsLinked moment books (live_id uid id) read (change old new body)
+          → brought ≡ accepted_as decoded read
+          → InstallsLinked moment books (live_id uid id) config read (change old new body)
           → LivesStandFor says moment new (frames ++ Install uid id config ∷ []) × (body
           ≡ install_answer says uid id (own uid frames) brought (config_at id lives_before))
       linked_case decoded (Err refusal) read is r = refused (answers.Refused refusal) is r
@@ -570,7 +590,7 @@ module _ (says : SimpleMatcher → Atom → Bool) where
       -- the client is full or not
       full_case : (decoded : Config) (full : Bool) → brought ≡ accepted_read uid full (Ok decoded)
           → MatchBool full (StaysWith (answers.ClientFull most_configs) (change old new body))
-          (InstallsLinked moment books (live_id uid id) (linked_read uid decoded) (change old new body))
+          (InstallsLinked moment books (live_id uid id) config (linked_read uid decoded) (change old new body))
           → LivesStandFor says moment new (frames ++ Install uid id config ∷ []) × (body
           ≡ install_answer says uid id (own uid frames) brought (config_at id lives_before))
       full_case decoded true is r = refused (answers.ClientFull most_configs) is r
@@ -579,7 +599,7 @@ module _ (says : SimpleMatcher → Atom → Bool) where
       -- it was decoded or not
       read_case : (read : Result Config Refusal) → brought
           ≡ accepted_read uid (nat_le most_configs (others (live_id uid id) old)) read
-          → Installs moment books (live_id uid id) read (change old new body)
+          → Installs moment books (live_id uid id) config read (change old new body)
           → LivesStandFor says moment new (frames ++ Install uid id config ∷ []) × (body
           ≡ install_answer says uid id (own uid frames) brought (config_at id lives_before))
       read_case (Err refusal) is r = refused (answers.Refused refusal) is r
@@ -595,7 +615,7 @@ module _ (says : SimpleMatcher → Atom → Bool) where
           ∙ ap (accepted_read uid (nat_le most_configs (others (live_id uid id) old))) (sym is)
 
       pub serves_install : (read : Result Config Refusal) → read ≡ config_read (config_of config)
-          → Installs moment books (live_id uid id) read (change old new body)
+          → Installs moment books (live_id uid id) config read (change old new body)
           → LivesStandFor says moment new (frames ++ Install uid id config ∷ []) × (body
           ≡ install_answer says uid id (own uid frames) brought (config_at id lives_before))
       serves_install read is r = read_case read (brought_is read is) r
@@ -613,8 +633,9 @@ module _ (says : SimpleMatcher → Atom → Bool) where
         → shown ≡ shown_as (log_frames frames) frame → BooksStandFor new.books (log_frames frames ++ frame ∷ [])
         → AllLog says (moment_of_clock hub.clock) shown new.books.states hub.lives.slots.entries
         new.lives.slots.entries → new.lives.counts ≡ hub.lives.counts
+        → KeepConfigs hub.lives.slots.entries new.lives.slots.entries
         → HubStandsFor says new (frames ++ Log frame ∷ [])
-    hub_log frame shown in_time fits clock shown_is books all counts =
+    hub_log frame shown in_time fits clock shown_is books all counts configs =
         let next = moment_of frame (log_time frame) in
         let later : hub.clock.time ≤ log_time frame = omega (arith, in_time, h.clock) in
         record {
@@ -624,7 +645,7 @@ module _ (says : SimpleMatcher → Atom → Bool) where
           table = table_held new.lives;
           lives = subst (λ moment. LivesStandFor says moment new.lives (frames ++ Log frame ∷ [])) (sym clock)
               (stands_log (moment_of_clock hub.clock) hub.lives new.lives frames shown new.books.states frame h.clock
-              in_time fits shown_is books.states all counts h.lives);
+              in_time fits shown_is books.states all counts configs h.lives);
         }
 
     -- a frame of the log has no answer
@@ -693,7 +714,8 @@ module _ (says : SimpleMatcher → Atom → Bool) where
           }
 
       pub hub_install : (config : List ℕ) (read : Result Config Refusal) → read ≡ config_read (config_of config)
-          → Installs (moment_of_clock hub.clock) hub.books (live_id uid id) read (change hub.lives new.lives body)
+          → Installs (moment_of_clock hub.clock) hub.books (live_id uid id) config read
+          (change hub.lives new.lives body)
           → Serves says new frames (Install uid id config) (reply_of uid id body)
       unfolding reply_to
       hub_install config read is r =

@@ -5,6 +5,7 @@ mod ReachedLemmas
 mod QuestionLemmas
 mod BookLemmas
 mod NamesLemmas
+mod NamedRowsLemmas
 mod PlaceLemmas
 mod KeptLemmas
 mod ShownNamesLemmas
@@ -22,3 +23,8 @@ mod OneSlotLemmas
 mod AloneLemmas
 mod LiveQuestionsLemmas
 mod LastReportLemmas
+mod SavedConfigsLemmas
+mod SavedRowsLemmas
+mod SettledLemmas
+mod SavedHubsLemmas
+mod SavedStandsLemmas

@@ -43,16 +43,17 @@ module _ (says : SimpleMatcher → Atom → Bool) where
       (frame : LogFrame) (it : LiveInstance) (config : Option LiveConfig) → clock_of frames ≤ log_time frame
       → shown ≡ shown_as (log_frames frames) frame → StateBookStandsFor book (log_frames frames ++ frame ∷ [])
       → SlotStandsFor says moment uid frames (Some it) config → (from to : ℕ)
-      → AsksAwake moment it.instance shown (truths_by says it.instance.matchers shown) book from to
+      → AsksAwake moment it.carried.instance shown (truths_by says it.carried.instance.matchers shown) book from to
       → to ≤ from + option_map_or (config_questions says uid frames frame) config 0
   config_few moment uid frames shown book frame it None in_time shown_is book_is h from to asks = absurd h
   config_few moment uid frames shown book frame it (Some config) in_time shown_is book_is h from to asks =
       let history = history_of says uid frames config in
       let linked = history.installed.linked in
       let log : log_of_history history ≡ log_frames frames = history_of-log says uid frames config in
-      let same : truths_by says it.instance.matchers shown ≡ truths_at says linked frame =
-      truths_are says (linked_of it.instance) shown
-      ∙ ap (λ (l : Linked). truths_at says l shown) h.instance.stands.linked ∙ ap (truths_at says linked) shown_is ∙ truths_shown says linked (log_frames frames) frame in
+      let same : truths_by says it.carried.instance.matchers shown ≡ truths_at says linked frame =
+      truths_are says (linked_of it.carried.instance) shown
+      ∙ ap (λ (l : Linked). truths_at says l shown) h.instance.stands.linked ∙ ap (truths_at says linked) shown_is
+      ∙ truths_shown says linked (log_frames frames) frame in
       subst (λ truths. to ≤ from + questions_at history frame truths) same
       (asks history frame h.instance (omega (arith, in_time, h.time))
       (subst (IsView linked frame) (sym same) (is_view says linked frame))
@@ -65,7 +66,7 @@ module _ (says : SimpleMatcher → Atom → Bool) where
       → clock_of frames ≤ log_time frame → shown ≡ shown_as (log_frames frames) frame
       → StateBookStandsFor book (log_frames frames ++ frame ∷ []) → LivesStandFor says moment lives frames
       → (name : LiveId) (it : LiveInstance) → slot_at name lives.slots.entries ≡ Some it → (from to : ℕ)
-      → AsksAwake moment it.instance shown (truths_by says it.instance.matchers shown) book from to
+      → AsksAwake moment it.carried.instance shown (truths_by says it.carried.instance.matchers shown) book from to
       → to ≤ from + name_questions says frames frame name
   name_few moment lives frames shown book frame in_time shown_is book_is h name it found from to asks =
       let uid = name.uid in

@@ -1,5 +1,5 @@
 -- A frame that came to those that are noted came to all that hear it.
-use Rattle.std.proofs.Common.{◌≡◌, ℕ, ◌+◌, ◌==◌, Bool, true, false, not, ◌&&◌, ◌||◌, cond, List, [], ◌∷◌, ◌++◌, Option, Some, None, refl, sym, ap, subst, ◌∙◌, arith}
+use Rattle.std.proofs.Common.{◌≡◌, ℕ, ◌==◌, Bool, true, false, not, ◌&&◌, ◌||◌, cond, List, [], ◌∷◌, ◌++◌, Option, Some, None, refl, sym, ap, subst, ◌∙◌, arith}
 use Rattle.std.specs.Bool.{MatchBool}
 use Rattle.std.specs.List.{All, list_any}
 use Rattle.std.specs.Map.{keys_of}
@@ -11,7 +11,6 @@ use Rattle.atom_record.specs.declared.log.LogFrame.{LogFrame}
 use Rattle.atom_record.specs.declared.log.LogFrame.TheVariants.{Tick, AtomAt, Pull}
 use Rattle.bucket_meaning.specs.Ends.{Moment}
 use Rattle.config_types.specs.declared.matcher.SimpleMatcher.{SimpleMatcher}
-use Rattle.heard_ids.specs.declared.hearing.Hearing.{Hearing}
 use Rattle.heard_ids.specs.Hearing.{hears_all}
 use Rattle.id_notes.specs.declared.notes.Notes.{Notes}
 use Rattle.id_notes.specs.Noted.{wants_id, is_named, names_under, names_for_all}
@@ -57,14 +56,14 @@ either_noted false false = refl
 
 -- what stands under a name hears a frame
 abbrev pub hears_at : LogFrame → Option LiveInstance → Bool
-hears_at shown slot = option_map_or (λ (live : LiveInstance). hears (linked_of live.instance) shown) slot false
+hears_at shown slot = option_map_or (λ (live : LiveInstance). hears (linked_of live.carried.instance) shown) slot false
 
 module _ (table : SlotTable) (notes : Notes LiveId) (rows : List (LiveId × LiveInstance)) (held : AllHeld table rows)
     (noted : AreNoted notes rows) (name : LiveId) where
   -- a name is noted where what stands under it hears the id
   noted_hears : (id : ℕ) (slot : Option LiveInstance) → slot_at name rows ≡ slot
       → is_named same_id name (names_under notes id ++ names_for_all notes)
-      ≡ option_map_or (λ (live : LiveInstance). hears_id (linked_of live.instance) id) slot false
+      ≡ option_map_or (λ (live : LiveInstance). hears_id (linked_of live.carried.instance) id) slot false
   noted_hears id slot is =
       named-append name (names_under notes id) (names_for_all notes)
       ∙ ap (λ b. b || is_named same_id name (names_for_all notes))
@@ -77,14 +76,15 @@ module _ (table : SlotTable) (notes : Notes LiveId) (rows : List (LiveId × Live
         by_slot : (o : Option LiveInstance) → slot_at name rows ≡ o
             → (option_map_or (λ (live : LiveInstance). wants_id live.hearing id) o false
             || option_map_or (λ (live : LiveInstance). live.hearing.all) o false)
-            ≡ option_map_or (λ (live : LiveInstance). hears_id (linked_of live.instance) id) o false
+            ≡ option_map_or (λ (live : LiveInstance). hears_id (linked_of live.carried.instance) id) o false
         by_slot None e = refl
         by_slot (Some live) e =
-            let heard : IsHearing live.hearing (linked_of live.instance) =
+            let heard : IsHearing live.hearing (linked_of live.carried.instance) =
             (found_held table name live rows held e).hears in
             either_noted live.hearing.all (list_any (λ h. h == id) live.hearing.ids)
             ∙ ap (λ b. b || list_any (λ h. h == id) live.hearing.ids) heard.all
-            ∙ ap (λ (ids : List ℕ). hears_all (linked_of live.instance) || list_any (λ h. h == id) ids) heard.ids
+            ∙ ap (λ (ids : List ℕ). hears_all (linked_of live.carried.instance) || list_any (λ h. h == id) ids)
+            heard.ids
 
   -- and so where it hears a frame
   pub named_hears : (shown : LogFrame)
@@ -105,16 +105,16 @@ module _ (says : SimpleMatcher → Atom → Bool) (before table : SlotTable) (mo
       → FoundLogs says moment shown book old new
   found_logs name None None is became = tt
   found_logs name None (Some new) is became = absurd (none-some new (sym became))
-  found_logs name (Some old) None is became = gone (hears (linked_of old.instance) shown) became where
+  found_logs name (Some old) None is became = gone (hears (linked_of old.carried.instance) shown) became where
     gone : (heard : Bool) → MatchBool heard ⊥ (None ≡ Some old) → ⊥
     gone true became = became
     gone false became = none-some old became
   found_logs name (Some old) (Some new) is became =
-      took (hears (linked_of old.instance) shown) became where
+      took (hears (linked_of old.carried.instance) shown) became where
         took : (heard : Bool) → MatchBool heard (IsShown table moment shown book old new) (Some new ≡ Some old)
-            → MatchBool heard (LogsBy says moment shown book old.instance new.instance) (new ≡ old)
+            → MatchBool heard (LogsBy says moment shown book old.carried.instance new.carried.instance) (new ≡ old)
         took true became =
-            logs_by says moment shown book old.instance new.instance (results_for table shown old.slots)
+            logs_by says moment shown book old.carried.instance new.carried.instance (results_for table shown old.slots)
             (results_are says before table old shown sound evaluates (found_held table name old olds held is))
             became.logs
         took false became = same_Some new old became
@@ -133,7 +133,7 @@ module _ (says : SimpleMatcher → Atom → Bool) (before table : SlotTable) (mo
       → AllAskBy says moment shown book olds from to
   ask_by names from to asks most each =
       let few = asks most (λ name it named found start end here. each name it found start end
-      (subst (λ truths. AsksAwake moment it.instance shown truths book start end)
+      (subst (λ truths. AsksAwake moment it.carried.instance shown truths book start end)
       (results_are says before table it shown sound evaluates (found_held table name it olds held found)) here)) in
       let total = sum_all most names (keys_of olds) in
       omega (arith, few, total)
@@ -142,15 +142,16 @@ module _ (says : SimpleMatcher → Atom → Bool) (before table : SlotTable) (mo
 pub unheard_stay : (says : SimpleMatcher → Atom → Bool) (moment : Moment) (shown : LogFrame) (book : BookOfStates)
     (frame : LogFrame) (olds news : List (LiveId × LiveInstance)) → heard_id_of shown ≡ heard_id_of frame
     → AllLog says moment shown book olds news → (name : LiveId) (live : LiveInstance) → slot_at name olds ≡ Some live
-    → hears (linked_of live.instance) frame ≡ false → slot_at name news ≡ Some live
+    → hears (linked_of live.carried.instance) frame ≡ false → slot_at name news ≡ Some live
 unheard_stay says moment shown book frame olds news same all name live is off =
     by_new (slot_at name news)
     (subst (λ (o : Option LiveInstance). FoundLogs says moment shown book o (slot_at name news)) is (all name)) where
-      unheard : hears (linked_of live.instance) shown ≡ false
-      unheard = ap (λ (id : Option ℕ). option_map_or (hears_id (linked_of live.instance)) id false) same ∙ off
+      unheard : hears (linked_of live.carried.instance) shown ≡ false
+      unheard = ap (λ (id : Option ℕ). option_map_or (hears_id (linked_of live.carried.instance)) id false) same ∙ off
 
       by_new : (new : Option LiveInstance) → FoundLogs says moment shown book (Some live) new → new ≡ Some live
       by_new None logs = absurd logs
       by_new (Some new) logs =
           ap (λ (it : LiveInstance). Some it)
-          (subst (λ b. MatchBool b (LogsBy says moment shown book live.instance new.instance) (new ≡ live)) unheard logs)
+          (subst (λ b. MatchBool b (LogsBy says moment shown book live.carried.instance new.carried.instance)
+          (new ≡ live)) unheard logs)

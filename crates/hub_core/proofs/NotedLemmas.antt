@@ -16,12 +16,17 @@ use Rattle.hub_core.specs.SharedTable.{KeepsSlots}
 use Rattle.hub_core.specs.Slots.{same_id, slot_at}
 use Rattle.hub_core.proofs.NamesLemmas.{same_equiv, same_is, right_false}
 
+-- what is merely noted is noted
+pub noted_is : (notes : Notes LiveId) (rows : List (LiveId × LiveInstance)) → ∥ AreNoted notes rows ∥₁
+    → AreNoted notes rows
+noted_is notes rows noted = record {
+  ids = λ id name. ∥∥₁_elim noted (hlevel props) (λ noted. noted.ids id name);
+  all = λ name. ∥∥₁_elim noted (hlevel props) (λ noted. noted.all name);
+}
+
 -- the facts of the type
 pub lives_noted : (lives : Lives) → AreNoted lives.notes lives.slots.entries
-lives_noted lives = record {
-  ids = λ id name. ∥∥₁_elim lives.noted (hlevel props) (λ noted. noted.ids id name);
-  all = λ name. ∥∥₁_elim lives.noted (hlevel props) (λ noted. noted.all name);
-}
+lives_noted lives = noted_is lives.notes lives.slots.entries lives.noted
 
 -- where nothing is noted, nothing is live
 pub none_noted : (notes : Notes LiveId) (rows : List (LiveId × LiveInstance)) → ((id : ℕ) → names_under notes id ≡ [])
@@ -56,7 +61,8 @@ noted_kept notes olds news kept noted = record {
 } where
   same : (wants : Hearing → Bool) (name : LiveId) → wanted wants (slot_at name news) ≡ wanted wants (slot_at name olds)
   same wants name =
-      by_hearing wants (slot_at name news) ∙ ap (λ (h : Option Hearing). option_map_or wants h false) (kept.hearing name)
+      by_hearing wants (slot_at name news)
+      ∙ ap (λ (h : Option Hearing). option_map_or wants h false) (kept.hearing name)
       ∙ sym (by_hearing wants (slot_at name olds))
 
 -- no name is noted twice for an id

@@ -29,7 +29,8 @@ module _ (table : SlotTable) (sound : IsSoundTable table) where
       one x y (omega (arith, places-cons x x xs, one_if_same x x refl))
       (omega (arith, places-cons y y ys, one_if_same y y refl)) here in
       let others : xs ≡ ys =
-      one_list xs ys (λ a b in_xs in_ys. one a b (omega (arith, places-cons a x xs)) (omega (arith, places-cons b y ys)))
+      one_list xs ys (λ a b in_xs in_ys. one a b (omega (arith, places-cons a x xs))
+      (omega (arith, places-cons b y ys)))
       later in
       cc
 

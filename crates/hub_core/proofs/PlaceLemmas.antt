@@ -2,7 +2,7 @@
 use Rattle.std.proofs.Common.{◌≡◌, ℕ, zero, suc, Bool, true, false, cond, ◌&&◌, ◌||◌, List, [], ◌∷◌, Option, Some, refl, sym, ap, subst, ◌∙◌, true≢false}
 use Rattle.std.specs.Prelude.{slice_get, IsSome, if◌then◌else◌}
 use Rattle.std.specs.List.{IsDistinct}
-use Rattle.std.specs.Map.{keys_of, lookup, set_value, values_of}
+use Rattle.std.specs.Map.{keys_of, set_value, values_of}
 use Rattle.std.proofs.lemmas.Map.{lookup-set_value}
 use Rattle.std.specs.Option.{option_map}
 use Rattle.std.proofs.lemmas.Option.{none-some, same_Some, slice_get-map}
@@ -15,7 +15,8 @@ use Rattle.hub_core.proofs.NamesLemmas.{all_at, same_equiv, same_is}
 
 module _ (name : LiveId) (row : LiveId × LiveInstance) (rows : List (LiveId × LiveInstance)) where
   -- what a look-up in a list finds and writes, by whether its first row is the one
-  record Finds (is : Bool) (answer : Option LiveInstance) (written : LiveInstance → List (LiveId × LiveInstance)) : Type 0
+  record Finds (is : Bool) (answer : Option LiveInstance)
+      (written : LiveInstance → List (LiveId × LiveInstance)) : Type 0
     where
       pub found : cond is (Some row.1) (slot_at name rows) ≡ answer
       pub wrote : (live : LiveInstance)

@@ -193,9 +193,9 @@ module _ (atom : Atom) (table : SlotTable) (rows : List (LiveId × LiveInstance)
   of_rows (row ∷ rows) all =
       let P : LiveId × LiveInstance → Type 0 = λ row. IsHeldIn table row.1 in
       let here = All-head P row rows all in
-      All-append (HasASlot atom table.slots) (flat_map (asked_matcher atom) row.1.instance.matchers)
+      All-append (HasASlot atom table.slots) (flat_map (asked_matcher atom) row.1.carried.instance.matchers)
       (asked_matchers atom rows)
-      (of_matchers row.1.slots row.1.instance.matchers
+      (of_matchers row.1.slots row.1.carried.instance.matchers
       (λ place m is. (get_or row.1.slots place 0, here.slots.same place m is))) (of_rows rows (All-tail P row rows all))
 
   different_slots : All (HasASlot atom table.slots) (different (asked_matchers atom rows))
@@ -238,7 +238,7 @@ module _ (atom : Atom) (table : SlotTable) (rows : List (LiveId × LiveInstance)
       omega (
         arith,
         own_asked x h.live.slots m (sym (stands table rows s h) ∙ is) of,
-        asked_at x h.live.instance.matchers h.place m (own_at table rows s h),
+        asked_at x h.live.carried.instance.matchers h.place m (own_at table rows s h),
         h.asked atom x,
       )
 

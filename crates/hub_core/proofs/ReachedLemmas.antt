@@ -88,7 +88,8 @@ some_parent s (o ∷ slots) some =
 
 parent_live : (s : ℕ) (o : Option SharedMatcher) → 0 < times_among s (children_of o) → o ≢ None
 parent_live s o some gone =
-    let none : times_among s (children_of o) ≡ 0 = ap (λ (x : Option SharedMatcher). times_among s (children_of x)) gone in
+    let none : times_among s (children_of o)
+    ≡ 0 = ap (λ (x : Option SharedMatcher). times_among s (children_of x)) gone in
     omega arith
 
 -- A table in which what has an outside use names only what has one.
@@ -132,7 +133,7 @@ pub record Holder (table : SlotTable) (rows : List (LiveId × LiveInstance)) (s 
   pub is : get_or live.slots place 0 ≡ s
   pub places : (t : ℕ) → times_among t live.slots ≤ places_holding t rows
   pub asked : (atom : Atom) (matcher : SimpleMatcher)
-      → copies matcher (flat_map (asked_matcher atom) live.instance.matchers)
+      → copies matcher (flat_map (asked_matcher atom) live.carried.instance.matchers)
       ≤ copies matcher (asked_matchers atom rows)
 
 -- a slot that a place holds has a holder
@@ -142,8 +143,9 @@ holder_of table [] s all some = absurd (omega arith)
 holder_of table (row ∷ rows) s all some =
     let P : LiveId × LiveInstance → Type 0 = λ row. IsHeldIn table row.1 in
     let asked : (atom : Atom) (matcher : SimpleMatcher) → copies matcher (asked_matchers atom (row ∷ rows))
-    ≡ copies matcher (flat_map (asked_matcher atom) row.1.instance.matchers) + copies matcher (asked_matchers atom rows) =
-    λ atom matcher. copies-append matcher (flat_map (asked_matcher atom) row.1.instance.matchers)
+    ≡ copies matcher (flat_map (asked_matcher atom) row.1.carried.instance.matchers) + copies matcher
+    (asked_matchers atom rows) =
+    λ atom matcher. copies-append matcher (flat_map (asked_matcher atom) row.1.carried.instance.matchers)
     (asked_matchers atom rows) in
     elim (cases_eq (times_among s row.1.slots) 0) [
       | inr here ↦
@@ -172,16 +174,16 @@ holder_of table (row ∷ rows) s all some =
 
 -- the matcher at a place that holds a slot
 module _ (table : SlotTable) (rows : List (LiveId × LiveInstance)) (s : ℕ) (h : Holder table rows s) where
-  below : h.place < length h.live.instance.matchers
+  below : h.place < length h.live.carried.instance.matchers
   below = omega (arith, h.within, h.held.slots.each)
 
-  pub found : (m : LMatcher) × (slice_get h.live.instance.matchers h.place ≡ Some m)
-  found = there h.live.instance.matchers h.place below
+  pub found : (m : LMatcher) × (slice_get h.live.carried.instance.matchers h.place ≡ Some m)
+  found = there h.live.carried.instance.matchers h.place below
 
   abbrev pub own : LMatcher
   own = found.0
 
-  pub own_at : slice_get h.live.instance.matchers h.place ≡ Some own
+  pub own_at : slice_get h.live.carried.instance.matchers h.place ≡ Some own
   own_at = found.1
 
   pub stands : matcher_at table.slots s ≡ Some (in_slots h.live.slots own)
@@ -203,14 +205,14 @@ module _ (table : SlotTable) (rows : List (LiveId × LiveInstance)) (s : ℕ) (h
   pub names_held : (c : ℕ) → 0 < times_among c (children_of (matcher_at table.slots s)) → 0 < places_holding c rows
   names_held c some =
       let named = names own c (subst (λ (o : Option SharedMatcher). 0 < times_among c (children_of o)) stands some) in
-      let refers : Refers (named_places h.live.instance.matchers) h.place named.0 =
+      let refers : Refers (named_places h.live.carried.instance.matchers) h.place named.0 =
       subst (λ (xs : List ℕ). Contains xs named.0)
-      (sym (named_at named_matchers h.live.instance.matchers h.place own own_at)) named.1 in
+      (sym (named_at named_matchers h.live.carried.instance.matchers h.place own own_at)) named.1 in
       let within : named.0 < length h.live.slots =
       omega (
         arith,
         h.held.in_range h.place named.0 refers,
-        length-map h.live.instance.matchers named_matchers,
+        length-map h.live.carried.instance.matchers named_matchers,
         h.held.slots.each,
       ) in
       let counted : 0 < times_among c h.live.slots =

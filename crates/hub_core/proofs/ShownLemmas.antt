@@ -15,12 +15,13 @@ module _ (moment : Moment) (request : ReportRequest) (book : BookOfStates) (old 
     (report : Option (List ℕ)) where
   -- it was found, and its next stands there
   pub shows : (live next : LiveInstance) (tree : ReportTree) → slot_at request.name old ≡ Some live
-      → ReportsAwake moment live.instance request book next.instance tree
+      → ReportsAwake moment live.carried.instance request book next.carried.instance tree
+      → next.carried.config ≡ live.carried.config
       → ((other : LiveId) → slot_at other new
       ≡ cond (same_id request.name other) (Some next) (slot_at other old))
       → report ≡ Some (report_message tree)
       → ReportsAt moment request book old new report
-  shows live next tree is steps slots told =
+  shows live next tree is steps config slots told =
       subst (λ found. MatchOption found ((new ≡ old) × (report ≡ None))
       (λ it. ShowsAt moment request book it old new report)) (sym is)
-      (record { next = next; tree = tree; steps = steps; slots = slots; told = told })
+      (record { next = next; tree = tree; steps = steps; config = config; slots = slots; told = told })

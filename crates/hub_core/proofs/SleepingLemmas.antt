@@ -120,6 +120,19 @@ module _ (moment : Moment) (old : Running) (history : History) (asleep : StandsA
     time = last_from-reported base history.steps request ∙ asleep.time;
   }
 
+  -- what was caught up falls asleep as it is
+  pub asleep_awake : (new : Running) → InstanceStandsFor new history → StandsAsleep moment new history
+  asleep_awake new stands = record {
+    woken = history.steps;
+    slept = [];
+    steps = sym (append-nil history.steps);
+    stands = stands;
+    untouching = tt;
+    in_time = asleep.in_time;
+    run = all_came;
+    time = asleep.time;
+  }
+
   module _ (frame : LogFrame) (truths : List Bool) (in_time : moment.at ≤ log_time frame) where
     -- the frame as ends of buckets see it
     abbrev next : Moment

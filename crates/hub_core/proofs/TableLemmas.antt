@@ -2,6 +2,7 @@
 use Rattle.std.proofs.Common.{◌≡◌, ℕ, ◌+◌, ◌<◌, ◌≤◌, Bool, true, false, cond, List, [], ◌∷◌, length, get_or, position, Option, Some, None, refl, sym, ap, subst, ◌∙◌, arith}
 use Rattle.std.proofs.Props.{props}
 use mathlib.Core.Logic.{∥∥₁_elim}
+use Rattle.std.specs.List.{All}
 use Rattle.std.specs.Map.{keys_of, values_of, set_value}
 use Rattle.std.proofs.lemmas.List.{get_or-map, length-map}
 use Rattle.std.proofs.lemmas.List.Elements.{All-nil, All-cons, All-head, All-tail, All-weaker}
@@ -30,12 +31,17 @@ use Rattle.hub_core.specs.SharedTable.{IsHeldIn, AllHeld, places_holding, IsHeld
 use Rattle.hub_core.specs.Slots.{same_id, slot_at}
 use Rattle.hub_core.proofs.HeldLemmas.{nothing}
 
+-- a table that is merely held is held
+pub held_is : (table : SlotTable) (rows : List (LiveId × LiveInstance)) → ∥ IsHeldTable table rows ∥₁
+    → IsHeldTable table rows
+held_is table rows held = record {
+  all = ∥∥₁_elim held (hlevel (props, matchers_set)) (λ held. held.all);
+  uses = λ s. ∥∥₁_elim held (hlevel props) (λ held. held.uses s);
+}
+
 -- the facts of the type
 pub table_held : (lives : Lives) → IsHeldTable (contents_of lives.table) lives.slots.entries
-table_held lives = record {
-  all = ∥∥₁_elim lives.held (hlevel (props, matchers_set)) (λ held. held.all);
-  uses = λ s. ∥∥₁_elim lives.held (hlevel props) (λ held. held.uses s);
-}
+table_held lives = held_is (contents_of lives.table) lives.slots.entries lives.held
 
 -- nothing holds nothing
 pub none_held : (table : SlotTable) → ((s : ℕ) → outside_uses table s ≡ 0) → IsHeldTable table []
@@ -54,17 +60,20 @@ abbrev RowHeld : SlotTable → LiveId × LiveInstance → Type 0
 RowHeld table row = IsHeldIn table row.1
 
 -- what has the same slots is held as before
-same_held : (table : SlotTable) (old new : LiveInstance) → HasSameSlots old new → IsHeldIn table old → IsHeldIn table new
+same_held : (table : SlotTable) (old new : LiveInstance) → HasSameSlots old new
+    → IsHeldIn table old → IsHeldIn table new
 same_held table old new same held =
-    let matchers : new.instance.matchers ≡ old.instance.matchers = ap (λ (l : Linked). l.matchers) same.linked in
+    let linked = same.carried.linked in
+    let matchers : new.carried.instance.matchers ≡ old.carried.instance.matchers =
+    ap (λ (l : Linked). l.matchers) linked in
     record {
-      slots = subst (λ (slots : List ℕ). HoldMatchers table slots new.instance.matchers) (sym same.slots)
+      slots = subst (λ (slots : List ℕ). HoldMatchers table slots new.carried.instance.matchers) (sym same.slots)
           (subst (HoldMatchers table old.slots) (sym matchers) held.slots);
       in_range = subst (λ (ms : List LMatcher). AreInRange (named_places ms)) (sym matchers) held.in_range;
       no_cycle = subst (λ (ms : List LMatcher). HasNoCycle (named_places ms)) (sym matchers) held.no_cycle;
       hears = record {
-        ids = ap (λ (h : Hearing). h.ids) same.hearing ∙ held.hears.ids ∙ ap heard_ids (sym same.linked);
-        all = ap (λ (h : Hearing). h.all) same.hearing ∙ held.hears.all ∙ ap hears_all (sym same.linked);
+        ids = ap (λ (h : Hearing). h.ids) same.hearing ∙ held.hears.ids ∙ ap heard_ids (sym linked);
+        all = ap (λ (h : Hearing). h.all) same.hearing ∙ held.hears.all ∙ ap hears_all (sym linked);
       };
     }
 
@@ -75,7 +84,8 @@ get_or-own xs i d within =
 
 module _ (name : LiveId) where
   -- a configuration that goes in is held, and so are the others
-  pub all-insert : (table : SlotTable) (live : LiveInstance) → IsHeldIn table live → (rows : List (LiveId × LiveInstance))
+  pub all-insert : (table : SlotTable) (live : LiveInstance) → IsHeldIn table live
+      → (rows : List (LiveId × LiveInstance))
       → AllHeld table rows → AllHeld table (insert_entry same_id rows name live)
   all-insert table live held [] all = All-cons (RowHeld table) (name, live) [] held (All-nil (RowHeld table))
   all-insert table live held (row ∷ rows) all =
@@ -85,7 +95,8 @@ module _ (name : LiveId) where
         by_case true rest =
             All-cons (RowHeld table) (row.0, live) rows held (All-tail (RowHeld table) row rows all)
         by_case false rest =
-            All-cons (RowHeld table) row (insert_entry same_id rows name live) (All-head (RowHeld table) row rows all) rest
+            All-cons (RowHeld table) row (insert_entry same_id rows name live)
+            (All-head (RowHeld table) row rows all) rest
 
   -- its places come, and those of the one that stood there go
   pub places-insert : (s : ℕ) (live : LiveInstance) (rows : List (LiveId × LiveInstance))
@@ -146,19 +157,19 @@ module _ (name : LiveId) where
         by_case false is' rest =
             omega (arith, places-cons s row (set_value (same_id name) rows new), places-cons s row rows, rest is')
 
-  -- a configuration that is taken out leaves the others
-  pub all-swap_remove : (table : SlotTable) (rows : List (LiveId × LiveInstance)) → AllHeld table rows
-      → AllHeld table (swap_remove_entry (same_id name) rows)
-  all-swap_remove table rows all = by_place (position (same_id name) (keys_of rows)) refl where
+  -- what is taken out leaves the others as they are
+  pub all_out : (IsSo : LiveId × LiveInstance → Type 0) (rows : List (LiveId × LiveInstance)) → All IsSo rows
+      → All IsSo (swap_remove_entry (same_id name) rows)
+  all_out IsSo rows all = by_place (position (same_id name) (keys_of rows)) refl where
     by_place : (place : Option ℕ) → position (same_id name) (keys_of rows) ≡ place
-        → AllHeld table (swap_remove_entry (same_id name) rows)
-    by_place None e = subst (AllHeld table) (sym (swap_remove_entry-missing (same_id name) rows e)) all
+        → All IsSo (swap_remove_entry (same_id name) rows)
+    by_place None e = subst (All IsSo) (sym (swap_remove_entry-missing (same_id name) rows e)) all
     by_place (Some i) e =
         let d : LiveId × LiveInstance = (name, nothing) in
         let within : i < length rows = (Found-position (same_id name) rows i e).within in
         let x : LiveId × LiveInstance = get_or rows i d in
-        subst (AllHeld table) (sym (swap_remove_entry-found (same_id name) rows i x e))
-        (All-tail (RowHeld table) x _ (All-permutation (RowHeld table) rows _
+        subst (All IsSo) (sym (swap_remove_entry-found (same_id name) rows i x e))
+        (All-tail IsSo x _ (All-permutation IsSo rows _
         (IsPermutation-swap_remove rows i x within (get_or-own rows i d within)) all))
 
   -- its places go
@@ -194,7 +205,7 @@ pub all-hold : (old new : SlotTable) → KeepsLive old new → (rows : List (Liv
     → AllHeld new rows
 all-hold old new keeps rows all =
     All-weaker (RowHeld old) (RowHeld new) (λ row held. record {
-      slots = hold_keeps old new row.1.slots row.1.instance.matchers keeps held.slots;
+      slots = hold_keeps old new row.1.slots row.1.carried.instance.matchers keeps held.slots;
       in_range = held.in_range;
       no_cycle = held.no_cycle;
       hears = held.hears;
@@ -208,7 +219,7 @@ all-release old new released releases [] enough all = All-nil (RowHeld new)
 all-release old new released releases (row ∷ rows) enough all =
     let held = All-head (RowHeld old) row rows all in
     All-cons (RowHeld new) row rows (record {
-      slots = release_keeps old new released row.1.slots row.1.instance.matchers
+      slots = release_keeps old new released row.1.slots row.1.carried.instance.matchers
           (λ s some. omega (arith, places-cons s row rows, enough s)) releases held.slots;
       in_range = held.in_range;
       no_cycle = held.no_cycle;
@@ -217,23 +228,39 @@ all-release old new released releases (row ∷ rows) enough all =
     (all-release old new released releases rows (λ s. omega (arith, places-cons s row rows, enough s))
     (All-tail (RowHeld old) row rows all))
 
--- A configuration goes in: it is held first, and then what stood there is released.
-module _ (name : LiveId) (live : LiveInstance) (rows : List (LiveId × LiveInstance)) (first held last : SlotTable)
-    (before : IsHeldTable first rows) (here : IsHeldIn held live) (uses : AddsUses first live.slots held)
-    (keeps : KeepsLive first held) where
+-- A configuration comes in: its matchers are interned, and the table is held by it, too.
+pub interned : (name : LiveId) (live : LiveInstance) (rows : List (LiveId × LiveInstance)) (first held : SlotTable)
+    → IsHeldTable first rows → IsHeldIn held live → AddsUses first live.slots held → KeepsLive first held
+    → IsHeldTable held ((name, live) ∷ rows)
+interned name live rows first held before here uses keeps = record {
+  all = All-cons (RowHeld held) (name, live) rows here (all-hold first held keeps rows before.all);
+  uses = λ s. omega (arith, places-cons s (name, live) rows, uses s, before.uses s);
+}
+
+-- It goes in, and then what stood there is released.
+module _ (name : LiveId) (live : LiveInstance) (rows : List (LiveId × LiveInstance)) (held : SlotTable)
+    (before : IsHeldTable held ((name, live) ∷ rows)) where
   -- what stood there may be released
   pub insert-may_release : (s : ℕ) → times_among s (slots_of (slot_at name rows)) ≤ outside_uses held s
-  insert-may_release s = omega (arith, places-insert name s live rows, uses s, before.uses s)
+  insert-may_release s =
+      omega (arith, places-insert name s live rows, before.uses s, places-cons s (name, live) rows)
 
-  pub insert-held : ReleasesAll held (slots_of (slot_at name rows)) last
+  pub insert-held : (last : SlotTable) → ReleasesAll held (slots_of (slot_at name rows)) last
       → IsHeldTable last (insert_entry same_id rows name live)
-  insert-held releases =
+  insert-held last releases =
       let same : (s : ℕ) → outside_uses last s ≡ places_holding s (insert_entry same_id rows name live) =
-      λ s. omega (arith, places-insert name s live rows, uses s, before.uses s, releases.outside s) in
+      λ s. omega (
+        arith,
+        places-insert name s live rows,
+        before.uses s,
+        places-cons s (name, live) rows,
+        releases.outside s,
+      ) in
       record {
         all = all-release held last (slots_of (slot_at name rows)) releases (insert_entry same_id rows name live)
             (λ s. omega (arith, same s))
-            (all-insert name held live here rows (all-hold first held keeps rows before.all));
+            (all-insert name held live (All-head (RowHeld held) (name, live) rows before.all) rows
+            (All-tail (RowHeld held) (name, live) rows before.all));
         uses = same;
       }
 
@@ -250,6 +277,6 @@ module _ (name : LiveId) (rows : List (LiveId × LiveInstance)) (first last : Sl
       λ s. omega (arith, places-swap_remove name s rows, before.uses s, releases.outside s) in
       record {
         all = all-release first last (slots_of (slot_at name rows)) releases (swap_remove_entry (same_id name) rows)
-            (λ s. omega (arith, same s)) (all-swap_remove name first rows before.all);
+            (λ s. omega (arith, same s)) (all_out name (RowHeld first) rows before.all);
         uses = same;
       }

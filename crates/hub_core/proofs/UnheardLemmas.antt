@@ -2,7 +2,7 @@
 use Rattle.std.proofs.Common.{◌≡◌, ℕ, zero, suc, ◌<◌, Bool, false, List, [], ◌∷◌, ◌++◌, length, get_or, slice_get, Option, Some, None, refl, sym, ap, subst, ◌∙◌, arith}
 use Rattle.std.specs.Prelude.{if◌then◌else◌}
 use Rattle.std.specs.Bool.{MatchBool}
-use Rattle.std.specs.List.{All, IsDistinct, flat_map}
+use Rattle.std.specs.List.{IsDistinct, flat_map}
 use Rattle.std.specs.Map.{keys_of}
 use Rattle.std.proofs.lemmas.Bool.{or_parts}
 use Rattle.std.proofs.lemmas.List.Elements.{All-nil, All-head, All-tail, All-from_get_or}
@@ -44,12 +44,12 @@ pub none_hear : (table : SlotTable) (notes : Notes LiveId) (rows : List (LiveId 
     → AreNoted notes rows → (frame : LogFrame) → IsDistinct same_id (keys_of rows) → noted_for notes frame ≡ []
     → NoneHears frame rows
 none_hear table notes [] held noted frame distinct none =
-    All-nil (λ (row : LiveId × LiveInstance). hears (linked_of row.1.instance) frame ≡ false)
+    All-nil (λ (row : LiveId × LiveInstance). hears (linked_of row.1.carried.instance) frame ≡ false)
 none_hear table notes (first ∷ rest) held noted frame distinct none =
-    All-from_get_or (λ (row : LiveId × LiveInstance). hears (linked_of row.1.instance) frame ≡ false) (first ∷ rest)
-    first each where
+    All-from_get_or (λ (row : LiveId × LiveInstance). hears (linked_of row.1.carried.instance) frame ≡ false)
+    (first ∷ rest) first each where
       each : (place : ℕ) → place < length (first ∷ rest)
-          → hears (linked_of (get_or (first ∷ rest) place first).1.instance) frame ≡ false
+          → hears (linked_of (get_or (first ∷ rest) place first).1.carried.instance) frame ≡ false
       each place within =
           let row : LiveId × LiveInstance = get_or (first ∷ rest) place first in
           let found : slot_at row.0 (first ∷ rest) ≡ Some row.1 =
@@ -66,9 +66,10 @@ module _ (frame : LogFrame) (rows : List (LiveId × LiveInstance)) (unheard : No
     by_slot : (slot : Option LiveInstance) → slot_at name rows ≡ slot → FoundLogs says before frame book slot slot
     by_slot None is = tt
     by_slot (Some live) is =
-        subst (λ b. MatchBool b (LogsBy says before frame book live.instance live.instance) (live ≡ live))
-        (sym (found_all (λ (it : LiveInstance). hears (linked_of it.instance) frame ≡ false) name live rows unheard is))
-        refl
+        let it = live.carried.instance in
+        subst (λ b. MatchBool b (LogsBy says before frame book it it) (live ≡ live))
+        (sym (found_all (λ (it : LiveInstance). hears (linked_of it.carried.instance) frame ≡ false) name live rows
+        unheard is)) refl
 
 -- a row of lists that are empty
 none_flat : {X Y : Type 0} (lists : X → List Y) (xs : List X)
@@ -97,9 +98,9 @@ none_of_all : (at : ℕ) (atom : Atom) (rows : List (LiveId × LiveInstance)) �
     → asked_matchers atom rows ≡ []
 none_of_all at atom [] unheard = refl
 none_of_all at atom (row ∷ rows) unheard =
-    let P : LiveId × LiveInstance → Type 0 = λ row. hears (linked_of row.1.instance) (AtomAt at atom) ≡ false in
+    let P : LiveId × LiveInstance → Type 0 = λ row. hears (linked_of row.1.carried.instance) (AtomAt at atom) ≡ false in
     ap (λ asked. asked ++ asked_matchers atom rows)
-    (config_asked atom (linked_of row.1.instance) (or_parts (hears_all (linked_of row.1.instance)) _
+    (config_asked atom (linked_of row.1.carried.instance) (or_parts (hears_all (linked_of row.1.carried.instance)) _
     (All-head P row rows unheard)).1) ∙ none_of_all at atom rows (All-tail P row rows unheard)
 
 -- no judge is asked

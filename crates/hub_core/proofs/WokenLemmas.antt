@@ -16,7 +16,7 @@ use Rattle.hub_core.specs.SlotLogs.{results_for, IsTaken, IsShown}
 use Rattle.hub_core.proofs.EvaluationLemmas.{same_twice}
 
 module _ (table : SlotTable) (before : Moment) (shown : LogFrame) (book : BookOfStates) (old awake : LiveInstance)
-    (same : HasSameSlots old awake) (wakes : WakesUp before old.instance awake.instance) where
+    (same : HasSameSlots old awake) (wakes : WakesUp before old.carried.instance awake.carried.instance) where
   -- the results of its slots are what they were
   same_results : results_for table shown awake.slots ≡ results_for table shown old.slots
   same_results = ap (results_for table shown) same.slots
@@ -25,8 +25,9 @@ module _ (table : SlotTable) (before : Moment) (shown : LogFrame) (book : BookOf
   pub woken_shown : (new : LiveInstance) → IsTaken table shown book awake new
       → IsShown table before shown book old new
   woken_shown new taken =
-      let logs : Logs awake.instance shown (results_for table shown old.slots) book new.instance =
-      subst (λ (truths : List Bool). Logs awake.instance shown truths book new.instance) same_results taken.logs in
+      let logs : Logs awake.carried.instance shown (results_for table shown old.slots) book new.carried.instance =
+      subst (λ (truths : List Bool). Logs awake.carried.instance shown truths book new.carried.instance) same_results
+      taken.logs in
       record {
         logs = λ history frame asleep in_time view shown_is book_is.
             logs history frame (wakes history asleep) in_time view shown_is book_is;
@@ -37,7 +38,7 @@ module _ (table : SlotTable) (before : Moment) (shown : LogFrame) (book : BookOf
   pub woken_asks : (from to : ℕ) → AwakeAsks table shown book awake from to
       → LiveAsks table before shown book old from to
   woken_asks from to asks history frame asleep in_time view shown_is book_is =
-      subst (λ (truths : List Bool). AsksAtMost awake.instance shown truths book from to) same_results asks
+      subst (λ (truths : List Bool). AsksAtMost awake.carried.instance shown truths book from to) same_results asks
       history frame (wakes history asleep) in_time view shown_is book_is
 
 -- it reported

@@ -35,8 +35,8 @@ last_moment hub = moment_of_clock hub.clock
 -- hub, and hold the same slots in config order, by other names.
 pub record IsSameConfig (renamed : ℕ → ℕ) (moment moment_alone : Moment) (shared alone : LiveInstance) : Type 0 where
   pub history : History
-  pub stands : StandsAsleep moment shared.instance history
-  pub stands_alone : StandsAsleep moment_alone alone.instance history
+  pub stands : StandsAsleep moment shared.carried.instance history
+  pub stands_alone : StandsAsleep moment_alone alone.carried.instance history
   pub slots : alone.slots ≡ map renamed shared.slots
 
 -- what is live under an id, shared and alone: one configuration, or none in both

@@ -15,6 +15,7 @@ use Rattle.client_engine.specs.Handed.{BookOfStates}
 use Rattle.client_engine.specs.InstanceStands.{IsFresh}
 use Rattle.client_engine.specs.declared.request.ReportRequest.{ReportRequest}
 use Rattle.hub_core.specs.declared.books.Books.{Books}
+use Rattle.hub_core.specs.declared.configs.Accepted.{Accepted}
 use Rattle.hub_core.specs.BookStands.{BooksStandFor}
 use Rattle.hub_core.specs.Sleeping.{ReportsAwake}
 use Rattle.client_engine.specs.declared.live_id.LiveId.{LiveId}
@@ -65,7 +66,7 @@ pub record IsEnded (moment : Moment) (book : BookOfStates) (name : LiveId) (live
     (told : List ℕ → ReplyBody) (body : ReplyBody) : Type 0 where
   pub next : LiveInstance
   pub tree : ReportTree
-  pub steps : ReportsAwake moment live.instance (last_asked name moment.at) book next.instance tree
+  pub steps : ReportsAwake moment live.carried.instance (last_asked name moment.at) book next.carried.instance tree
   pub answer : body ≡ told (report_message tree)
 
 -- what stands under a name is replaced, or nothing stands there
@@ -88,30 +89,37 @@ abbrev pub body_of_report : Option (List ℕ) → ReplyBody
 body_of_report None = answers.NoConfig
 body_of_report (Some report) = answers.ReportBytes report
 
--- A configuration goes in under its name, installed when the clock and the books stood so.
-pub record GoesIn (base : ℕ) (books : Books) (name : LiveId) (linked : Linked) (old new : Lives) : Type 0 where
+-- A configuration goes in under its name with its bytes, installed when the clock and the books stood so.
+pub record GoesIn (base : ℕ) (books : Books) (accepted : Accepted) (old new : Lives) : Type 0 where
   pub fresh : LiveInstance
-  pub is_fresh : (opening : List LogFrame) → BooksStandFor books opening → IsFresh linked base opening fresh.instance
-  pub changes : Changes name (Some fresh) (others name old + 1) old new
+  pub is_fresh : (opening : List LogFrame) → BooksStandFor books opening
+      → IsFresh accepted.linked base opening fresh.carried.instance
+  pub config : fresh.carried.config ≡ accepted.config
+  pub changes : Changes accepted.name (Some fresh) (others accepted.name old + 1) old new
 
 -- A configuration that wasn't refused goes where the one of its name stands, whose last report is the answer, or it is
 -- new.
-pub record PutsIn (moment : Moment) (books : Books) (name : LiveId) (linked : Linked) (done : Change) : Type 0 where
-  pub goes : GoesIn moment.at books name linked done.old done.new
-  pub answer : Replaces moment books.states name (held_at name done.old) done.body
+pub record PutsIn (moment : Moment) (books : Books) (accepted : Accepted) (done : Change) : Type 0 where
+  pub goes : GoesIn moment.at books accepted done.old done.new
+  pub answer : Replaces moment books.states accepted.name (held_at accepted.name done.old) done.body
 
--- an install with room for it, when this was the last frame and the books stood so and this is the linked form
-abbrev pub InstallsLinked : Moment → Books → LiveId → Result Linked Refusal → Change → Type 0
-InstallsLinked moment books name (Err refusal) done = StaysWith (answers.Refused refusal) done
-InstallsLinked moment books name (Ok linked) done = PutsIn moment books name linked done
+-- a configuration without faults, of these parts
+abbrev pub accepted_of : LiveId → List ℕ → Linked → Accepted
+accepted_of name bytes linked = record { name = name; config = bytes; linked = linked }
 
--- an install, when this was the last frame and the books stood so and this was read: a full client is told so before
--- the references are judged
-abbrev pub Installs : Moment → Books → LiveId → Result Config Refusal → Change → Type 0
-Installs moment books name (Err refusal) done = StaysWith (answers.Refused refusal) done
-Installs moment books name (Ok config) done =
+-- an install of these bytes with room for it, when this was the last frame and the books stood so and this is the
+-- linked form
+abbrev pub InstallsLinked : Moment → Books → LiveId → List ℕ → Result Linked Refusal → Change → Type 0
+InstallsLinked moment books name bytes (Err refusal) done = StaysWith (answers.Refused refusal) done
+InstallsLinked moment books name bytes (Ok linked) done = PutsIn moment books (accepted_of name bytes linked) done
+
+-- an install of these bytes, when this was the last frame and the books stood so and this was read: a full client is
+-- told so before the references are judged
+abbrev pub Installs : Moment → Books → LiveId → List ℕ → Result Config Refusal → Change → Type 0
+Installs moment books name bytes (Err refusal) done = StaysWith (answers.Refused refusal) done
+Installs moment books name bytes (Ok config) done =
     MatchBool (nat_le most_configs (others name done.old)) (StaysWith (answers.ClientFull most_configs) done)
-    (InstallsLinked moment books name (linked_read name.uid config) done)
+    (InstallsLinked moment books name bytes (linked_read name.uid config) done)
 
 -- One is taken out, and its last report is the answer.
 pub record TakesOut (moment : Moment) (book : BookOfStates) (name : LiveId) (live : LiveInstance) (done : Change)

@@ -22,7 +22,7 @@ asked_matcher atom (Combo op children) = []
 -- the simple matchers of an atom's id in all these configurations
 abbrev pub asked_matchers : Atom → List (LiveId × LiveInstance) → List SimpleMatcher
 asked_matchers atom rows =
-    flat_map (λ (row : LiveId × LiveInstance). flat_map (asked_matcher atom) row.1.instance.matchers) rows
+    flat_map (λ (row : LiveId × LiveInstance). flat_map (asked_matcher atom) row.1.carried.instance.matchers) rows
 
 -- each of them once, as it last comes
 abbrev pub different : List SimpleMatcher → List SimpleMatcher

@@ -7,7 +7,7 @@ use Rattle.session_frames.specs.declared.frame.Frame.TheVariants.{Log}
 use Rattle.session_frames.specs.declared.reply.Reply.{Reply}
 use Rattle.hub_meaning.specs.SessionLog.{own, log_frames, clock_of}
 use Rattle.hub_meaning.specs.Acceptance.{LiveConfig}
-use Rattle.hub_meaning.specs.LiveConfigs.{config_at, live, history_of}
+use Rattle.hub_meaning.specs.LiveConfigs.{config_at, live, install_bytes, history_of}
 use Rattle.hub_meaning.specs.ClientAnswers.{reply_to}
 use Rattle.bucket_meaning.specs.Ends.{Moment}
 use Rattle.client_engine.specs.InstanceStands.{linked_of, last_step_time}
@@ -36,16 +36,17 @@ asked_in _ hub = 0
 abbrev pub UnheardStay : {J : Type 0} → Frame → Hub J → Hub J → Type 0
 UnheardStay (Log frame) old new =
     (name : LiveId) (live : LiveInstance) → slot_at name old.lives.slots.entries ≡ Some live
-    → hears (linked_of live.instance) frame ≡ false → slot_at name new.lives.slots.entries ≡ Some live
+    → hears (linked_of live.carried.instance) frame ≡ false → slot_at name new.lives.slots.entries ≡ Some live
 UnheardStay _ old new = Unit {0}
 
 module _ (says : SimpleMatcher → Atom → Bool) where
   -- A live configuration of a client with these own frames, where this was the last frame of the log: it may have slept
-  -- through some of them, and its last step is at the clock.
+  -- through some of them, its last step is at the clock, and it keeps the bytes of its install.
   pub record LiveStandsFor (moment : Moment) (uid : ℤ) (frames : List Frame) (it : LiveInstance) (config : LiveConfig)
       : Type 0 where
-    pub instance : StandsAsleep moment it.instance (history_of says uid frames config)
+    pub instance : StandsAsleep moment it.carried.instance (history_of says uid frames config)
     pub time : last_step_time (history_of says uid frames config) ≡ clock_of frames
+    pub bytes : it.carried.config ≡ install_bytes frames config
 
   -- what is held at an id of a client with these own frames is its live configuration of that id
   abbrev pub SlotStandsFor : Moment → ℤ → List Frame → Option LiveInstance → Option LiveConfig → Type 0
@@ -68,6 +69,7 @@ module _ (says : SimpleMatcher → Atom → Bool) where
     pub lives : LivesStandFor (moment_of_clock hub.clock) hub.lives frames
 
   -- The hub stands for these frames with one more, and this is the answer to it.
-  pub record Serves {J : Type 0} (hub : Hub J) (frames : List Frame) (frame : Frame) (reply : Option Reply) : Type 0 where
+  pub record Serves {J : Type 0} (hub : Hub J) (frames : List Frame) (frame : Frame)
+      (reply : Option Reply) : Type 0 where
     pub stands : HubStandsFor hub (frames ++ frame ∷ [])
     pub answer : reply ≡ reply_to says frames frame

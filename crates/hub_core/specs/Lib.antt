@@ -1,6 +1,8 @@
 pub mod BookStands
+pub mod CarriedConfigs
 pub mod Sleeping
 pub mod NotedLives
+pub mod NamedLives
 pub mod FrameTruths
 pub mod SharedTable
 pub mod DifferentMatchers
@@ -10,3 +12,9 @@ pub mod Commands
 pub mod HubStands
 pub mod Alone
 pub mod LiveQuestions
+pub mod SavedMoments
+pub mod SavedConfigs
+pub mod SavedLaws
+pub mod SavedHubs
+pub mod HubSaving
+pub mod Settling

@@ -48,12 +48,12 @@ module _ (says : SimpleMatcher → Atom → Bool) where
 -- a live configuration that is awake asks no more than its metrics may, with the results of its slots
 abbrev pub AwakeAsks : SlotTable → LogFrame → BookOfStates → LiveInstance → ℕ → ℕ → Type 0
 AwakeAsks table shown book live before after =
-    AsksAtMost live.instance shown (results_for table shown live.slots) book before after
+    AsksAtMost live.carried.instance shown (results_for table shown live.slots) book before after
 
 -- the same of one that slept up to this frame
 abbrev pub LiveAsks : SlotTable → Moment → LogFrame → BookOfStates → LiveInstance → ℕ → ℕ → Type 0
 LiveAsks table last shown book live before after =
-    AsksAwake last live.instance shown (results_for table shown live.slots) book before after
+    AsksAwake last live.carried.instance shown (results_for table shown live.slots) book before after
 
 -- what a name among these counts, and 0 of any other
 abbrev pub counted_for : List LiveId → (LiveId → ℕ) → LiveId → ℕ
@@ -74,6 +74,6 @@ abbrev pub AllAskBy : (SimpleMatcher → Atom → Bool) → Moment → LogFrame 
 AllAskBy says last shown book rows before after =
     (most : LiveId → ℕ)
     → ((name : LiveId) (live : LiveInstance) → slot_at name rows ≡ Some live → (from to : ℕ)
-    → AsksAwake last live.instance shown (truths_by says live.instance.matchers shown) book from to
+    → AsksAwake last live.carried.instance shown (truths_by says live.carried.instance.matchers shown) book from to
     → to ≤ from + most name)
     → after ≤ before + sum_by most (keys_of rows)

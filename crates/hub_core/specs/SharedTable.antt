@@ -12,16 +12,18 @@ use Rattle.held_slots.specs.Holdings.{HoldMatchers}
 use Rattle.client_engine.specs.declared.live_id.LiveId.{LiveId}
 use Rattle.client_engine.specs.Running.{linked_of}
 use Rattle.hub_core.specs.declared.live_instance.LiveInstance.{LiveInstance}
+use Rattle.hub_core.specs.CarriedConfigs.{IsCarriedOn}
+use Rattle.hub_core.specs.NamedLives.{saved_rows, names_of, KeepConfigs}
 use Rattle.hub_core.specs.Sleeping.{IsHearing}
 use Rattle.hub_core.specs.Slots.{slot_at}
 
 -- Each slot of a live configuration stands for its own matcher, no matcher is below itself, and it hears what its linked
 -- form says.
 pub record IsHeldIn (table : SlotTable) (live : LiveInstance) : Type 0 where
-  pub slots : HoldMatchers table live.slots live.instance.matchers
-  pub in_range : AreInRange (named_places live.instance.matchers)
-  pub no_cycle : HasNoCycle (named_places live.instance.matchers)
-  pub hears : IsHearing live.hearing (linked_of live.instance)
+  pub slots : HoldMatchers table live.slots live.carried.instance.matchers
+  pub in_range : AreInRange (named_places live.carried.instance.matchers)
+  pub no_cycle : HasNoCycle (named_places live.carried.instance.matchers)
+  pub hears : IsHearing live.hearing (linked_of live.carried.instance)
 
 -- each of these configurations holds its matchers
 abbrev pub AllHeld : SlotTable → List (LiveId × LiveInstance) → Type 0
@@ -42,19 +44,22 @@ abbrev pub slots_of : Option LiveInstance → List ℕ
 slots_of None = []
 slots_of (Some live) = live.slots
 
--- a configuration has the slots that it had, is linked as it was, and hears the same
+-- A configuration has the slots that it had, is carried on, and hears the same.
 pub record HasSameSlots (old new : LiveInstance) : Type 0 where
   pub slots : new.slots ≡ old.slots
-  pub linked : linked_of new.instance ≡ linked_of old.instance
+  pub carried : IsCarriedOn old.carried new.carried
   pub hearing : new.hearing ≡ old.hearing
 
 -- what stands under a name hears this, if something does
 abbrev pub hearing_at : LiveId → List (LiveId × LiveInstance) → Option Hearing
 hearing_at name rows = option_map (λ (live : LiveInstance). live.hearing) (slot_at name rows)
 
--- The names are the same, what is held of a table by these is held by those, and what stands under a name hears the same.
+-- The names are the same, what is held of a table by these is held by those, and what stands under a name hears the
+-- same and has the same name and bytes.
 pub record KeepsSlots (olds news : List (LiveId × LiveInstance)) : Type 0 where
   pub names : keys_of news ≡ keys_of olds
   pub all : (table : SlotTable) → AllHeld table olds → AllHeld table news
   pub places : (s : ℕ) → places_holding s news ≡ places_holding s olds
   pub hearing : (name : LiveId) → hearing_at name news ≡ hearing_at name olds
+  pub configs : KeepConfigs olds news
+  pub named : names_of (saved_rows news) ≡ names_of (saved_rows olds)

@@ -27,7 +27,8 @@ asked_by_all _ rows = 0
 
 -- none of these configurations hears a frame
 abbrev pub NoneHears : LogFrame → List (LiveId × LiveInstance) → Type 0
-NoneHears frame rows = All (λ (row : LiveId × LiveInstance). hears (linked_of row.1.instance) frame ≡ false) rows
+NoneHears frame rows =
+    All (λ (row : LiveId × LiveInstance). hears (linked_of row.1.carried.instance) frame ≡ false) rows
 
 -- the results of slots, for an atom alone
 abbrev pub results_for : SlotTable → LogFrame → List ℕ → List Bool
@@ -41,14 +42,15 @@ questions_for _ table = 0
 
 -- A configuration that was awake took the frame that is shown so, with the results of its slots, and keeps its slots.
 pub record IsTaken (table : SlotTable) (shown : LogFrame) (book : BookOfStates) (old new : LiveInstance) : Type 0 where
-  pub logs : Logs old.instance shown (results_for table shown old.slots) book new.instance
+  pub logs : Logs old.carried.instance shown (results_for table shown old.slots) book new.carried.instance
   pub same : HasSameSlots old new
 
 -- A configuration woke up by the frame before, took the frame that is shown so, with the results of its slots, and keeps
 -- its slots.
 pub record IsShown (table : SlotTable) (before : Moment) (shown : LogFrame) (book : BookOfStates)
     (old new : LiveInstance) : Type 0 where
-  pub logs : LogsAwake before old.instance shown (results_for table shown old.slots) book new.instance
+  pub logs : LogsAwake before old.carried.instance shown (results_for table shown old.slots) book
+      new.carried.instance
   pub same : HasSameSlots old new
 
 module _ (table : SlotTable) (before : Moment) (shown : LogFrame) (book : BookOfStates) where
@@ -77,8 +79,8 @@ module _ (says : SimpleMatcher → Atom → Bool) where
     abbrev pub FoundLogs : Option LiveInstance → Option LiveInstance → Type 0
     FoundLogs None None = Unit {0}
     FoundLogs (Some old) (Some new) =
-        MatchBool (hears (linked_of old.instance) shown) (LogsBy says before shown book old.instance new.instance)
-        (new ≡ old)
+        MatchBool (hears (linked_of old.carried.instance) shown)
+        (LogsBy says before shown book old.carried.instance new.carried.instance) (new ≡ old)
     FoundLogs None (Some new) = ⊥
     FoundLogs (Some old) None = ⊥
 

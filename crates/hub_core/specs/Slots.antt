@@ -68,7 +68,8 @@ pub record ShowsAt (moment : Moment) (request : ReportRequest) (book : BookOfSta
     (old new : List (LiveId × LiveInstance)) (report : Option (List ℕ)) : Type 0 where
   pub next : LiveInstance
   pub tree : ReportTree
-  pub steps : ReportsAwake moment live.instance request book next.instance tree
+  pub steps : ReportsAwake moment live.carried.instance request book next.carried.instance tree
+  pub config : next.carried.config ≡ live.carried.config
   pub slots : (other : LiveId) → slot_at other new
       ≡ (if same_id request.name other then Some next else slot_at other old)
   pub told : report ≡ Some (report_message tree)

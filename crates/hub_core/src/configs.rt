@@ -3,12 +3,31 @@ ghost use Rattle.std.specs.Prelude.{◌≡◌, IfOk};
 ghost use Rattle.config_decode.specs.Config.{config_of};
 ghost use Rattle.config_links.specs.SoundConfig.{IsSoundConfig};
 ghost use Rattle.hub_meaning.specs.Acceptance.{config_read, linked_read};
+ghost use Rattle.hub_core.specs.CarriedConfigs.{linked_from};
 
+use atom_record::Bytes;
+use client_engine::LiveId;
 use config_decode::{DecodeFault, decode};
 use config_links::{LinkError, Linked, link};
 use config_types::Config;
 use session_frames::Refusal;
 use std::alloc::{AllocError, Global};
+
+/// An install as it comes: whose it is, its bytes, and what was read of them.
+#[derive(Drop)]
+pub struct Offer {
+    pub name: LiveId,
+    pub config: Bytes,
+    pub read: Result<Config, Refusal>,
+}
+
+/// A configuration without faults, as it goes in: whose it is, its bytes, and its linked form.
+#[derive(Drop)]
+pub struct Accepted {
+    pub name: LiveId,
+    pub config: Bytes,
+    pub linked: Linked,
+}
 
 /// What the bytes of a configuration say, or why they are refused.
 #[tactic(auto, unfolding(config_decode::specs::Config::config_of))]
@@ -47,5 +66,20 @@ pub fn link_config(
             value: fault.value,
         })),
         Err(LinkError::Memory) => Err(AllocError),
+    }
+}
+
+/// What the bytes of a client's configuration say, with its references looked up, or why they are refused.
+pub fn read_linked(
+    alloc: Global,
+    uid: i32,
+    bytes: &[u8],
+) -> Result<Result<Linked, Refusal>, AllocError>
+    ensures linked { IfOk result (λ linked. linked ≡ linked_from uid bytes.now) }
+    ensures sound { IfOk result (λ linked. IfOk linked IsSoundConfig) }
+{
+    match read_config(alloc, bytes)? {
+        Ok(config) => link_config(alloc, config, uid),
+        Err(refusal) => Ok(Err(refusal)),
     }
 }

@@ -9,13 +9,15 @@ ghost use Rattle.hub_meaning.specs.SessionLog.{own, clock_of};
 ghost use Rattle.hub_meaning.specs.ClientAnswers.{reply_of, reply_to};
 ghost use Rattle.hub_meaning.specs.ClientIsolation.{EqualOwnFramesEqualReplies};
 
+mod saved;
+
 use crate::books::{Books, note_failed};
-use crate::configs::read_config;
+use crate::configs::{Offer, read_config};
 use crate::lives::Lives;
 use crate::log_clock::LogClock;
 use crate::logging::{Coming, Rooms};
 use crate::places::Places;
-use atom_record::LogFrame;
+use atom_record::{Bytes, LogFrame};
 use client_engine::{LiveId, ReportRequest};
 use condition_links::Steps;
 use matcher_eval::Judge;
@@ -174,7 +176,7 @@ impl<J: Judge> Hub<J> {
                 Ok(None)
             }
             Frame::Install { uid, id, config } => {
-                let body = self.install(LiveId { uid, id }, config.as_slice())?;
+                let body = self.install(LiveId { uid, id }, config)?;
                 Ok(Some(Reply { uid, id, body }))
             }
             Frame::Remove { uid, id } => {
@@ -192,17 +194,18 @@ impl<J: Judge> Hub<J> {
         }
     }
 
-    // Installs what the bytes of a configuration say.
-    fn install(&mut self, name: LiveId, config: &[u8]) -> Result<ReplyBody, AllocError>
+    // Installs what the bytes of a configuration say. The bytes stay with what is live.
+    fn install(&mut self, name: LiveId, config: Bytes) -> Result<ReplyBody, AllocError>
         ensures serves { (frames : List Frame) → HubStandsFor J.says self.old frames
             → IfOk result (λ body. Serves J.says self.new frames
-            (Install name.uid name.id config.now) (reply_of name.uid name.id body)) }
+            (Install name.uid name.id config) (reply_of name.uid name.id body)) }
         ensures judge { OnOk result (judge_of self.new ≡ judge_of self.old) }
     {
-        let read = read_config(self.alloc, config)?;
+        let read = read_config(self.alloc, config.as_slice())?;
+        let offer = Offer { name, config, read };
         let now = self.clock;
         let lives = mem::replace(&mut self.lives, Lives::new(self.alloc));
-        let (lives, body) = lives.install(self.alloc, now, &self.books, name, read)?;
+        let (lives, body) = lives.install(self.alloc, now, &self.books, offer)?;
         self.lives = lives;
         Ok(body)
     }

@@ -2,6 +2,7 @@
 #![tactic(auto)]
 
 mod books;
+mod carried;
 mod configs;
 mod hub;
 mod live_instance;
@@ -9,6 +10,7 @@ mod lives;
 mod log_clock;
 mod logging;
 mod places;
+mod settling;
 mod slots;
 
 pub use hub::Hub;

@@ -1,10 +1,11 @@
-//! An instance, with the slots of its matchers in the table that all share, and what it hears. It sleeps between the
-//! frames that it hears.
+//! A live configuration, with the slots of its matchers in the table that all share, and what it hears. It sleeps between
+//! the frames that it hears.
 ghost use Rattle.std.specs.Prelude.{◌≡◌, ℕ, ◌<◌, ◌≤◌, ◌^◌, List, IfOk, OnOk};
 ghost use Rattle.atom_record.specs.declared.log.LogFrame.{LogFrame};
 ghost use Rattle.session_frames.specs.Faultless.{IsFaultlessLog};
 ghost use Rattle.report_writer.specs.Writable.{IsWritableReport};
 ghost use Rattle.config_links.specs.SoundConfig.{IsSoundConfig};
+ghost use Rattle.client_engine.specs.Running.{linked_of};
 ghost use Rattle.matcher_table.specs.Slots.{times_among};
 ghost use Rattle.matcher_table.specs.Tables.{outside_uses};
 ghost use Rattle.matcher_table.specs.Contents.{contents_of};
@@ -13,10 +14,12 @@ ghost use Rattle.held_slots.specs.HoldingSteps.{KeepsLive, AddsUses, ReleasesAll
 ghost use Rattle.hub_core.specs.BookStands.{BooksStandFor};
 
 use crate::books::Books;
+use crate::carried::Carried;
+use crate::configs::Accepted;
 use crate::log_clock::LogClock;
 use crate::logging::Coming;
 use atom_record::LogFrame;
-use client_engine::{Instance, LogView, ReportRequest};
+use client_engine::{LogView, ReportRequest};
 use condition_links::Steps;
 use config_links::Linked;
 use heard_ids::Hearing;
@@ -30,7 +33,7 @@ use std::sync::ledger::Ledger;
 /// A live configuration.
 #[derive(Drop)]
 pub struct LiveInstance {
-    instance: Instance,
+    pub carried: Carried,
     slots: HeldSlots,
     /// The frames to which it wakes.
     pub hearing: Hearing,
@@ -38,6 +41,7 @@ pub struct LiveInstance {
 
 impl LiveInstance {
     ghost use Rattle.client_engine.specs.InstanceStands.{IsFresh, Reports};
+    ghost use Rattle.hub_core.specs.CarriedConfigs.{IsAccepted, Carries};
     ghost use Rattle.hub_core.specs.Sleeping.{moment_of_clock, WakesUp, ReportsAwake};
     ghost use Rattle.hub_core.specs.SharedTable.{IsHeldIn, HasSameSlots};
     ghost use Rattle.hub_core.specs.SlotLogs.{IsTaken, IsShown, results_for};
@@ -46,24 +50,50 @@ impl LiveInstance {
     /// A configuration that was just installed, with its matchers interned. After want of memory some may be.
     pub fn new(
         alloc: Global,
-        linked: Linked,
+        accepted: Accepted,
         base: u64,
         books: &Books,
         table: &mut MatcherTable,
     ) -> Result<LiveInstance, AllocError>
-        requires sound { IsSoundConfig linked }
+        requires accepted { IsAccepted accepted }
         requires timely { base < 2 ^ 63 }
         ensures fresh { (opening : List LogFrame) → BooksStandFor books.now opening
-            → IfOk result (λ live. IsFresh linked base opening live.instance) }
+            → IfOk result (λ live. IsFresh accepted.linked base opening live.carried.instance) }
+        ensures carries { IfOk result (λ live. Carries accepted live.carried) }
         ensures holds { IfOk result (IsHeldIn (contents_of table.new)) }
-        ensures uses { IfOk result (λ live. AddsUses (contents_of table.old) live.slots (contents_of table.new)) }
+        ensures uses { IfOk result (λ live. AddsUses (contents_of table.old) live.slots
+            (contents_of table.new)) }
         ensures others { OnOk result (KeepsLive (contents_of table.old) (contents_of table.new)) }
     {
-        let hearing = Hearing::of(alloc, &linked)?;
-        let slots = HeldSlots::hold(alloc, table, &linked)?;
-        let instance = Instance::new(alloc, linked, base, &books.pulls, &books.states)?;
+        let hearing = Hearing::of(alloc, &accepted.linked)?;
+        let slots = HeldSlots::hold(alloc, table, &accepted.linked)?;
+        let carried = Carried::new(alloc, accepted, base, books)?;
         Ok(LiveInstance {
-            instance,
+            carried,
+            slots,
+            hearing,
+        })
+    }
+
+    /// A configuration that is carried, with its matchers interned, where this is its linked form.
+    pub fn of(
+        alloc: Global,
+        carried: Carried,
+        linked: &Linked,
+        table: &mut MatcherTable,
+    ) -> Result<LiveInstance, AllocError>
+        requires sound { IsSoundConfig linked.now }
+        requires linked { linked_of carried.instance ≡ linked.now }
+        ensures carried { IfOk result (λ live. live.carried ≡ carried) }
+        ensures holds { IfOk result (IsHeldIn (contents_of table.new)) }
+        ensures uses { IfOk result (λ live. AddsUses (contents_of table.old) live.slots
+            (contents_of table.new)) }
+        ensures others { OnOk result (KeepsLive (contents_of table.old) (contents_of table.new)) }
+    {
+        let hearing = Hearing::of(alloc, linked)?;
+        let slots = HeldSlots::hold(alloc, table, linked)?;
+        Ok(LiveInstance {
+            carried,
             slots,
             hearing,
         })
@@ -79,7 +109,8 @@ impl LiveInstance {
     ) -> Result<(), AllocError>
         requires sound { IsFaultlessLog coming.now.frame.now }
         requires live { AreLive (contents_of table.now) self.old.slots }
-        ensures shown { OnOk result (IsShown (contents_of table.now) (moment_of_clock coming.now.before)
+        ensures shown { OnOk result (IsShown (contents_of table.now)
+            (moment_of_clock coming.now.before)
             coming.now.frame.now coming.now.states.now self.old self.new) }
         ensures same { HasSameSlots self.old self.new }
         ensures asks { LiveAsks (contents_of table.now) (moment_of_clock coming.now.before)
@@ -89,13 +120,14 @@ impl LiveInstance {
         self.take(table, coming.frame, coming.states, truths, asks)
     }
 
-    // Crosses what ended while it slept, by the last frame that came.
+    /// Crosses what ended while it slept, by the last frame that came.
     #[inline(always)]
-    fn wake(&mut self, clock: LogClock) -> Result<(), AllocError>
-        ensures caught { OnOk result (WakesUp (moment_of_clock clock) self.old.instance self.new.instance) }
+    pub fn wake(&mut self, clock: LogClock) -> Result<(), AllocError>
+        ensures caught { OnOk result (WakesUp
+            (moment_of_clock clock) self.old.carried.instance self.new.carried.instance) }
         ensures same { HasSameSlots self.old self.new }
     {
-        self.instance.catch_up(clock.time, clock.is_pull)
+        self.carried.wake(clock)
     }
 
     // Takes in a frame of the log as it is shown, an atom with the results of its slots. The buffer's room is kept.
@@ -109,16 +141,18 @@ impl LiveInstance {
     ) -> Result<(), AllocError>
         requires sound { IsFaultlessLog frame.now }
         requires live { AreLive (contents_of table.now) self.old.slots }
-        ensures taken { OnOk result (IsTaken (contents_of table.now) frame.now states.now self.old self.new) }
+        ensures taken { OnOk result (IsTaken
+            (contents_of table.now) frame.now states.now self.old self.new) }
         ensures same { HasSameSlots self.old self.new }
-        ensures asks { AwakeAsks (contents_of table.now) frame.now states.now self.old asks.old asks.new }
+        ensures asks { AwakeAsks (contents_of table.now) frame.now states.now self.old asks.old
+            asks.new }
     {
         self.results(table, frame, truths)?;
         let view = LogView {
             matched: truths.as_slice(),
             states,
         };
-        self.instance.apply(frame, &view, asks)
+        self.carried.apply(frame, &view, asks)
     }
 
     // The results of its slots for an atom, and none for another frame.
@@ -129,7 +163,8 @@ impl LiveInstance {
         truths: &mut Vec<bool>,
     ) -> Result<(), AllocError>
         requires { AreLive (contents_of table.now) self.now.slots }
-        ensures { OnOk result (truths.new.items ≡ results_for (contents_of table.now) frame.now self.now.slots) }
+        ensures { OnOk result (truths.new.items
+            ≡ results_for (contents_of table.now) frame.now self.now.slots) }
     {
         match frame {
             LogFrame::AtomAt { .. } => self.slots.results(table, truths),
@@ -147,8 +182,9 @@ impl LiveInstance {
         clock: LogClock,
         states: &StateBook,
     ) -> Result<ReportTree, AllocError>
-        ensures reports { IfOk result (ReportsAwake (moment_of_clock clock) self.old.instance request states.now
-            self.new.instance) }
+        ensures reports { IfOk result (ReportsAwake
+            (moment_of_clock clock) self.old.carried.instance request states.now
+            self.new.carried.instance) }
         ensures slots { HasSameSlots self.old self.new }
         ensures writable { IfOk result IsWritableReport }
     {
@@ -162,11 +198,12 @@ impl LiveInstance {
         request: ReportRequest,
         states: &StateBook,
     ) -> Result<ReportTree, AllocError>
-        ensures reports { IfOk result (Reports self.old.instance request states.now self.new.instance) }
+        ensures reports { IfOk result (Reports self.old.carried.instance request states.now
+            self.new.carried.instance) }
         ensures slots { HasSameSlots self.old self.new }
         ensures writable { IfOk result IsWritableReport }
     {
-        self.instance.show(request, states)
+        self.carried.show(request, states)
     }
 
     /// Releases its slots.

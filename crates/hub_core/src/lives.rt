@@ -1,29 +1,32 @@
 //! The live configurations of all clients, found by client and id, and how many each client has.
-ghost use Rattle.std.specs.Prelude.{◌≡◌, ◌≢◌, ◌≤◌, ◌<◌, ℤ, [], true, Some, None, is_some, OnOk, IfOk};
+ghost use Rattle.std.specs.Prelude.{◌≡◌, ◌≢◌, ◌+◌, ◌≤◌, ◌<◌, ◌∷◌, ℤ, List, [], true, Some, None, is_some, OnOk, IfOk, if◌then◌else◌};
+ghost use Rattle.std.specs.Ordering.{int_eq};
+ghost use Rattle.atom_record.specs.declared.log.LogFrame.{LogFrame};
 ghost use Rattle.matcher_table.specs.Contents.{contents_of};
 ghost use Rattle.hub_core.specs.Slots.{held_by, listed_at, count_at};
 ghost use Rattle.hub_core.specs.NotedLives.{AreNoted};
+ghost use Rattle.hub_core.specs.NamedLives.{AreNamed};
 ghost use Rattle.hub_core.specs.SharedTable.{IsHeldTable};
 
+mod saved;
+
 use crate::books::Books;
-use crate::configs::link_config;
+use crate::configs::{Accepted, Offer, link_config};
 use crate::live_instance::LiveInstance;
 use crate::log_clock::LogClock;
 use crate::logging::{Coming, Rooms, comes_to_none, evaluate, log_heard};
 use crate::slots::{
-    install_answer, last_request, others_of, put, release_old, remove_answer, report_answer,
-    report_at, set_count, take_out,
+    Rows, install_answer, last_request, others_of, put_counted, release_old, remove_answer,
+    report_answer, report_at, set_count, take_out,
 };
 use atom_record::{Bytes, LogFrame};
 use client_engine::{LiveId, ReportRequest};
 use condition_links::Steps;
-use config_links::Linked;
-use config_types::Config;
 use id_notes::Notes;
 use indexmap::IndexMap;
 use matcher_eval::Judge;
 use matcher_table::MatcherTable;
-use session_frames::{Refusal, ReplyBody};
+use session_frames::ReplyBody;
 use state_slicer::StateBook;
 use std::alloc::{AllocError, Global};
 use std::sync::ledger::Ledger;
@@ -45,18 +48,25 @@ pub struct Lives {
     ghost few: { (uid : ℤ) → held_by uid slots.entries ≤ 10 },
     ghost above_zero: { (uid : ℤ) → listed_at uid counts.entries ≢ Some 0 },
     ghost noted: { ∥ AreNoted notes slots.entries ∥₁ },
+    ghost named: { AreNamed slots.entries },
     ghost held: { ∥ IsHeldTable (contents_of table) slots.entries ∥₁ },
 }
 
 impl Lives {
+    ghost use Rattle.client_engine.specs.InstanceStands.{IsFresh};
+    ghost use Rattle.hub_core.specs.BookStands.{BooksStandFor};
     ghost use Rattle.session_frames.specs.Faultless.{IsFaultlessLog};
     ghost use Rattle.matcher_table.specs.Truths.{HaveRisen};
-    ghost use Rattle.config_links.specs.SoundConfig.{IsSoundConfig};
+    ghost use Rattle.config_decode.specs.Config.{config_of};
+    ghost use Rattle.hub_meaning.specs.Acceptance.{config_read};
+    ghost use Rattle.hub_core.specs.CarriedConfigs.{IsAccepted, Carries};
     ghost use Rattle.hub_core.specs.Sleeping.{moment_of_clock};
     ghost use Rattle.hub_core.specs.SlotLogs.{AllLog, NoneHears, asked_by_all};
     ghost use Rattle.hub_core.specs.Slots.{ReportsAt};
     ghost use Rattle.hub_core.specs.LiveQuestions.{AllAskBy};
-    ghost use Rattle.hub_core.specs.Commands.{change, held_at, others, Changes, GoesIn, Installs, PutsIn, Removes, ReportsLive};
+    ghost use Rattle.hub_core.specs.NamedLives.{KeepConfigs};
+    ghost use Rattle.hub_core.specs.Commands.{change, held_at, others, Changes};
+    ghost use Rattle.hub_core.specs.Commands.{GoesIn, Installs, PutsIn, Removes, ReportsLive};
 
     /// Nothing is live. It takes no memory yet.
     pub fn new(alloc: Global) -> Lives
@@ -71,9 +81,9 @@ impl Lives {
         }
     }
 
-    /// A frame of the log comes to the table, and then to each configuration that hears it: it is caught up by the clock
-    /// before the frame, and takes it in. All others sleep on; where all do, the table is left alone. After want of memory
-    /// they are of no use.
+    /// A frame of the log comes to the table, and then to each configuration that hears it: it is caught up by the
+    /// clock before the frame, and takes it in. All others sleep on; where all do, the table is left alone. After want
+    /// of memory they are of no use.
     pub fn log<J: Judge, L: Ledger>(
         &mut self,
         judge: &mut J,
@@ -82,13 +92,16 @@ impl Lives {
         asks: &mut Steps<L>,
     ) -> Result<(), AllocError>
         requires sound { IsFaultlessLog coming.now.frame.now }
-        ensures slots { OnOk result (AllLog J.says (moment_of_clock coming.now.before) coming.now.frame.now
+        ensures slots { OnOk result (AllLog J.says
+            (moment_of_clock coming.now.before) coming.now.frame.now
             coming.now.states.now self.old.slots.entries self.new.slots.entries) }
         ensures counts { self.new.counts ≡ self.old.counts }
-        ensures ticks { OnOk result (HaveRisen (asked_by_all coming.now.frame.now self.old.slots.entries)
+        ensures ticks { OnOk result (HaveRisen
+            (asked_by_all coming.now.frame.now self.old.slots.entries)
             (J.ticks judge.old) (J.ticks judge.new)) }
         ensures asks { AllAskBy J.says (moment_of_clock coming.now.before) coming.now.frame.now
             coming.now.states.now self.old.slots.entries asks.old asks.new }
+        ensures configs { KeepConfigs self.old.slots.entries self.new.slots.entries }
     {
         if self.is_unheard(coming.frame) {
             return Ok(());
@@ -119,75 +132,105 @@ impl Lives {
         alloc: Global,
         clock: LogClock,
         books: &Books,
-        name: LiveId,
-        read: Result<Config, Refusal>,
+        offer: Offer,
     ) -> Result<(Lives, ReplyBody), AllocError>
-        ensures { IfOk result (λ r. Installs (moment_of_clock clock) books.now name read (change self r.0 r.1)) }
+        requires { offer.read ≡ config_read (config_of offer.config) }
+        ensures { IfOk result (λ r. Installs (moment_of_clock clock) books.now offer.name
+            offer.config offer.read (change self r.0 r.1)) }
     {
-        let config = match read {
-            Ok(config) => config,
+        let Offer { name, config, read } = offer;
+        let decoded = match read {
+            Ok(decoded) => decoded,
             Err(refusal) => return Ok((self, ReplyBody::Refused(refusal))),
         };
         let there = self.slots.contains_key(&name);
         if others_of(&self.counts, name.uid, there) >= MOST_CONFIGS {
             return Ok((self, ReplyBody::ClientFull(MOST_CONFIGS as u32)));
         }
-        match link_config(alloc, config, name.uid)? {
-            Ok(linked) => self.put_in(alloc, clock, books, name, linked),
+        match link_config(alloc, decoded, name.uid)? {
+            Ok(linked) => {
+                let accepted = Accepted {
+                    name,
+                    config,
+                    linked,
+                };
+                self.put_in(alloc, clock, books, accepted)
+            }
             Err(refusal) => Ok((self, ReplyBody::Refused(refusal))),
         }
     }
 
-    /// A configuration without faults goes where the client's configuration of that id stands, whose last report is made
-    /// before, or it is new.
+    /// A configuration without faults goes where the client's configuration of that id stands, whose last report is
+    /// made before, or it is new.
     fn put_in(
         self,
         alloc: Global,
         clock: LogClock,
         books: &Books,
-        name: LiveId,
-        linked: Linked,
+        accepted: Accepted,
     ) -> Result<(Lives, ReplyBody), AllocError>
-        requires sound { IsSoundConfig linked }
-        requires room { others name self < 10 }
-        ensures { IfOk result (λ r. PutsIn (moment_of_clock clock) books.now name linked (change self r.0 r.1)) }
+        requires accepted { IsAccepted accepted }
+        requires room { others accepted.name self < 10 }
+        ensures { IfOk result (λ r. PutsIn (moment_of_clock clock) books.now accepted
+            (change self r.0 r.1)) }
     {
-        let request = last_request(name, clock.time);
+        let request = last_request(accepted.name, clock.time);
         let (reported, last) = self.reported(alloc, request, clock, &books.states)?;
-        let lives = reported.with_fresh(alloc, clock, books, name, linked)?;
+        let lives = reported.with_fresh(alloc, clock, books, accepted)?;
         Ok((lives, install_answer(last)))
     }
 
-    // A new configuration takes the place of the one that stands under its name, whose slots of the table are released.
+    // A new configuration takes the place of the one that stands under its name.
     fn with_fresh(
         self,
         alloc: Global,
         clock: LogClock,
         books: &Books,
-        name: LiveId,
-        linked: Linked,
+        accepted: Accepted,
     ) -> Result<Lives, AllocError>
-        requires sound { IsSoundConfig linked }
-        requires room { others name self < 10 }
-        ensures { IfOk result (GoesIn clock.time books.now name linked self) }
+        requires accepted { IsAccepted accepted }
+        requires room { others accepted.name self < 10 }
+        ensures { IfOk result (GoesIn clock.time books.now accepted self) }
     {
-        let there = self.slots.contains_key(&name);
-        let others = others_of(&self.counts, name.uid, there);
+        let incoming = self.with_interned(alloc, clock, books, accepted)?;
+        incoming.with_live(alloc)
+    }
+
+    // A new configuration has its matchers interned, and isn't put in yet.
+    fn with_interned(
+        self,
+        alloc: Global,
+        clock: LogClock,
+        books: &Books,
+        accepted: Accepted,
+    ) -> Result<Incoming, AllocError>
+        requires accepted { IsAccepted accepted }
+        ensures fresh { (opening : List LogFrame) → BooksStandFor books.now opening
+            → IfOk result (λ incoming. IsFresh accepted.linked clock.time opening
+            incoming.live.carried.instance) }
+        ensures carries { IfOk result (λ incoming. Carries accepted incoming.live.carried) }
+        ensures name { IfOk result (λ incoming. incoming.name ≡ accepted.name) }
+        ensures slots { IfOk result (λ incoming. incoming.rows.slots ≡ self.slots) }
+        ensures counts { IfOk result (λ incoming. incoming.rows.counts ≡ self.counts) }
+    {
         // From here on the facts of the type may be false.
         let Lives {
-            mut slots,
-            mut counts,
-            mut notes,
-            mut table,
-        } = self;
-        let live = LiveInstance::new(alloc, linked, clock.time, books, &mut table)?;
-        let old = put(&mut slots, &mut notes, alloc, name, live)?;
-        release_old(&mut table, old);
-        set_count(&mut counts, name.uid, others + 1)?;
-        Ok(Lives {
             slots,
             counts,
             notes,
+            mut table,
+        } = self;
+        let name = accepted.name;
+        let live = LiveInstance::new(alloc, accepted, clock.time, books, &mut table)?;
+        let rows = Rows {
+            slots,
+            counts,
+            notes,
+        };
+        Ok(Incoming {
+            name,
+            live,
+            rows,
             table,
         })
     }
@@ -200,7 +243,8 @@ impl Lives {
         states: &StateBook,
         name: LiveId,
     ) -> Result<(Lives, ReplyBody), AllocError>
-        ensures { IfOk result (λ r. Removes (moment_of_clock clock) states.now name (change self r.0 r.1)) }
+        ensures { IfOk result (λ r. Removes (moment_of_clock clock) states.now name
+            (change self r.0 r.1)) }
     {
         if !self.slots.contains_key(&name) {
             return Ok((self, ReplyBody::NoConfig));
@@ -242,7 +286,8 @@ impl Lives {
         clock: LogClock,
         states: &StateBook,
     ) -> Result<(Lives, ReplyBody), AllocError>
-        ensures { IfOk result (λ r. ReportsLive (moment_of_clock clock) request states.now (change self r.0 r.1)) }
+        ensures { IfOk result (λ r. ReportsLive (moment_of_clock clock) request states.now
+            (change self r.0 r.1)) }
     {
         let (lives, report) = self.reported(alloc, request, clock, states)?;
         Ok((lives, report_answer(report)))
@@ -274,5 +319,61 @@ impl Lives {
             table,
         };
         Ok((lives, report))
+    }
+}
+
+/// What is live, and a configuration that comes in under a name: its matchers are interned, and it isn't put in yet.
+#[derive(Drop)]
+struct Incoming {
+    name: LiveId,
+    live: LiveInstance,
+    rows: Rows,
+    table: MatcherTable,
+    ghost counted: { (uid : ℤ) → held_by uid rows.slots.entries ≡ count_at uid rows.counts.entries },
+    ghost few: { (uid : ℤ) → held_by uid rows.slots.entries ≤ 10 },
+    ghost above_zero: { (uid : ℤ) → listed_at uid rows.counts.entries ≢ Some 0 },
+    ghost noted: { ∥ AreNoted rows.notes rows.slots.entries ∥₁ },
+    ghost named: { AreNamed ((name, live) ∷ rows.slots.entries) },
+    ghost held: { ∥ IsHeldTable (contents_of table) ((name, live) ∷ rows.slots.entries) ∥₁ },
+}
+
+impl Incoming {
+    ghost use Rattle.indexmap.specs.IndexMap.{insert_entry};
+    ghost use Rattle.hub_core.specs.Slots.{same_id, slot_at, others_at};
+
+    // Puts it in, with its count and with notes of what it hears. What stood under its name is let go, with its slots
+    // of the table.
+    fn with_live(self, alloc: Global) -> Result<Lives, AllocError>
+        requires { others_at self.name.uid (is_some (slot_at self.name self.rows.slots.entries))
+            self.rows.counts.entries < 10 }
+        ensures entries { IfOk result (λ lives. lives.slots.entries
+            ≡ insert_entry same_id self.rows.slots.entries self.name self.live) }
+        ensures slots { IfOk result (λ lives. (other : LiveId) → slot_at other lives.slots.entries
+            ≡ (if same_id self.name other then Some self.live
+            else slot_at other self.rows.slots.entries)) }
+        ensures counts { IfOk result (λ lives. (client : ℤ) → count_at client lives.counts.entries
+            ≡ (if int_eq self.name.uid client then others_at self.name.uid
+            (is_some (slot_at self.name self.rows.slots.entries)) self.rows.counts.entries + 1
+            else count_at client self.rows.counts.entries)) }
+    {
+        let Incoming {
+            name,
+            live,
+            mut rows,
+            mut table,
+        } = self;
+        let old = put_counted(&mut rows, alloc, name, live)?;
+        release_old(&mut table, old);
+        let Rows {
+            slots,
+            counts,
+            notes,
+        } = rows;
+        Ok(Lives {
+            slots,
+            counts,
+            notes,
+            table,
+        })
     }
 }

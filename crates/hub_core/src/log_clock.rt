@@ -8,6 +8,9 @@ ghost use Rattle.session_frames.specs.FrameReading.{log_time};
 use atom_record::LogFrame;
 use session_frames::time_of;
 
+// What the time of a frame stays below.
+const TIME_LIMIT: u64 = 1 << 63;
+
 /// The last frame of the log, as the ends of buckets see it: one moment stands for all frames that a configuration slept
 /// through.
 #[derive(Clone, Copy)]
@@ -20,6 +23,8 @@ pub struct LogClock {
 }
 
 impl LogClock {
+    ghost use Rattle.std.specs.Prelude.{MatchOption};
+    ghost use Rattle.hub_core.specs.SavedMoments.{pull_number, IsNoMoment};
     ghost use Rattle.hub_core.specs.Sleeping.{moment_of_clock};
 
     /// The clock after a frame more. A pull at the time of a frame that was no pull leaves it.
@@ -35,6 +40,27 @@ impl LogClock {
         } else {
             self
         }
+    }
+
+    /// Whether there were pulls alone, as a number.
+    pub fn pull_number(self) -> u64
+        ensures { result ≡ pull_number self.is_pull }
+    {
+        if self.is_pull { 1 } else { 0 }
+    }
+
+    /// The clock of which this time and this number are saved, if they are of one.
+    pub fn of_saved(time: u64, number: u64) -> Option<LogClock>
+        ensures { MatchOption result (IsNoMoment time number)
+            (λ clock. (clock.time ≡ time) × (pull_number clock.is_pull ≡ number)) }
+    {
+        if time >= TIME_LIMIT || number > 1 {
+            return None;
+        }
+        Some(LogClock {
+            time,
+            is_pull: number == 1,
+        })
     }
 }
 

@@ -45,7 +45,8 @@ pub struct Rooms {
 /// The truths of all matchers of the table, for an atom alone. No judge is asked elsewhere.
 pub fn evaluate<J: Judge>(table: &mut MatcherTable, judge: &mut J, frame: &LogFrame)
     requires sound { IsFaultlessLog frame.now }
-    ensures evaluates { EvaluatesFor J.says frame.now (contents_of table.old) (contents_of table.new) }
+    ensures evaluates { EvaluatesFor J.says frame.now (contents_of table.old)
+        (contents_of table.new) }
     ensures asked { HaveRisen (questions_for frame.now (contents_of table.old))
         (J.ticks judge.old) (J.ticks judge.new) }
 {
@@ -77,7 +78,8 @@ pub fn log_heard<L: Ledger>(
     requires sound { IsFaultlessLog coming.now.frame.now }
     requires held { AllHeld (contents_of table.now) slots.old.entries }
     requires apart { (id : ℕ) → AreNotedApart notes.now id }
-    ensures shown { OnOk result (NamedShown (contents_of table.now) (moment_of_clock coming.now.before)
+    ensures shown { OnOk result (NamedShown (contents_of table.now)
+        (moment_of_clock coming.now.before)
         coming.now.frame.now coming.now.states.now (noted_for notes.now coming.now.frame.now)
         slots.old.entries slots.new.entries) }
     ensures kept { KeepsSlots slots.old.entries slots.new.entries }
@@ -115,7 +117,8 @@ fn log_under<L: Ledger>(
     requires sound { IsFaultlessLog coming.now.frame.now }
     requires held { AllHeld (contents_of table.now) slots.old.entries }
     requires apart { AreNotedApart notes.now id }
-    ensures shown { OnOk result (NamedShown (contents_of table.now) (moment_of_clock coming.now.before)
+    ensures shown { OnOk result (NamedShown (contents_of table.now)
+        (moment_of_clock coming.now.before)
         coming.now.frame.now coming.now.states.now (names_under notes.now id ++ names_for_all notes.now)
         slots.old.entries slots.new.entries) }
     ensures kept { KeepsSlots slots.old.entries slots.new.entries }
@@ -139,7 +142,8 @@ fn log_named<L: Ledger>(
     requires sound { IsFaultlessLog coming.now.frame.now }
     requires held { AllHeld (contents_of table.now) slots.old.entries }
     requires distinct { IsDistinct same_id names.now }
-    ensures shown { OnOk result (NamedShown (contents_of table.now) (moment_of_clock coming.now.before)
+    ensures shown { OnOk result (NamedShown (contents_of table.now)
+        (moment_of_clock coming.now.before)
         coming.now.frame.now coming.now.states.now names.now slots.old.entries slots.new.entries) }
     ensures kept { KeepsSlots slots.old.entries slots.new.entries }
     ensures asks { NamesAsk (contents_of table.now) (moment_of_clock coming.now.before)
@@ -163,7 +167,8 @@ fn log_one<L: Ledger>(
 ) -> Result<(), AllocError>
     requires sound { IsFaultlessLog coming.now.frame.now }
     requires held { AllHeld (contents_of table.now) slots.old.entries }
-    ensures shown { OnOk result (NamedShown (contents_of table.now) (moment_of_clock coming.now.before)
+    ensures shown { OnOk result (NamedShown (contents_of table.now)
+        (moment_of_clock coming.now.before)
         coming.now.frame.now coming.now.states.now (name ∷ []) slots.old.entries slots.new.entries) }
     ensures kept { KeepsSlots slots.old.entries slots.new.entries }
     ensures asks { NamesAsk (contents_of table.now) (moment_of_clock coming.now.before)
@@ -189,7 +194,8 @@ fn log_at<L: Ledger>(
     requires sound { IsFaultlessLog coming.now.frame.now }
     requires held { AllHeld (contents_of table.now) slots.old.entries }
     requires there { IsAtPlace name place slots.old.entries }
-    ensures shown { OnOk result (NamedShown (contents_of table.now) (moment_of_clock coming.now.before)
+    ensures shown { OnOk result (NamedShown (contents_of table.now)
+        (moment_of_clock coming.now.before)
         coming.now.frame.now coming.now.states.now (name ∷ []) slots.old.entries slots.new.entries) }
     ensures kept { KeepsSlots slots.old.entries slots.new.entries }
     ensures asks { NamesAsk (contents_of table.now) (moment_of_clock coming.now.before)
@@ -213,7 +219,8 @@ fn log_found<L: Ledger>(
 ) -> Result<(), AllocError>
     requires sound { IsFaultlessLog coming.now.frame.now }
     requires held { AllHeld (contents_of table.now) slots.old.entries }
-    ensures shown { OnOk result (NamedShown (contents_of table.now) (moment_of_clock coming.now.before)
+    ensures shown { OnOk result (NamedShown (contents_of table.now)
+        (moment_of_clock coming.now.before)
         coming.now.frame.now coming.now.states.now (name ∷ []) slots.old.entries slots.new.entries) }
     ensures kept { KeepsSlots slots.old.entries slots.new.entries }
     ensures asks { NamesAsk (contents_of table.now) (moment_of_clock coming.now.before)

@@ -1,5 +1,5 @@
 //! Slots under names, and counts of them.
-ghost use Rattle.std.specs.Prelude.{◌≡◌, ◌+◌, ◌≤◌, ℕ, ℤ, not, ◌&&◌, Some, None, is_some, OnOk, IfOk, if◌then◌else◌};
+ghost use Rattle.std.specs.Prelude.{◌≡◌, ◌+◌, ◌≤◌, ◌<◌, ℕ, ℤ, not, ◌&&◌, Some, None, is_some, OnOk, IfOk, if◌then◌else◌};
 ghost use Rattle.std.specs.Ordering.{int_eq};
 ghost use Rattle.client_engine.specs.declared.live_id.LiveId.{LiveId};
 ghost use Rattle.indexmap.specs.IndexMap.{insert_entry, swap_remove_entry};
@@ -26,8 +26,18 @@ use session_frames::ReplyBody;
 use state_slicer::StateBook;
 use std::alloc::{AllocError, Global};
 
-/// Puts a configuration under a name, with notes of what it hears, and gives back the one that stood there.
-pub fn put(
+/// What is live under its name, and what is kept of it beside.
+#[derive(Drop)]
+pub struct Rows {
+    pub slots: IndexMap<LiveId, LiveInstance>,
+    /// How many slots a client has; a client without any isn't here.
+    pub counts: IndexMap<i32, usize>,
+    /// For each id of atoms and pulls the names of those that hear it.
+    pub notes: Notes<LiveId>,
+}
+
+// Puts a configuration under a name, with notes of what it hears, and gives back the one that stood there.
+fn put(
     slots: &mut IndexMap<LiveId, LiveInstance>,
     notes: &mut Notes<LiveId>,
     alloc: Global,
@@ -35,7 +45,8 @@ pub fn put(
     live: LiveInstance,
 ) -> Result<Option<LiveInstance>, AllocError>
     ensures old { IfOk result (λ old. old ≡ slot_at name slots.old.entries) }
-    ensures entries { OnOk result (slots.new.entries ≡ insert_entry same_id slots.old.entries name live) }
+    ensures entries { OnOk result (slots.new.entries
+        ≡ insert_entry same_id slots.old.entries name live) }
     ensures slots { OnOk result ((other : LiveId) → slot_at other slots.new.entries
         ≡ (if same_id name other then Some live else slot_at other slots.old.entries)) }
     ensures held { OnOk result ((uid : ℤ) → held_by uid slots.new.entries
@@ -47,6 +58,38 @@ pub fn put(
     forget(slots, notes, name);
     notes.add(alloc, name, &live.hearing)?;
     Ok(slots.insert(name, live)?)
+}
+
+/// Puts a configuration under a name, with its client's count and with notes of what it hears, and gives back the one
+/// that stood there.
+pub fn put_counted(
+    rows: &mut Rows,
+    alloc: Global,
+    name: LiveId,
+    live: LiveInstance,
+) -> Result<Option<LiveInstance>, AllocError>
+    requires room { others_at name.uid
+        (is_some (slot_at name rows.old.slots.entries)) rows.old.counts.entries < 10 }
+    ensures old { IfOk result (λ old. old ≡ slot_at name rows.old.slots.entries) }
+    ensures entries { OnOk result (rows.new.slots.entries
+        ≡ insert_entry same_id rows.old.slots.entries name live) }
+    ensures slots { OnOk result ((other : LiveId) → slot_at other rows.new.slots.entries
+        ≡ (if same_id name other then Some live else slot_at other rows.old.slots.entries)) }
+    ensures counts { OnOk result ((client : ℤ) → listed_at client rows.new.counts.entries
+        ≡ (if int_eq name.uid client then listed (others_at name.uid
+        (is_some (slot_at name rows.old.slots.entries)) rows.old.counts.entries + 1)
+        else listed_at client rows.old.counts.entries)) }
+    ensures held { OnOk result ((uid : ℤ) → held_by uid rows.new.slots.entries
+        ≡ held_by uid rows.old.slots.entries
+        + (if int_eq name.uid uid && not (is_some (slot_at name rows.old.slots.entries))
+        then 1 else 0)) }
+    ensures noted { OnOk result (AreNoted rows.old.notes rows.old.slots.entries
+        → AreNoted rows.new.notes rows.new.slots.entries) }
+{
+    let there = rows.slots.contains_key(&name);
+    let others = others_of(&rows.counts, name.uid, there);
+    set_count(&mut rows.counts, name.uid, others + 1)?;
+    put(&mut rows.slots, &mut rows.notes, alloc, name, live)
 }
 
 /// Takes what is under a name out, and its notes; the last slot takes its place.

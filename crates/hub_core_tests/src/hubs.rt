@@ -1,6 +1,7 @@
 //! The rows: a hub under a judge, and what it is given and answers, a line after the other.
 use super::judges::{Counting, Nodder, Tallier};
-use super::mixed::compare_mixed;
+use super::mixed::{compare_mixed, compare_saved};
+use super::saving::{compare_bent, compare_ids, save};
 use super::tried::Tried;
 use matcher_eval::FieldJudge;
 use std::alloc::{AllocError, Global};
@@ -11,7 +12,7 @@ pub struct Hubs;
 
 impl Table for Hubs {
     fn marks(&self) -> &'static str {
-        "judge > < asked again log do mixed"
+        "judge > < asked again log do mixed saved save settle bent ids"
     }
 
     fn run(&self, alloc: Global, tester: &mut Tester, row: &Row<'_>) -> Result<(), AllocError> {
@@ -50,7 +51,7 @@ fn run_block<J: Counting>(
 }
 
 /// Runs a line: frames, the replies to them, how often the judge was asked so far, frames that are taken again and
-/// again, or a session of many clients.
+/// again, a session of many clients, or a hub that is saved.
 fn run_line<J: Counting>(
     alloc: Global,
     tester: &mut Tester,
@@ -66,6 +67,11 @@ fn run_line<J: Counting>(
         "asked" => compare_asked(tester, tried, rest),
         "again" => take_again(alloc, tester, tried, rest),
         "mixed" => compare_mixed(alloc, tester, row, rest),
+        "saved" => compare_saved(alloc, tester, row, rest),
+        "save" => save(alloc, tester, tried),
+        "settle" => tried.settle(),
+        "bent" => compare_bent(alloc, tester, tried),
+        "ids" => compare_ids(alloc, tester, tried, rest),
         _ => tester.differs("a line that isn't known", line),
     }
 }

@@ -4,14 +4,21 @@ use config_types::SimpleMatcher;
 use matcher_eval::{FieldJudge, Judge};
 
 /// A judge who tells how often it was asked.
-pub trait Counting: Judge {
+pub trait Counting: Judge + Sized {
     /// How many questions it was asked.
     fn asked(&self) -> u64;
+
+    /// One that wasn't asked yet.
+    fn fresh() -> Self;
 }
 
 impl Counting for FieldJudge {
     fn asked(&self) -> u64 {
         self.ticks()
+    }
+
+    fn fresh() -> FieldJudge {
+        FieldJudge::new()
     }
 }
 
@@ -38,6 +45,10 @@ impl Counting for Nodder {
     fn asked(&self) -> u64 {
         self.asked
     }
+
+    fn fresh() -> Nodder {
+        Nodder { asked: 0 }
+    }
 }
 
 /// A matcher holds if it tests as many fields as the atom has entries, whatever they hold.
@@ -62,5 +73,9 @@ impl Judge for Tallier {
 impl Counting for Tallier {
     fn asked(&self) -> u64 {
         self.asked
+    }
+
+    fn fresh() -> Tallier {
+        Tallier { asked: 0 }
     }
 }

@@ -4,6 +4,7 @@
 mod hubs;
 mod judges;
 mod mixed;
+mod saving;
 mod tried;
 
 use hubs::Hubs;

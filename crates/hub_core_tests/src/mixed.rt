@@ -1,4 +1,5 @@
 //! Sessions of many clients in an order by chance, in which each client is answered as it is alone.
+use super::saving::save;
 use super::tried::Tried;
 use matcher_eval::FieldJudge;
 use std::alloc::{AllocError, Global};
@@ -118,6 +119,96 @@ fn text_of(
             format!(in alloc; "{word} {client} {id}")
         }
     }
+}
+
+/// Compares the replies of a hub that takes a session by chance with those of one that is saved and built after each
+/// frame, and how often both judges were asked. One is caught up before, where the numbers end with `settle`.
+pub fn compare_saved(
+    alloc: Global,
+    tester: &mut Tester,
+    row: &Row<'_>,
+    text: &str,
+) -> Result<(), AllocError> {
+    let (text, settles) = match text.strip_suffix(" settle") {
+        Some(numbers) => (numbers, true),
+        None => (text, false),
+    };
+    let (clients, frames) = text.split_once(' ').unwrap_or((text, ""));
+    let (Some(clients), Some(count)) = (unsigned(clients), unsigned(frames)) else {
+        return tester.differs("no numbers", text);
+    };
+    let Some(steps) = session(alloc, tester, row, clients, count)? else {
+        return Ok(());
+    };
+    let cuts = Cuts {
+        steps: steps.as_slice(),
+        settles,
+    };
+    run_saved(alloc, tester, cuts)
+}
+
+/// A session that a hub takes while it is saved and built after each frame. It may be caught up before.
+#[derive(Clone, Copy)]
+struct Cuts<'a> {
+    steps: &'a [Step],
+    settles: bool,
+}
+
+/// Gives the session to a hub that isn't cut, and to one that is.
+fn run_saved(alloc: Global, tester: &mut Tester, cuts: Cuts<'_>) -> Result<(), AllocError> {
+    let mut whole = Tried::new(alloc, FieldJudge::new())?;
+    run_beside(alloc, tester, cuts, &mut whole)
+}
+
+/// Gives it to this hub, which isn't cut, and to one that is.
+fn run_beside(
+    alloc: Global,
+    tester: &mut Tester,
+    cuts: Cuts<'_>,
+    whole: &mut Tried<FieldJudge>,
+) -> Result<(), AllocError> {
+    let mut cut = Tried::new(alloc, FieldJudge::new())?;
+    run_both(alloc, tester, cuts, whole, &mut cut)
+}
+
+/// Gives it to both hubs, of which the second one is cut.
+fn run_both(
+    alloc: Global,
+    tester: &mut Tester,
+    cuts: Cuts<'_>,
+    whole: &mut Tried<FieldJudge>,
+    cut: &mut Tried<FieldJudge>,
+) -> Result<(), AllocError> {
+    for step in cuts.steps {
+        tester.case();
+        compare_step(alloc, tester, whole, cut, step)?;
+        if cuts.settles {
+            cut.settle()?;
+        }
+        save(alloc, tester, cut)?;
+    }
+    Ok(())
+}
+
+/// Gives both hubs a frame, and compares what they answer.
+fn compare_step(
+    alloc: Global,
+    tester: &mut Tester,
+    whole: &mut Tried<FieldJudge>,
+    cut: &mut Tried<FieldJudge>,
+    step: &Step,
+) -> Result<(), AllocError> {
+    take_one(alloc, whole, step)?;
+    take_one(alloc, cut, step)?;
+    tester.same_bytes("replies", whole.new_replies(), cut.new_replies())?;
+    tester.same_number("questions", whole.asked(), cut.asked())
+}
+
+/// Gives a hub a frame, with room for its reply.
+fn take_one(alloc: Global, tried: &mut Tried<FieldJudge>, step: &Step) -> Result<(), AllocError> {
+    tried.forget(alloc)?;
+    let _ = tried.take(alloc, step.bytes.clone()?)?;
+    Ok(())
 }
 
 fn compare_client(

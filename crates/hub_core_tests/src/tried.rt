@@ -4,6 +4,7 @@ ghost use Rattle.session_frames.specs.Frames.{IsFaultless};
 
 use super::judges::Counting;
 use condition_links::Steps;
+use flat_form::Items;
 use hub_core::Hub;
 use matcher_eval::Judge;
 use sd_io::{MemSink, MemSource};
@@ -22,6 +23,8 @@ pub struct Tried<J: Judge> {
     replies: MemSink,
     /// How many bytes of the replies were compared.
     compared: usize,
+    /// How often the judges of the hubs before this one were asked.
+    asked_before: u64,
 }
 
 impl<J: Judge> Tried<J> {
@@ -31,6 +34,7 @@ impl<J: Judge> Tried<J> {
             replies: MemSink::new(alloc, AMPLE, Vec::new(alloc))?,
             hub: Hub::new(alloc, judge),
             compared: 0,
+            asked_before: 0,
         })
     }
 
@@ -81,8 +85,24 @@ impl<J: Judge> Tried<J> {
 }
 
 impl<J: Counting> Tried<J> {
-    /// How often the judge was asked.
+    /// How often the judge was asked, with those of the hubs before this one.
     pub fn asked(&self) -> u64 {
-        self.hub.judge().asked()
+        self.asked_before.saturating_add(self.hub.judge().asked())
+    }
+
+    /// The items of the hub.
+    pub fn items(&self, alloc: Global) -> Result<Items, AllocError> {
+        self.hub.flatten(alloc)
+    }
+
+    /// Catches the hub up by the last frame.
+    pub fn settle(&mut self) -> Result<(), AllocError> {
+        self.hub.settle()
+    }
+
+    /// Puts another hub in the place of this one.
+    pub fn put(&mut self, hub: Hub<J>) {
+        self.asked_before = self.asked();
+        self.hub = hub;
     }
 }

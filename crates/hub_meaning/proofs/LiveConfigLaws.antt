@@ -1,5 +1,5 @@
 -- The live configurations and their histories after one more own frame.
-use Rattle.std.proofs.Common.{◌≡◌, ℕ, suc, ◌+◌, ◌<◌, ℤ, Bool, true, false, not, cond, List, [], ◌∷◌, ◌++◌, length, take, drop, Some, None, Result, Ok, Err, is_some, true≢false, refl, sym, ap, subst, ◌∙◌, append_assoc, arith}
+use Rattle.std.proofs.Common.{◌≡◌, ℕ, zero, suc, ◌+◌, ◌<◌, ℤ, Bool, true, false, not, cond, List, [], ◌∷◌, ◌++◌, length, take, drop, Some, None, Result, Ok, Err, is_some, true≢false, refl, sym, ap, subst, ◌∙◌, append_assoc, arith}
 use Rattle.std.specs.Prelude.{◌||◌}
 use Rattle.std.specs.List.{list_any}
 use Rattle.std.specs.Ordering.{int_eq}
@@ -19,7 +19,7 @@ use Rattle.config_links.specs.Verdict.{linked_form}
 use Rattle.metric_meaning.specs.Histories.{Step, Reported, with_steps, logged_frames, log_of_history}
 use Rattle.hub_meaning.specs.SessionLog.{log_frame_in, log_frames, clock_of}
 use Rattle.hub_meaning.specs.Acceptance.{LiveConfig, acceptance}
-use Rattle.hub_meaning.specs.LiveConfigs.{with_config, without_id, config_at, live_with, live_after, live_from, live, step_at, history_of}
+use Rattle.hub_meaning.specs.LiveConfigs.{with_config, without_id, config_at, live_with, live_after, live_from, live, installed_bytes, first_bytes, install_bytes, step_at, history_of}
 
 live_from-push : (before : List Frame) (configs : List LiveConfig) (frames : List Frame) (frame : Frame)
     → live_from before configs (frames ++ frame ∷ []) ≡ live_after (before ++ frames) frame
@@ -102,6 +102,28 @@ ArePlaced-live_from before configs (frame ∷ frames) placed =
 -- each live configuration was installed by one of the frames
 pub live_placed : (frames : List Frame) → ArePlaced (length frames) (live frames)
 live_placed frames = subst (λ n. ArePlaced n (live frames)) (omega arith) (ArePlaced-live_from [] [] frames tt)
+
+first_after : (place : ℕ) (frames more : List Frame) → place < length frames
+    → first_bytes (drop place (frames ++ more)) ≡ first_bytes (drop place frames)
+first_after place [] more there = absurd (omega (arith, there))
+first_after zero (first ∷ frames) more there = refl
+first_after (suc place) (first ∷ frames) more there = first_after place frames more (omega (arith, there))
+
+-- the bytes of an install stay what they are
+pub install_bytes-push : (frames : List Frame) (frame : Frame) (config : LiveConfig) → config.place < length frames
+    → install_bytes (frames ++ frame ∷ []) config ≡ install_bytes frames config
+install_bytes-push frames frame config there = first_after config.place frames (frame ∷ []) there
+
+first_last : (frames : List Frame) (frame : Frame)
+    → first_bytes (drop (length frames) (frames ++ frame ∷ [])) ≡ installed_bytes frame
+first_last [] frame = refl
+first_last (first ∷ frames) frame = first_last frames frame
+
+-- those of the last frame are what it brings
+pub install_bytes-new : (frames : List Frame) (frame : Frame) (config : LiveConfig) → config.place ≡ length frames
+    → install_bytes (frames ++ frame ∷ []) config ≡ installed_bytes frame
+install_bytes-new frames frame config last =
+    ap (λ place. first_bytes (drop place (frames ++ frame ∷ []))) last ∙ first_last frames frame
 
 module _ (says : SimpleMatcher → Atom → Bool) where
   -- a live configuration has seen one more step, if the frame is one to it

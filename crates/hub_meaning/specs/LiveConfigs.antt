@@ -54,6 +54,22 @@ live_from before configs (frame ∷ frames) = live_from (before ++ frame ∷ [])
 abbrev pub live : List Frame → List LiveConfig
 live frames = live_from [] [] frames
 
+-- the bytes that an install brings; another frame brings none
+abbrev pub installed_bytes : Frame → List ℕ
+installed_bytes (Log frame) = []
+installed_bytes (Install uid id bytes) = bytes
+installed_bytes (Remove uid id) = []
+installed_bytes (Report uid id include_current) = []
+
+-- the bytes that the first of these frames brings, if there is one
+abbrev pub first_bytes : List Frame → List ℕ
+first_bytes [] = []
+first_bytes (frame ∷ frames) = installed_bytes frame
+
+-- the bytes of the frame that installed a live configuration of a client with these own frames
+abbrev pub install_bytes : List Frame → LiveConfig → List ℕ
+install_bytes frames live = first_bytes (drop live.place frames)
+
 -- What a judge says of simple matchers and atoms is a parameter of all that speaks of truths.
 module _ (says : SimpleMatcher → Atom → Bool) where
   -- the truths that a frame is handed in with: those of all matchers for an atom, and none for another frame

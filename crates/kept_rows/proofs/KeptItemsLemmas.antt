@@ -8,7 +8,7 @@ use Rattle.flat_form.proofs.FlatLaws as laws
 use Rattle.kept_rows.specs.KeptRows.{Keeping, IsWithinWeight}
 use Rattle.kept_rows.specs.KeptItems.{kept_items, IsKeeping}
 
-module _ {R : Type 0} (valid : R → Type 0) (flat : R → List Item) where
+module _ {R : Type 0} (weigh : R → ℕ) (valid : R → Type 0) (flat : R → List Item) where
   -- the two numbers and the rows
   abbrev pub KeptForm : Type 0
   KeptForm = (ℕ × ℕ) × List R
@@ -28,15 +28,15 @@ module _ {R : Type 0} (valid : R → Type 0) (flat : R → List Item) where
   module _ (items : List Item) (place : ℕ) where
     -- no such form stands there, so no kept rows do
     pub kept_fails : (e : FlatError) → Builds IsKeptForm kept_form_items items place (Err e)
-        → Builds (IsKeeping valid) (kept_items flat) items place (Err e)
-    kept_fails e fails = laws.form_fails IsKeptForm kept_form_items (IsKeeping valid) (kept_items flat) kept_form
+        → Builds (IsKeeping weigh valid) (kept_items flat) items place (Err e)
+    kept_fails e fails = laws.form_fails IsKeptForm kept_form_items (IsKeeping weigh valid) (kept_items flat) kept_form
         (λ it. refl) (λ it is. ((tt, tt), is.rows_valid)) items place e fails
 
     module _ (form : KeptForm) (next : ℕ) (one : IsBuilt IsKeptForm kept_form_items items place form next) where
       -- the form that stands there is that of kept rows
-      pub kept_built : IsWithinWeight form.1 form.0.0 → (it : Keeping R)
+      pub kept_built : IsWithinWeight weigh form.1 form.0.0 → (it : Keeping R)
           → it ≡ record { rows = form.1; used = form.0.0; others = form.0.1 }
-          → IsBuilt (IsKeeping valid) (kept_items flat) items place it next
+          → IsBuilt (IsKeeping weigh valid) (kept_items flat) items place it next
       kept_built within it is = rw is (record {
         is_valid = record { within = within; rows_valid = one.is_valid.1 };
         stands = one.stands;
@@ -47,8 +47,8 @@ module _ {R : Type 0} (valid : R → Type 0) (flat : R → List Item) where
       })
 
       -- the form that stands there is that of none
-      pub no_kept : ¬ (IsWithinWeight form.1 form.0.0)
-          → Builds (IsKeeping valid) (kept_items flat) items place (Err Bad)
+      pub no_kept : ¬ (IsWithinWeight weigh form.1 form.0.0)
+          → Builds (IsKeeping weigh valid) (kept_items flat) items place (Err Bad)
       no_kept beyond = λ other other_valid there.
           let same = one.only (kept_form other) ((tt, tt), other_valid.rows_valid) there in
-          beyond (subst (λ (f : KeptForm). IsWithinWeight f.1 f.0.0) same other_valid.within)
+          beyond (subst (λ (f : KeptForm). IsWithinWeight weigh f.1 f.0.0) same other_valid.within)

@@ -20,9 +20,9 @@ module _ {R : Type 0} (flat : R → List Item) where
   kept_entries it = list_entries flat it.rows
 
 module _ {R : Type 0} where
-  -- kept rows are within their bound, and each is valid
-  pub record IsKeeping (valid : R → Type 0) (it : Keeping R) : Type 0 where
-    pub within : IsWithinWeight it.rows it.used
+  -- kept rows weigh what is used, within their bound, and each is valid
+  pub record IsKeeping (weigh : R → ℕ) (valid : R → Type 0) (it : Keeping R) : Type 0 where
+    pub within : IsWithinWeight weigh it.rows it.used
     pub rows_valid : All valid it.rows
 
   -- each kept row is savable
@@ -30,19 +30,19 @@ module _ {R : Type 0} where
   AreSavableRows savable it = All savable it.rows
 
   -- a head of three items, and eight at most for each entry
-  pub kept_bounded : (flat : R → List Item) (valid : R → Type 0) (it : Keeping R) → IsKeeping valid it
-      → length (kept_items flat it) ≤ most_items 3 (kept_entries flat it)
-  kept_bounded flat valid it is = let rows = elements_bounded flat it.rows in omega arith
+  pub kept_bounded : (flat : R → List Item) (weigh : R → ℕ) (valid : R → Type 0) (it : Keeping R)
+      → IsKeeping weigh valid it → length (kept_items flat it) ≤ most_items 3 (kept_entries flat it)
+  kept_bounded flat weigh valid it is = let rows = elements_bounded flat it.rows in omega arith
 
   -- an entry is an item at least
   pub kept_few : (flat : R → List Item) (it : Keeping R) → kept_entries flat it ≤ length (kept_items flat it)
   kept_few flat it = let rows = elements_few flat it.rows in omega arith
 
   -- their items can be spelled where those of the rows can
-  pub kept_savable : (flat : R → List Item) (valid savable : R → Type 0)
+  pub kept_savable : (flat : R → List Item) (weigh : R → ℕ) (valid savable : R → Type 0)
       → ((row : R) → valid row → savable row → AreSavable (flat row))
-      → (it : Keeping R) → IsKeeping valid it → AreSavableRows savable it → AreSavable (kept_items flat it)
-  kept_savable flat valid savable each it is can =
+      → (it : Keeping R) → IsKeeping weigh valid it → AreSavableRows savable it → AreSavable (kept_items flat it)
+  kept_savable flat weigh valid savable each it is can =
       let rows = list_savable flat valid savable each it.rows is.rows_valid can in
       let others = items_savable (Num it.others) (list_items flat it.rows) tt rows in
       items_savable (Num it.used) (Num it.others ∷ list_items flat it.rows) tt others

@@ -1,5 +1,5 @@
 -- What is kept of the rows that a metric closed since its last report.
-use Rattle.std.specs.Prelude.{◌≡◌, ℕ, ◌+◌, ◌-◌, ◌≤◌, List, [], ◌++◌, length}
+use Rattle.std.specs.Prelude.{◌≡◌, ℕ, ◌+◌, ◌-◌, ◌≤◌, max, List, [], ◌++◌, length}
 use Rattle.std.specs.List.{sum_by}
 use Rattle.bucket_meaning.specs.Kept.{kept, count_in_u64, most_weight}
 
@@ -13,8 +13,14 @@ pub record Keeping (R : Type 0) : Type 0 where
 abbrev pub nothing_kept : {R : Type 0} → Keeping R
 nothing_kept = record { rows = []; used = 0; others = 0 }
 
--- so much may be kept: the weight has a bound, and a row weighs one at least, so there are no more rows than that
-pub record IsWithinWeight {R : Type 0} (rows : List R) (used : ℕ) : Type 0 where
+-- a list weighs as many as it has, and one at least
+abbrev pub list_weight : {A : Type 0} → List A → ℕ
+list_weight items = max (length items) 1
+
+-- so much may be kept: what the rows weigh in all has a bound, and a row weighs one at least, so there are no more rows
+-- than that
+pub record IsWithinWeight {R : Type 0} (weigh : R → ℕ) (rows : List R) (used : ℕ) : Type 0 where
+  pub weighs : used ≡ sum_by weigh rows
   pub bounded : used ≤ most_weight
   pub few : length rows ≤ used
 

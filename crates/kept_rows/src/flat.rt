@@ -3,17 +3,17 @@ ghost use Rattle.std.proofs.Common.{refl};
 ghost use Rattle.flat_form.specs.Bounded.{short_head};
 ghost use Rattle.std.specs.Prelude.{◌≡◌};
 
-use crate::KeptRows;
+use crate::{KeptRows, Weighed};
 use flat_form::{Flat, FlatError, Items};
 use sd_base::Seq;
 use std::alloc::{AllocError, Global};
 
-impl<R: Flat + Drop> Flat for KeptRows<R> {
+impl<R: Weighed + Flat + Drop> Flat for KeptRows<R> {
     ghost use Rattle.kept_rows.specs.KeptItems.{kept_items, kept_entries, IsKeeping, AreSavableRows, kept_bounded, kept_few, kept_savable};
 
     ghost flat = { kept_items R.flat };
 
-    ghost valid = { IsKeeping R.valid };
+    ghost valid = { IsKeeping R.weigh R.valid };
 
     ghost savable = { AreSavableRows R.savable };
 
@@ -23,11 +23,11 @@ impl<R: Flat + Drop> Flat for KeptRows<R> {
 
     ghost entries = { kept_entries R.flat };
 
-    ghost bounded = { kept_bounded R.flat R.valid };
+    ghost bounded = { kept_bounded R.flat R.weigh R.valid };
 
     ghost few = { kept_few R.flat };
 
-    ghost spells = { kept_savable R.flat R.valid R.savable R.spells };
+    ghost spells = { kept_savable R.flat R.weigh R.valid R.savable R.spells };
 
     fn show_valid(&self) {
         self.rows().show_valid();

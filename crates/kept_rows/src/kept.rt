@@ -1,8 +1,9 @@
 //! The kept rows of one metric.
-ghost use Rattle.std.specs.Prelude.{◌≡◌, ◌+◌, ◌<◌, ◌≤◌, ◌↔◌, ℕ, List, [], ◌∷◌, length, OnOk, OnErr, IfSome, IsSome, IsTrue};
+ghost use Rattle.std.specs.Prelude.{◌≡◌, ◌+◌, ◌<◌, ◌≤◌, ◌↔◌, ℕ, List, [], ◌∷◌, length, OnOk, OnErr, IfSome, IsSome, IsTrue, sum_by};
 ghost use Rattle.bucket_meaning.specs.Kept.{count_in_u64, most_weight};
 ghost use Rattle.kept_rows.specs.KeptRows.{nothing_kept, IsKept, AddsRows, HasRoom, IsWithinWeight};
 
+use crate::Weighed;
 use sd_base::Seq;
 use std::alloc::{AllocError, Global};
 use std::marker::Model;
@@ -14,24 +15,24 @@ const MOST_WEIGHT: u64 = 16_384;
 /// The first rows that a metric closed since its last report, and the number of the others.
 /// After the first row that found no room none is kept, even a lighter one.
 #[derive(Drop)]
-pub struct KeptRows<R> {
+pub struct KeptRows<R: Weighed> {
     rows: Seq<R>,
     used: u64,
     others: u64,
     alloc: Global,
 }
 
-impl<R> Model for KeptRows<R> {
+impl<R: Weighed> Model for KeptRows<R> {
     ghost use Rattle.kept_rows.specs.KeptRows.{Keeping, IsWithinWeight};
 
     ghost Value = { Keeping R };
 
     ghost view = { λ k. record { rows = k.rows; used = k.used; others = k.others } };
 
-    ghost invariant = { λ k. IsWithinWeight k.rows k.used };
+    ghost invariant = { λ k. IsWithinWeight R.weigh k.rows k.used };
 }
 
-impl<R: Drop> KeptRows<R> {
+impl<R: Weighed + Drop> KeptRows<R> {
     /// Of no rows. It takes no memory yet.
     pub fn new(alloc: Global) -> KeptRows<R>
         ensures empty { result ≡ nothing_kept }
@@ -45,13 +46,13 @@ impl<R: Drop> KeptRows<R> {
         }
     }
 
-    /// These rows of so much weight, and so many others; or none where so much isn't kept.
+    /// These rows and so many others; or none where they don't weigh so much, or so much isn't kept.
     pub fn restore(alloc: Global, rows: Seq<R>, used: u64, others: u64) -> Option<KeptRows<R>>
-        ensures within { IsSome result ↔ IsWithinWeight rows used }
+        ensures within { IsSome result ↔ IsWithinWeight R.weigh rows used }
         ensures value { IfSome result
             (λ it. it ≡ record { rows = rows; used = used; others = others }) }
     {
-        if used > MOST_WEIGHT || rows.len() as u64 > used {
+        if used > MOST_WEIGHT || !weigh_together(rows.as_slice(), used) {
             return None;
         }
         Some(KeptRows {
@@ -70,15 +71,15 @@ impl<R: Drop> KeptRows<R> {
     }
 
     /// Keeps one more row if it fits, else counts it.
-    pub fn put(&mut self, row: R, weight: u64) -> Result<(), AllocError>
-        requires some { 1 ≤ weight }
-        ensures stands { OnOk result ((weigh : R → ℕ) → weigh row ≡ weight
+    pub fn put(&mut self, row: R) -> Result<(), AllocError>
+        ensures stands { OnOk result ((weigh : R → ℕ) → weigh row ≡ R.weigh row
             → AddsRows weigh self.old self.new (row ∷ [])) }
 
         // Only a row that fits asks for memory.
-        ensures room { OnErr result (HasRoom self.old weight) }
+        ensures room { OnErr result (HasRoom self.old (R.weigh row)) }
         ensures err { OnErr result (self.new ≡ self.old) }
     {
+        let weight = row.weight();
         if !self.has_room(weight) {
             self.others = self.others.saturating_add(1);
             return Ok(());
@@ -120,13 +121,13 @@ impl<R: Drop> KeptRows<R> {
     /// The kept rows, in order.
     pub fn rows(&self) -> &Seq<R>
         ensures value { result.now ≡ self.now.rows }
-        ensures within { IsWithinWeight self.now.rows self.now.used }
+        ensures within { IsWithinWeight R.weigh self.now.rows self.now.used }
     {
         let _used = self.used;
         &self.rows
     }
 
-    /// The weight of the kept rows.
+    /// What the kept rows weigh in all.
     pub fn weight(&self) -> u64
         ensures { result ≡ self.now.used }
     {
@@ -139,4 +140,20 @@ impl<R: Drop> KeptRows<R> {
     {
         self.others
     }
+}
+
+// Whether these rows weigh so much in all.
+fn weigh_together<R: Weighed>(rows: &[R], used: u64) -> bool
+    ensures sum { IsTrue result ↔ (used ≡ sum_by R.weigh rows.now) }
+    ensures few { IsTrue result → length rows.now ≤ used }
+{
+    let mut left = used;
+    for row in rows {
+        let weight = row.weight();
+        if weight > left {
+            return false;
+        }
+        left -= weight;
+    }
+    left == 0
 }

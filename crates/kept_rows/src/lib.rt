@@ -3,5 +3,7 @@
 
 mod flat;
 mod kept;
+mod weighed;
 
 pub use kept::KeptRows;
+pub use weighed::Weighed;

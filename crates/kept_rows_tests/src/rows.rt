@@ -1,15 +1,20 @@
 //! Which rows are kept, and how many are counted.
+use crate::sack::Sack;
 use kept_rows::KeptRows;
 use sd_base::Seq;
 use std::alloc::AllocError;
 use std::test::*;
 
 // Puts a row of each weight, numbered from `first` on.
-fn put_each(kept: &mut KeptRows<u64>, first: u64, weights: &[u64]) -> Result<(), AllocError> {
-    let mut row = first;
+fn put_each(kept: &mut KeptRows<Sack>, first: u64, weights: &[u64]) -> Result<(), AllocError> {
+    let mut number = first;
     for weight in weights {
-        kept.put(row, (*weight).max(1))?;
-        row = row.wrapping_add(1);
+        let sack = Sack {
+            number,
+            weight: *weight,
+        };
+        kept.put(sack)?;
+        number = number.wrapping_add(1);
     }
     Ok(())
 }
@@ -17,19 +22,32 @@ fn put_each(kept: &mut KeptRows<u64>, first: u64, weights: &[u64]) -> Result<(),
 // Puts so many rows of weight 1.
 fn put_many(kept: &mut KeptRows<u64>, count: u64) -> Result<(), AllocError> {
     for row in 0..count {
-        kept.put(row, 1)?;
+        kept.put(row)?;
     }
     Ok(())
 }
 
+// Whether these are the numbers of the sacks.
+fn are_numbered(sacks: &[Sack], numbers: &[u64]) -> bool {
+    if sacks.len() != numbers.len() {
+        return false;
+    }
+    for (sack, number) in sacks.iter().zip(numbers) {
+        if sack.number != *number {
+            return false;
+        }
+    }
+    true
+}
+
 // Whether these rows are kept, and so many others were counted.
-fn has(kept: &KeptRows<u64>, rows: &[u64], used: u64, others: u64) -> bool {
-    kept.rows().as_slice() == rows && kept.weight() == used && kept.not_kept() == others
+fn has(kept: &KeptRows<Sack>, rows: &[u64], used: u64, others: u64) -> bool {
+    are_numbered(kept.rows().as_slice(), rows) && kept.weight() == used && kept.not_kept() == others
 }
 
 // Whether these rows and this number were handed out.
-fn gave(given: &(Seq<u64>, u64), rows: &[u64], others: u64) -> bool {
-    given.0.as_slice() == rows && given.1 == others
+fn gave(given: &(Seq<Sack>, u64), rows: &[u64], others: u64) -> bool {
+    are_numbered(given.0.as_slice(), rows) && given.1 == others
 }
 
 #[test]
@@ -59,7 +77,7 @@ fn keeps_16384_rows_and_not_one_more(rt: HostRuntime) -> Result<(), Fail> {
     let mut kept = KeptRows::new(rt.alloc());
     put_many(&mut kept, 16_384)?;
     assert!(rt; kept.rows().len() == 16_384 && kept.not_kept() == 0 && !kept.is_full());
-    kept.put(0, 1)?;
+    kept.put(0)?;
     assert!(rt; kept.rows().len() == 16_384 && kept.not_kept() == 1 && kept.is_full());
     assert!(rt; kept.rows().get(16_383) == Some(&16_383));
     Ok(())

@@ -1,6 +1,7 @@
 //! Kept rows through their items.
 use flat_form::{Flat, FlatError, Item, Items, rebuild};
 use kept_rows::KeptRows;
+use sd_base::Seq;
 use std::alloc::{AllocError, Global};
 use std::test::*;
 
@@ -17,7 +18,7 @@ fn numbers(alloc: Global, numbers: &[u64]) -> Result<Items, AllocError> {
 fn filled(alloc: Global) -> Result<KeptRows<u64>, AllocError> {
     let mut kept = KeptRows::new(alloc);
     for row in 0..16_385u64 {
-        kept.put(row, 1)?;
+        kept.put(row)?;
     }
     Ok(kept)
 }
@@ -29,12 +30,14 @@ fn is_bad(alloc: Global, items: &Items) -> bool {
 #[test]
 fn goes_on_after_it_was_rebuilt(rt: HostRuntime) -> Result<(), Fail> {
     let mut kept = KeptRows::new(rt.alloc());
-    kept.put(7_u64, 16_383)?;
+    for row in 0..16_383_u64 {
+        kept.put(row)?;
+    }
     let mut copy = rebuild(rt.alloc(), &kept)?;
-    copy.put(8, 1)?;
-    copy.put(9, 1)?;
+    copy.put(16_383)?;
+    copy.put(16_384)?;
     let (rows, others) = copy.take();
-    assert!(rt; rows.as_slice() == [7, 8].as_slice() && others == 1);
+    assert!(rt; rows.len() == 16_384 && rows.get(16_383) == Some(&16_383) && others == 1);
     Ok(())
 }
 
@@ -46,19 +49,18 @@ fn full_rows_are_rebuilt_with_the_number_of_the_others(rt: HostRuntime) -> Resul
     assert!(rt; items.len() == 16_387);
     let mut copy = rebuild(rt.alloc(), &kept)?;
     assert!(rt; copy.rows() == kept.rows() && copy.weight() == 16_384 && copy.not_kept() == 1);
-    copy.put(0, 1)?;
+    copy.put(0)?;
     assert!(rt; copy.rows().len() == 16_384 && copy.not_kept() == 2);
     Ok(())
 }
 
 #[test]
 fn builds_the_kept_rows_that_may_be(rt: HostRuntime) -> Result<(), Fail> {
-    let rows: [(&[u64], usize, u64); 5] = [
+    let rows: [(&[u64], usize, u64); 4] = [
         (&[0, 0, 0], 0, 0),
         (&[0, 5, 0], 0, 5),
-        (&[2, 0, 1, 7], 1, 0),
+        (&[1, 0, 1, 7], 1, 0),
         (&[2, 9, 2, 7, 8], 2, 9),
-        (&[16_384, 1, 1, 7], 1, 1),
     ];
     for (row, len, others) in rows {
         let items = numbers(rt.alloc(), row)?;
@@ -73,11 +75,34 @@ fn builds_the_kept_rows_that_may_be(rt: HostRuntime) -> Result<(), Fail> {
 }
 
 #[test]
+fn builds_lists_that_weigh_as_many_as_they_have(rt: HostRuntime) -> Result<(), Fail> {
+    let rows: [(&[u64], bool); 7] = [
+        (&[3, 0, 1, 3, 7, 8, 9], true),
+        // one without elements weighs one
+        (&[1, 0, 1, 0], true),
+        (&[4, 2, 2, 0, 3, 7, 8, 9], true),
+        // other weights
+        (&[2, 0, 1, 3, 7, 8, 9], false),
+        (&[4, 0, 1, 3, 7, 8, 9], false),
+        (&[0, 0, 1, 0], false),
+        (&[2, 0, 2, 0, 3, 7, 8, 9], false),
+    ];
+    for (row, is_built) in rows {
+        let items = numbers(rt.alloc(), row)?;
+        let built = KeptRows::<Seq<u64>>::build(rt.alloc(), &items, 0);
+        assert!(rt; built.is_ok() == is_built, "at {row:?}");
+    }
+    Ok(())
+}
+
+#[test]
 fn builds_none_that_may_not_be(rt: HostRuntime) -> Result<(), Fail> {
-    let rows: [&[u64]; 6] = [
+    let rows: [&[u64]; 8] = [
         // more weight than is kept
         &[16_385, 0, 1, 7],
-        // rows that weigh nothing
+        // rows that weigh less, and more
+        &[16_384, 1, 1, 7],
+        &[2, 0, 1, 7],
         &[0, 0, 1, 7],
         &[1, 0, 2, 7, 8],
         // rows that are cut, and a head that is

@@ -4,6 +4,7 @@
 mod flat;
 mod producer;
 mod row;
+mod weighed;
 
 pub use producer::{Producer, ReadsEvents};
 pub use row::{Closed, CountCell, Row};

@@ -57,6 +57,13 @@ impl PredTable {
         }
     }
 
+    /// What it was made for.
+    pub fn spec(&self) -> PredSpec
+        ensures { result ≡ self.now.spec }
+    {
+        self.spec
+    }
+
     /// Lets an event act on a key. A stop of all keys takes any key.
     pub fn apply(&mut self, event: PredEvent, key: DimKey) -> Result<(), AllocError>
         requires leaves { length key ≡ self.old.spec.leaves }

@@ -35,7 +35,8 @@ module _ {X : Type 0} (P : X → Type 0) (read : List ℕ → X) (message : X �
 abbrev pub body_read : MetricBody → MetricBody
 body_read body = body_said (told (rows_written body)).0 (held_bytes (told (rows_written body)).1)
 
-pub body_back : (body : MetricBody) → well.FitsBody body → well.IsShapedBody body → Counted (spelling (rows_written body))
+pub body_back : (body : MetricBody) → well.FitsBody body → well.IsShapedBody body
+    → Counted (spelling (rows_written body))
     → body_read body ≡ body
 body_back (Events rows) fits shaped counted =
     ap Events (wrapped_back GoodEvent read_event event_message event_back rows

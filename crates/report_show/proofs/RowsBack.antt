@@ -110,7 +110,8 @@ part_same part fits = by part.body fits
     by (Chunk bytes) small = refl
     by (Bits bits) small = let v = low32-same bits small in (λ i. record { number = part.number; body = Bits (v i) })
 
-pub parts_same : (parts : List Part) → AllByRecursion GoodPart parts → map part_of (said (map part_written parts)) ≡ parts
+pub parts_same : (parts : List Part) → AllByRecursion GoodPart parts
+    → map part_of (said (map part_written parts)) ≡ parts
 parts_same [] all = refl
 parts_same (part ∷ parts) all =
     let first = part_same part all.0.0 in

@@ -110,7 +110,7 @@ fn joins_last(before: Option<&AtomField>, entry: &AtomField) -> bool
 fn parts_of(alloc: Global, entries: &[AtomField]) -> Result<Vec<Part>, AllocError>
     ensures { IfOk result (λ parts. parts.items ≡ shown.parts_after None entries.now) }
 {
-    let mut parts = Vec::new(alloc);
+    let mut parts = Vec::with_capacity(alloc, entries.len())?;
     let mut before = None;
     let mut rest = entries;
     while let Some((entry, after)) = rest.split_first() {

@@ -91,7 +91,8 @@ module _ (lo ln : Input) (o n : Output) (reader : Reading) (hub : Hub FieldJudge
         reads)
 
     -- the source ended
-    pub ends_done : (lm : Input) (after : Reading) → GivesFrame ln lm reader after None → IsRun (ports lo o) (ports lm n) Done
+    pub ends_done : (lm : Input) (after : Reading) → GivesFrame ln lm reader after None
+        → IsRun (ports lo o) (ports lm n) Done
     ends_done lm after g = record {
       taken = a.taken ++ g.taken;
       consumes = Takes-trans lo ln lm a.taken g.taken a.consumes g.consumes;

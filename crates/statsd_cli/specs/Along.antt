@@ -27,19 +27,22 @@ pub record IsAlong (left_old left_new : Input) (old new : Output) (reader : Read
     pub writes : old.faults ≤ new.faults
 
 -- The run is under way still, and nearer to the most frames of a session.
-pub record IsFurther (left_old left_new : Input) (old new : Output) (before after : Reading) (hub : Hub FieldJudge) : Type 0
+pub record IsFurther (left_old left_new : Input) (old new : Output) (before after : Reading)
+    (hub : Hub FieldJudge) : Type 0
   where
     pub along : IsAlong left_old left_new old new after hub
     pub nearer : most_session_frames - after.place.frames < most_session_frames - before.place.frames
 
 -- what one frame more came to: the run ended so, or is under way still
 abbrev pub ComesTo : Input → Input → Output → Output → Reading → Reading → Hub FieldJudge → Option Ending → Type 0
-ComesTo left_old left_new old new before after hub (Some ending) = IsRun (ports left_old old) (ports left_new new) ending
+ComesTo left_old left_new old new before after hub (Some ending) = IsRun (ports left_old old)
+    (ports left_new new) ending
 ComesTo left_old left_new old new before after hub None = IsFurther left_old left_new old new before after hub
 
 -- one frame more of a run that was under way, wherever it began: the inputs and the outputs are those before the frame and
 -- after it
-abbrev pub GoesOn : Input → Input → Output → Output → Reading → Reading → Hub FieldJudge → Hub FieldJudge → Option Ending
+abbrev pub GoesOn : Input → Input → Output → Output → Reading → Reading → Hub FieldJudge
+    → Hub FieldJudge → Option Ending
     → Type 0
 GoesOn in_before in_after out_before out_after before after hub_before hub_after ended =
     (first : Input) (empty : Output)

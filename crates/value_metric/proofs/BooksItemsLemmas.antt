@@ -12,6 +12,7 @@ use Rattle.dim_table.specs.TableItems.{table_items, IsTable}
 use Rattle.kept_rows.specs.KeptItems.{kept_items, IsKeeping}
 use Rattle.value_metric.specs.declared.value_books.ValueBooks.{ValueBooks}
 use Rattle.value_metric.specs.ChoiceNumbers.{aggregation_number, aggregation_by, asked_number, asked_of_number}
+use Rattle.value_metric.specs.Totals.{row_weighs}
 use Rattle.value_metric.specs.BooksItems.{total_items, IsTotal, value_row_items, IsValueRow, books_items, AreValueBooks, BooksForm, books_of_form, pushed_value_items, IsPushedValue}
 use Rattle.value_metric.proofs.ChoiceNumbersLemmas.{aggregation_back, aggregation_is, flag_back, flag_is, and_then_some, map_some}
 use Rattle.value_metric.proofs.FormLemmas.{form_found, form_strange}
@@ -24,7 +25,7 @@ books_form_items = pair_items number_items (pair_items number_items (pair_items 
 -- any four numbers, a table, and kept rows
 abbrev pub IsBooksForm : BooksForm → Type 0
 IsBooksForm = IsValidPair Anything (IsValidPair Anything (IsValidPair Anything (IsValidPair Anything
-    (IsValidPair (IsTable Anything IsTotal) (IsKeeping IsValueRow)))))
+    (IsValidPair (IsTable Anything IsTotal) (IsKeeping row_weighs IsValueRow)))))
 
 -- the parts of books
 abbrev form_of : ValueBooks → BooksForm

@@ -20,6 +20,7 @@ use Rattle.metric_producer.specs.declared.row.Row.{Row}
 use Rattle.metric_producer.specs.RowItems.{row_items, IsRow, IsSavableRow, row_savable}
 use Rattle.value_metric.specs.declared.value_books.ValueBooks.{ValueBooks}
 use Rattle.value_metric.specs.declared.pushed_value.PushedValue.{PushedValue}
+use Rattle.value_metric.specs.Totals.{row_weighs}
 use Rattle.value_metric.specs.ChoiceNumbers.{aggregation_number, aggregation_by, asked_number, asked_of_number}
 
 -- the items of what the integers of a key give, if any came
@@ -52,7 +53,7 @@ books_items it =
 -- the table is one, and the kept rows are within their bound
 pub record AreValueBooks (it : ValueBooks) : Type 0 where
   pub table : IsTable Anything IsTotal it.table
-  pub kept : IsKeeping IsValueRow it.kept
+  pub kept : IsKeeping row_weighs IsValueRow it.kept
 
 -- the keys fit their counts
 pub record AreSavableBooks (it : ValueBooks) : Type 0 where
@@ -67,7 +68,7 @@ books_entries it = table_entries key_items total_items it.table + kept_entries v
 pub books_bounded : (it : ValueBooks) → AreValueBooks it → length (books_items it) ≤ most_items 10 (books_entries it)
 books_bounded it is =
     let table = table_bounded key_items total_items Anything IsTotal it.table is.table in
-    let kept = kept_bounded value_row_items IsValueRow it.kept is.kept in
+    let kept = kept_bounded value_row_items row_weighs IsValueRow it.kept is.kept in
     let size = length-append (table_items key_items total_items it.table) (kept_items value_row_items it.kept) in
     omega arith
 
@@ -84,7 +85,7 @@ pub books_savable : (it : ValueBooks) → AreValueBooks it → AreSavableBooks i
 books_savable it is can =
     let table = table_savable key_items total_items Anything IsTotal IsShortKey (IsMissingOr Anything) key_savable
     (option_savable long_items IsLong Anything long_savable) it.table is.table can.table in
-    let kept = kept_savable value_row_items IsValueRow (IsSavableRow Anything)
+    let kept = kept_savable value_row_items row_weighs IsValueRow (IsSavableRow Anything)
     (row_savable signed_items IsSigned Anything signed_savable) it.kept is.kept can.kept in
     let rest = All-append IsSavable (table_items key_items total_items it.table) (kept_items value_row_items it.kept)
     table kept in

@@ -325,6 +325,6 @@ fn keep(kept: &mut KeptRows<Row<i64>>, hides_zeros: bool, row: Row<i64>) -> Resu
     if hides_zeros && row.value == 0 {
         return Ok(0);
     }
-    kept.put(row, 1)?;
+    kept.put(row)?;
     Ok(1)
 }

@@ -22,6 +22,8 @@ ghost use Rattle.client_engine.specs.CountsAlong.{CountsAlong, CrossesWatched, c
 ghost use Rattle.client_engine.specs.Finding.{CanBeBrought};
 ghost use Rattle.client_engine.specs.Watches.{WatchesAlong};
 
+mod saved;
+
 use crate::arriving::{arriving, metric_key_into};
 use crate::brought::Brought;
 use crate::conditions::Conditions;

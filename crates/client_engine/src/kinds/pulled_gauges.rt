@@ -1,7 +1,6 @@
 //! Pulled gauges.
-ghost use Rattle.std.specs.Prelude.{◌≡◌, ◌∷◌, ◌++◌, ◌<◌, ℕ, [], length, map, All, Option, IfSome, OnOk, IfOk};
+ghost use Rattle.std.specs.Prelude.{◌≡◌, ◌∷◌, ◌++◌, ℕ, [], length, map, All, Option, IfSome, OnOk, IfOk};
 ghost use Rattle.std.specs.Option.{option_map};
-ghost use Rattle.bucket_meaning.specs.Limits.{time_limit};
 ghost use Rattle.book_meaning.specs.Snapshots.{atoms_in};
 ghost use Rattle.pull_book.specs.PullItems.{HoldsSoundAtoms};
 ghost use Rattle.field_select.specs.declared.leaf.FieldSet.{FieldSet};
@@ -18,7 +17,7 @@ ghost use Rattle.report_writer.specs.Writable.{IsWritableMetric};
 ghost use Rattle.client_engine.specs.NextSteps.{TakesReport};
 ghost use Rattle.client_engine.specs.AskedFew.{AsksFew};
 ghost use Rattle.client_engine.specs.Bringing.{TakesBrought};
-ghost use Rattle.client_engine.specs.Opens.{IsOpeningOf};
+ghost use Rattle.client_engine.specs.Opens.{IsOpeningOf, CanOpen};
 ghost use Rattle.client_engine.specs.Finding.{MayAsk, CanBeBrought, CanBeMeant, meant_in};
 ghost use Rattle.client_engine.specs.PulledGaugesAlong.{PulledGaugesAlong, GetsSnapshot, GetsTrigger};
 
@@ -58,12 +57,11 @@ pub fn begin(
     opening: &Opening<'_>,
     conditions: &mut Conditions,
 ) -> Result<Lane<PulledGauge>, AllocError>
-    requires fits { opening.now.base < time_limit }
+    requires opens { CanOpen opening.now }
     requires sized { IsSize metric.now.size }
     requires bound { IsBound metric.now.bound }
     requires sampled { AreSamples metric.now.bound samples }
     requires within { MayBeWithin (length conditions.old.predicates) metric.now.condition }
-    requires askable { All MayAsk opening.now.matchers.now }
     ensures stands { IfOk result (λ lane. (installed : Installation) (fields : Option FieldSet)
         (trigger : Option ℕ) → IsOpeningOf installed opening.now conditions.old
         → metric.now.kind ≡ kinds.PulledGauge fields samples mode trigger

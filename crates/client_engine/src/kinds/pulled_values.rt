@@ -1,7 +1,6 @@
 //! Metrics of pulled values.
-ghost use Rattle.std.specs.Prelude.{◌≡◌, ◌∷◌, ◌++◌, ◌<◌, [], length, map, All, IfSome, OnOk, IfOk};
+ghost use Rattle.std.specs.Prelude.{◌≡◌, ◌∷◌, ◌++◌, [], length, map, All, IfSome, OnOk, IfOk};
 ghost use Rattle.std.specs.Option.{option_map};
-ghost use Rattle.bucket_meaning.specs.Limits.{time_limit};
 ghost use Rattle.book_meaning.specs.Snapshots.{atoms_in};
 ghost use Rattle.pull_book.specs.PullItems.{HoldsSoundAtoms};
 ghost use Rattle.config_types.specs.declared.parameters.DiffSpec.{DiffSpec};
@@ -15,7 +14,7 @@ ghost use Rattle.report_writer.specs.Writable.{IsWritableMetric};
 ghost use Rattle.client_engine.specs.NextSteps.{TakesReport};
 ghost use Rattle.client_engine.specs.AskedFew.{AsksFew};
 ghost use Rattle.client_engine.specs.Bringing.{TakesBrought};
-ghost use Rattle.client_engine.specs.Opens.{IsOpeningOf};
+ghost use Rattle.client_engine.specs.Opens.{IsOpeningOf, CanOpen};
 ghost use Rattle.client_engine.specs.Finding.{MayAsk, CanBeBrought, CanBeMeant, meant_in, found_among};
 ghost use Rattle.client_engine.specs.PulledValuesAlong.{pulled_kind_at, PulledValuesAlong, GetsPull};
 
@@ -53,11 +52,10 @@ pub fn begin(
     opening: &Opening<'_>,
     conditions: &mut Conditions,
 ) -> Result<Lane<PulledValue>, AllocError>
-    requires fits { opening.now.base < time_limit }
+    requires opens { CanOpen opening.now }
     requires sized { IsSize metric.now.size }
     requires bound { IsBound metric.now.bound }
     requires within { MayBeWithin (length conditions.old.predicates) metric.now.condition }
-    requires askable { All MayAsk opening.now.matchers.now }
     ensures stands { IfOk result (λ lane. (installed : Installation) (source : ValueLeaf)
         → IsOpeningOf installed opening.now conditions.old
         → metric.now.kind ≡ pulled_kind_at source spec

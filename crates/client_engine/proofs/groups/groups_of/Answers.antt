@@ -28,4 +28,5 @@ returns g c =
     ∙ ap (map (group_tree tree))
     (sym (append-nil done) ∙ ap (λ l. done ++ l) (sym c.in-None.ensures.steps.0) ∙ sym c.loop-group.invariant.1
     ∙ gives ∙ c.in_ok-groups.ensures)
-    ∙ groups_shown g.S.Group.PartialEq.eq (row_group g.S.RowShape.group_of) tree (row_shown g.S.RowShape.bucket) c.args.rows
+    ∙ groups_shown g.S.Group.PartialEq.eq (row_group g.S.RowShape.group_of) tree
+    (row_shown g.S.RowShape.bucket) c.args.rows

@@ -1,7 +1,6 @@
 -- What is so of the key at the place is told, unless it was told last.
-use Rattle.std.proofs.Common.{[], ◌∷◌, ◌++◌, ap, ◌∙◌}
+use Rattle.std.proofs.Common.{ap, ◌∙◌}
 use Rattle.std.proofs.lemmas.Result.{on_ok_weaker}
-use Rattle.duration_metric.specs.declared.change.InnerChange.{InnerChange}
 use Rattle.duration_metric.specs.InnerKeys.{inner_keys, last_known}
 use Rattle.metric_calls.specs.DurationCalls.{known_in}
 use Rattle.std.specs.Prelude.{slice_get}
@@ -51,9 +50,5 @@ returns-clause-adds g c =
     c.args.place (slice_get (inner_keys params.spec calls) c.args.place) c.in-Some.key.now
     (record { truth = c.in_ok-truth.truth; out = c.in_ok-out.out }) c.was_told.result there is
     (c.was_told.ensures params calls stands) c.if-was_told.false
-    (added ∙ ap (λ n. let change : InnerChange = record {
-      place = n;
-      truth = c.in_ok-truth.truth;
-      out = c.in_ok-out.out;
-    } in c.args.changes.now ++ change ∷ []) c.in-Ok.ensures.1))
+    added)
     c.push.ensures.added

@@ -16,13 +16,14 @@ pub add_change-requires : goal.add_change-requires
 add_change-requires g c = record {
   within = subst (λ (k : Known). MayBeWithin (length k.predicates) c.args.metric.now.condition)
       (sym c.loop-place.invariant.1) c.requires.within;
+  few = let count = c.loop-place-test.true in omega (arith, count, c.len-count.ensures.few);
 }
 
 -- where no key is asked, nothing is told
 pub returns-then-count-first-clause-changes : goal.returns-then-count-first-clause-changes
 returns-then-count-first-clause-changes g c = λ params calls scene stands found keeps.
     let few = c.if-count-first.true in
-    let len = c.len-count.ensures params calls stands in
+    let len = c.len-count.ensures.value params calls stands in
     let first = c.first_asked-first.ensures in
     c.new-changes.ensures
     ∙ all_skipped (last_known params.spec calls) (known_in scene c.args.metric.now) c.args.stays
@@ -40,8 +41,9 @@ loop-place-init g c = (
       ∙ ap (λ n. changes_from was now n (drop n keys)) c.first_asked-first.ensures
       ∙ sym (first_skipped was now c.args.stays keys keeps),
   c.in_ok-shared.ensures.known,
-  asks_first g.K.Inners.stands c.args.keys.now c.args.stays c.first_asked-first.result c.len-count.result c.args.asks.now
-      c.shared_truth.new.asks (let more = c.if-count-first.false in omega (arith, more)) c.len-count.ensures
+  asks_first g.K.Inners.stands c.args.keys.now c.args.stays c.first_asked-first.result
+      c.len-count.result c.args.asks.now
+      c.shared_truth.new.asks (let more = c.if-count-first.false in omega (arith, more)) c.len-count.ensures.value
       c.in_ok-shared.ensures.asks,
 )
 
@@ -62,7 +64,7 @@ loop-place-preserved g c =
       c.in_ok-add_change.ensures.known ∙ same,
       asks_on g.K.Inners.stands c.args.keys.now c.args.stays c.loop-place.place c.len-count.result c.args.asks.now
           c.loop-place.asks c.add_change.new.asks
-          (let within = c.loop-place-test.true in omega (arith, within)) c.len-count.ensures
+          (let within = c.loop-place-test.true in omega (arith, within)) c.len-count.ensures.value
           c.loop-place.invariant.2 c.in_ok-add_change.ensures.asks,
     )
 
@@ -74,7 +76,7 @@ returns-in_err-add_change-clause-known g c = c.in_err-add_change.ensures.known �
 pub returns-clause-changes : goal.returns-clause-changes
 returns-clause-changes g c = λ params calls scene stands found keeps.
     let ends = c.loop-place-test.false in
-    let len = c.len-count.ensures params calls stands in
+    let len = c.len-count.ensures.value params calls stands in
     places_all (last_known params.spec calls) (known_in scene c.args.metric.now) (inner_keys params.spec calls)
     c.loop-place.place c.loop-place.changes
     (changes_from (last_known params.spec calls) (known_in scene c.args.metric.now) 0 (inner_keys params.spec calls))
@@ -91,7 +93,7 @@ returns-then-count-first-clause-asks g c = λ params calls stands. (omega arith,
 pub returns-clause-asks : goal.returns-clause-asks
 returns-clause-asks g c =
     asks_all g.K.Inners.stands c.args.keys.now c.args.stays c.loop-place.place c.len-count.result c.args.asks.now
-    c.loop-place.asks (let ends = c.loop-place.auto in omega (arith, ends)) c.len-count.ensures
+    c.loop-place.asks (let ends = c.loop-place.auto in omega (arith, ends)) c.len-count.ensures.value
     c.loop-place.invariant.2
 
 -- also where memory is wanting
@@ -99,7 +101,7 @@ pub returns-in_err-add_change-clause-asks : goal.returns-in_err-add_change-claus
 returns-in_err-add_change-clause-asks g c =
     let within = c.loop-place-test.true in
     asks_all g.K.Inners.stands c.args.keys.now c.args.stays (c.loop-place.place + 1) c.len-count.result c.args.asks.now
-    c.add_change.new.asks (omega (arith, within)) c.len-count.ensures
+    c.add_change.new.asks (omega (arith, within)) c.len-count.ensures.value
     (asks_on g.K.Inners.stands c.args.keys.now c.args.stays c.loop-place.place c.len-count.result c.args.asks.now
-    c.loop-place.asks c.add_change.new.asks (omega (arith, within)) c.len-count.ensures
+    c.loop-place.asks c.add_change.new.asks (omega (arith, within)) c.len-count.ensures.value
     c.loop-place.invariant.2 c.add_change.ensures.asks)

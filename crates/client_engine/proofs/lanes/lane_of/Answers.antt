@@ -12,8 +12,10 @@ begin-requires-clause-sized c =
 pub returns-in_ok-watches-in-Count-clause-stands : goal.returns-in_ok-watches-in-Count-clause-stands
 returns-in_ok-watches-in-Count-clause-stands c = λ installed is here.
     c.begin.ensures installed is.base
-    (watches_begin installed c.args.metric.now c.args.place c.args.opening.now.alerts.now c.in_ok-watches-in-Count.watches.items
-    is.alerts here (counts_sized c.requires.tracked.linked c.args.metric.now c.in-Count.overflow c.requires.tracked.sound
+    (watches_begin installed c.args.metric.now c.args.place c.args.opening.now.alerts.now
+    c.in_ok-watches-in-Count.watches.items
+    is.alerts here (counts_sized c.requires.tracked.linked c.args.metric.now c.in-Count.overflow
+    c.requires.tracked.sound
     c.in-Count.is).0 c.in_ok-watches-in-Count.ensures)
 
 -- the values of a metric are those at its leaf

@@ -31,5 +31,6 @@ returns-in_ok-key-in-Some g c = λ log stands.
 pub returns-in-None : goal.returns-in-None
 returns-in-None g c = λ log stands.
     sym (append-nil c.args.shown.now)
-    ∙ ap (λ l. c.args.shown.now ++ l) (slice_past c.args.states.now log (g.A.Asked.reading c.args.asked.now) c.args.by.now
+    ∙ ap (λ l. c.args.shown.now ++ l)
+    (slice_past c.args.states.now log (g.A.Asked.reading c.args.asked.now) c.args.by.now
     (slice_get_past c.args.states.now c.args.by.now.state c.in-None.ensures.lookup.3))

@@ -21,7 +21,8 @@ act_on-requires-clause-spec c =
     let place = get_or c.args.places.now c.loop-turn.turn 0 in
     let are = c.loop-turn.invariant.0 in
     let table = c.index-tables-place.result in
-    let within = acting_within c.args.act.now.matched.now c.args.act.now.atom.now c.args.predicates.now c.args.tables.now
+    let within = acting_within c.args.act.now.matched.now c.args.act.now.atom.now
+    c.args.predicates.now c.args.tables.now
     c.requires.specs c.loop-turn.tables c.loop-turn.marks place table table are off in
     spec_there c.args.predicates.now c.loop-turn.tables place c.index-predicates-place.result table are.specs within
 

@@ -15,7 +15,8 @@ loop-place-preserved c =
     let inside : place < length items = search rules in
     let old = c.index_mut-watch.result.now in
     let new = c.arrive.new.self in
-    one_below (KeyArrived c.args.at c.args.key.now ∷ []) c.args.watches.now.items items place new old inside c.loop-place.invariant
+    one_below (KeyArrived c.args.at c.args.key.now ∷ []) c.args.watches.now.items items place new old inside
+    c.loop-place.invariant
     (subst (λ watch. TakesNotices (KeyArrived c.args.at c.args.key.now ∷ []) watch new) c.index_mut-watch.ensures.value
     (record { spec = c.arrive.ensures.spec; stands = c.in_ok-arrive.ensures.stands }))
 
@@ -23,5 +24,6 @@ loop-place-preserved c =
 pub returns : goal.returns
 returns c =
     let all : c.loop-place.place ≡ length c.args.watches.now.items = search rules in
-    all_below (KeyArrived c.args.at c.args.key.now ∷ []) c.args.watches.now.items c.loop-place.watches.items c.loop-place.place
+    all_below (KeyArrived c.args.at c.args.key.now ∷ []) c.args.watches.now.items
+    c.loop-place.watches.items c.loop-place.place
     (omega (arith, all)) c.loop-place.invariant

@@ -1,8 +1,9 @@
 -- Each row in its turn is kept or counted.
-use Rattle.std.proofs.Common.{◌≤◌, ◌∷◌, [], sym, ap, subst, ◌∙◌}
+use Rattle.std.proofs.Common.{◌≡◌, ◌≤◌, ◌∷◌, [], sym, subst, arith}
 use Rattle.kept_rows.specs.KeptRows.{AddsRows}
 use Rattle.metric_kinds.specs.Gauges.{samples_weight}
 use Rattle.dim_table.proofs.TableItemsLemmas.{past_rows}
+use Rattle.gauge_metric.specs.EventItems.{atom_row_weight}
 use Rattle.gauge_metric.proofs.RepeatedLemmas.{adds_none, copies_next, copies_all}
 use Rattle.gauge_metric.proofs.repeated.keep_copies.Goals as goal
 
@@ -17,7 +18,7 @@ loop-place-preserved c =
     c.loop-place.place (c.in-Some.key.now, c.in-Some.atoms.now) (sym c.in-Some.ensures) c.loop-place.invariant
     (λ some. subst (λ row. AddsRows samples_weight c.loop-place.kept c.put.new.self (row ∷ [])) c.in_ok-row.ensures
     (c.in_ok-put.ensures.stands samples_weight
-    (ap samples_weight c.in_ok-row.ensures ∙ sym (c.weight_of.ensures.value some))))
+    (subst (λ row. samples_weight row ≡ atom_row_weight row) (sym c.in_ok-row.ensures) (omega (arith, some)))))
 
 -- no row is left
 pub returns-in_default : goal.returns-in_default

@@ -11,5 +11,6 @@ returns-clause-held c = λ uid. ap (held_by uid) c.in_ok-insert.ensures.entries
 
 pub returns-clause-noted : goal.returns-clause-noted
 returns-clause-noted c = λ noted.
-    noted_in c.args.name c.args.slots.now.entries c.insert.new.self.entries c.forget.new.notes c.add.new.self c.args.live
+    noted_in c.args.name c.args.slots.now.entries c.insert.new.self.entries c.forget.new.notes
+    c.add.new.self c.args.live
     (c.forget.ensures noted) c.in_ok-insert.ensures.updates.0 c.in_ok-add.ensures.under c.in_ok-add.ensures.for_all

@@ -10,7 +10,7 @@ pub returns-clause-reports : goal.returns-clause-reports
 returns-clause-reports c =
     shows (moment_of_clock c.args.clock) c.args.request c.args.states.now c.args.slots.now.entries _ _
     c.in-Some.live.now c.show.new.self c.in_ok-tree.tree (sym c.in-Some.ensures.value)
-    c.in_ok-tree.ensures.reports
+    c.in_ok-tree.ensures.reports c.show.ensures.slots.carried.config
     ((c.get_mut.follows.holds c.show.new.self).3 (subst IsSome c.in-Some.ensures.value refl)).0
     (ap Some (c.from_vec.ensures ∙ c.in_ok-write.ensures))
 

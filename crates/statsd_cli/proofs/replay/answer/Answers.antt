@@ -7,7 +7,8 @@ use Rattle.statsd_cli.proofs.replay.answer.Goals as goal
 pub returns-in-Err : goal.returns-in-Err
 returns-in-Err g c = λ first empty along.
     let cause = c.in-Err.ensures.cause in
-    rw c.ending_of.ensures (ends_refused _ _ _ _ c.args.reader.now c.args.hub.now along (g.S.Source.state c.read.new.src)
+    rw c.ending_of.ensures (ends_refused _ _ _ _ c.args.reader.now c.args.hub.now along
+    (g.S.Source.state c.read.new.src)
     c.in-Err.e (c.in-Err.ensures.refuses along.unended) cause.later (λ is. cause.failed (ap Err is)))
 
 pub returns-in_default : goal.returns-in_default

@@ -1,39 +1,17 @@
-use Rattle.std.proofs.Common.{◌∙◌, ◌≤◌, [], false, All, length, sym, ap, subst}
-use Rattle.std.proofs.lemmas.List.{length-replicate}
-use Rattle.link_graph.specs.Links.{AreInRange}
-use Rattle.field_select.specs.declared.leaf.FieldSet.{FieldSet}
-use Rattle.config_links.specs.SoundConfig.{most_predicates}
-use Rattle.condition_links.specs.Conditions.{predicate_names}
+use Rattle.std.proofs.Common.{◌∙◌, [], All, sym, ap, subst}
 use Rattle.metric_meaning.specs.PredicateSteps.{tables_after}
-use Rattle.client_engine.specs.KeptPredicates.{HasBound, acting_matchers}
-use Rattle.client_engine.specs.Lists.{AreListed}
-use Rattle.client_engine.specs.Touchers.{all_touchers}
+use Rattle.client_engine.specs.KeptPredicates.{HasBound}
 use Rattle.client_engine.proofs.KeptPredicatesLemmas.{new_kept}
 use Rattle.client_engine.proofs.conditions.Conditions.new.Goals as goal
 
 -- each table has a bound
 pub new_tables-requires : goal.new_tables-requires
 new_tables-requires c =
-    record { bound = subst (All HasBound) (sym c.as_slice-kept.ensures) c.requires.can_be_kept.bounds }
+    record { bound = subst (All HasBound) (sym c.as_slice.ensures) c.requires.can_be_kept.bounds }
 
--- references end at predicates
-pub touchers_of_all-requires : goal.touchers_of_all-requires
-touchers_of_all-requires c =
-    let can = c.requires.can_be_kept in
-    let same = sym c.as_slice-kept.ensures in
-    record {
-      few = subst (λ predicates. length predicates ≤ most_predicates) same can.few;
-      in_range = subst (λ predicates. AreInRange (predicate_names predicates)) same can.in_range;
-    }
-
--- the tables are kept as the predicates say, and the touchers are theirs
-pub invariant_of-result : goal.invariant_of-result
-invariant_of-result c = (
-  new_kept c.args.predicates c.in_ok-tables.tables.items c.requires.can_be_kept
-      (c.in_ok-tables.ensures ∙ ap (λ predicates. tables_after predicates []) c.as_slice-kept.ensures),
-  c.in_ok-touchers.ensures ∙ ap all_touchers c.as_slice-kept.ensures,
-  ap (λ leaves. let fields : FieldSet = record { atom_id = 0; leaves = leaves } in fields) c.new-2.ensures,
-  subst (AreListed c.in_ok-actors.actors.items acting_matchers) c.as_slice-kept.ensures c.in_ok-actors.ensures,
-  ap length c.in_ok-marks.ensures ∙ length-replicate (length c.as_slice-kept.result.now) false
-      ∙ ap length c.as_slice-kept.ensures,
-)
+-- the tables are kept as the predicates say
+pub with_tables-requires : goal.with_tables-requires
+with_tables-requires c = record {
+  kept = new_kept c.args.predicates c.in_ok-tables.tables.items c.requires.can_be_kept
+      (c.in_ok-tables.ensures ∙ ap (λ predicates. tables_after predicates []) c.as_slice.ensures);
+}

@@ -78,7 +78,8 @@ returns-clause-asks g c =
     (omega (arith, timely))
     (subst (λ states. TracksAsk old.tracks.list.items (handed known old.matchers states book) frame truths before after)
     c.as_slice-2.ensures
-    (subst (λ matchers. TracksAsk old.tracks.list.items (handed known matchers c.as_slice-2.result.now book) frame truths
+    (subst (λ matchers. TracksAsk old.tracks.list.items
+    (handed known matchers c.as_slice-2.result.now book) frame truths
     before after) c.as_slice.ensures c.log-2.ensures.asks)))
 
 -- where memory is wanting for the predicates, nothing is asked

@@ -8,4 +8,5 @@ pub returns : goal.returns
 returns c = λ installed is along.
     counts_begin installed c.args.base c.args.metric.now c.args.overflow c.new.result c.args.watches.items is
     c.requires.fits c.requires.counts
-    (c.new.ensures (count_params c.args.base c.args.metric.now c.args.overflow) [] refl refl c.new-producer.ensures) along
+    (c.new.ensures (count_params c.args.base c.args.metric.now c.args.overflow) [] refl refl
+    c.new-producer.ensures) along

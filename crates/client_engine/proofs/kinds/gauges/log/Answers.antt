@@ -18,7 +18,8 @@ returns-in-Some-clause-logs g c =
     on_ok_weaker c.sample.result
     (λ gets. gauges_log (handed_with c.args.conditions.now brought) metric brought.frame.now brought.matched.now
     c.args.lane.now c.cross.new.self c.sample.new.lane c.args.is_active crosses
-    (λ scene found active fields samples gauge. one_sampled c.cross.new.self c.sample.new.lane (log_time brought.frame.now)
+    (λ scene found active fields samples gauge. one_sampled c.cross.new.self c.sample.new.lane
+    (log_time brought.frame.now)
     scene metric fields (brought_step brought) c.in-Some.atom.now
     (rw (c.in-Some.is) at (c.in_ok-atom.ensures.atom scene found active))
     (gets c.args.conditions.now scene fields samples found gauge)))

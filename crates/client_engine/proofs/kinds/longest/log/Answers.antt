@@ -13,7 +13,8 @@ returns-in_default g c =
     let brought = c.args.brought.now in
     let crosses = rw (c.comes_by_pull.ensures, c.time_of-at.ensures) at c.in_ok-cross.ensures in
     record {
-      logs = longest_pass (handed_with c.args.conditions.now brought) c.args.metric.now brought.frame.now brought.matched.now
+      logs = longest_pass (handed_with c.args.conditions.now brought) c.args.metric.now
+          brought.frame.now brought.matched.now
           c.args.lane.now c.cross.new.self crosses (is_other brought.frame.now c.in_default.not-AtomAt);
       known = refl;
       asks = λ installed steps frame has may. omega arith;
@@ -29,7 +30,8 @@ returns-then-not-changes_with g c =
     let both = neither _ _ (sym says ∙ grind (arith, off)) in
     record {
       logs = longest_untouched (handed_with c.args.conditions.now brought) c.args.metric.now brought.frame.now
-          brought.matched.now c.args.lane.now c.cross.new.self crosses c.in-AtomAt.at c.in-AtomAt.atom c.in-AtomAt.is both.0
+          brought.matched.now c.args.lane.now c.cross.new.self crosses c.in-AtomAt.at
+          c.in-AtomAt.atom c.in-AtomAt.is both.0
           both.1;
       known = refl;
       asks = λ installed steps frame has may. omega arith;
@@ -48,7 +50,8 @@ returns-clause-logs g c =
     c.in_ok-changes.changes acts
     (rw (c.time_of-at.ensures, c.delta_of.ensures, c.is_some-acts.ensures) at learns) c.in_ok-event.ensures
     (record {
-      listed_there = λ params calls stands. c.inner_len-listed.ensures params calls (rw (c.producer.ensures) stands);
+      listed_there = λ params calls stands.
+          c.inner_len-listed.ensures.value params calls (rw (c.producer.ensures) stands);
       stays_there = c.stays_with-stays.ensures;
       changes_there = λ params calls scene stands found keeps.
           c.in_ok-changes.ensures.changes params calls scene (rw (c.producer-2.ensures) stands) found keeps;
@@ -62,7 +65,8 @@ returns-clause-asks g c =
     let acts = rw c.time_of-at.ensures at c.in_ok-act.ensures in
     let on = c.if-not-changes_with.false in
     let says = c.changes_with.ensures in
-    longest_few c.args.metric.now c.args.conditions.now c.args.brought.now c.args.lane.now c.cross.new.self c.act.new.lane
+    longest_few c.args.metric.now c.args.conditions.now c.args.brought.now c.args.lane.now
+    c.cross.new.self c.act.new.lane
     c.in_ok-event.event c.inner_len-listed.result c.stays_with-stays.result c.args.asks.now c.changes_of.new.asks
     c.in-AtomAt.at c.in-AtomAt.atom c.in-AtomAt.is crosses acts c.in_ok-event.ensures c.stays_with-stays.ensures
     (sym says ∙ grind (arith, on))
@@ -75,7 +79,8 @@ returns-in_err-changes-clause-asks g c =
     let acts = rw c.time_of-at.ensures at c.in_ok-act.ensures in
     let on = c.if-not-changes_with.false in
     let says = c.changes_with.ensures in
-    longest_few c.args.metric.now c.args.conditions.now c.args.brought.now c.args.lane.now c.cross.new.self c.act.new.lane
+    longest_few c.args.metric.now c.args.conditions.now c.args.brought.now c.args.lane.now
+    c.cross.new.self c.act.new.lane
     c.in_ok-event.event c.inner_len-listed.result c.stays_with-stays.result c.args.asks.now c.changes_of.new.asks
     c.in-AtomAt.at c.in-AtomAt.atom c.in-AtomAt.is crosses acts c.in_ok-event.ensures c.stays_with-stays.ensures
     (sym says ∙ grind (arith, on))

@@ -13,7 +13,7 @@ returns-clause-stands c = λ installed fields trigger is gauge.
     let known = c.args.conditions.now in
     pulled_gauges_begin metric fields c.args.samples c.args.mode trigger gauge installed opening.base
     c.new-producer.result c.event.new.self c.condition.new.self c.new.result c.in_ok-snapshot.snapshot c.in_ok-now.now
-    is.base c.requires.fits c.new-producer.ensures c.in_ok-event.ensures c.in_ok-condition.ensures
+    is.base c.requires.opens.in_time c.new-producer.ensures c.in_ok-event.ensures c.in_ok-condition.ensures
     (c.in_ok-snapshot.ensures fields c.args.samples c.args.mode trigger gauge
     ∙ ap (λ (found : Option (List Atom)). (gauge_telling metric fields trigger).snapshot found)
     (c.found_at_first.ensures.found installed known is))

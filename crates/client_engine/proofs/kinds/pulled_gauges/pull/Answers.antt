@@ -13,6 +13,7 @@ returns c =
     on_ok_weaker c.event.result (λ gets fields samples mode trigger gauge.
     subst (λ snapshot. GetsCall pulled_law c.args.lane.now c.event.new.self (Got c.args.at snapshot))
     (c.in_ok-snapshot.ensures fields samples mode trigger gauge
-    ∙ ap (λ (found : Option (List Atom)). (gauge_telling c.args.metric.now fields trigger).snapshot found) c.found_in-found.ensures.found)
+    ∙ ap (λ (found : Option (List Atom)). (gauge_telling c.args.metric.now fields trigger).snapshot found)
+    c.found_in-found.ensures.found)
     gets)
     c.event.ensures

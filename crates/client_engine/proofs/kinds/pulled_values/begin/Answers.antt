@@ -12,7 +12,7 @@ returns-clause-stands c = λ installed source is values.
     let opening = c.args.opening.now in
     let known = c.args.conditions.now in
     pulled_values_begin metric source c.args.spec values installed opening.base c.new-producer.result c.event.new.self
-    c.condition.new.self c.new.result c.in_ok-snapshot.snapshot c.in_ok-now.now is.base c.requires.fits
+    c.condition.new.self c.new.result c.in_ok-snapshot.snapshot c.in_ok-now.now is.base c.requires.opens.in_time
     c.new-producer.ensures c.in_ok-event.ensures c.in_ok-condition.ensures
     (c.in_ok-snapshot.ensures source c.args.spec values
     ∙ ap (λ (found : Option (List Atom)). (value_telling metric source).snapshot found)

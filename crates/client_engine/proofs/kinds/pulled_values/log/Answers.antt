@@ -22,7 +22,8 @@ returns-in-Tick-clause-logs g c =
     let crosses = rw (c.comes_by_pull.ensures, c.time_of.ensures) at c.in_ok-cross.ensures in
     pulled_values_log given metric frame truths c.args.lane.now lane lane crosses
     (λ scene found source spec values.
-    tick_told pulled_law (value_telling metric source) given scene metric frame truths found lane c.in-Tick.at c.in-Tick.is)
+    tick_told pulled_law (value_telling metric source) given scene metric frame truths found lane
+    c.in-Tick.at c.in-Tick.is)
 
 -- nor of an atom that doesn't touch the metric
 pub returns-then-not-touches-clause-logs : goal.returns-then-not-touches-clause-logs
@@ -77,7 +78,8 @@ returns-then-not-is_told-clause-logs g c =
     let told = c.is_told.ensures in
     pulled_values_log given metric frame truths c.args.lane.now lane lane crosses
     (λ scene found source spec values.
-    pull_untold pulled_law (value_telling metric source) given scene metric frame truths found lane c.in-Pull.at c.in-Pull.id
+    pull_untold pulled_law (value_telling metric source) given scene metric frame truths found lane
+    c.in-Pull.at c.in-Pull.id
     c.in-Pull.outcome c.in-Pull.is (grind (arith, off, told)))
 
 -- of another one its snapshot is
@@ -95,7 +97,8 @@ returns-else-not-is_told-clause-logs g c =
     on_ok_weaker c.pull.result
     (λ gets. pulled_values_log given metric frame truths c.args.lane.now lane c.pull.new.lane crosses
     (λ scene found source spec values.
-    pull_told pulled_law (value_telling metric source) given scene metric frame truths found lane c.pull.new.lane c.in-Pull.at c.in-Pull.id
+    pull_told pulled_law (value_telling metric source) given scene metric frame truths found lane c.pull.new.lane
+    c.in-Pull.at c.in-Pull.id
     c.in-Pull.outcome c.in-Pull.is (grind (arith, on, told)) (gets source spec values)))
     c.pull.ensures
 
@@ -105,7 +108,9 @@ returns-in_ok-now-in-AtomAt-clause-asks g c = λ installed steps frame has may.
     let metric = c.args.metric.now in
     let on = c.if-not-touches.false in
     let touches = c.touches.ensures in
-    touched_few (handed_with c.args.conditions.now c.args.brought.now) installed steps c.args.brought.now.frame.now frame
-    c.args.brought.now.matched.now metric c.in-AtomAt.at c.in-AtomAt.atom c.in-AtomAt.is (grind (arith, on, touches)) may
+    touched_few (handed_with c.args.conditions.now c.args.brought.now) installed steps
+    c.args.brought.now.frame.now frame
+    c.args.brought.now.matched.now metric c.in-AtomAt.at c.in-AtomAt.atom c.in-AtomAt.is
+    (grind (arith, on, touches)) may
     (ap (λ kind. touched_questions installed steps (record metric { kind = kind })) has.values) c.args.asks.now
     c.truth.new.asks c.truth.ensures.asks

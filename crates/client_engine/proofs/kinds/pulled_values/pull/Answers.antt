@@ -13,6 +13,7 @@ returns c =
     on_ok_weaker c.event.result (λ gets source spec values.
     subst (λ snapshot. GetsCall pulled_law c.args.lane.now c.event.new.self (Got c.args.at snapshot))
     (c.in_ok-snapshot.ensures source spec values
-    ∙ ap (λ (found : Option (List Atom)). (value_telling c.args.metric.now source).snapshot found) c.found_in-found.ensures.found)
+    ∙ ap (λ (found : Option (List Atom)). (value_telling c.args.metric.now source).snapshot found)
+    c.found_in-found.ensures.found)
     gets)
     c.event.ensures

@@ -13,7 +13,8 @@ returns-in_default g c =
     let brought = c.args.brought.now in
     let crosses = rw (c.comes_by_pull.ensures, c.time_of-at.ensures) at c.in_ok-cross.ensures in
     record {
-      logs = sums_pass (handed_with c.args.conditions.now brought) c.args.metric.now brought.frame.now brought.matched.now
+      logs = sums_pass (handed_with c.args.conditions.now brought) c.args.metric.now
+          brought.frame.now brought.matched.now
           c.args.lane.now c.cross.new.self crosses (is_other brought.frame.now c.in_default.not-AtomAt);
       known = refl;
       asks = λ installed steps frame has may. omega arith;
@@ -29,7 +30,8 @@ returns-then-not-changes_with g c =
     let both = neither _ _ (sym says ∙ grind (arith, off)) in
     record {
       logs = sums_untouched (handed_with c.args.conditions.now brought) c.args.metric.now brought.frame.now
-          brought.matched.now c.args.lane.now c.cross.new.self crosses c.in-AtomAt.at c.in-AtomAt.atom c.in-AtomAt.is both.0
+          brought.matched.now c.args.lane.now c.cross.new.self crosses c.in-AtomAt.at
+          c.in-AtomAt.atom c.in-AtomAt.is both.0
           both.1;
       known = refl;
       asks = λ installed steps frame has may. omega arith;
@@ -48,7 +50,8 @@ returns-clause-logs g c =
     c.in_ok-changes.changes acts
     (rw (c.time_of-at.ensures, c.delta_of.ensures, c.is_some-acts.ensures) at learns) c.in_ok-event.ensures
     (record {
-      listed_there = λ params calls stands. c.inner_len-listed.ensures params calls (rw (c.producer.ensures) stands);
+      listed_there = λ params calls stands.
+          c.inner_len-listed.ensures.value params calls (rw (c.producer.ensures) stands);
       stays_there = c.stays_with-stays.ensures;
       changes_there = λ params calls scene stands found keeps.
           c.in_ok-changes.ensures.changes params calls scene (rw (c.producer-2.ensures) stands) found keeps;

@@ -12,4 +12,5 @@ returns-in_err-cross_all-clause-due c = none_due c.cross_all.new.tracks.items
 -- where no bucket ends with the frame, all stay as they are
 pub returns-then-at-self-clause-takes : goal.returns-then-at-self-clause-takes
 returns-then-at-self-clause-takes c =
-    all_stay (frame_at c.args.at c.args.is_pull) c.args.self.now.due c.args.self.now.list.items (omega arith) c.requires.due
+    all_stay (frame_at c.args.at c.args.is_pull) c.args.self.now.due c.args.self.now.list.items
+    (omega arith) c.requires.due

@@ -36,7 +36,8 @@ log-requires-clause-within g c =
     c.is_marked.ensures (grind (arith, c.if-is_marked.false)) in
     let known = c.args.conditions.now in
     let item = c.index_mut-track.result.now in
-    subst (λ (t : Track). MayBeWithin (length known.predicates) t.metric.condition) (sym c.index_mut-track.ensures.value)
+    subst (λ (t : Track). MayBeWithin (length known.predicates) t.metric.condition)
+    (sym c.index_mut-track.ensures.value)
     (asks_here known known tracks tracks place item refl (there marks tracks place c.requires.marks off) refl
     c.requires.within)
 
@@ -49,7 +50,8 @@ returns-in_err-log-clause-metrics g c =
     let off = isnt_marked marks c.as_slice.result.now place c.is_marked.result c.as_slice.ensures.value
     c.is_marked.ensures (grind (arith, c.if-is_marked.false)) in
     map-set_same metric_in tracks place c.log.new.self c.index_mut-track.result.now
-    (there marks tracks place c.requires.marks off) (c.log.ensures.metric ∙ ap metric_in c.index_mut-track.ensures.value)
+    (there marks tracks place c.requires.marks off)
+    (c.log.ensures.metric ∙ ap metric_in c.index_mut-track.ensures.value)
 
 -- and no more was asked than all may
 pub returns-in_err-log-clause-asks : goal.returns-in_err-log-clause-asks
@@ -59,7 +61,8 @@ returns-in_err-log-clause-asks g c = λ first before are.
     let off = isnt_marked marks c.as_slice.result.now place c.is_marked.result c.as_slice.ensures.value
     c.is_marked.ensures (grind (arith, c.if-is_marked.false)) in
     item_few (handed_with c.args.conditions.now c.args.brought.now) c.args.brought.now.frame.now
-    c.args.brought.now.matched.now first c.args.self.now.list.items before c.args.asks.now c.args.due marks are place off
+    c.args.brought.now.matched.now first c.args.self.now.list.items before c.args.asks.now
+    c.args.due marks are place off
     c.index_mut-track.result.now c.index_mut-track.ensures.value c.log.new.asks c.log.ensures.asks
 
 -- the frame came to one more
@@ -71,7 +74,8 @@ returns-clause-woken g c = λ first before are.
     c.is_marked.ensures (grind (arith, c.if-is_marked.false)) in
     let least = c.min.ensures in
     item_woken (handed_with c.args.conditions.now c.args.brought.now) c.args.brought.now.frame.now
-    c.args.brought.now.matched.now first c.args.self.now.list.items before c.args.asks.now c.args.due marks are place off
+    c.args.brought.now.matched.now first c.args.self.now.list.items before c.args.asks.now
+    c.args.due marks are place off
     c.index_mut-track.result.now c.index_mut-track.ensures.value c.log.new.self c.log.new.asks c.min.result
     c.log.ensures.metric c.in_ok-log.ensures.logs c.log.ensures.asks (omega (arith, least))
     (due_sooner c.log.new.self c.next_end.result c.min.result c.next_end.ensures (omega (arith, least)))
@@ -84,7 +88,8 @@ returns-clause-metrics g c =
     let off = isnt_marked marks c.as_slice.result.now place c.is_marked.result c.as_slice.ensures.value
     c.is_marked.ensures (grind (arith, c.if-is_marked.false)) in
     map-set_same metric_in tracks place c.log.new.self c.index_mut-track.result.now
-    (there marks tracks place c.requires.marks off) (c.log.ensures.metric ∙ ap metric_in c.index_mut-track.ensures.value)
+    (there marks tracks place c.requires.marks off)
+    (c.log.ensures.metric ∙ ap metric_in c.index_mut-track.ensures.value)
 
 pub returns-clause-asks : goal.returns-clause-asks
 returns-clause-asks g c = λ first before are.
@@ -93,5 +98,6 @@ returns-clause-asks g c = λ first before are.
     let off = isnt_marked marks c.as_slice.result.now place c.is_marked.result c.as_slice.ensures.value
     c.is_marked.ensures (grind (arith, c.if-is_marked.false)) in
     item_few (handed_with c.args.conditions.now c.args.brought.now) c.args.brought.now.frame.now
-    c.args.brought.now.matched.now first c.args.self.now.list.items before c.args.asks.now c.args.due marks are place off
+    c.args.brought.now.matched.now first c.args.self.now.list.items before c.args.asks.now
+    c.args.due marks are place off
     c.index_mut-track.result.now c.index_mut-track.ensures.value c.log.new.asks c.log.ensures.asks

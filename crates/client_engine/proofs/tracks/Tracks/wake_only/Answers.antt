@@ -36,7 +36,8 @@ log-requires-clause-within g c =
     let long = c.len.ensures in
     let inside = c.if-place-len.false in
     let item = c.index_mut-track.result.now in
-    subst (λ (t : Track). MayBeWithin (length known.predicates) t.metric.condition) (sym c.index_mut-track.ensures.value)
+    subst (λ (t : Track). MayBeWithin (length known.predicates) t.metric.condition)
+    (sym c.index_mut-track.ensures.value)
     (asks_here known known tracks tracks place item refl (omega (arith, long, inside)) refl c.requires.within)
 
 -- where memory is wanting, the metrics are what they were
@@ -79,7 +80,8 @@ returns-clause-woken g c =
       marks = set marks place _;
       woken = item_woken given brought.frame.now brought.matched.now tracks tracks c.args.asks.now c.args.asks.now
           c.args.due marks
-          (none_woken given brought.frame.now brought.matched.now tracks c.args.asks.now c.args.due c.requires.due) place
+          (none_woken given brought.frame.now brought.matched.now tracks c.args.asks.now
+          c.args.due c.requires.due) place
           (get_or-replicate (length tracks) place false _ (omega (arith, long, inside))) c.index_mut-track.result.now
           c.index_mut-track.ensures.value c.log.new.self c.log.new.asks c.min.result c.log.ensures.metric
           c.in_ok-log.ensures.logs c.log.ensures.asks (omega (arith, least))

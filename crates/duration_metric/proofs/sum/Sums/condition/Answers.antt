@@ -36,22 +36,21 @@ returns-clause-moves c =
     let places = c.in_ok-places.places.items in
     let outs = outs_at rows.rows began in
     let tolds = tolds_at rows.rows places in
-    let order = subst (λ l. IsPermutation l places) (c.as_slice.ensures ∙ c.replace-touched.ensures.value)
-    c.in_ok-places.ensures.same in
-    let counts = subst (λ l. Recounts inner.keys rows old.tally raised l []) c.as_slice-3.ensures.value
+    let order = subst (λ l. IsPermutation l places) c.replace-touched.ensures.value c.in_ok-places.ensures.same in
+    let counts = subst (λ l. Recounts inner.keys rows old.tally raised l []) c.as_slice-2.ensures.value
     c.in_ok-began.ensures.counts in
-    let lowers = subst (LowersAll raised lowered) (c.as_slice-4.ensures ∙ c.replace-gone.ensures.value)
+    let lowers = subst (LowersAll raised lowered) (c.as_slice-3.ensures ∙ c.replace-gone.ensures.value)
     c.in_ok-lower_all.ensures.counts in
     let releases = subst (λ l. ReleasesPlaces rows last lowered released l [] (tolds_at rows.rows l))
-    c.as_slice-5.ensures.value c.in_ok-release_all.ensures.counts in
+    c.as_slice-4.ensures.value c.in_ok-release_all.ensures.counts in
     let same : CountsSame released left = λ key. c.forget_tolds.ensures.counts key ∙ c.forget_all.ensures.counts key in
     let stepped = subst (λ l. StepsSome old.table part l (is_counted released) at)
-    (c.as_slice-6.ensures ∙ c.replace-gone.ensures.value) c.step_keys.ensures in
+    (c.as_slice-5.ensures ∙ c.replace-gone.ensures.value) c.step_keys.ensures in
     let told = subst (λ l. StepsSome part ended l (is_counted released) at)
-    (ap (tolds_at last.rows) c.as_slice-7.ensures.value ∙ tolds_after rows last lowered released places [] tolds releases
+    (ap (tolds_at last.rows) c.as_slice-6.ensures.value ∙ tolds_after rows last lowered released places [] tolds releases
     places) c.step_tolds.ensures in
     let resumed = subst (λ l. StepsSome ended mid l (is_counted released) at)
-    (ap (outs_at last.rows) c.as_slice-8.ensures ∙ outs_after rows last lowered released places [] tolds releases began)
+    (ap (outs_at last.rows) c.as_slice-7.ensures ∙ outs_after rows last lowered released places [] tolds releases began)
     c.step_outs.ensures in
     on_ok_weaker c.begin_outs.result
     (λ begins.
@@ -60,14 +59,14 @@ returns-clause-moves c =
     (sym (c.replace-touched.ensures.after ∙ c.new.ensures)) (sym (c.replace-gone.ensures.after ∙ c.new-2.ensures)))
     (learned (seen old) inner rows last old.tally raised lowered left places tolds outs ended mid new at c.args.now
     c.in_ok-tell.ensures.calls c.in_ok-tell.ensures.counts c.in_ok-tell.ensures.steady c.requires.right.all
-    (finds_begun inner rows old.tally places _ began order c.in_ok-places.ensures.sorted c.as_slice-3.ensures.value
+    (finds_begun inner rows old.tally places _ began order c.in_ok-places.ensures.sorted c.as_slice-2.ensures.value
     c.in_ok-began.ensures.begins)
     order counts lowers (releases_same rows last lowered released left places tolds releases same)
     (steps_same released left old.table ended (inner.gone ++ tolds) at same
     (steps_more (is_counted released) at old.table part ended inner.gone tolds stepped told))
     (steps_same released left ended mid outs at same resumed)
     (subst (λ l. BeginsAll mid new [] l at)
-    (ap (outs_at last.rows) c.as_slice-11.ensures ∙ outs_after rows last lowered released places [] tolds releases began)
+    (ap (outs_at last.rows) c.as_slice-10.ensures ∙ outs_after rows last lowered released places [] tolds releases began)
     begins)))
     c.begin_outs.ensures.begins
 
@@ -92,24 +91,24 @@ returns-clause-tally c =
     let tolds = tolds_at rows.rows places in
     let all : CountsAll (tally_at old.tally) inner.keys.rows gone =
     λ key. c.requires.right.all key ∙ sym (c.in_ok-tell.ensures.counts key) in
-    let counts = subst (λ l. Recounts inner.keys rows old.tally raised l []) c.as_slice-3.ensures.value
+    let counts = subst (λ l. Recounts inner.keys rows old.tally raised l []) c.as_slice-2.ensures.value
     c.in_ok-began.ensures.counts in
-    let lowers = subst (LowersAll raised lowered) (c.as_slice-4.ensures ∙ c.replace-gone.ensures.value)
+    let lowers = subst (LowersAll raised lowered) (c.as_slice-3.ensures ∙ c.replace-gone.ensures.value)
     c.in_ok-lower_all.ensures.counts in
     let releases = subst (λ l. ReleasesPlaces rows last lowered released l [] (tolds_at rows.rows l))
-    c.as_slice-5.ensures.value c.in_ok-release_all.ensures.counts in
+    c.as_slice-4.ensures.value c.in_ok-release_all.ensures.counts in
     let same : CountsSame released left = λ key. c.forget_tolds.ensures.counts key ∙ c.forget_all.ensures.counts key in
     let stay = tolds_after rows last lowered released places [] tolds releases places in
     let comes = zeros_more old.tally lowered released gone tolds
     (zeros_more old.tally raised lowered [] gone c.in_ok-began.ensures.zeros
-    (subst (NewZeros raised lowered) (c.as_slice-4.ensures ∙ c.replace-gone.ensures.value)
+    (subst (NewZeros raised lowered) (c.as_slice-3.ensures ∙ c.replace-gone.ensures.value)
     c.in_ok-lower_all.ensures.zeros))
-    (subst (λ l. NewZeros lowered released (tolds_at rows.rows l)) c.as_slice-5.ensures.value
+    (subst (λ l. NewZeros lowered released (tolds_at rows.rows l)) c.as_slice-4.ensures.value
     c.in_ok-release_all.ensures.zeros) in
     let forgets = forgets_more released stayed left gone tolds (keys mid)
-    (subst (λ l. Forgets released stayed l (keys mid)) (c.as_slice-9.ensures ∙ c.replace-gone.ensures.value)
+    (subst (λ l. Forgets released stayed l (keys mid)) (c.as_slice-8.ensures ∙ c.replace-gone.ensures.value)
     c.forget_all.ensures.zeros)
-    (subst (λ l. Forgets stayed left l (keys mid)) (ap (tolds_at last.rows) c.as_slice-10.ensures.value ∙ stay)
+    (subst (λ l. Forgets stayed left l (keys mid)) (ap (tolds_at last.rows) c.as_slice-9.ensures.value ∙ stay)
     c.forget_tolds.ensures.zeros) in
     let steps = steps_more (is_counted released) at old.table ended mid _ _
     (steps_more (is_counted released) at old.table part ended _ _ c.step_keys.ensures c.step_tolds.ensures)
@@ -133,6 +132,6 @@ count_all-requires c =
       right = (
         gone,
         λ key. c.requires.right.all key ∙ sym (c.in_ok-tell.ensures.counts key),
-        subst (λ l. length l < 2 ^ 63) (c.as_slice-2.ensures ∙ c.replace-gone.ensures.value) c.show_few.ensures,
+        subst (λ l. length l < 2 ^ 63) (c.as_slice.ensures ∙ c.replace-gone.ensures.value) c.show_few.ensures,
       );
     }

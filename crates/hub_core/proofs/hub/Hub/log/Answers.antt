@@ -36,7 +36,7 @@ returns-clause-stands g c = λ frames h in_time.
     (subst (λ book. AllLog g.J.Judge.says (moment_of_clock c.args.self.now.clock) shown book
     c.args.self.now.lives.slots.entries c.log.new.self.slots.entries)
     (sym c.record.ensures.states) c.in_ok-log.ensures.slots)
-    c.log.ensures.counts)
+    c.log.ensures.counts c.log.ensures.configs)
     c.record.ensures.pulls
 
 -- what is shown is worth as many questions as the frame

@@ -19,7 +19,7 @@ pub returns-in_ok-body-in-Install-clause-serves : goal.returns-in_ok-body-in-Ins
 returns-in_ok-body-in-Install-clause-serves g c =
     let uid_fits : SFits w32 c.in-Install.uid = search rules in
     let id_fits : SFits w64 c.in-Install.id = search rules in
-    let serves = simp to_z-of_z at (rw c.as_slice.ensures at c.in_ok-body-in-Install.ensures.serves) in
+    let serves = simp to_z-of_z at c.in_ok-body-in-Install.ensures.serves in
     simp to_z-of_z (λ frames h in_time.
     serves_as g.J.Judge.says _ frames c.args.frame _ _ c.in-Install.is (serves frames h))
 
@@ -42,13 +42,15 @@ returns-in_ok-body-in-Report-clause-serves g c =
 -- a frame of the log asks no more than its questions
 pub returns-in_ok-log-in-Log-clause-questions : goal.returns-in_ok-log-in-Log-clause-questions
 returns-in_ok-log-in-Log-clause-questions g c = λ frames h in_time.
-    subst (λ f. c.log.new.asks ≤ c.args.asks.now + questions_in g.J.Judge.says c.args.self.now frames f) (sym c.in-Log.is)
+    subst (λ f. c.log.new.asks ≤ c.args.asks.now + questions_in g.J.Judge.says c.args.self.now
+    frames f) (sym c.in-Log.is)
     (c.log.ensures.questions frames h (subst (IsInTime (clock_of frames)) c.in-Log.is in_time))
 
 -- also where memory is wanting
 pub returns-in_err-log-in-Log-clause-questions : goal.returns-in_err-log-in-Log-clause-questions
 returns-in_err-log-in-Log-clause-questions g c = λ frames h in_time.
-    subst (λ f. c.log.new.asks ≤ c.args.asks.now + questions_in g.J.Judge.says c.args.self.now frames f) (sym c.in-Log.is)
+    subst (λ f. c.log.new.asks ≤ c.args.asks.now + questions_in g.J.Judge.says c.args.self.now
+    frames f) (sym c.in-Log.is)
     (c.log.ensures.questions frames h (subst (IsInTime (clock_of frames)) c.in-Log.is in_time))
 
 -- what doesn't hear a frame of the log is as it was

@@ -5,5 +5,6 @@ use Rattle.hub_core.proofs.live_instance.LiveInstance.new.Goals as goal
 
 pub returns-clause-holds : goal.returns-clause-holds
 returns-clause-holds c =
-    new_held (contents_of c.hold.new.table) c.args.linked _ c.requires.sound c.in_ok-instance.ensures.linked
+    new_held (contents_of c.hold.new.table) c.args.accepted.linked _ c.requires.accepted.sound
+    c.in_ok-carried.ensures.carries.linked
     c.in_ok-slots.ensures.holds c.in_ok-hearing.ensures.ids c.in_ok-hearing.ensures.all

@@ -8,8 +8,9 @@ use Rattle.hub_core.proofs.live_instance.LiveInstance.show.Goals as goal
 pub returns-clause-reports : goal.returns-clause-reports
 returns-clause-reports c =
     IfOk-weaker c.show_awake.result _ _
-    (λ tree reports. woken_reports (moment_of_clock c.args.clock) c.args.self.now.instance c.wake.new.self.instance
-    c.show_awake.new.self.instance c.args.request c.args.states.now tree c.in_ok-wake.ensures.caught reports)
+    (λ tree reports. woken_reports (moment_of_clock c.args.clock) c.args.self.now.carried.instance
+    c.wake.new.self.carried.instance c.show_awake.new.self.carried.instance c.args.request c.args.states.now tree
+    c.in_ok-wake.ensures.caught reports)
     c.show_awake.ensures.reports
 
 pub returns-clause-slots : goal.returns-clause-slots

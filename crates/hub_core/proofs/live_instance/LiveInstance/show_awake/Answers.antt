@@ -3,4 +3,4 @@ use Rattle.std.proofs.Common.{refl}
 use Rattle.hub_core.proofs.live_instance.LiveInstance.show_awake.Goals as goal
 
 pub returns-clause-slots : goal.returns-clause-slots
-returns-clause-slots c = record { slots = refl; linked = c.show.ensures.linked; hearing = refl }
+returns-clause-slots c = record { slots = refl; carried = c.show.ensures.same; hearing = refl }

@@ -1,6 +1,6 @@
 -- The counts are those of the slots, what is noted is as it should be, and the table is held as before, also where memory
 -- is wanting.
-use Rattle.std.proofs.Common.{arith, ℕ, ℤ, ◌∙◌, sym, subst}
+use Rattle.std.proofs.Common.{arith, ℕ, ℤ, refl, ◌∙◌, subst}
 use Rattle.std.proofs.lemmas.Grind.{merely}
 use Rattle.std.proofs.lemmas.Result.{on_ok_weaker}
 use Rattle.matcher_table.specs.Truths.{HaveRisen}
@@ -10,6 +10,7 @@ use Rattle.hub_core.specs.NotedLives.{noted_for}
 use Rattle.hub_core.specs.Sleeping.{moment_of_clock}
 use Rattle.hub_core.proofs.HeldLemmas.{held-kept}
 use Rattle.hub_core.proofs.EvaluationLemmas.{evaluated_held, asked_are}
+use Rattle.hub_core.proofs.KeptLemmas.{kept_named}
 use Rattle.hub_core.proofs.LastReportLemmas.{keeps_held}
 use Rattle.hub_core.proofs.LogLemmas.{all_logs, ask_by}
 use Rattle.hub_core.proofs.NotedLemmas.{lives_noted, noted_kept, noted_apart}
@@ -33,10 +34,14 @@ returns-then-is_unheard-clause-asks g c =
     none_ask g.J.Judge.says (moment_of_clock c.args.coming.now.before) c.args.coming.now.frame.now
     c.args.coming.now.states.now c.args.self.now.slots.entries c.args.asks.now
 
+pub returns-then-is_unheard-clause-configs : goal.returns-then-is_unheard-clause-configs
+returns-then-is_unheard-clause-configs g c = λ name. refl
+
 pub log_heard-requires-clause-held : goal.log_heard-requires-clause-held
 log_heard-requires-clause-held g c =
     (evaluated_held g.J.Judge.says (contents_of c.args.self.now.table) (contents_of c.evaluate.new.table)
-    c.args.coming.now.frame.now c.args.self.now.slots.entries c.evaluate.ensures.evaluates (table_held c.args.self.now)).all
+    c.args.coming.now.frame.now c.args.self.now.slots.entries c.evaluate.ensures.evaluates
+    (table_held c.args.self.now)).all
 
 pub log_heard-requires-clause-apart : goal.log_heard-requires-clause-apart
 log_heard-requires-clause-apart g c =
@@ -57,6 +62,7 @@ invariant_of-self g c =
       few = λ uid. omega (arith, same uid, c.args.self.now.few uid);
       above_zero = c.args.self.now.above_zero;
       noted = merely noted;
+      named = kept_named olds news kept c.args.self.now.named;
       held = merely (keeps_held table olds news kept held);
     }
 
@@ -69,9 +75,13 @@ returns-clause-slots g c =
     on_ok_weaker c.log_heard.result
     (all_logs g.J.Judge.says before table (moment_of_clock c.args.coming.now.before) frame c.args.coming.now.states.now
     (table_sound c.evaluate.new.table) c.evaluate.ensures.evaluates olds
-    (evaluated_held g.J.Judge.says before table frame olds c.evaluate.ensures.evaluates (table_held c.args.self.now)).all
+    (evaluated_held g.J.Judge.says before table frame olds c.evaluate.ensures.evaluates
+    (table_held c.args.self.now)).all
     c.args.self.now.notes c.log_heard.new.slots.entries (lives_noted c.args.self.now))
     c.log_heard.ensures.shown
+
+pub returns-clause-configs : goal.returns-clause-configs
+returns-clause-configs g c = c.log_heard.ensures.kept.configs
 
 pub returns-clause-ticks : goal.returns-clause-ticks
 returns-clause-ticks g c =
@@ -90,5 +100,6 @@ returns-clause-asks g c =
     let olds = c.args.self.now.slots.entries in
     ask_by g.J.Judge.says before table (moment_of_clock c.args.coming.now.before) frame c.args.coming.now.states.now
     (table_sound c.evaluate.new.table) c.evaluate.ensures.evaluates olds
-    (evaluated_held g.J.Judge.says before table frame olds c.evaluate.ensures.evaluates (table_held c.args.self.now)).all
+    (evaluated_held g.J.Judge.says before table frame olds c.evaluate.ensures.evaluates
+    (table_held c.args.self.now)).all
     (noted_for c.args.self.now.notes frame) c.args.asks.now c.log_heard.new.asks c.log_heard.ensures.asks

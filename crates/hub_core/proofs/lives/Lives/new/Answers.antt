@@ -1,10 +1,11 @@
 -- Nothing is live, nothing is noted, and nothing is held of a new table.
-use Rattle.std.proofs.Common.{◌≡◌, List, [], Option, None, Some, sym, ap, subst, arith, ◌∙◌}
+use Rattle.std.proofs.Common.{◌≡◌, List, [], Option, None, Some, refl, sym, ap, subst, arith, ◌∙◌}
 use Rattle.std.proofs.lemmas.Grind.{merely}
 use Rattle.matcher_table.specs.declared.shared.SharedMatcher.{SharedMatcher}
 use Rattle.matcher_table.specs.Slots.{matcher_at}
 use Rattle.matcher_table.specs.Contents.{contents_of}
 use Rattle.held_slots.proofs.TruthLaws.{table_sound}
+use Rattle.hub_core.specs.NamedLives.{AreNamed}
 use Rattle.hub_core.specs.SharedTable.{IsHeldTable}
 use Rattle.hub_core.specs.Slots.{held_by, listed_at, count_at}
 use Rattle.hub_core.proofs.NotedLemmas.{none_noted}
@@ -24,6 +25,7 @@ invariant_of-result c =
           let none : None ≡ Some 0 = sym (ap (listed_at uid) counts) ∙ is in
           absurd (cc);
       noted = merely noted;
+      named = subst AreNamed (sym slots) refl;
       held = merely (subst (IsHeldTable table) (sym slots) (none_held table (λ s. omega (
         arith,
         (table_sound c.new-4.result).unused s

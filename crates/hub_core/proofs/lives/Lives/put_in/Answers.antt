@@ -12,7 +12,7 @@ with_fresh-requires-clause-room c =
     let report = subst (λ request. ReportsAt moment request book c.args.self.slots.entries
     c.in_ok-reported.reported.slots.entries c.in_ok-reported.last) c.last_request-request.ensures
     c.in_ok-reported.ensures.reports in
-    subst (λ n. n < 10) (sym (same_others moment book c.args.name c.args.self c.in_ok-reported.reported
+    subst (λ n. n < 10) (sym (same_others moment book c.args.accepted.name c.args.self c.in_ok-reported.reported
     c.in_ok-reported.reported c.in_ok-reported.last report c.in_ok-reported.ensures.counts)) c.requires.room
 
 pub returns : goal.returns
@@ -22,6 +22,8 @@ returns c =
     let report = subst (λ request. ReportsAt moment request book c.args.self.slots.entries
     c.in_ok-reported.reported.slots.entries c.in_ok-reported.last) c.last_request-request.ensures
     c.in_ok-reported.ensures.reports in
-    puts_in moment book c.args.name c.args.self c.in_ok-reported.reported c.in_ok-lives.lives c.in_ok-reported.last report
-    c.in_ok-reported.ensures.counts c.args.books.now c.args.linked c.install_answer.result refl c.in_ok-lives.ensures
+    puts_in moment book c.args.accepted.name c.args.self c.in_ok-reported.reported c.in_ok-lives.lives
+    c.in_ok-reported.last report
+    c.in_ok-reported.ensures.counts c.args.books.now c.args.accepted refl c.install_answer.result refl
+    c.in_ok-lives.ensures
     c.install_answer.ensures

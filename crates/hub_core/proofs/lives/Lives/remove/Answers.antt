@@ -23,6 +23,7 @@ returns c =
     let report = subst (λ request. ReportsAt moment request book c.args.self.slots.entries
     c.in_ok-reported.reported.slots.entries c.in_ok-reported.last) c.last_request-request.ensures
     c.in_ok-reported.ensures.reports in
-    takes_out moment book c.args.name c.args.self c.in_ok-reported.reported c.in_ok-lives.lives c.in_ok-reported.last report
+    takes_out moment book c.args.name c.args.self c.in_ok-reported.reported c.in_ok-lives.lives
+    c.in_ok-reported.last report
     c.in_ok-reported.ensures.counts c.remove_answer.result (sym c.contains_key.ensures ∙ c.if-not-contains_key.false)
     c.in_ok-lives.ensures c.remove_answer.ensures

@@ -3,6 +3,7 @@ use Rattle.std.proofs.Common.{ℤ, arith, ◌∙◌}
 use Rattle.std.proofs.lemmas.Grind.{merely}
 use Rattle.matcher_table.specs.Contents.{contents_of}
 use Rattle.hub_core.proofs.HeldLemmas.{held-kept}
+use Rattle.hub_core.proofs.KeptLemmas.{kept_named}
 use Rattle.hub_core.proofs.LastReportLemmas.{keeps_held}
 use Rattle.hub_core.proofs.NotedLemmas.{lives_noted, noted_kept}
 use Rattle.hub_core.proofs.TableLemmas.{table_held}
@@ -20,5 +21,6 @@ invariant_of-lives c =
       few = λ uid. omega (arith, held uid, c.args.self.few uid);
       above_zero = c.args.self.above_zero;
       noted = merely noted;
+      named = kept_named olds news kept c.args.self.named;
       held = merely (keeps_held (contents_of c.args.self.table) olds news kept (table_held c.args.self));
     }

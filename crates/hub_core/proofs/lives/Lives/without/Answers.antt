@@ -8,10 +8,12 @@ use Rattle.matcher_table.specs.Tables.{outside_uses}
 use Rattle.matcher_table.specs.Contents.{contents_of}
 use Rattle.held_slots.specs.HoldingSteps.{ReleasesAll}
 use Rattle.hub_core.specs.declared.live_instance.LiveInstance.{LiveInstance}
+use Rattle.hub_core.specs.NamedLives.{AreNamed}
 use Rattle.hub_core.specs.SharedTable.{IsHeldTable, slots_of}
 use Rattle.hub_core.specs.Slots.{count_at, others_at}
 use Rattle.hub_core.specs.Commands.{others}
 use Rattle.hub_core.proofs.HeldLemmas.{counted_take_out, counts_set, above_set}
+use Rattle.hub_core.proofs.NamedRowsLemmas.{named_out}
 use Rattle.hub_core.proofs.NotedLemmas.{lives_noted}
 use Rattle.hub_core.proofs.TableLemmas.{table_held, take_out-may_release, take_out-held}
 use Rattle.hub_core.proofs.lives.Lives.without.Goals as goal
@@ -26,12 +28,14 @@ invariant_of-result c =
     let is = simp to_z-of_z at c.others_of-others.ensures in
     let olds = c.args.self.slots.entries in
     let all = counted_take_out c.args.name.uid c.args.name.id olds c.take_out-old.new.slots.entries counts
-    c.set_count.new.counts.entries count c.args.self.counted c.args.self.few c.requires c.take_out-old.ensures.held set is in
+    c.set_count.new.counts.entries count c.args.self.counted c.args.self.few c.requires
+    c.take_out-old.ensures.held set is in
     record {
       counted = λ uid. (all uid).0;
       few = λ uid. (all uid).1;
       above_zero = above_set c.args.name.uid count counts c.set_count.new.counts.entries listed c.args.self.above_zero;
       noted = merely (c.take_out-old.ensures.noted (lives_noted c.args.self));
+      named = subst AreNamed (sym c.take_out-old.ensures.entries) (named_out c.args.name olds c.args.self.named);
       held = merely (subst (IsHeldTable (contents_of c.release_old.new.table)) (sym c.take_out-old.ensures.entries)
           (take_out-held c.args.name olds (contents_of c.args.self.table) (contents_of c.release_old.new.table)
           (table_held c.args.self)

@@ -1,4 +1,4 @@
-use Rattle.std.proofs.Common.{◌+◌, refl, sym, subst, arith}
+use Rattle.std.proofs.Common.{◌≡◌, ◌+◌, refl, sym, subst, ◌∙◌, arith}
 use Rattle.std.proofs.lemmas.Bool.{false≢true}
 use Rattle.kept_rows.specs.KeptRows.{Keeping, HasRoom}
 use Rattle.kept_rows.proofs.KeptRowsLemmas.{keeps, turns_away}
@@ -12,8 +12,10 @@ returns-then-not-has_room-clause-stands g c = λ weigh same.
       used = c.self.inside.used;
       others = c.self.inside.others;
     } in
-    rw (← c.self.view_is) (turns_away weigh old c.args.row c.args.weight c.saturating_add-self-inside.result same
-    (subst (λ (it : Keeping _). ¬ HasRoom it c.args.weight) (sym c.self.view_is)
+    let weighs : weigh c.args.row ≡ c.weight-weight.result = same ∙ sym c.weight-weight.ensures.value in
+    rw (← c.self.view_is) (turns_away weigh old c.args.row c.weight-weight.result
+    c.saturating_add-self-inside.result weighs
+    (subst (λ (it : Keeping _). ¬ HasRoom it c.weight-weight.result) (sym c.self.view_is)
     (λ room. false≢true (c.if-not-has_room.ensures.1 room)))
     c.self.invariant.bounded (omega (arith, c.saturating_add-self-inside.ensures)))
 
@@ -25,7 +27,10 @@ returns-clause-stands g c = λ weigh same.
       used = c.self.inside.used;
       others = c.self.inside.others;
     } in
-    let room : HasRoom old c.args.weight =
-    subst (λ (it : Keeping _). HasRoom it c.args.weight) (sym c.self.view_is) (c.if-not-has_room.ensures.0 refl) in
-    rw (← c.self.view_is, c.in_ok-push.ensures.added) (keeps weigh old c.args.row (c.self.inside.used + c.args.weight)
-    room.none_turned_away (omega (arith, same, room.fits)) (omega (arith, same)))
+    let weighs : weigh c.args.row ≡ c.weight-weight.result = same ∙ sym c.weight-weight.ensures.value in
+    let room : HasRoom old c.weight-weight.result =
+    subst (λ (it : Keeping _). HasRoom it c.weight-weight.result) (sym c.self.view_is)
+    (c.if-not-has_room.ensures.0 refl) in
+    rw (← c.self.view_is, c.in_ok-push.ensures.added) (keeps weigh old c.args.row
+    (c.self.inside.used + c.weight-weight.result) room.none_turned_away (omega (arith, weighs, room.fits))
+    (omega (arith, weighs)))

@@ -1,0 +1,4 @@
+pub mod LanesWithin
+pub mod AlertsWithin
+pub mod InstanceWithin
+pub mod HubWithin

@@ -1,0 +1,20 @@
+pub mod SizeLaws
+pub mod EachLaws
+pub mod SampleSizes
+pub mod BooksLaws
+pub mod CountWithin
+pub mod EventWithin
+pub mod ValueWithin
+pub mod PulledValueWithin
+pub mod GaugeWithin
+pub mod PulledGaugeWithin
+pub mod InnerWithin
+pub mod SumWithin
+pub mod TimelyBooks
+pub mod LongestWithin
+pub mod WatchWithin
+pub mod TablesWithin
+pub mod LaneWithin
+pub mod SumFound
+pub mod LivesWithin
+mod WorkedWeights
