@@ -360,9 +360,11 @@ def draw_check(random):
     return content, line.encode(), 0 if line.startswith("ok ") else 1
 
 
-def draw(random):
-    """A session, its replies and its status: some clients, and a last report of all that is live."""
-    drawn = Sleeping(random) if random.random() < 0.3 else Drawn(random)
+def draw(random, kind=None):
+    """A session, its replies and its status: some clients, and a last report of all that is live; of one of the two
+    kinds, or of the one that is asked for."""
+    kind = kind or (Sleeping if random.random() < 0.3 else Drawn)
+    drawn = kind(random)
     drawn.begin()
     for _ in range(random.randint(20, 120)):
         drawn.step()

@@ -1,7 +1,7 @@
 """What a session weighs, and how long its saved form is: both read again from what is live and what it holds.
 
-The weight goes by entries, each 128 and what it holds. The length goes by the parts of the saved form, byte by byte: nine
-for a number, and for what holds others a tag, a count and these."""
+The weight goes by entries, each 128 and what it holds. The length goes by the parts of the saved form, byte by byte:
+nine for a number, and for what holds others a tag, a count and these."""
 from session_text.layout import BITS, BOOL, INT, LONG, RAW, REPORT, STR
 
 from compared.alarms import MOST_LISTED
@@ -77,6 +77,16 @@ class Sum:
     def __init__(self, weight=0, length=0):
         self.weight, self.length, self.slack = weight, length, 0
 
+    def __eq__(self, other):
+        return (self.weight, self.length, self.slack) == (other.weight, other.length, other.slack)
+
+    def plus(self, other, times):
+        """What comes where the difference to another one is added so many times."""
+        weight = self.weight + times * (other.weight - self.weight)
+        total = Sum(weight, self.length + times * (other.length - self.length))
+        total.slack = self.slack + times * (other.slack - self.slack)
+        return total
+
     def entry(self, held, length):
         """An entry, with what it holds and its bytes."""
         self.weight += ENTRY + held
@@ -124,9 +134,9 @@ def open_part(metric):
 
 
 def number_rows(total, metric, open_numbers, row_numbers):
-    """A metric of one number a key: its open part and its kept rows."""
-    for key in open_part(metric)[1]:
-        total.key(key, open_numbers)
+    """A metric of one number a key: its open part and its kept rows. Of a sum a key whose run goes on has one more."""
+    for key, came in open_part(metric)[1].items():
+        total.key(key, open_numbers + (came[-1].contribution is None))
     for row in metric.shown().kept.rows:
         total.key(row.key, 2 + row_numbers)
 
@@ -208,7 +218,7 @@ def metric_entries(total, metric):
     else:
         total.own(15)
         inner_keys(total, metric, 2)
-        number_rows(total, metric, 3, 1)
+        number_rows(total, metric, 2, 1)
     total.own(1)
     for _ in metric.tree.get("activations", []):
         total.entry(0, 2 * NUMBER)
@@ -225,7 +235,8 @@ def window_parts(alert):
 
 def alert_entries(total, alert):
     """The entries of an alert, and its numbers besides."""
-    total.own(4 + 2 + 1 + 1 + alert.parts + 1)
+    has_rung = any(True for _ in alert.alarms())
+    total.own(4 + (2 if has_rung else 1) + 1 + 1 + alert.parts + 1)
     for admitted in window_parts(alert):
         for key in admitted:
             total.key(key, 1)

@@ -4,6 +4,8 @@ import struct
 from session_text.layout import ATOM, INSTALL, INT, LONG, PULL, REMOVE, REPORT, STR, TICK
 
 CONFIG_ID = 1
+SEED = 7
+MILLISECOND = 10**6
 
 
 def framed(body):
@@ -61,3 +63,13 @@ def pull(at, atom_id, atoms):
 def text(place, content, index=0):
     """An entry of some text in a field, or at an index of it."""
     return struct.pack("<BBBBBH", place, index, 0, 0, STR, len(content)) + content
+
+
+def log_frames(count):
+    """Ticks and atoms from a seed, up to a second apart."""
+    state, at = SEED, 0
+    for _ in range(count):
+        state = (state * 6364136223846793005 + 1442695040888963407) % 2**64
+        drawn = state >> 33
+        at += drawn % 1000 * MILLISECOND
+        yield tick(at) if drawn % 4 == 0 else atom(at, drawn // 1000 % 50)

@@ -3,11 +3,10 @@
 A shape writes the frames of its log up to a count; the client installs the configuration first, and asks for a report
 with a cut at the end.
 """
-from .frames import CONFIG_ID, atom, atom_of, install, integers, longs, pull, remove, report, text, tick
+from .frames import CONFIG_ID, MILLISECOND, atom, atom_of, install, integers, longs, pull, remove, report, text, tick
 
 CLIENT = 10
 KEYS = 3000
-MILLISECOND = 10**6
 PULLED = 10010
 
 

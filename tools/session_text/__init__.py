@@ -31,7 +31,9 @@ __all__ = [
     "pack",
     "read_replies",
     "replay",
+    "resume",
     "rows",
+    "save",
     "text_of",
     "unpack",
 ]
@@ -46,6 +48,18 @@ def replay(session, built=None):
     """What a program answers to a session's bytes: `written`, `note` and `status`, which is 0 or from 3 to 6. It is the
     program that is given, the proved one, or else one without a proof, which is told on standard error."""
     return program.run(["replay"], session, program.chosen(built))
+
+
+def save(session, built=None):
+    """What a program saves of a session's bytes: `written` is the saved form, where `status` is 0. It means something
+    to the program alone that wrote it."""
+    return program.run(["save"], session, program.chosen(built))
+
+
+def resume(form, session, built=None):
+    """What a program answers to a further session's bytes after a saved form that it wrote: as `replay`, and 8 in
+    `status` where the bytes are no saved form."""
+    return program.run(["resume"], form + session, program.chosen(built))
 
 
 def configs(session):

@@ -2,7 +2,7 @@
 import os
 from collections import namedtuple
 
-from . import commands, packing, program
+from . import commands, packing, program, replies
 from .faults import Fault
 from .files import called, content_of
 from .told import tell
@@ -42,6 +42,12 @@ def session_of(name):
         return content, []
     lines = packing.pack_lines(content, folder_of(name), called(name))
     return b"".join(lines), list(map(len, lines))
+
+
+def shown_lines(ran, lines):
+    """What is shown of a run on the lines of a session: the replies, the note, and why it ended otherwise than well."""
+    shown = replies.replies_lines(ran.written, commands.commands(b"".join(lines)))
+    return shown + ran.note.splitlines() + commands.ending_lines(ran.note, list(map(len, lines)))
 
 
 def is_replies(content):

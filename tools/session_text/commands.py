@@ -6,6 +6,12 @@ from collections import namedtuple
 from .layout import INSTALL, REMOVE, REPORT
 
 ENDED = re.compile(r"statsd: bad session at (\d+): (\d) (.*)$", re.MULTILINE)
+NOT_SAVED = re.compile(r"statsd: save refused: (cut|too long|not saved)", re.MULTILINE)
+SAVES = {
+    "cut": "the bytes end inside the saved form",
+    "too long": "a saved form has at most 2,147,483,648 bytes",
+    "not saved": "no session has these bytes as its saved form, by this version",
+}
 BODIES = {
     "1": "ends before all its parts are there",
     "2": "has bytes left over",
@@ -90,7 +96,11 @@ def line_at(offset, sizes):
 
 
 def ending_lines(note, sizes):
-    """Where a bad session ends, in words: the line of its text, and what is wrong there."""
+    """Where a bad session ends, in words: the line of its text, and what is wrong there; or what is wrong with a saved
+    form."""
+    refused = NOT_SAVED.search(note)
+    if refused:
+        return [f"  {SAVES[refused[1]]}"]
     found = ENDED.search(note)
     if not found:
         return []

@@ -31,6 +31,9 @@ MADE_FROM = KEPT.with_name("statsd.sources")
 TICKS = 20_000
 TICK = bytes.fromhex("09000000" "01" "0000000000000000")
 
+# The greatest status of a program that ended by itself.
+MOST_STATUS = 8
+
 # What a run wrote, what it noted on standard error, and its status.
 Run = namedtuple("Run", "written note status")
 
@@ -107,7 +110,7 @@ def answered(program, words, content):
 def checked(ran, program):
     """A run that ended by itself. A program that was stopped has another status; one without a proof also stops where
     it would do what a proof excludes."""
-    if 0 <= ran.status <= 7:
+    if 0 <= ran.status <= MOST_STATUS:
         return ran
     said = [line for line in ran.note.splitlines() if line.isprintable() and line.strip()]
     raise Fault(f"{program} stopped with status {ran.status}: {said[-1][:200] if said else 'it says nothing'}")

@@ -18,9 +18,14 @@ def version():
         raise Fault(f"expected a file VERSION that can be read: {error.strerror}") from None
 
 
+def sha256_of(content):
+    """The checksum of bytes."""
+    return hashlib.sha256(content).hexdigest()
+
+
 def sha256(file):
     """The checksum of a file."""
-    return hashlib.sha256(file.read_bytes()).hexdigest()
+    return sha256_of(file.read_bytes())
 
 
 def packaged():

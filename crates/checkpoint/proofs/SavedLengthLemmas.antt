@@ -1,11 +1,9 @@
 -- The saved form of a hub that is awake is no longer than its frames weigh.
-use Rattle.std.proofs.Common.{◌≡◌, ℤ, ◌≤◌, Bool, true, false, ◌&&◌, cond, List, [], ◌∷◌, map, length, Option, Some, None, refl, sym, ap, subst, ◌∙◌, true≢false}
+use Rattle.std.proofs.Common.{◌≡◌, ℤ, ◌≤◌, Bool, false, List, [], ◌∷◌, map, length, Option, Some, None, refl, sym, ap, subst}
 use Rattle.std.specs.Prelude.{All}
 use Rattle.std.specs.Int.{w32, w64, cast_unsigned}
 use Rattle.std.specs.List.{AllByRecursion, IsDistinct}
 use Rattle.std.specs.Map.{keys_of}
-use Rattle.std.specs.Ordering.{int_eq}
-use Rattle.std.proofs.lemmas.Cmp.{int_eq_equiv}
 use Rattle.std.proofs.lemmas.List.Elements.{All-head, All-tail}
 use Rattle.atom_record.specs.declared.atom.Atom.{Atom}
 use Rattle.config_types.specs.declared.matcher.SimpleMatcher.{SimpleMatcher}
@@ -15,7 +13,8 @@ use Rattle.hub_meaning.specs.Acceptance.{LiveConfig}
 use Rattle.hub_meaning.specs.LiveConfigs.{config_at, live}
 use Rattle.hub_meaning.specs.SessionLog.{own}
 use Rattle.saved_length.proofs.HubWithin.{live_fits, FitsLive, hub_within}
-use Rattle.saved_weight.proofs.LivesWithin.{same_name, name_exact}
+use Rattle.live_bounds.proofs.RowsApart.{Rows, AreFound, all_found, pair_of, pairs_apart}
+use Rattle.saved_weight.proofs.LivesWithin.{same_name}
 use Rattle.saved_weight.specs.Weigh.{weigh}
 use Rattle.client_engine.specs.declared.live_id.LiveId.{LiveId}
 use Rattle.hub_core.specs.declared.hub.Hub.{Hub}
@@ -30,23 +29,6 @@ use Rattle.hub_core.specs.SavedMoments.{pull_number}
 use Rattle.hub_core.specs.Sleeping.{moment_of_clock}
 use Rattle.hub_core.specs.Slots.{same_id, slot_at}
 
--- a name is compared with itself, and either way
-same_refl : (name : LiveId) → same_id name name ≡ true
-same_refl name = ap (λ b. b && int_eq name.id name.id) (int_eq_equiv.refl name.uid) ∙ int_eq_equiv.refl name.id
-
-same_symm : (name other : LiveId) → same_id name other ≡ same_id other name
-same_symm name other =
-    ap (λ b. b && int_eq name.id other.id) (int_eq_equiv.symm name.uid other.uid)
-    ∙ ap (λ b. int_eq other.uid name.uid && b) (int_eq_equiv.symm name.id other.id)
-
--- the rows of what is live
-abbrev Rows : Type 0
-Rows = List (LiveId × LiveInstance)
-
--- a name as its two numbers
-abbrev pair_of : LiveId → ℤ × ℤ
-pair_of name = (name.uid, name.id)
-
 -- that of what is saved
 abbrev pair_in : Saved → ℤ × ℤ
 pair_in it = pair_of it.name
@@ -58,17 +40,6 @@ first_is one other names others is = cc
 -- and what is behind it
 rest_is : (one other : LiveId) (names others : List LiveId) → one ∷ names ≡ other ∷ others → names ≡ others
 rest_is one other names others is = cc
-
--- names apart are so by their numbers
-pairs_apart : (name other : LiveId) → same_id name other ≡ false → same_name (pair_of name) (pair_of other) ≡ false
-pairs_apart name other apart = by (same_name (pair_of name) (pair_of other)) refl where
-  by : (same : Bool) → same_name (pair_of name) (pair_of other) ≡ same → same ≡ false
-  by false is = refl
-  by true is =
-      let pairs = name_exact (pair_of name) (pair_of other) is in
-      let names : name ≡ other =
-      ap (λ (pair : ℤ × ℤ). let name : LiveId = record { uid = pair.0; id = pair.1 } in name) pairs in
-      absurd (true≢false (sym (same_refl name) ∙ ap (same_id name) names ∙ apart))
 
 -- none of these is the same by its numbers
 others_apart : (name : LiveId) (lives : List Saved)
@@ -82,28 +53,6 @@ all_apart : (lives : List Saved) → IsDistinct same_id (names_of lives) → IsD
 unfolding IsDistinct
 all_apart [] apart = tt
 all_apart (it ∷ lives) apart = (others_apart it.name lives apart.0, all_apart lives apart.1)
-
--- each of these rows is what is found under its name in a list
-abbrev AreFound : Rows → Rows → Type 0
-AreFound all rows = AllByRecursion (λ (row : LiveId × LiveInstance). slot_at row.0 all ≡ Some row.1) rows
-
--- a row of another name before all changes nothing
-found_behind : (first : LiveId × LiveInstance) (all rows : Rows)
-    → AllByRecursion (λ other. same_id first.0 other ≡ false) (keys_of rows) → AreFound all rows
-    → AreFound (first ∷ all) rows
-found_behind first all [] apart found = tt
-found_behind first all (row ∷ rows) apart found =
-    let other : same_id row.0 first.0 ≡ false = same_symm row.0 first.0 ∙ apart.0 in
-    (ap (λ b. cond b (Some first.1) (slot_at row.0 all)) other ∙ found.0, found_behind first all rows apart.1 found.1)
-
--- where no two names are the same, each row is found
-all_found : (rows : Rows) → IsDistinct same_id (keys_of rows) → AreFound rows rows
-unfolding IsDistinct
-all_found [] apart = tt
-all_found (row ∷ rows) apart = (
-  ap (λ b. cond b (Some row.1) (slot_at row.0 rows)) (same_refl row.0),
-  found_behind row rows rows apart.0 (all_found rows apart.1),
-)
 
 module _ (says : SimpleMatcher → Atom → Bool) {J : Type 0} (hub : Hub J) (frames : List Frame)
     (stands : HubStandsAwake says hub frames) where
@@ -153,7 +102,8 @@ module _ (says : SimpleMatcher → Atom → Bool) {J : Type 0} (hub : Hub J) (fr
       → length (spelled_items (saved_items (saved_of hub))) ≤ weigh says frames
   saved_within saved =
       let rows = hub.lives.slots.entries in
-      let keys : IsDistinct same_id (keys_of rows) = subst (IsDistinct same_id) (sym hub.lives.named) saved.lives.apart in
+      let keys : IsDistinct same_id (keys_of rows) =
+      subst (IsDistinct same_id) (sym hub.lives.named) saved.lives.apart in
       hub_within says frames pair_in carried_items hub.clock.time (pull_number hub.clock.is_pull) hub.books.states
       hub.books.pulls (saved_rows rows) stands.stands.books.states stands.stands.books.pulls
       (all_apart (saved_rows rows) saved.lives.apart)

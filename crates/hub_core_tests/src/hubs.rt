@@ -1,7 +1,8 @@
 //! The rows: a hub under a judge, and what it is given and answers, a line after the other.
+use super::bends::{compare_bent, compare_ids};
 use super::judges::{Counting, Nodder, Tallier};
-use super::mixed::{compare_mixed, compare_saved};
-use super::saving::{compare_bent, compare_ids, save};
+use super::mixed::compare_mixed;
+use super::saving::{compare_len, compare_saved, save};
 use super::tried::Tried;
 use matcher_eval::FieldJudge;
 use std::alloc::{AllocError, Global};
@@ -12,7 +13,7 @@ pub struct Hubs;
 
 impl Table for Hubs {
     fn marks(&self) -> &'static str {
-        "judge > < asked again log do mixed saved save settle bent ids"
+        "judge > < asked again log do mixed saved save settle bent ids within above"
     }
 
     fn run(&self, alloc: Global, tester: &mut Tester, row: &Row<'_>) -> Result<(), AllocError> {
@@ -72,6 +73,8 @@ fn run_line<J: Counting>(
         "settle" => tried.settle(),
         "bent" => compare_bent(alloc, tester, tried),
         "ids" => compare_ids(alloc, tester, tried, rest),
+        "within" => compare_len(alloc, tester, tried, true, rest),
+        "above" => compare_len(alloc, tester, tried, false, rest),
         _ => tester.differs("a line that isn't known", line),
     }
 }
@@ -105,25 +108,30 @@ fn take_again<J: Counting>(
         return Ok(());
     };
     tester.case();
-    let wanted = replies_once(alloc, tried, &bytes)?;
+    repeat(alloc, tester, tried, &bytes, times)
+}
+
+fn repeat<J: Counting>(
+    alloc: Global,
+    tester: &mut Tester,
+    tried: &mut Tried<J>,
+    bytes: &Vec<u8>,
+    times: u64,
+) -> Result<(), AllocError> {
+    tried.take_anew(alloc, bytes)?;
+    let wanted = own(alloc, tried.new_replies())?;
     for _ in 1..times {
-        let found = replies_once(alloc, tried, &bytes)?;
-        tester.same_bytes("replies", wanted.as_slice(), found.as_slice())?;
+        tried.take_anew(alloc, bytes)?;
+        tester.same_bytes("replies", wanted.as_slice(), tried.new_replies())?;
     }
     Ok(())
 }
 
-/// Gives the hub these frames. Answers the replies to them.
-fn replies_once<J: Counting>(
-    alloc: Global,
-    tried: &mut Tried<J>,
-    bytes: &Vec<u8>,
-) -> Result<Vec<u8>, AllocError> {
-    tried.forget(alloc)?;
-    let _ = tried.take(alloc, bytes.clone()?)?;
-    let mut replies = Vec::new(alloc);
-    replies.extend_from_slice(tried.new_replies())?;
-    Ok(replies)
+/// These bytes, owned.
+fn own(alloc: Global, bytes: &[u8]) -> Result<Vec<u8>, AllocError> {
+    let mut owned = Vec::new(alloc);
+    owned.extend_from_slice(bytes)?;
+    Ok(owned)
 }
 
 /// Compares the replies since they were compared last.

@@ -1,10 +1,12 @@
 //! The hub of all clients under judges of the tests' own: the rows of a table on standard input.
 #![tactic(auto)]
 
+mod bends;
 mod hubs;
 mod judges;
 mod mixed;
 mod saving;
+mod session;
 mod tried;
 
 use hubs::Hubs;

@@ -1,11 +1,12 @@
-//! Hubs that are saved and built again, and items that are of no hub.
+//! Hubs that are saved and built again, and what a saved one takes.
 use super::judges::Counting;
+use super::session::{Size, Step, session};
 use super::tried::Tried;
-use flat_form::{FlatError, Item, Items};
+use flat_form::{FlatError, Items, spelled_len};
 use hub_core::Hub;
-use sd_base::{Duplicate, Seq};
+use matcher_eval::FieldJudge;
 use std::alloc::{AllocError, Global};
-use test_tools::{Tester, unsigned};
+use test_tools::{Row, Tester, unsigned};
 
 /// Saves the hub, and puts the one that is built in its place.
 pub fn save<J: Counting>(
@@ -14,12 +15,34 @@ pub fn save<J: Counting>(
     tried: &mut Tried<J>,
 ) -> Result<(), AllocError> {
     let items = tried.items(alloc)?;
-    match built(alloc, &items)? {
-        Some(hub) => {
+    go_on_as(alloc, tester, tried, &items)
+}
+
+/// Puts the hub of its items in its place, which is saved alike.
+fn go_on_as<J: Counting>(
+    alloc: Global,
+    tester: &mut Tester,
+    tried: &mut Tried<J>,
+    items: &Items,
+) -> Result<(), AllocError> {
+    let is_built = put_built(alloc, tried, items)?;
+    tester.holds("that a hub that was saved is built", is_built)?;
+    compare_items(alloc, tester, tried, items)
+}
+
+/// Puts the hub of these items in the place of the one that is there. Answers whether there is one.
+fn put_built<J: Counting>(
+    alloc: Global,
+    tried: &mut Tried<J>,
+    items: &Items,
+) -> Result<bool, AllocError> {
+    match Hub::build(alloc, J::fresh(), items) {
+        Ok(hub) => {
             tried.put(hub);
-            compare_items(alloc, tester, tried, &items)
+            Ok(true)
         }
-        None => tester.differs("a hub that was saved", "isn't built"),
+        Err(FlatError::Bad) => Ok(false),
+        Err(FlatError::Memory) => Err(AllocError),
     }
 }
 
@@ -37,152 +60,106 @@ fn compare_items<J: Counting>(
     )
 }
 
-/// The hub of these items, if there is one.
-fn built<J: Counting>(alloc: Global, items: &Items) -> Result<Option<Hub<J>>, AllocError> {
-    match Hub::build(alloc, J::fresh(), items) {
-        Ok(hub) => Ok(Some(hub)),
-        Err(FlatError::Bad) => Ok(None),
-        Err(FlatError::Memory) => Err(AllocError),
-    }
-}
-
-/// What becomes of an item.
-#[derive(Clone, Copy)]
-enum Bend {
-    Out,
-    Twice,
-    Other,
-}
-
-/// Bends each item of the hub: no hub has the items then, or one has just these.
-pub fn compare_bent<J: Counting>(
+/// Compares the length of the saved form of the hub with a number: it is no more, where it is to be within, or more.
+pub fn compare_len<J: Counting>(
     alloc: Global,
     tester: &mut Tester,
     tried: &Tried<J>,
-) -> Result<(), AllocError> {
-    let items = tried.items(alloc)?;
-    for place in 0..items.len() {
-        for bend in [Bend::Out, Bend::Twice, Bend::Other] {
-            tester.case();
-            let bent = bent_at(alloc, items.as_slice(), place, bend)?;
-            compare_built::<J>(alloc, tester, &bent)?;
-        }
-    }
-    Ok(())
-}
-
-/// No hub has these items, or it is saved as just these.
-fn compare_built<J: Counting>(
-    alloc: Global,
-    tester: &mut Tester,
-    items: &Items,
-) -> Result<(), AllocError> {
-    let Some(hub) = built::<J>(alloc, items)? else {
-        return Ok(());
-    };
-    let again = hub.flatten(alloc)?;
-    tester.holds(
-        "that what is built is saved alike",
-        again.as_slice() == items.as_slice(),
-    )
-}
-
-/// The items, with one of them bent.
-fn bent_at(alloc: Global, items: &[Item], place: usize, bend: Bend) -> Result<Items, AllocError> {
-    let mut all = Items::new(alloc);
-    for (at, item) in items.iter().enumerate() {
-        if at == place {
-            push_bent(alloc, &mut all, item, bend)?;
-        } else {
-            all.push(copy(alloc, item)?)?;
-        }
-    }
-    Ok(all)
-}
-
-fn push_bent(alloc: Global, all: &mut Items, item: &Item, bend: Bend) -> Result<(), AllocError> {
-    match bend {
-        Bend::Out => Ok(()),
-        Bend::Twice => {
-            all.push(copy(alloc, item)?)?;
-            all.push(copy(alloc, item)?)
-        }
-        Bend::Other => all.push(other(alloc, item)?),
-    }
-}
-
-/// Another item: the next number, bytes with one more, and a number where it is something else.
-fn other(alloc: Global, item: &Item) -> Result<Item, AllocError> {
-    match item {
-        Item::Num(number) => Ok(Item::Num(number.wrapping_add(1))),
-        Item::Chunk(bytes) => {
-            let mut more: Seq<u8> = bytes.duplicate(alloc)?;
-            more.push(255)?;
-            Ok(Item::Chunk(more))
-        }
-        _ => Ok(Item::Num(7)),
-    }
-}
-
-fn copy(alloc: Global, item: &Item) -> Result<Item, AllocError> {
-    match item {
-        Item::Num(number) => Ok(Item::Num(*number)),
-        Item::Dims(dims) => Ok(Item::Dims(dims.duplicate(alloc)?)),
-        Item::Slices(slices) => Ok(Item::Slices(slices.duplicate(alloc)?)),
-        Item::AtomItem(atom) => Ok(Item::AtomItem(atom.duplicate(alloc)?)),
-        Item::Chunk(bytes) => Ok(Item::Chunk(bytes.duplicate(alloc)?)),
-    }
-}
-
-/// How many items a hub has before the number of what is live, where its books are empty: its moment, and three of each
-/// book.
-const HEAD: usize = 8;
-
-/// Puts the one configuration of the hub under these ids, in order, and tells where a hub has those items and shouldn't, or
-/// has none and should.
-pub fn compare_ids<J: Counting>(
-    alloc: Global,
-    tester: &mut Tester,
-    tried: &Tried<J>,
+    is_within: bool,
     text: &str,
 ) -> Result<(), AllocError> {
-    let (wanted, ids) = text.split_once(' ').unwrap_or((text, ""));
-    let items = tried.items(alloc)?;
-    let all = under_ids(alloc, items.as_slice(), ids)?;
+    let Some(bound) = unsigned(text) else {
+        return tester.differs("no number", text);
+    };
     tester.case();
-    let is_built = built::<J>(alloc, &all)?.is_some();
-    tester.holds("what is built", is_built == (wanted == "good"))
+    let len = saved_len(alloc, tried)?;
+    tester.holds("the length of the saved form", is_within == (len <= bound))
 }
 
-/// The items of a hub with its one configuration under each of these ids.
-fn under_ids(alloc: Global, items: &[Item], ids: &str) -> Result<Items, AllocError> {
-    let mut all = Items::new(alloc);
-    push_all(alloc, &mut all, items.get(..HEAD).unwrap_or(&[]))?;
-    all.push(Item::Num(count_ids(ids)))?;
-    for id in ids.split(' ') {
-        push_under(alloc, &mut all, items, unsigned(id).unwrap_or(0))?;
-    }
-    Ok(all)
+/// How many bytes the saved form of the hub has.
+fn saved_len<J: Counting>(alloc: Global, tried: &Tried<J>) -> Result<u64, AllocError> {
+    let items = tried.items(alloc)?;
+    Ok(spelled_len(&items))
 }
 
-fn count_ids(ids: &str) -> u64 {
-    let mut count = 0_u64;
-    for _ in ids.split(' ') {
-        count = count.saturating_add(1);
-    }
-    count
+/// A session that a hub takes while it is saved and built after each frame. It may be caught up before.
+#[derive(Clone, Copy)]
+struct Cuts<'a> {
+    steps: &'a [Step],
+    settles: bool,
 }
 
-/// The configuration: its client, this id, its bytes and its instance.
-fn push_under(alloc: Global, all: &mut Items, items: &[Item], id: u64) -> Result<(), AllocError> {
-    push_all(alloc, all, items.get(HEAD + 1..HEAD + 2).unwrap_or(&[]))?;
-    all.push(Item::Num(id))?;
-    push_all(alloc, all, items.get(HEAD + 3..).unwrap_or(&[]))
+/// Compares the replies of a hub that takes a session by chance with those of one that is saved and built after each
+/// frame, and how often both judges were asked. One is caught up before, where the numbers end with `settle`.
+pub fn compare_saved(
+    alloc: Global,
+    tester: &mut Tester,
+    row: &Row<'_>,
+    text: &str,
+) -> Result<(), AllocError> {
+    let (numbers, settles) = match text.strip_suffix(" settle") {
+        Some(numbers) => (numbers, true),
+        None => (text, false),
+    };
+    let Some(size) = Size::of(numbers) else {
+        return tester.differs("no numbers", text);
+    };
+    let Some(steps) = session(alloc, tester, row, size)? else {
+        return Ok(());
+    };
+    let cuts = Cuts {
+        steps: steps.as_slice(),
+        settles,
+    };
+    run_saved(alloc, tester, cuts)
 }
 
-fn push_all(alloc: Global, all: &mut Items, items: &[Item]) -> Result<(), AllocError> {
-    for item in items {
-        all.push(copy(alloc, item)?)?;
+/// Gives the session to a hub that isn't cut, and to one that is.
+fn run_saved(alloc: Global, tester: &mut Tester, cuts: Cuts<'_>) -> Result<(), AllocError> {
+    let mut whole = Tried::new(alloc, FieldJudge::new())?;
+    run_beside(alloc, tester, cuts, &mut whole)
+}
+
+/// Gives it to this hub, which isn't cut, and to one that is.
+fn run_beside(
+    alloc: Global,
+    tester: &mut Tester,
+    cuts: Cuts<'_>,
+    whole: &mut Tried<FieldJudge>,
+) -> Result<(), AllocError> {
+    let mut cut = Tried::new(alloc, FieldJudge::new())?;
+    run_both(alloc, tester, cuts, whole, &mut cut)
+}
+
+/// Gives it to both hubs, of which the second one is cut.
+fn run_both(
+    alloc: Global,
+    tester: &mut Tester,
+    cuts: Cuts<'_>,
+    whole: &mut Tried<FieldJudge>,
+    cut: &mut Tried<FieldJudge>,
+) -> Result<(), AllocError> {
+    for step in cuts.steps {
+        tester.case();
+        compare_step(alloc, tester, whole, cut, step)?;
+        if cuts.settles {
+            cut.settle()?;
+        }
+        save(alloc, tester, cut)?;
     }
     Ok(())
+}
+
+/// Gives both hubs a frame, and compares what they answer.
+fn compare_step(
+    alloc: Global,
+    tester: &mut Tester,
+    whole: &mut Tried<FieldJudge>,
+    cut: &mut Tried<FieldJudge>,
+    step: &Step,
+) -> Result<(), AllocError> {
+    whole.take_anew(alloc, &step.bytes)?;
+    cut.take_anew(alloc, &step.bytes)?;
+    tester.same_bytes("replies", whole.new_replies(), cut.new_replies())?;
+    tester.same_number("questions", whole.asked(), cut.asked())
 }

@@ -8,7 +8,7 @@ use flat_form::Items;
 use hub_core::Hub;
 use matcher_eval::Judge;
 use sd_io::{MemSink, MemSource};
-use session_frames::{Frame, FrameError, FrameReader, write_reply};
+use session_frames::{Frame, FrameError, FrameReader, Reply, write_reply};
 use std::alloc::{AllocError, Global};
 use std::marker::Brand;
 use std::sync::ledger::{Blank, Ledger};
@@ -43,8 +43,18 @@ impl<J: Judge> Tried<J> {
         let most = bytes.len();
         let mut source = MemSource::new(bytes, AMPLE, Vec::new(alloc));
         let mut reader = FrameReader::new(alloc);
+        self.take_all(&mut source, &mut reader, most)
+    }
+
+    /// Gives the hub the frames of a source, one more than so many at most.
+    fn take_all(
+        &mut self,
+        source: &mut MemSource,
+        reader: &mut FrameReader,
+        most: usize,
+    ) -> Result<bool, AllocError> {
         for _ in 0..=most {
-            match reader.read(&mut source) {
+            match reader.read(source) {
                 Ok(Some(frame)) => self.give::<Brand>(Blank::new(1), frame)?,
                 Ok(None) => return Ok(true),
                 Err(FrameError::Memory) => return Err(AllocError),
@@ -62,14 +72,27 @@ impl<J: Judge> Tried<J> {
         requires faultless { IsFaultless frame }
     {
         let mut asks: Steps<L> = Steps::new(blank);
-        if let Some(reply) = self.hub.serve(frame, &mut asks)? {
+        let reply = self.hub.serve(frame, &mut asks)?;
+        self.note(reply);
+        Ok(())
+    }
+
+    /// Keeps a reply, if there is one.
+    fn note(&mut self, reply: Option<Reply>) {
+        if let Some(reply) = reply {
             let _ = write_reply(&reply, &mut self.replies);
         }
+    }
+
+    /// Gives the hub the frames of a session, with room for the replies to them alone.
+    pub fn take_anew(&mut self, alloc: Global, bytes: &Vec<u8>) -> Result<(), AllocError> {
+        self.forget(alloc)?;
+        let _ = self.take(alloc, bytes.clone()?)?;
         Ok(())
     }
 
     /// Forgets the replies so far, so that there is room for more.
-    pub fn forget(&mut self, alloc: Global) -> Result<(), AllocError> {
+    fn forget(&mut self, alloc: Global) -> Result<(), AllocError> {
         self.replies = MemSink::new(alloc, AMPLE, Vec::new(alloc))?;
         self.compared = 0;
         Ok(())

@@ -80,7 +80,7 @@ module _ (says : SimpleMatcher → Atom → Bool) (frames : List Frame) where
 
     -- each is found
     all_found : (lives : List L) → AllByRecursion FitsLive lives
-        → AllByRecursion (IsFoundLive says frames size_of) (map named lives)
+        → AllByRecursion (IsFoundLive frames (live_weight says frames) size_of) (map named lives)
     all_found [] fit = tt
     all_found (it ∷ lives) fit =
         (record { config = fit.0.config; found = fit.0.found; within = fit.0.fits }, all_found lives fit.1)
@@ -91,7 +91,8 @@ module _ (says : SimpleMatcher → Atom → Bool) (frames : List Frame) where
     lives_fit lives apart fit =
         let all = full-list items_of lives in
         let same = sum_by-map size_of named lives in
-        let less = lives_within says frames size_of (map named lives) (rows_apart lives apart) (all_found lives fit) in
+        let less = lives_within frames (live_weight says frames) size_of (map named lives) (rows_apart lives apart)
+        (all_found lives fit) in
         omega (arith, all, same, less)
 
     -- two numbers, both books and what is live have no more bytes than the session weighs

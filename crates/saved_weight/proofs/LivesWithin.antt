@@ -1,13 +1,11 @@
--- What stands under names that are live weighs no more than all that is live.
+-- What stands under names that are live counts no more than all that is live, whatever is counted.
 use Rattle.std.proofs.Common.{◌≡◌, ℕ, ℤ, ◌≤◌, Bool, true, false, ◌&&◌, ◌||◌, if◌then◌else◌, List, [], ◌∷◌, ◌++◌, map, Some, None, refl, sym, ap, subst, ◌∙◌, arith}
 use Rattle.std.specs.Bool.{Decides}
 use Rattle.std.specs.List.{AllByRecursion, flat_map, sum_by}
 use Rattle.std.specs.Ordering.{int_eq}
 use Rattle.std.proofs.lemmas.Bool.Decides.{Decides-int_eq}
-use Rattle.atom_record.specs.declared.atom.Atom.{Atom}
 use Rattle.bucket_meaning.proofs.GuardLemmas.{is_among-firsts}
 use Rattle.bucket_meaning.specs.Guard.{is_among}
-use Rattle.config_types.specs.declared.matcher.SimpleMatcher.{SimpleMatcher}
 use Rattle.session_frames.specs.declared.frame.Frame.{Frame}
 use Rattle.session_frames.specs.declared.frame.Frame.TheVariants.{Log, Install, Remove, Report}
 use Rattle.hub_meaning.specs.Acceptance.{LiveConfig}
@@ -15,7 +13,7 @@ use Rattle.hub_meaning.specs.LiveConfigs.{config_at, live_from, live}
 use Rattle.hub_meaning.specs.SessionLog.{own}
 use Rattle.saved_weight.proofs.SizeLaws.{sum_by-map}
 use Rattle.saved_weight.proofs.SumFound.{weight_at, AreApart, sum_found}
-use Rattle.saved_weight.specs.Weigh.{commander_of, clients_of, LiveOf, lives_of_client, lives_of, name_of_live, live_weight}
+use Rattle.saved_weight.specs.Weigh.{commander_of, clients_of, LiveOf, lives_of_client, lives_of, name_of_live}
 
 -- two names are the same: their clients, and their ids
 abbrev pub same_name : ℤ × ℤ → ℤ × ℤ → Bool
@@ -67,7 +65,7 @@ none_live uid before (Report client id cut ∷ frames) none =
       skip false none rest = rest none
 
 -- a client for which something is live is one of the clients
-client_there : (frames : List Frame) (uid id : ℤ) (config : LiveConfig)
+pub client_there : (frames : List Frame) (uid id : ℤ) (config : LiveConfig)
     → config_at id (live (own uid frames)) ≡ Some config → is_among int_eq uid (clients_of frames) ≡ true
 client_there frames uid id config found =
     is_among-firsts int_eq Decides-int_eq uid [] (flat_map commander_of frames)
@@ -79,14 +77,15 @@ client_there frames uid id config found =
       by true none = refl
       by false none = absurd (never (sym (ap (config_at id) (none refl)) ∙ found))
 
-module _ (says : SimpleMatcher → Atom → Bool) (frames : List Frame) where
+-- What is counted of one that is live, as its weight, is a parameter.
+module _ (frames : List Frame) (weight : LiveOf → ℕ) where
   -- what is live, under its name
   abbrev named_live : LiveOf → (ℤ × ℤ) × LiveOf
   named_live it = (name_of_live it, it)
 
   -- what is live under a name weighs
   abbrev row_weight : (ℤ × ℤ) × LiveOf → ℕ
-  row_weight row = live_weight says frames row.1
+  row_weight row = weight row.1
 
   -- what some of all that is live weigh under a name
   abbrev weight_under : ℤ × ℤ → List LiveOf → ℕ
@@ -100,35 +99,35 @@ module _ (says : SimpleMatcher → Atom → Bool) (frames : List Frame) where
   other_client uid id client [] later other = refl
   other_client uid id client (config ∷ configs) later other =
       let rest = other_client uid id client configs later other in
-      ap (λ b. if b && int_eq config.id id then live_weight says frames (client, config)
+      ap (λ b. if b && int_eq config.id id then weight (client, config)
       else weight_under (uid, id) (map (λ (config : LiveConfig). (client, config)) configs ++ later)) other ∙ rest
 
   -- what is live for the client itself weighs what is found at the id
   own_client : (uid id : ℤ) (configs : List LiveConfig) (later : List LiveOf) (config : LiveConfig)
       → config_at id configs ≡ Some config
       → weight_under (uid, id) (map (λ (config : LiveConfig). (uid, config)) configs ++ later)
-      ≡ live_weight says frames (uid, config)
+      ≡ weight (uid, config)
   own_client uid id [] later config found = absurd (cc)
   own_client uid id (first ∷ configs) later config found =
-      ap (λ b. if b && int_eq first.id id then live_weight says frames (uid, first)
+      ap (λ b. if b && int_eq first.id id then weight (uid, first)
       else weight_under (uid, id) (map (λ (config : LiveConfig). (uid, config)) configs ++ later))
       ((Decides-int_eq uid uid).1 refl)
       ∙ by (int_eq first.id id) found (own_client uid id configs later config) where
         by : (same : Bool) → (if same then Some first else config_at id configs) ≡ Some config
             → (config_at id configs ≡ Some config
             → weight_under (uid, id) (map (λ (config : LiveConfig). (uid, config)) configs ++ later)
-            ≡ live_weight says frames (uid, config))
-            → (if same then live_weight says frames (uid, first)
+            ≡ weight (uid, config))
+            → (if same then weight (uid, first)
             else weight_under (uid, id) (map (λ (config : LiveConfig). (uid, config)) configs ++ later))
-            ≡ live_weight says frames (uid, config)
+            ≡ weight (uid, config)
         by true found rest =
-            let same : first ≡ config = cc in ap (λ (c : LiveConfig). live_weight says frames (uid, c)) same
+            let same : first ≡ config = cc in ap (λ (c : LiveConfig). weight (uid, c)) same
         by false found rest = rest found
 
   -- among all clients it weighs that
   among_clients : (uid id : ℤ) (config : LiveConfig) → config_at id (live (own uid frames)) ≡ Some config
       → (clients : List ℤ) → is_among int_eq uid clients ≡ true
-      → weight_under (uid, id) (flat_map (lives_of_client frames) clients) ≡ live_weight says frames (uid, config)
+      → weight_under (uid, id) (flat_map (lives_of_client frames) clients) ≡ weight (uid, config)
   among_clients uid id config found [] among = absurd (cc)
   among_clients uid id config found (client ∷ clients) among =
       by (int_eq client uid) refl among (among_clients uid id config found clients) where
@@ -137,8 +136,8 @@ module _ (says : SimpleMatcher → Atom → Bool) (frames : List Frame) where
 
         by : (same : Bool) → int_eq client uid ≡ same → (same || is_among int_eq uid clients) ≡ true
             → (is_among int_eq uid clients ≡ true
-            → weight_under (uid, id) later ≡ live_weight says frames (uid, config))
-            → weight_under (uid, id) (lives_of_client frames client ++ later) ≡ live_weight says frames (uid, config)
+            → weight_under (uid, id) later ≡ weight (uid, config))
+            → weight_under (uid, id) (lives_of_client frames client ++ later) ≡ weight (uid, config)
         by true is among rest =
             let same : client ≡ uid = (Decides-int_eq client uid).0 is in
             ap (λ (c : ℤ). weight_under (uid, id) (lives_of_client frames c ++ later)) same
@@ -150,7 +149,7 @@ module _ (says : SimpleMatcher → Atom → Bool) (frames : List Frame) where
   pub record IsFoundLive {A : Type 0} (size : (ℤ × ℤ) × A → ℕ) (row : (ℤ × ℤ) × A) : Type 0 where
     pub config : LiveConfig
     pub found : config_at row.0.1 (live (own row.0.0 frames)) ≡ Some config
-    pub within : size row ≤ live_weight says frames (row.0.0, config)
+    pub within : size row ≤ weight (row.0.0, config)
 
   -- so much weighs what is found
   found_weighs : {A : Type 0} (size : (ℤ × ℤ) × A → ℕ) (row : (ℤ × ℤ) × A) → IsFoundLive size row
@@ -167,7 +166,7 @@ module _ (says : SimpleMatcher → Atom → Bool) (frames : List Frame) where
   pub lives_within : {A : Type 0} (size : (ℤ × ℤ) × A → ℕ) (rows : List ((ℤ × ℤ) × A))
       → AreApart same_name name_itself name_exact size row_weight rows
       → AllByRecursion (IsFoundLive size) rows
-      → sum_by size rows ≤ sum_by (live_weight says frames) (lives_of frames)
+      → sum_by size rows ≤ sum_by weight (lives_of frames)
   lives_within {A = A} size rows apart found =
       let lives = lives_of frames in
       let least = sum_found same_name name_itself name_exact size row_weight rows (map named_live lives) apart

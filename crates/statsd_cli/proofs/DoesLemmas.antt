@@ -12,49 +12,20 @@ use Rattle.report_print.specs.declared.error.PrintError.{PrintError}
 use Rattle.report_print.specs.declared.error.PrintError.TheVariants as print
 use Rattle.report_print.specs.Prints.{Prints}
 use Rattle.statsd_cli.specs.declared.command.Command.{Command}
-use Rattle.statsd_cli.specs.declared.command.Command.TheVariants.{Replay, Check, Show, Load, Unknown}
-use Rattle.statsd_cli.specs.declared.ending.Ending.{Ending}
-use Rattle.statsd_cli.specs.declared.ending.Ending.TheVariants.{Done, Refused, Usage, BadSession, ReadFault, WriteFault, NoMemory, ReportRefused}
+use Rattle.statsd_cli.specs.declared.command.Command.TheVariants.{Replay, Check, Show, Save, Resume, Load, Unknown}
 use Rattle.statsd_cli.specs.Endings.{status_of, status_usage, status_read_fault, status_write_fault}
 use Rattle.statsd_cli.specs.Check.{check_ending}
 use Rattle.statsd_cli.specs.Show.{print_ending}
-use Rattle.statsd_cli.specs.Run.{IsRun}
+use Rattle.statsd_cli.specs.Run.{replay_tells}
 use Rattle.statsd_cli.specs.Streams.{Streams}
 use Rattle.statsd_cli.specs.Does.{Does}
+use Rattle.statsd_cli.proofs.RunLemmas.{run_usage, run_read, run_write}
+use Rattle.statsd_cli.proofs.ResumeLemmas.{resume_usage, resume_read, resume_write}
+use Rattle.statsd_cli.proofs.SaveLemmas.{saved_usage, saved_read, saved_write}
 use Rattle.statsd_cli.proofs.LoadLemmas.{told_usage, told_read, told_write}
 
--- What a run tells, what a check tells, and what a print tells.
+-- What a check tells, and what a print tells.
 module _ (old new : Ports) where
-  run_usage : (ending : Ending) → IsRun old new ending → status_of ending ≡ 2 → ⊥
-  run_usage Done run is = absurd (omega (arith, is))
-  run_usage Refused run is = run.outcome
-  run_usage (ReportRefused fault) run is = run.outcome
-  run_usage Usage run is = run.outcome
-  run_usage (BadSession at fault) run is = absurd (omega (arith, is))
-  run_usage ReadFault run is = absurd (omega (arith, is))
-  run_usage WriteFault run is = absurd (omega (arith, is))
-  run_usage NoMemory run is = absurd (omega (arith, is))
-
-  run_read : (ending : Ending) → IsRun old new ending → status_of ending ≡ 4 → Rose old.input.faults new.input.faults
-  run_read Done run is = absurd (omega (arith, is))
-  run_read Refused run is = absurd run.outcome
-  run_read (ReportRefused fault) run is = absurd run.outcome
-  run_read Usage run is = absurd run.outcome
-  run_read (BadSession at fault) run is = absurd (omega (arith, is))
-  run_read ReadFault run is = run.outcome.rose
-  run_read WriteFault run is = absurd (omega (arith, is))
-  run_read NoMemory run is = absurd (omega (arith, is))
-
-  run_write : (ending : Ending) → IsRun old new ending → status_of ending ≡ 5 → Rose old.output.faults new.output.faults
-  run_write Done run is = absurd (omega (arith, is))
-  run_write Refused run is = absurd run.outcome
-  run_write (ReportRefused fault) run is = absurd run.outcome
-  run_write Usage run is = absurd run.outcome
-  run_write (BadSession at fault) run is = absurd (omega (arith, is))
-  run_write ReadFault run is = absurd (omega (arith, is))
-  run_write WriteFault run is = run.outcome.rose
-  run_write NoMemory run is = absurd (omega (arith, is))
-
   -- a finding ends with 0 or 1
   found_status : (finding : Finding) (status : ℕ) → 1 < status → status_of (check_ending (Ok finding)) ≡ status → ⊥
   found_status (Sound counts) status more is = absurd (omega (arith, is))
@@ -110,11 +81,15 @@ module _ (old new : Ports) where
 pub usage_is_unknown : (command : Command) (status : ℕ) (old new : Streams) → Does command status old new
     → status ≡ status_usage → command ≡ Unknown
 usage_is_unknown Replay status old new does is =
-    absurd (run_usage old.ports new.ports does.ending does.did (sym does.is ∙ is))
+    absurd (run_usage 0 replay_tells old.ports new.ports does.ending does.did (sym does.is ∙ is))
 usage_is_unknown Check status old new does is =
     absurd (check_usage old.ports new.ports does.did.answer (sym (does.is ∙ ap status_of does.did.is) ∙ is))
 usage_is_unknown Show status old new does is =
     absurd (print_usage old.ports new.ports does.did.answer (sym (does.is ∙ ap status_of does.did.is) ∙ is))
+usage_is_unknown Save status old new does is =
+    absurd (saved_usage old.ports new.ports does.ending does.did (sym does.is ∙ is))
+usage_is_unknown Resume status old new does is =
+    absurd (resume_usage old.ports new.ports does.ending does.did (sym does.is ∙ is))
 usage_is_unknown (Load seed frames) status old new does is =
     absurd (told_usage _ old.ports.output new.ports.output does.ending does.did.told (sym does.is ∙ is))
 usage_is_unknown Unknown status old new does is = refl
@@ -127,11 +102,15 @@ unknown_is_usage status old new does = does.is ∙ ap status_of does.did.is
 pub read_fault_rose : (command : Command) (status : ℕ) (old new : Streams) → Does command status old new
     → status ≡ status_read_fault → Rose old.ports.input.faults new.ports.input.faults
 read_fault_rose Replay status old new does is =
-    run_read old.ports new.ports does.ending does.did (sym does.is ∙ is)
+    run_read 0 replay_tells old.ports new.ports does.ending does.did (sym does.is ∙ is)
 read_fault_rose Check status old new does is =
     check_read old.ports new.ports does.did.answer does.did.checks (sym (does.is ∙ ap status_of does.did.is) ∙ is)
 read_fault_rose Show status old new does is =
     print_read old.ports new.ports does.did.answer does.did.prints (sym (does.is ∙ ap status_of does.did.is) ∙ is)
+read_fault_rose Save status old new does is =
+    saved_read old.ports new.ports does.ending does.did (sym does.is ∙ is)
+read_fault_rose Resume status old new does is =
+    resume_read old.ports new.ports does.ending does.did (sym does.is ∙ is)
 read_fault_rose (Load seed frames) status old new does is =
     absurd (told_read _ old.ports.output new.ports.output does.ending does.did.told (sym does.is ∙ is))
 read_fault_rose Unknown status old new does is =
@@ -141,11 +120,15 @@ read_fault_rose Unknown status old new does is =
 pub write_fault_rose : (command : Command) (status : ℕ) (old new : Streams) → Does command status old new
     → status ≡ status_write_fault → Rose old.ports.output.faults new.ports.output.faults
 write_fault_rose Replay status old new does is =
-    run_write old.ports new.ports does.ending does.did (sym does.is ∙ is)
+    run_write 0 replay_tells old.ports new.ports does.ending does.did (sym does.is ∙ is)
 write_fault_rose Check status old new does is =
     check_write old.ports new.ports does.did.answer does.did.checks (sym (does.is ∙ ap status_of does.did.is) ∙ is)
 write_fault_rose Show status old new does is =
     print_write old.ports new.ports does.did.answer does.did.prints (sym (does.is ∙ ap status_of does.did.is) ∙ is)
+write_fault_rose Save status old new does is =
+    saved_write old.ports new.ports does.ending does.did (sym does.is ∙ is)
+write_fault_rose Resume status old new does is =
+    resume_write old.ports new.ports does.ending does.did (sym does.is ∙ is)
 write_fault_rose (Load seed frames) status old new does is =
     told_write _ old.ports.output new.ports.output does.ending does.did.told (sym does.is ∙ is)
 write_fault_rose Unknown status old new does is =

@@ -1,7 +1,12 @@
+pub mod MoreLemmas
+pub mod FormLemmas
+pub mod ServingLemmas
 pub mod RunLemmas
+pub mod SaveLemmas
 pub mod CheckLemmas
 pub mod LoadLemmas
 pub mod CommandLemmas
 pub mod DoesLemmas
 pub mod ShowLemmas
+pub mod ResumeLemmas
 pub mod CompletesLemmas

@@ -24,7 +24,7 @@ use Rattle.load_session.specs.Frames.{loaded_frame, load_frames}
 use Rattle.load_session.specs.Good.{AreGood}
 use Rattle.statsd_cli.specs.declared.load.Totals.{Totals}
 use Rattle.statsd_cli.specs.declared.ending.Ending.{Ending}
-use Rattle.statsd_cli.specs.declared.ending.Ending.TheVariants.{Done, Refused, Usage, BadSession, ReadFault, WriteFault, NoMemory, ReportRefused}
+use Rattle.statsd_cli.specs.declared.ending.Ending.TheVariants.{Done, Refused, Usage, BadSession, ReadFault, WriteFault, NoMemory, ReportRefused, SaveRefused}
 use Rattle.statsd_cli.specs.Endings.{status_of}
 use Rattle.statsd_cli.specs.Load.{session_of, totals_of, totals_with, AreInBounds, MayCountOne, IsLineTold}
 
@@ -147,6 +147,7 @@ pub told_status : (line : List ℕ) (old new : Output) (status : ℕ) (ending : 
     → IsLineTold line old new ending → (Rose old.faults new.faults → ⊥) → (status ≡ 0) ⊎ (status ≡ 6)
 told_status line old new status Done is told still = inl is
 told_status line old new status (ReportRefused fault) is told still = absurd told
+told_status line old new status (SaveRefused fault) is told still = absurd told
 told_status line old new status Refused is told still = absurd told
 told_status line old new status Usage is told still = absurd told
 told_status line old new status (BadSession at fault) is told still = absurd told
@@ -160,6 +161,7 @@ pub told_usage : (line : List ℕ) (old new : Output) (ending : Ending) → IsLi
 told_usage line old new Done told is = absurd (omega (arith, is))
 told_usage line old new Refused told is = told
 told_usage line old new (ReportRefused fault) told is = told
+told_usage line old new (SaveRefused fault) told is = told
 told_usage line old new Usage told is = told
 told_usage line old new (BadSession at fault) told is = told
 told_usage line old new ReadFault told is = told
@@ -171,6 +173,7 @@ pub told_read : (line : List ℕ) (old new : Output) (ending : Ending) → IsLin
 told_read line old new Done told is = absurd (omega (arith, is))
 told_read line old new Refused told is = told
 told_read line old new (ReportRefused fault) told is = told
+told_read line old new (SaveRefused fault) told is = told
 told_read line old new Usage told is = told
 told_read line old new (BadSession at fault) told is = told
 told_read line old new ReadFault told is = told
@@ -182,6 +185,7 @@ pub told_write : (line : List ℕ) (old new : Output) (ending : Ending) → IsLi
 told_write line old new Done told is = absurd (omega (arith, is))
 told_write line old new Refused told is = absurd told
 told_write line old new (ReportRefused fault) told is = absurd told
+told_write line old new (SaveRefused fault) told is = absurd told
 told_write line old new Usage told is = absurd told
 told_write line old new (BadSession at fault) told is = absurd told
 told_write line old new ReadFault told is = absurd told

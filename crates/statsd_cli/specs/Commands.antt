@@ -3,7 +3,7 @@ use Rattle.std.specs.Prelude.{ℕ, ◌+◌, ◌-◌, ◌*◌, ◌^◌, ◌≤◌
 use Rattle.std.specs.List.{list_all}
 use Rattle.load_session.specs.Frames.{most_frames}
 use Rattle.statsd_cli.specs.declared.command.Command.{Command}
-use Rattle.statsd_cli.specs.declared.command.Command.TheVariants.{Replay, Check, Show, Load, Unknown}
+use Rattle.statsd_cli.specs.declared.command.Command.TheVariants.{Replay, Check, Show, Save, Resume, Load, Unknown}
 
 -- the command of one word
 abbrev pub command_named : List ℕ → Command
@@ -11,6 +11,8 @@ command_named word =
     if bytes_eq word (codes "replay") then Replay
     else if bytes_eq word (codes "check") then Check
     else if bytes_eq word (codes "show") then Show
+    else if bytes_eq word (codes "save") then Save
+    else if bytes_eq word (codes "resume") then Resume
     else Unknown
 
 -- the byte is a decimal digit
@@ -56,8 +58,8 @@ command_with word seed frames =
     then load_of (number_of seed_digits most_seed seed) (number_of frames_digits most_frames frames)
     else Unknown
 
--- the command that these words ask for: `replay`, `check` or `show` alone, `load` with a seed and a number of frames,
--- or none that is known
+-- the command that these words ask for: `replay`, `check`, `show`, `save` or `resume` alone, `load` with a seed and a
+-- number of frames, or none that is known
 abbrev pub command_of : List (List ℕ) → Command
 command_of (word ∷ []) = command_named word
 command_of (word ∷ seed ∷ frames ∷ []) = command_with word seed frames
@@ -68,6 +70,8 @@ abbrev pub reads_input : Command → Bool
 reads_input Replay = true
 reads_input Check = true
 reads_input Show = true
+reads_input Save = true
+reads_input Resume = true
 reads_input (Load seed frames) = false
 reads_input Unknown = false
 

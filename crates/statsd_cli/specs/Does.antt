@@ -8,7 +8,7 @@ use Rattle.config_check.specs.Checks.{Checks}
 use Rattle.report_print.specs.declared.error.PrintError.{PrintError}
 use Rattle.report_print.specs.Prints.{Prints}
 use Rattle.statsd_cli.specs.declared.command.Command.{Command}
-use Rattle.statsd_cli.specs.declared.command.Command.TheVariants.{Replay, Check, Show, Load, Unknown}
+use Rattle.statsd_cli.specs.declared.command.Command.TheVariants.{Replay, Check, Show, Save, Resume, Load, Unknown}
 use Rattle.statsd_cli.specs.declared.ending.Ending.{Ending}
 use Rattle.statsd_cli.specs.declared.ending.Ending.TheVariants.{Usage}
 use Rattle.statsd_cli.specs.Endings.{status_of, IsNoted}
@@ -16,6 +16,8 @@ use Rattle.statsd_cli.specs.Check.{check_ending}
 use Rattle.statsd_cli.specs.Show.{print_ending}
 use Rattle.statsd_cli.specs.Load.{IsLoaded}
 use Rattle.statsd_cli.specs.Run.{IsRun}
+use Rattle.statsd_cli.specs.Save.{IsSessionSaved}
+use Rattle.statsd_cli.specs.Resume.{IsResumed}
 use Rattle.statsd_cli.specs.Streams.{Streams}
 
 -- A check ended by its answer.
@@ -40,6 +42,8 @@ abbrev pub Did : Command → Ports → Ports → Ending → Type 0
 Did Replay old new ending = IsRun old new ending
 Did Check old new ending = IsChecked old new ending
 Did Show old new ending = IsReportShown old new ending
+Did Save old new ending = IsSessionSaved old new ending
+Did Resume old new ending = IsResumed old new ending
 Did (Load seed frames) old new ending = IsLoaded seed frames old new ending
 Did Unknown old new ending = IsUsage old new ending
 

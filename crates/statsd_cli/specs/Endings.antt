@@ -3,7 +3,7 @@ use Rattle.std.specs.Prelude.{ℕ, ◌⊎◌}
 use Rattle.sd_io.specs.States.{Output}
 use Rattle.sd_io.specs.Causes.{Gains, GainsFront, Rose}
 use Rattle.statsd_cli.specs.declared.ending.Ending.{Ending}
-use Rattle.statsd_cli.specs.declared.ending.Ending.TheVariants.{Done, Refused, Usage, BadSession, ReadFault, WriteFault, NoMemory, ReportRefused}
+use Rattle.statsd_cli.specs.declared.ending.Ending.TheVariants.{Done, Refused, Usage, BadSession, ReadFault, WriteFault, NoMemory, ReportRefused, SaveRefused}
 use Rattle.statsd_cli.specs.Note.{note_line}
 
 -- the program's status by why it ends
@@ -38,6 +38,10 @@ status_no_memory = 6
 abbrev pub status_report_refused : ℕ
 status_report_refused = 7
 
+-- the session isn't saved, or the bytes are no saved form
+abbrev pub status_save_refused : ℕ
+status_save_refused = 8
+
 -- the status of an ending
 abbrev pub status_of : Ending → ℕ
 status_of Done = status_done
@@ -48,6 +52,7 @@ status_of ReadFault = status_read_fault
 status_of WriteFault = status_write_fault
 status_of NoMemory = status_no_memory
 status_of (ReportRefused fault) = status_report_refused
+status_of (SaveRefused fault) = status_save_refused
 
 -- the notes gained what is told of the ending, whole, or a front of it where their count of faults rose
 abbrev pub IsNoted : Output → Output → Ending → Type 0

@@ -2,10 +2,14 @@ pub mod Note
 pub mod Endings
 pub mod Commands
 pub mod Streams
+pub mod More
+pub mod Form
 pub mod Run
-pub mod Along
+pub mod Serving
+pub mod Save
 pub mod Check
 pub mod Show
+pub mod Resume
 pub mod Load
 pub mod Does
 pub mod Completes

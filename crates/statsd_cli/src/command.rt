@@ -15,6 +15,10 @@ pub enum Command {
     Check,
     /// The report on the input is printed as JSON.
     Show,
+    /// The hub of the session on the input is saved on the output.
+    Save,
+    /// The session whose saved form the input begins with goes on: what is after it is answered on the output.
+    Resume,
     /// The session of this seed, with so many frames of the log, is answered, and its replies are counted.
     Load { seed: u64, frames: u64 },
     /// The words are those of no command.
@@ -40,7 +44,12 @@ impl Command {
     pub fn reads_input(&self) -> bool
         ensures { result ≡ reads_input self.now }
     {
-        matches!(self, Command::Replay | Command::Check | Command::Show)
+        match self {
+            Command::Replay | Command::Check | Command::Show | Command::Save | Command::Resume => {
+                true
+            }
+            Command::Load { .. } | Command::Unknown => false,
+        }
     }
 
     /// The command of one word.
@@ -56,6 +65,12 @@ impl Command {
         }
         if word == b"show".as_slice() {
             return Command::Show;
+        }
+        if word == b"save".as_slice() {
+            return Command::Save;
+        }
+        if word == b"resume".as_slice() {
+            return Command::Resume;
         }
         Command::Unknown
     }

@@ -8,7 +8,7 @@ use session_frames::SessionFault;
 /// How a command ended.
 #[derive(Clone, Copy)]
 pub enum Ending {
-    /// The session was answered to its end, the configuration has no fault, or the report was printed.
+    /// The session was answered or saved to its end, the configuration has no fault, or the report was printed.
     Done,
     /// The configuration is refused.
     Refused,
@@ -24,9 +24,22 @@ pub enum Ending {
     NoMemory,
     /// The bytes are no report, for this reason.
     ReportRefused(ReportFault),
+    /// The session isn't saved, or the bytes are no saved form, for this reason.
+    SaveRefused(SaveFault),
 }
 
-/// The session was answered to its end, the configuration has no fault, or the report was printed.
+/// Why a session isn't saved, or none is resumed.
+#[derive(Clone, Copy)]
+pub enum SaveFault {
+    /// The input ended before the saved form was whole.
+    Cut,
+    /// The saved form has so many bytes, which are too many.
+    TooLong(u64),
+    /// The bytes are the saved form of no hub.
+    NotSaved,
+}
+
+/// The session was answered or saved to its end, the configuration has no fault, or the report was printed.
 pub const STATUS_DONE: u8 = 0;
 
 /// The configuration is refused.
@@ -50,6 +63,9 @@ pub const STATUS_NO_MEMORY: u8 = 6;
 /// The bytes are no report.
 pub const STATUS_REPORT_REFUSED: u8 = 7;
 
+/// The session isn't saved, or the bytes are no saved form.
+pub const STATUS_SAVE_REFUSED: u8 = 8;
+
 impl Ending {
     /// The program's status.
     pub fn status(&self) -> u8
@@ -64,6 +80,7 @@ impl Ending {
             Ending::WriteFault => STATUS_WRITE_FAULT,
             Ending::NoMemory => STATUS_NO_MEMORY,
             Ending::ReportRefused(_) => STATUS_REPORT_REFUSED,
+            Ending::SaveRefused(_) => STATUS_SAVE_REFUSED,
         }
     }
 }

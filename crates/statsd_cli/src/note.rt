@@ -5,7 +5,7 @@ ghost use Rattle.sd_io.specs.Causes.{IsPut};
 ghost use Rattle.statsd_cli.specs.Endings.{IsNoted};
 ghost use Rattle.statsd_cli.specs.Note.{fault_text, note_line};
 
-use crate::Ending;
+use crate::{Ending, SaveFault};
 use arrayvec::ArrayString;
 use report_print::ReportFault;
 use sd_io::{Sink, WriteFailed};
@@ -38,7 +38,9 @@ impl Ending {
         match self {
             Ending::Done => Line::new(),
             Ending::Refused => line("statsd: configuration refused\n"),
-            Ending::Usage => line("statsd: usage: replay | check | load SEED FRAMES | show\n"),
+            Ending::Usage => {
+                line("statsd: usage: replay | check | load SEED FRAMES | show | save | resume\n")
+            }
             Ending::BadSession { at, fault } => bad_session(*at, fault),
             Ending::ReadFault => line("statsd: read fault\n"),
             Ending::WriteFault => line("statsd: write fault\n"),
@@ -49,6 +51,7 @@ impl Ending {
             Ending::ReportRefused(ReportFault::NotReport) => {
                 line("statsd: report refused: not a report\n")
             }
+            Ending::SaveRefused(fault) => save_refused(fault),
         }
     }
 }
@@ -69,6 +72,20 @@ fn bad_session(at: u64, fault: &SessionFault) -> Line
     push_counted(&mut line, "statsd: bad session at ", at);
     line.push_str(": ");
     push_fault(&mut line, fault);
+    line.push_str("\n");
+    line
+}
+
+fn save_refused(fault: &SaveFault) -> Line
+    ensures { result.bytes ≡ note_line (Ending.SaveRefused fault.now) }
+{
+    let mut line = Line::new();
+    line.push_str("statsd: save refused: ");
+    match fault {
+        SaveFault::Cut => line.push_str("cut"),
+        SaveFault::TooLong(size) => push_counted(&mut line, "too long ", *size),
+        SaveFault::NotSaved => line.push_str("not saved"),
+    }
     line.push_str("\n");
     line
 }

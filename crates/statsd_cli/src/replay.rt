@@ -1,25 +1,17 @@
-//! The run of a session: one frame after the other is read and served, and its reply is put.
-ghost use Rattle.std.specs.Prelude.{◌≡◌, ◌<◌, ◌≤◌, List, [], ◌∷◌, ◌++◌, OnOk};
+//! The word `replay`: a session is answered, one frame after the other.
+ghost use Rattle.std.specs.Prelude.{◌≡◌, ◌<◌, ◌≤◌};
 ghost use Rattle.sd_io.specs.States.{ports};
 ghost use Rattle.sd_io.specs.Causes.{IsPut};
-ghost use Rattle.session_frames.specs.declared.frame.Frame.{Frame};
-ghost use Rattle.session_frames.specs.declared.frame.Frame.TheVariants.{Log};
-ghost use Rattle.session_frames.specs.Faultless.{IsFaultlessLog};
-ghost use Rattle.session_frames.specs.Frames.{log_time};
-ghost use Rattle.session_frames.specs.LogRooms.{frame_in};
-ghost use Rattle.matcher_eval.specs.AtomTests.{matcher_holds};
-ghost use Rattle.hub_meaning.specs.SessionLog.{clock_of};
-ghost use Rattle.hub_core.specs.HubStands.{HubStandsFor};
-ghost use Rattle.statsd_cli.specs.Run.{IsRun, bytes_if_any, ending_by};
-ghost use Rattle.statsd_cli.specs.Along.{GoesOn};
+ghost use Rattle.statsd_cli.specs.More.{bytes_if_any};
+ghost use Rattle.statsd_cli.specs.Run.{IsRun, IsRunFrom};
+ghost use Rattle.statsd_cli.specs.Serving.{tells_after, HasReadNothing, AnswersOn};
 
 use crate::Ending;
+use crate::serving::{Serving, Step};
 use condition_links::Steps;
-use hub_core::Hub;
-use matcher_eval::FieldJudge;
 use sd_io::{Sink, Source, WriteFailed};
-use session_frames::{FrameError, FrameReader, LogKind, LogRoom, Reply, write_reply};
-use std::alloc::{AllocError, Global};
+use session_frames::{Reply, write_reply};
+use std::alloc::Global;
 use std::marker::Brand;
 use std::sync::ledger::{Blank, Ledger};
 
@@ -44,95 +36,47 @@ fn counted_replay<S: Source, K: Sink, L: Ledger>(
     ensures { IsRun (ports (S.state input.old) (K.state out.old))
         (ports (S.state input.new) (K.state out.new)) result }
 {
-    let mut reader = FrameReader::new(alloc);
-    let mut hub = Hub::new(alloc, FieldJudge::new());
+    let mut serving = Serving::new(alloc);
     let mut asks: Steps<L> = Steps::new(blank);
-    let mut room = LogRoom::new(alloc);
+    answer_all(&mut serving, &mut asks, input, out)
+}
+
+/// Answers a session from its beginning to its end, wherever that is in the log.
+pub(crate) fn answer_all<S: Source, K: Sink, L: Ledger>(
+    serving: &mut Serving,
+    asks: &mut Steps<L>,
+    input: &mut S,
+    out: &mut K,
+) -> Ending
+    requires { HasReadNothing serving.old }
+    ensures { IsRunFrom serving.old.reader.place.clock (tells_after serving.old.hub)
+        (ports (S.state input.old) (K.state out.old))
+        (ports (S.state input.new) (K.state out.new)) result }
+{
     'frames: loop {
-        if let Some(ending) = go_on(&mut reader, &mut hub, &mut room, &mut asks, input, out) {
+        if let Some(ending) = answer_next(serving, asks, input, out) {
             return ending;
         }
     }
 }
 
-/// One frame more. The answer is how the run ends, if it does. A frame of the log that stands whole in what the input
-/// holds is lent to the hub where the last one stood, and has no reply.
-#[inline(always)]
-fn go_on<S: Source, K: Sink, L: Ledger>(
-    reader: &mut FrameReader,
-    hub: &mut Hub<FieldJudge>,
-    room: &mut LogRoom,
+/// The reply to one frame more is put, if it has one. The answer is how the run ends, if it does.
+fn answer_next<S: Source, K: Sink, L: Ledger>(
+    serving: &mut Serving,
     asks: &mut Steps<L>,
     input: &mut S,
     out: &mut K,
 ) -> Option<Ending>
-    ensures { GoesOn (S.state input.old) (S.state input.new) (K.state out.old) (K.state out.new)
-        reader.old reader.new hub.old hub.new result }
+    ensures { AnswersOn (ports (S.state input.old) (K.state out.old))
+        (ports (S.state input.new) (K.state out.new)) serving.old serving.new result }
 {
-    match reader.take_log(input, room) {
-        Some(kind) => match log(hub, room, kind, asks) {
-            Ok(()) => None,
-            Err(_) => Some(Ending::NoMemory),
-        },
-        None => answer(reader, hub, asks, input, out),
-    }
-}
-
-/// The hub takes in the frame of this kind.
-#[inline(always)]
-fn log<L: Ledger>(
-    hub: &mut Hub<FieldJudge>,
-    room: &mut LogRoom,
-    kind: LogKind,
-    asks: &mut Steps<L>,
-) -> Result<(), AllocError>
-    requires faultless { IsFaultlessLog (frame_in kind room.old) }
-    ensures stands { (frames : List Frame) → HubStandsFor matcher_holds hub.old frames
-        → clock_of frames ≤ log_time (frame_in kind room.old)
-        → OnOk result (HubStandsFor matcher_holds hub.new (frames ++ Log (frame_in kind room.old) ∷ [])) }
-{
-    match kind {
-        LogKind::Tick => hub.log(&mut room.tick, asks),
-        LogKind::Atom => hub.log(&mut room.atom, asks),
-    }
-}
-
-/// One frame more, whatever it is, and its reply, if it has one.
-#[inline(never)]
-fn answer<S: Source, K: Sink, L: Ledger>(
-    reader: &mut FrameReader,
-    hub: &mut Hub<FieldJudge>,
-    asks: &mut Steps<L>,
-    input: &mut S,
-    out: &mut K,
-) -> Option<Ending>
-    ensures { GoesOn (S.state input.old) (S.state input.new) (K.state out.old) (K.state out.new)
-        reader.old reader.new hub.old hub.new result }
-{
-    let read = match reader.read(input) {
-        Ok(read) => read,
-        Err(e) => return Some(ending_of(e)),
-    };
-    let Some(frame) = read else {
-        return Some(Ending::Done);
-    };
-    let Ok(reply) = hub.serve(frame, asks) else {
-        return Some(Ending::NoMemory);
+    let reply = match serving.step(asks, input) {
+        Step::Served(reply) => reply,
+        Step::Ended(ending) => return Some(ending),
     };
     match put_reply(reply, out) {
         Ok(()) => None,
         Err(_) => Some(Ending::WriteFault),
-    }
-}
-
-/// Why a run ends where the reader gave no frame.
-fn ending_of(e: FrameError) -> Ending
-    ensures { result ≡ ending_by e }
-{
-    match e {
-        FrameError::Session { at, fault } => Ending::BadSession { at, fault },
-        FrameError::Read => Ending::ReadFault,
-        FrameError::Memory => Ending::NoMemory,
     }
 }
 

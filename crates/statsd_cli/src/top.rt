@@ -1,5 +1,5 @@
-//! The top call, and each command: the run of a session, the check of a configuration, the print of a report, and a
-//! session of its own.
+//! The top call, and each command: the run of a session, its saved form and how it goes on from there, the check of a
+//! configuration, the print of a report, and a session of its own.
 ghost use Rattle.std.specs.Prelude.{◌≡◌, ℕ};
 ghost use Rattle.sd_io.specs.States.{ports};
 ghost use Rattle.matcher_eval.specs.AtomTests.{matcher_holds};
@@ -14,6 +14,8 @@ ghost use Rattle.statsd_cli.specs.Completes.{Completes};
 use crate::load::load;
 use crate::note::tell;
 use crate::replay::replay;
+use crate::resume::resume;
+use crate::save::save;
 use crate::{Command, Ending};
 use atom_record::Bytes;
 use config_check::{CheckError, Finding, check_config};
@@ -24,8 +26,10 @@ use std::alloc::Global;
 /// Does what the words ask for, and gives the program's status. The words are those of the command line without the
 /// program's name. `replay` answers the session on `input` on `out`; `check` tells on `out`, in one line, whether the
 /// configuration on `input` has a fault; `show` writes the report on `input` to `out` as one line of JSON; `load`
-/// answers a session of its own, and tells on `out`, in one line, how much that came to. Why it ended with another
-/// status than 0 is told in one line on `notes`.
+/// answers a session of its own, and tells on `out`, in one line, how much that came to; `save` serves the session on
+/// `input`, and writes to `out` the bytes of all that it came to; `resume` takes such bytes from `input`, and answers
+/// on `out` what comes after them as the saved session would go on. Why it ended with another status than 0 is told in
+/// one line on `notes`.
 #[tactic(auto, using(hub_meaning::proofs::ClientIsolationLemmas::equal_own_frames))]
 pub fn statsd_top<S: Source, K: Sink, E: Sink>(
     alloc: Global,
@@ -74,6 +78,8 @@ fn obey<S: Source, K: Sink>(alloc: Global, command: Command, input: &mut S, out:
         Command::Replay => replay(alloc, input, out),
         Command::Check => check(alloc, input, out),
         Command::Show => show(alloc, input, out),
+        Command::Save => save(alloc, input, out),
+        Command::Resume => resume(alloc, input, out),
         Command::Load { seed, frames } => load(alloc, seed, frames, out),
         Command::Unknown => Ending::Usage,
     }

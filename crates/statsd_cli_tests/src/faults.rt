@@ -2,7 +2,7 @@
 use super::ahead::{Faulty, faulty_of};
 use super::outcomes::{Outcome, compare, outcome_of, words_of};
 use super::streams::{AMPLE, Streams, faults_of};
-use super::wanted::Wanted;
+use super::wanted::{Wanted, words_in};
 use atom_record::Bytes;
 use std::alloc::{AllocError, Global};
 use test_tools::{Row, Tester};
@@ -20,6 +20,8 @@ struct Session<'a> {
     words: &'a [Bytes],
     input: &'a [u8],
     wanted: &'a Wanted,
+    /// Whether all is written at the end: the saved form.
+    is_saved: bool,
 }
 
 /// Runs a session once with each read that fails, and once with each write that does, as many as the row says, over each
@@ -31,11 +33,12 @@ pub fn run_faults(
     input: &[u8],
     wanted: &Wanted,
 ) -> Result<(), AllocError> {
-    let words = words_of(alloc, "replay")?;
+    let words = words_of(alloc, words_in(row))?;
     let session = Session {
         words: words.as_slice(),
         input,
         wanted,
+        is_saved: row.has("form"),
     };
     for call in 0..faults_of(row) {
         for ahead in HELD {
@@ -69,8 +72,8 @@ fn run_fault(
     compare_write(tester, session, &run)
 }
 
-/// A run whose read failed ends with the status of that, and has answered what a session is answered that ends there. One
-/// that had no such read ends as the row says.
+/// A run whose read failed ends with the status of that, and has answered what a session is answered that ends there, or
+/// saved nothing. One that had no such read ends as the row says.
 fn compare_read(
     alloc: Global,
     tester: &mut Tester,
@@ -87,6 +90,9 @@ fn compare_read(
         READ_FAULT,
         "statsd: read fault\n",
     )?;
+    if session.is_saved {
+        return tester.holds("nothing is written", run.outcome.replies.is_empty());
+    }
     let cut = Streams {
         len: run.read,
         ..Streams::AMPLE

@@ -2,7 +2,10 @@
 #![tactic(auto)]
 
 mod ahead;
+mod bent;
+mod cuts;
 mod faults;
+mod forms;
 mod notes;
 mod outcomes;
 mod pieces;

@@ -3,7 +3,7 @@ use super::wanted::line_of;
 use report_print::ReportFault;
 use sd_io::MemSink;
 use session_frames::SessionFault;
-use statsd_cli::{Ending, write_note};
+use statsd_cli::{Ending, SaveFault, write_note};
 use std::alloc::{AllocError, Global};
 use test_tools::{Row, Tester, unsigned};
 
@@ -18,7 +18,18 @@ fn note_of(text: &str) -> Option<Ending> {
         "no_memory" => Some(Ending::NoMemory),
         "report_too_long" => Some(Ending::ReportRefused(ReportFault::TooLong)),
         "no_report" => Some(Ending::ReportRefused(ReportFault::NotReport)),
-        _ => bad_session(text.strip_prefix("bad_session ")?),
+        "save_cut" => Some(Ending::SaveRefused(SaveFault::Cut)),
+        "not_saved" => Some(Ending::SaveRefused(SaveFault::NotSaved)),
+        _ => with_numbers(text),
+    }
+}
+
+/// The note of a text with numbers.
+fn with_numbers(text: &str) -> Option<Ending> {
+    match text.split_once(' ')? {
+        ("save_too_long", size) => Some(Ending::SaveRefused(SaveFault::TooLong(unsigned(size)?))),
+        ("bad_session", numbers) => bad_session(numbers),
+        _ => None,
     }
 }
 

@@ -1,10 +1,14 @@
 //! The rows: sessions and configurations, and what they leave.
+use super::bent::run_bent;
+use super::cuts::{run_cuts, run_middle_cut};
 use super::faults::run_faults;
 use super::notes::run_note;
 use super::outcomes::{compare, outcome_of, words_of};
 use super::std_streams::std_outcome_of;
-use super::streams::{AMPLE, HELD, Streams, held_rounds, misspelled, rounds, streams_at};
-use super::wanted::{Wanted, input_of, wanted_of};
+use super::streams::{
+    AMPLE, HELD, MOST_IN_PIECES, Streams, has_streams, held_rounds, misspelled, rounds, streams_at,
+};
+use super::wanted::{Wanted, input_of, wanted_of, words_in};
 use std::alloc::{AllocError, Global};
 use test_tools::{Row, Table, Tester};
 
@@ -14,7 +18,7 @@ pub struct Sessions;
 impl Table for Sessions {
     fn marks(&self) -> &'static str {
         "> < words config report json line status note len piece failed_read room failed_put \
-         note_room failed_note ahead each_fault reader writer write"
+         note_room failed_note ahead each_fault saved form bent reader writer write"
     }
 
     fn run(&self, alloc: Global, tester: &mut Tester, row: &Row<'_>) -> Result<(), AllocError> {
@@ -29,10 +33,10 @@ impl Table for Sessions {
 }
 
 fn run_session(alloc: Global, tester: &mut Tester, row: &Row<'_>) -> Result<(), AllocError> {
-    let Some(wanted) = wanted_of(alloc, tester, row)? else {
+    let Some(input) = input_of(alloc, tester, row)? else {
         return Ok(());
     };
-    let Some(input) = input_of(alloc, tester, row)? else {
+    let Some(wanted) = wanted_of(alloc, tester, row, input.as_slice())? else {
         return Ok(());
     };
     if row.has("reader") || row.has("writer") {
@@ -46,7 +50,32 @@ fn run_session(alloc: Global, tester: &mut Tester, row: &Row<'_>) -> Result<(), 
     for held in HELD {
         run_held(alloc, tester, row, input.as_slice(), &wanted, *held)?;
     }
-    Ok(())
+    run_saved(alloc, tester, row, input.as_slice(), &wanted)
+}
+
+/// Runs a session cut, after each of its frames where it is short, and over changed saved forms, where its row says so.
+fn run_saved(
+    alloc: Global,
+    tester: &mut Tester,
+    row: &Row<'_>,
+    input: &[u8],
+    wanted: &Wanted,
+) -> Result<(), AllocError> {
+    if row.has("bent") {
+        run_bent(alloc, tester, input)?;
+    }
+    if words_in(row) != "replay" || !may_be_cut(row, wanted) {
+        return Ok(());
+    }
+    if input.len() > MOST_IN_PIECES {
+        return run_middle_cut(alloc, tester, input, wanted);
+    }
+    run_cuts(alloc, tester, input, wanted)
+}
+
+/// Whether a session is cut: it is good to its end, and its row speaks of no stream.
+fn may_be_cut(row: &Row<'_>, wanted: &Wanted) -> bool {
+    wanted.status == 0 && !has_streams(row)
 }
 
 /// Runs a row over a source that holds so many bytes at most.
@@ -77,7 +106,7 @@ fn run_round(
     wanted: &Wanted,
     streams: &Streams,
 ) -> Result<(), AllocError> {
-    let words = words_of(alloc, row.line("words").unwrap_or("replay"))?;
+    let words = words_of(alloc, words_in(row))?;
     let outcome = outcome_of(alloc, words.as_slice(), input, streams)?;
     compare(tester, wanted, streams.room, streams.note_room, &outcome)
 }

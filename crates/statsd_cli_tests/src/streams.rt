@@ -5,7 +5,7 @@ use test_tools::{Row, unsigned};
 pub const AMPLE: usize = 1 << 22;
 
 /// A session with at most so many bytes is read in pieces, too, where its row speaks of no stream.
-const MOST_IN_PIECES: usize = 4096;
+pub const MOST_IN_PIECES: usize = 4096;
 
 /// How the streams of a run give, take and fail.
 #[derive(Clone, Copy)]
@@ -174,7 +174,7 @@ fn piece_at(row: &Row<'_>, round: u64) -> usize {
 }
 
 /// Whether a row speaks of a stream.
-fn has_streams(row: &Row<'_>) -> bool {
+pub fn has_streams(row: &Row<'_>) -> bool {
     for mark in MARKS {
         if row.has(mark) {
             return true;

@@ -1,4 +1,6 @@
 //! What a row is run on, and what it should leave.
+use super::forms::{LONG, form_of, joined};
+use super::streams::Streams;
 use std::alloc::{AllocError, Global};
 use test_tools::{Row, Tester, unsigned};
 
@@ -15,8 +17,9 @@ pub fn wanted_of(
     alloc: Global,
     tester: &mut Tester,
     row: &Row<'_>,
+    input: &[u8],
 ) -> Result<Option<Wanted>, AllocError> {
-    let Some(replies) = replies_of(alloc, tester, row)? else {
+    let Some(replies) = replies_of(alloc, tester, row, input)? else {
         return Ok(None);
     };
     let note = line_of(alloc, row, "note")?;
@@ -38,12 +41,27 @@ fn status_of(row: &Row<'_>) -> Option<u64> {
     }
 }
 
-/// The bytes of the replies, or of the line that `check`, `show` or `load` writes.
+/// The words of the command line, where a row says them, and else what its marks ask for.
+pub fn words_in<'a>(row: &Row<'a>) -> &'a str {
+    if row.has("saved") {
+        return row.line("words").unwrap_or("resume");
+    }
+    if row.has("form") {
+        return row.line("words").unwrap_or("save");
+    }
+    row.line("words").unwrap_or("replay")
+}
+
+/// The bytes of the replies, or of the line that `check`, `show` or `load` writes, or a saved form.
 fn replies_of(
     alloc: Global,
     tester: &mut Tester,
     row: &Row<'_>,
+    input: &[u8],
 ) -> Result<Option<Vec<u8>>, AllocError> {
+    if row.has("form") {
+        return form_within(alloc, tester, row, input);
+    }
     if row.has("json") {
         return Ok(Some(json_of(alloc, row)?.into_bytes()));
     }
@@ -52,6 +70,23 @@ fn replies_of(
     }
     let text = row.text(alloc, "<")?;
     tester.bytes(text.as_str())
+}
+
+/// The saved form of a session, which has so many bytes at most as its row says.
+fn form_within(
+    alloc: Global,
+    tester: &mut Tester,
+    row: &Row<'_>,
+    input: &[u8],
+) -> Result<Option<Vec<u8>>, AllocError> {
+    let form = form_of(alloc, tester, input, &Streams::AMPLE)?;
+    let size = form.len().saturating_sub(LONG) as u64;
+    let most = unsigned(row.word("form"));
+    tester.holds(
+        "a form within its length",
+        most.is_some_and(|most| size <= most),
+    )?;
+    Ok(Some(form))
 }
 
 /// A line and its end, or nothing where a row doesn't have it.
@@ -75,7 +110,7 @@ fn json_of(alloc: Global, row: &Row<'_>) -> Result<String, AllocError> {
     Ok(line)
 }
 
-/// The bytes that a row is run on: a configuration, a report or a session.
+/// The bytes that a row is run on: a configuration, a report, a session, or what comes after a saved form.
 pub fn input_of(
     alloc: Global,
     tester: &mut Tester,
@@ -90,5 +125,26 @@ pub fn input_of(
         return tester.bytes_of("reports", text.as_str());
     }
     let text = row.text(alloc, ">")?;
-    tester.bytes(text.as_str())
+    let Some(bytes) = tester.bytes(text.as_str())? else {
+        return Ok(None);
+    };
+    if row.has("saved") {
+        return after_form(alloc, tester, row, bytes.as_slice());
+    }
+    Ok(Some(bytes))
+}
+
+/// These bytes after the saved form of the session that a row says.
+fn after_form(
+    alloc: Global,
+    tester: &mut Tester,
+    row: &Row<'_>,
+    bytes: &[u8],
+) -> Result<Option<Vec<u8>>, AllocError> {
+    let text = row.text(alloc, "saved")?;
+    let Some(session) = tester.bytes(text.as_str())? else {
+        return Ok(None);
+    };
+    let form = form_of(alloc, tester, session.as_slice(), &Streams::AMPLE)?;
+    Ok(Some(joined(alloc, form.as_slice(), bytes)?))
 }

@@ -3,7 +3,7 @@ ghost use Rattle.std.specs.Prelude.{◌≡◌, ◌<◌, ◌^◌, ◌++◌, List,
 ghost use Rattle.flat_form.specs.Savable.{AreSavable};
 ghost use Rattle.hub_meaning.specs.SessionLog.{clock_of};
 ghost use Rattle.session_frames.specs.declared.frame.Frame.{Frame};
-ghost use Rattle.hub_core.specs.SavedHubs.{saved_items, IsSavedHub};
+ghost use Rattle.hub_core.specs.SavedHubs.{saved_items, IsSavedHub, MayBeLive};
 ghost use Rattle.hub_core.specs.HubStands.{judge_of};
 ghost use Rattle.hub_core.specs.HubSaving.{saved_of, RestoresHub};
 
@@ -46,6 +46,13 @@ impl<J: Judge> Hub<J> {
         ensures judge { judge_of self.new ≡ judge_of self.old }
     {
         self.lives.settle(self.clock)
+    }
+
+    /// Of what is live no name comes twice, and no client has more than ten. It does nothing when it runs.
+    pub fn show_live(&self)
+        ensures { MayBeLive (saved_of self.now).lives }
+    {
+        self.lives.show_live();
     }
 
     /// The items of the hub: the last moment of the log, the two books, and what is live, each with the bytes of its

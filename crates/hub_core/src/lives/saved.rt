@@ -67,8 +67,8 @@ impl Lives {
         Ok(lives)
     }
 
-    // What is live may be.
-    fn show_live(&self)
+    /// What is live may be: no name comes twice, and no client has too many. It does nothing when it runs.
+    pub fn show_live(&self)
         ensures { MayBeLive (saved_rows self.now.slots.entries) }
     {
         let _len = self.slots.len();

@@ -3,7 +3,7 @@ use Rattle.std.proofs.Common.{sym, ap, ◌∙◌, subst}
 use Rattle.std.proofs.lemmas.List.{append-nil}
 use Rattle.sd_io.specs.Causes.{IsPut}
 use Rattle.session_frames.specs.Replies.{reply_bytes}
-use Rattle.statsd_cli.specs.Run.{bytes_if_any}
+use Rattle.statsd_cli.specs.More.{bytes_if_any}
 use Rattle.statsd_cli.proofs.replay.put_reply.Goals as goal
 
 pub returns-in-Some : goal.returns-in-Some

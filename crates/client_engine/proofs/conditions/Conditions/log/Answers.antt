@@ -1,4 +1,4 @@
-use Rattle.std.proofs.Common.{◌≡◌, ℕ, length, arith}
+use Rattle.std.proofs.Common.{◌≡◌, length, arith}
 use Rattle.client_engine.specs.NextSteps.{logged_step}
 use Rattle.client_engine.proofs.KeptPredicatesLemmas.{knows_none}
 use Rattle.client_engine.proofs.conditions.Conditions.log.Goals as goal

@@ -1,11 +1,10 @@
-use Rattle.std.proofs.Common.{◌≡◌, ◌∙◌, Bool, List, ℕ, length, ap, sym, subst, arith}
+use Rattle.std.proofs.Common.{◌≡◌, ◌∙◌, Bool, List, ℕ, ap, sym, subst}
 use Rattle.config_links.specs.declared.linked.LPredicate.{LPredicate}
 use Rattle.metric_meaning.specs.Histories.{truth_at}
 use Rattle.predicate_state.specs.PredicateTable.{PredicateTable}
 use Rattle.client_engine.specs.KeptPredicates.{HaveTheirSpecs, acting_matchers, tables_with}
 use Rattle.client_engine.specs.Lists.{AreListed, places_under}
 use Rattle.client_engine.specs.Marks.{AreAllMarked}
-use Rattle.client_engine.specs.NextSteps.{logged_step}
 use Rattle.client_engine.proofs.KeptPredicatesLemmas.{knows_atom, as_many, all_acted}
 use Rattle.client_engine.proofs.TracksLemmas.{whole}
 use Rattle.client_engine.proofs.conditions.Conditions.log_some.Goals as goal

@@ -1,0 +1,4 @@
+pub mod RowsApart
+mod DifferentLemmas
+mod LiveRows
+mod QuestionsWithin
