@@ -160,7 +160,8 @@ fn text_of(alloc: Global, bytes: &[u8]) -> Result<(Bytes, &[u8]), AtomFault>
     Ok((Seq::from_slice(alloc, text)?, rest))
 }
 
-// A value of this kind.
+// A value of this kind. Each atom of the log is read by it: it is a part of that loop, though others call it, too.
+#[inline(always)]
 #[tactic(auto, unfolding(crate::specs::AtomReading::value_at))]
 pub(crate) fn value_of(alloc: Global, kind: Kind, bytes: &[u8]) -> Result<(Value, &[u8]), AtomFault>
     ensures { GivesBy reason_of (λ x. (x.0, x.1.now)) result (value_at kind bytes.now) }

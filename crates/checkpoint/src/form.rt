@@ -7,10 +7,9 @@ ghost use Rattle.hub_core.specs.HubSaving.{saved_of};
 ghost use Rattle.checkpoint.specs.Forms.{saved_bytes, StandsForAllSaved};
 ghost use Rattle.checkpoint.specs.Saves.{Saves, Resumes, UnlessShort};
 
-use crate::range::fit_items;
 use crate::{ResumeError, SaveError};
 use atom_record::Bytes;
-use flat_form::{decode_items, encode_items, spelled_len};
+use flat_form::{decode_items, encode_items, fit_items, spelled_len};
 use hub_core::Hub;
 use matcher_eval::Judge;
 use std::alloc::{AllocError, Global};
@@ -34,15 +33,15 @@ pub fn save<J: Judge>(alloc: Global, hub: &mut Hub<J>) -> Result<Bytes, SaveErro
 {
     hub.settle()?;
     let items = hub.flatten(alloc)?;
-    fit_items(items.as_slice());
+    fit_items(&items);
     let size = spelled_len(&items);
     if size > MOST_SAVED {
         return Err(SaveError::TooLong(size));
     }
-    Ok(encode_items(alloc, &items)?)
+    Ok(encode_items(alloc, items)?)
 }
 
-/// The hub of a saved form. The bytes are let go as soon as they are read.
+/// The hub of a saved form.
 pub fn resume<J: Judge>(alloc: Global, judge: J, bytes: Bytes) -> Result<Hub<J>, ResumeError>
     ensures resumes { Resumes bytes result }
 
@@ -50,7 +49,6 @@ pub fn resume<J: Judge>(alloc: Global, judge: J, bytes: Bytes) -> Result<Hub<J>,
     ensures stands { IfOk result (StandsForAllSaved J.says bytes) }
     ensures judge { IfOk result (λ hub. judge_of hub ≡ judge) }
 {
-    let items = decode_items(alloc, bytes.as_slice())?;
-    drop(bytes);
+    let items = decode_items(alloc, bytes)?;
     Ok(Hub::build(alloc, judge, &items)?)
 }

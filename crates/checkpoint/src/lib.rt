@@ -3,7 +3,6 @@
 
 mod error;
 mod form;
-mod range;
 
 pub use error::{ResumeError, SaveError};
 pub use form::{MOST_SAVED, resume, save};

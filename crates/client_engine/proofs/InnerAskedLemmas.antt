@@ -25,7 +25,8 @@ none_at_all true before after off few = absurd (false≢true (sym off))
 none_at_all false before after off few = omega (arith, few)
 
 module _ {K : Type 0} (stands : K → DurationParams → List DurationCall → Type 0) (keys : K) (stays : Stays) where
-  -- for the places before this one: at most one question for each, and one for all; none where the truth of each key stays
+  -- for the places before this one: at most one question for each, and one for all; none where the truth of each key
+  -- stays
   pub record AsksSoFar (place before after : ℕ) : Type 0 where
     pub few : after ≤ before + (1 + place)
     pub kept : (params : DurationParams) (calls : List DurationCall) → stands keys params calls

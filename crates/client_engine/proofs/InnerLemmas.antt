@@ -132,8 +132,8 @@ pub no_calls : {P Params Event After X K C V : Type 0} (law : Law P Params Event
     (lane : Lane P Event After V) → GetsCalls law lane lane []
 no_calls law lane params told calls has admitted = subst (LaneHas law lane params told) (sym (append-nil calls)) has
 
--- What is found of inner keys once an atom's event came: how many were listed before it, what stays by the two tests, and
--- what changed, where that stays.
+-- What is found of inner keys once an atom's event came: how many were listed before it, what stays by the two tests,
+-- and what changed, where that stays.
 pub record IsFoundAt {P X K C V : Type 0} (law : Law P DurationParams InnerEvent InnerDelta X K C (Row V))
     (metric : LMetric) (given : Handed) (truths : List Bool) (atom : Atom) (crossed middle : P) (listed : ℕ)
     (stays : Stays) (changes : List InnerChange) : Type 0 where

@@ -108,8 +108,8 @@ linked_stays matchers states alerts now old metrics_now metrics_old predicates m
     ap (λ ps. linked_with matchers states alerts ps metrics_now) predicates
     ∙ ap (linked_with matchers states alerts old) metrics
 
--- whatever history an instance stands for, a frame that may come next after it comes in time to its metrics, and what is
--- handed with it is what is found then
+-- whatever history an instance stands for, a frame that may come next after it comes in time to its metrics, and what
+-- is handed with it is what is found then
 pub instance_may_log : (old : Running) (known : Known) (shown : LogFrame) (truths : List Bool) (book : BookOfStates)
     → known.predicates ≡ old.known.predicates → KnowsStep (logged_step shown truths) old.known known
     → log_time shown < time_limit → (history : History) (frame : LogFrame) → InstanceStandsFor old history
@@ -140,8 +140,8 @@ instance_may_log old known shown truths book stays knows_step fits history frame
           (later, subst (λ t. t < time_limit) time fits);
     }
 
--- whatever steps the tracks stood for, a counter rises by no more than the questions of their metrics at a frame that may
--- come next with what is handed
+-- whatever steps the tracks stood for, a counter rises by no more than the questions of their metrics at a frame that
+-- may come next with what is handed
 abbrev pub TracksAsk : List Track → Handed → LogFrame → List Bool → ℕ → ℕ → Type 0
 TracksAsk tracks given shown truths before after =
     (installed : Installation) (steps : List Step) (frame : LogFrame) → AllStandFor installed steps tracks

@@ -56,8 +56,8 @@ module _ (installed : Installation) (metric : LMetric) (spec : PredSpec) (steps 
   abbrev step : Step
   step = record { at = time; what = Logged (AtomAt at atom); truths = truths }
 
-  -- an atom that doesn't act below the condition leaves its truth: it doesn't touch a metric that has this condition, and
-  -- times a predicate that isn't there
+  -- an atom that doesn't act below the condition leaves its truth: it doesn't touch a metric that has this condition,
+  -- and times a predicate that isn't there
   condition_left : acts_below installed.linked.predicates truths metric.condition ≡ false → (reading : LeafReading)
       → condition_truth installed.linked.predicates
       (tables_after installed.linked.predicates (steps ++ step ∷ [])) metric

@@ -13,8 +13,8 @@ use Rattle.client_engine.specs.Staying.{truth_kept}
 use Rattle.client_engine.specs.declared.brought.Brought.{Brought}
 use Rattle.client_engine.specs.declared.stays.Stays.{Stays}
 
--- whatever steps it stood for, if the frame that is brought may come next, a counter rises by no more than the questions
--- of these metrics at it
+-- whatever steps it stood for, if the frame that is brought may come next, a counter rises by no more than the
+-- questions of these metrics at it
 abbrev pub AsksFew : {A : Type 0} → (Installation → List Step → A → Type 0) → List LMetric → Known → Brought → A → ℕ → ℕ
     → Type 0
 AsksFew stands metrics known brought it old new =

@@ -1,4 +1,5 @@
--- The lane of a metric of pulled values: what it stands for. A report shows what it hands out as it does of pushed ones.
+-- The lane of a metric of pulled values: what it stands for. A report shows what it hands out as it does of pushed
+-- ones.
 use Rattle.std.specs.Prelude.{◌≡◌, ℕ, ℤ, List, Option}
 use Rattle.atom_record.specs.declared.atom.Atom.{Atom}
 use Rattle.config_types.specs.declared.parameters.DiffSpec.{DiffSpec}

@@ -23,8 +23,8 @@ touched_questions installed steps metric = of_kind metric.kind where
   of_kind (MaxSparse spec) = duration_questions installed steps metric spec
   of_kind _ = 1
 
--- the questions of a metric at an atom with these truths of matchers, which comes after these steps: none where the atom
--- doesn't touch it
+-- the questions of a metric at an atom with these truths of matchers, which comes after these steps: none where the
+-- atom doesn't touch it
 abbrev pub metric_questions : Installation → List Step → List Bool → LMetric → ℕ
 metric_questions installed steps truths metric =
     if is_touched installed.linked.predicates metric truths then touched_questions installed steps metric else 0

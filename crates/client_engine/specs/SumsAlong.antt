@@ -16,8 +16,8 @@ use Rattle.client_engine.specs.Along.{Along}
 abbrev pub SumLane : Type 0
 SumLane = Lane Summing InnerEvent InnerDelta ℕ
 
--- The metric sums durations, its inner keys are kept as it says, and the lane collects for it, after these steps of what
--- was installed. What the last step told of each inner key is in the calls that the lane's producer got.
+-- The metric sums durations, its inner keys are kept as it says, and the lane collects for it, after these steps of
+-- what was installed. What the last step told of each inner key is in the calls that the lane's producer got.
 pub record SumsAlong (metric : LMetric) (installed : Installation) (steps : List Step) (lane : SumLane) : Type 0 where
   pub spec : PredSpec
   pub sums : metric.kind ≡ kinds.SumDuration spec

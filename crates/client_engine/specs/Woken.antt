@@ -1,5 +1,5 @@
--- The metrics of a configuration while a frame comes to those that it wakes, and when the next bucket of theirs ends. For
--- private clauses.
+-- The metrics of a configuration while a frame comes to those that it wakes, and when the next bucket of theirs ends.
+-- For private clauses.
 use Rattle.std.specs.Prelude.{◌≡◌, ℕ, ◌+◌, ◌≤◌, ◌<◌, Bool, true, false, List, [], ◌∷◌, length, map, get_or, All, Option, if◌then◌else◌}
 use Rattle.atom_record.specs.declared.log.LogFrame.{LogFrame}
 use Rattle.bucket_clock.specs.Sound.{Times}

@@ -17,10 +17,10 @@ ghost use Rattle.client_engine.specs.Bringing.{handed_with, brought_step};
 use crate::asked::Asked;
 use crate::brought::Brought;
 use crate::conditions::Conditions;
-use crate::key_room::atom_key_into;
+use crate::key_room::{KeyRoom, atom_key_into};
 use crate::matched::is_true_at;
 use crate::slices::{slices_into, slices_of};
-use atom_record::{Atom, LogFrame, MetricKey, Slice};
+use atom_record::{Atom, DimKey, LogFrame, MetricKey, Slice};
 use condition_links::Steps;
 use config_links::{LMetric, LSlice, LState};
 use sd_base::Seq;
@@ -28,8 +28,8 @@ use state_slicer::StateBook;
 use std::alloc::{AllocError, Global};
 use std::sync::ledger::Ledger;
 
-/// The atom that arrives at a metric, if one does, whatever the metric makes of it. The condition is asked last: where the
-/// metric isn't active or has no condition, nothing is asked of predicates.
+/// The atom that arrives at a metric, if one does, whatever the metric makes of it. The condition is asked last:
+/// where the metric isn't active or has no condition, nothing is asked of predicates.
 #[inline(always)]
 pub fn arriving<'a, L: Ledger>(
     alloc: Global,
@@ -82,6 +82,30 @@ pub fn key_in<A: Asked>(
     Ok(MetricKey { dims, slices })
 }
 
+/// The same, in the room of another key, of which nothing is left.
+pub fn key_into<A: Asked>(
+    alloc: Global,
+    metric: &LMetric,
+    brought: &Brought<'_>,
+    asked: &A,
+    room: &mut KeyRoom,
+) -> Result<(), AllocError>
+    ensures { (known : Known) (scene : Scene) → IsOfScene (handed_with known brought.now) scene
+        → OnOk result (room.new.key ≡ metric_key scene metric.now (A.reading asked.now)) }
+{
+    asked.read_into(alloc, &metric.dims, &mut room.key.dims)?;
+    let by = metric.slices.as_slice();
+    slices_into(
+        alloc,
+        brought.states,
+        by,
+        asked,
+        brought.book,
+        &mut room.state,
+        &mut room.key.slices,
+    )
+}
+
 /// The same of an atom, in the room of another key, of which nothing is left.
 pub fn metric_key_into(
     alloc: Global,
@@ -122,5 +146,6 @@ fn atom_slices_into(
         shown.clear();
         return Ok(());
     }
-    slices_into(alloc, states, slices, atom, book, shown)
+    let mut key = DimKey::new(alloc);
+    slices_into(alloc, states, slices, atom, book, &mut key, shown)
 }

@@ -1,14 +1,14 @@
 //! What a metric asks of predicates.
-ghost use Rattle.std.specs.Prelude.{◌≡◌, [], map, replicate, Some, OnOk, IfOk};
+ghost use Rattle.std.specs.Prelude.{◌≡◌, [], map, replicate, length, Some, OnOk, IfOk};
 ghost use Rattle.std.specs.List.{range_with_len};
 ghost use Rattle.metric_meaning.specs.Readings.{LeafReading, atom_reading, key_reading};
 ghost use Rattle.metric_meaning.specs.MetricConditions.{link_binds, binds_at};
 ghost use Rattle.metric_meaning.specs.SnapshotSteps.{nothing_read};
 
 use atom_record::{Atom, DimKey};
-use condition_links::{bind_atom, bind_key, read_key};
+use condition_links::{bind_atom_into, bind_key_into, read_key, read_key_into};
 use config_links::LLink;
-use field_select::{FieldSet, key_of};
+use field_select::{FieldSet, key_into, key_of};
 use predicate_state::BindList;
 use sd_base::Seq;
 use std::alloc::{AllocError, Global};
@@ -22,9 +22,18 @@ pub trait Asked {
     fn read(&self, alloc: Global, set: &FieldSet) -> Result<DimKey, AllocError>
         ensures { IfOk result (λ key. key ≡ reading self.now set.now) };
 
-    /// What a link asks of its predicate.
-    fn bind(&self, alloc: Global, link: &LLink) -> Result<BindList, AllocError>
-        ensures { IfOk result (λ binds. binds ≡ link_binds (reading self.now) (Some link.now)) };
+    /// The same, in the room of another key, of which nothing is left.
+    fn read_into(
+        &self,
+        alloc: Global,
+        set: &FieldSet,
+        values: &mut DimKey,
+    ) -> Result<(), AllocError>
+        ensures { OnOk result (values.new ≡ reading self.now set.now) };
+
+    /// What a link asks of its predicate, in the room of other binds, of which nothing is left.
+    fn bind_into(&self, alloc: Global, link: &LLink, binds: &mut BindList) -> Result<(), AllocError>
+        ensures { OnOk result (binds.new ≡ link_binds (reading self.now) (Some link.now)) };
 }
 
 impl Asked for Atom {
@@ -34,8 +43,22 @@ impl Asked for Atom {
         key_of(alloc, set, self)
     }
 
-    fn bind(&self, alloc: Global, link: &LLink) -> Result<BindList, AllocError> {
-        bind_atom(alloc, link, self)
+    fn read_into(
+        &self,
+        alloc: Global,
+        set: &FieldSet,
+        values: &mut DimKey,
+    ) -> Result<(), AllocError> {
+        key_into(alloc, set, self, values)
+    }
+
+    fn bind_into(
+        &self,
+        alloc: Global,
+        link: &LLink,
+        binds: &mut BindList,
+    ) -> Result<(), AllocError> {
+        bind_atom_into(alloc, link, self, binds)
     }
 }
 
@@ -53,8 +76,22 @@ impl Asked for InnerKey<'_> {
         read_key(alloc, self.fields, self.key, set)
     }
 
-    fn bind(&self, alloc: Global, link: &LLink) -> Result<BindList, AllocError> {
-        bind_key(alloc, link, self.fields, self.key)
+    fn read_into(
+        &self,
+        alloc: Global,
+        set: &FieldSet,
+        values: &mut DimKey,
+    ) -> Result<(), AllocError> {
+        read_key_into(alloc, self.fields, self.key, set, values)
+    }
+
+    fn bind_into(
+        &self,
+        alloc: Global,
+        link: &LLink,
+        binds: &mut BindList,
+    ) -> Result<(), AllocError> {
+        bind_key_into(alloc, link, self.fields, self.key, binds)
     }
 }
 
@@ -69,13 +106,30 @@ impl Asked for Nothing {
         Ok(DimKey::new(alloc))
     }
 
-    fn bind(&self, alloc: Global, link: &LLink) -> Result<BindList, AllocError> {
+    fn read_into(
+        &self,
+        _alloc: Global,
+        set: &FieldSet,
+        values: &mut DimKey,
+    ) -> Result<(), AllocError> {
+        let _set = set;
+        values.clear();
+        Ok(())
+    }
+
+    fn bind_into(
+        &self,
+        _alloc: Global,
+        link: &LLink,
+        binds: &mut BindList,
+    ) -> Result<(), AllocError> {
         let _link = link;
-        Ok(Seq::new(alloc))
+        binds.clear();
+        Ok(())
     }
 }
 
-/// What a metric's links ask of each of so many predicates, by what they read. The room of the list is used again.
+/// What a metric's links ask of each of so many predicates, by what they read. The room of the lists is used again.
 pub fn ask_all<A: Asked>(
     alloc: Global,
     links: &[LLink],
@@ -92,18 +146,38 @@ pub fn ask_all<A: Asked>(
         let link = &links[at];
         let place = link.predicate as usize;
         if place < predicates {
-            binds[place] = asked.bind(alloc, link)?;
+            asked.bind_into(alloc, link, &mut binds[place])?;
         }
     }
     Ok(())
 }
 
-// Nothing is asked of any of so many predicates.
+// Nothing is asked of any of so many predicates. Where there are as many lists, their room is used again.
 fn ask_nothing(
     alloc: Global,
     predicates: usize,
     binds: &mut Vec<BindList>,
 ) -> Result<(), AllocError>
+    ensures { OnOk result (binds.new.items ≡ replicate predicates []) }
+{
+    if binds.len() != predicates {
+        return make_lists(alloc, predicates, binds);
+    }
+    clear_lists(binds);
+    Ok(())
+}
+
+// Nothing is left in any of the lists.
+fn clear_lists(binds: &mut Vec<BindList>)
+    ensures { binds.new.items ≡ replicate (length binds.old.items) [] }
+{
+    for at in 0..binds.len() {
+        binds[at].clear();
+    }
+}
+
+// So many lists of nothing.
+fn make_lists(alloc: Global, predicates: usize, binds: &mut Vec<BindList>) -> Result<(), AllocError>
     ensures { OnOk result (binds.new.items ≡ replicate predicates []) }
 {
     binds.clear();

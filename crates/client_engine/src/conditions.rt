@@ -161,8 +161,8 @@ impl Conditions {
         }
     }
 
-    /// Whether an atom with these truths of matchers touches a metric. One that doesn't leaves the truth of its condition,
-    /// and does nothing to what a duration times.
+    /// Whether an atom with these truths of matchers touches a metric. One that doesn't leaves the truth of its
+    /// condition, and does nothing to what a duration times.
     pub fn touches(&self, metric: &LMetric, matched: &[bool]) -> bool
         ensures { result ≡ is_touched self.now.predicates metric.now matched.now }
     {
@@ -182,7 +182,8 @@ impl Conditions {
         }
     }
 
-    /// The matchers that start or stop the predicate that is named, or one that is reached from it; none if none is named.
+    /// The matchers that start or stop the predicate that is named, or one that is reached from it; none if none is
+    /// named.
     pub fn touchers_of(&self, root: Option<u32>) -> &[u32]
         ensures { result.now ≡ touchers_named self.now.predicates root }
     {

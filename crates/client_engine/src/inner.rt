@@ -18,10 +18,11 @@ ghost use Rattle.client_engine.specs.Staying.{truth_kept, is_nothing};
 ghost use Rattle.client_engine.specs.AskedFew.{AsksOfPlace, AsksOfAll};
 ghost use Rattle.client_engine.specs.Touchers.{tells_one};
 
-use crate::arriving::key_in;
+use crate::arriving::key_into;
 use crate::asked::{InnerKey, Nothing};
 use crate::brought::Brought;
 use crate::conditions::Conditions;
+use crate::key_room::KeyRoom;
 use crate::slices::tells_one;
 use crate::stays::Stays;
 use crate::tables::event_by;
@@ -31,7 +32,7 @@ use config_links::{LMetric, LPredBody};
 use duration_metric::{InnerChange, InnerDelta, InnerEvent, MaxProducer, SumProducer};
 use field_select::key_of;
 use predicate_state::Truth;
-use sd_base::Seq;
+use sd_base::{Duplicate, Seq};
 use std::alloc::{AllocError, Global};
 use std::sync::ledger::Ledger;
 
@@ -188,8 +189,18 @@ pub fn changes_of<K: Inners, L: Ledger>(
         stays,
         shared,
     };
+    let mut room = KeyRoom::new(alloc);
     for place in first..count {
-        add_change(alloc, &mut changes, keys, place, &asker, conditions, asks)?;
+        add_change(
+            alloc,
+            &mut changes,
+            keys,
+            place,
+            &asker,
+            &mut room,
+            conditions,
+            asks,
+        )?;
     }
     Ok(changes)
 }
@@ -214,13 +225,14 @@ fn shared_truth<L: Ledger>(
     Ok(Some(conditions.holds(alloc, metric, &Nothing, asks)?))
 }
 
-// Adds what is told of the inner key at a place, unless it was told last.
+// Adds what is told of the inner key at a place, unless it was told last. The key is copied only where it is told.
 fn add_change<K: Inners, L: Ledger>(
     alloc: Global,
     changes: &mut Seq<InnerChange>,
     keys: &K,
     place: usize,
     asker: &Asker<'_>,
+    room: &mut KeyRoom,
     conditions: &mut Conditions,
     asks: &mut Steps<L>,
 ) -> Result<(), AllocError>
@@ -239,10 +251,11 @@ fn add_change<K: Inners, L: Ledger>(
         fields: conditions.fields_of(asker.metric.what),
         key,
     };
-    let out = key_in(alloc, asker.metric, asker.brought, &inner)?;
-    if keys.was_told(place, truth, &out) {
+    key_into(alloc, asker.metric, asker.brought, &inner, room)?;
+    if keys.was_told(place, truth, &room.key) {
         return Ok(());
     }
+    let out = room.key.duplicate(alloc)?;
     changes.push(InnerChange {
         place: place as u32,
         truth,

@@ -178,8 +178,8 @@ impl Instance {
         )
     }
 
-    /// A run of frames went by that touch nothing of the configuration: one frame that stands for all catches it up. After
-    /// want of memory it is of no use.
+    /// A run of frames went by that touch nothing of the configuration: one frame that stands for all catches it up.
+    /// After want of memory it is of no use.
     #[inline(always)]
     pub fn catch_up(&mut self, at: u64, is_pull: bool) -> Result<(), AllocError>
         ensures caught { OnOk result (IsCaughtUp self.old (frame_at at is_pull) self.new) }

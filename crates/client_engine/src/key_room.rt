@@ -3,10 +3,34 @@ ghost use Rattle.std.specs.Prelude.{◌≡◌, [], ◌∷◌, OnOk, IfSome};
 ghost use Rattle.atom_record.specs.declared.value.Leaf.TheVariants.{One};
 ghost use Rattle.field_select.specs.LeafValues.{key_of};
 
-use atom_record::{Atom, DimKey, Value};
+use atom_record::{Atom, DimKey, MetricKey, Value};
 use config_types::Position;
 use field_select::{FieldSet, key_into, leaf_value};
+use sd_base::Seq;
 use std::alloc::{AllocError, Global};
+
+/// The room of a metric's key, and of the keys by which states are asked for its slices. It is used for one key after
+/// the other.
+#[derive(Drop)]
+pub struct KeyRoom {
+    pub key: MetricKey,
+    pub state: DimKey,
+}
+
+impl KeyRoom {
+    /// The room of a key without dimensions and slices. It takes no memory yet.
+    pub fn new(alloc: Global) -> KeyRoom
+        ensures { result.key ≡ record { dims = []; slices = [] } }
+    {
+        KeyRoom {
+            key: MetricKey {
+                dims: DimKey::new(alloc),
+                slices: Seq::new(alloc),
+            },
+            state: DimKey::new(alloc),
+        }
+    }
+}
 
 /// What an atom has at each leaf, in the room of another key, of which nothing is left.
 #[inline(always)]

@@ -1,5 +1,5 @@
-//! Which metrics an atom can change something of: listed when the configuration is installed, under the matchers and the
-//! states by which it would.
+//! Which metrics an atom can change something of: listed when the configuration is installed, under the matchers and
+//! the states by which it would.
 ghost use Rattle.std.specs.Prelude.{◌≡◌, ◌++◌, map, OnOk, IfOk};
 ghost use Rattle.client_engine.specs.Tracks.{metric_in};
 ghost use Rattle.client_engine.specs.Lists.{places_under};

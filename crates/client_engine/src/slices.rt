@@ -25,17 +25,19 @@ pub fn slices_of<A: Asked>(
         → IfOk result (λ shown. shown ≡ named_slices states.now log (A.reading asked.now) slices.now) }
 {
     let mut shown = Seq::with_capacity(alloc, slices.len())?;
-    slices_into(alloc, states, slices, asked, book, &mut shown)?;
+    let mut key = DimKey::new(alloc);
+    slices_into(alloc, states, slices, asked, book, &mut key, &mut shown)?;
     Ok(shown)
 }
 
-/// The same, in the room of other slices, of which nothing is left.
+/// The same, in the room of other slices, of which nothing is left, by keys in the room of another key.
 pub fn slices_into<A: Asked>(
     alloc: Global,
     states: &[LState],
     slices: &[LSlice],
     asked: &A,
     book: &StateBook,
+    key: &mut DimKey,
     shown: &mut Seq<Slice>,
 ) -> Result<(), AllocError>
     ensures { (log : List LogFrame) → StateBookStandsFor book.now log
@@ -43,7 +45,7 @@ pub fn slices_into<A: Asked>(
 {
     shown.clear();
     for by in slices {
-        add_slice(alloc, shown, states, by, asked, book)?;
+        add_slice(alloc, shown, states, by, asked, book, key)?;
     }
     Ok(())
 }
@@ -56,30 +58,35 @@ fn add_slice<A: Asked>(
     by: &LSlice,
     asked: &A,
     book: &StateBook,
+    key: &mut DimKey,
 ) -> Result<(), AllocError>
     ensures { (log : List LogFrame) → StateBookStandsFor book.now log
         → OnOk result (shown.new ≡ shown.old ++ named_slice states.now log (A.reading asked.now) by.now) }
 {
     match states.get(by.state as usize) {
         Some(state) => {
-            let key = state_key(alloc, &by.in_what, asked)?;
-            shown.push(slice(state, book.value(state.atom_id, &key)))
+            state_key_into(alloc, &by.in_what, asked, key)?;
+            shown.push(slice(state, book.value(state.atom_id, key)))
         }
         None => Ok(()),
     }
 }
 
-// The key by which a state is asked for.
-fn state_key<A: Asked>(
+// The key by which a state is asked for, in the room of another key.
+fn state_key_into<A: Asked>(
     alloc: Global,
     in_what: &Option<FieldSet>,
     asked: &A,
-) -> Result<DimKey, AllocError>
-    ensures { IfOk result (λ key. key ≡ state_key in_what.now (A.reading asked.now)) }
+    key: &mut DimKey,
+) -> Result<(), AllocError>
+    ensures { OnOk result (key.new ≡ state_key in_what.now (A.reading asked.now)) }
 {
     match in_what {
-        Some(set) => asked.read(alloc, set),
-        None => Ok(DimKey::new(alloc)),
+        Some(set) => asked.read_into(alloc, set, key),
+        None => {
+            key.clear();
+            Ok(())
+        }
     }
 }
 

@@ -70,8 +70,8 @@ impl Tracks {
         Ok(Tracks { list, marks, due })
     }
 
-    /// A frame of the log comes, which wakes the metrics at these places. A pull comes to each, and so does a frame with
-    /// which a bucket may end; another one to those that it wakes.
+    /// A frame of the log comes, which wakes the metrics at these places. A pull comes to each, and so does a frame
+    /// with which a bucket may end; another one to those that it wakes.
     pub fn log<L: Ledger>(
         &mut self,
         alloc: Global,
@@ -110,8 +110,8 @@ impl Tracks {
         Ok(())
     }
 
-    // A frame comes to the metric at the one place of these. No other one can come to it again, so it needs no mark. The
-    // answer is a time before which no bucket ends.
+    // A frame comes to the metric at the one place of these. No other one can come to it again, so it needs no mark.
+    // The answer is a time before which no bucket ends.
     fn wake_only<L: Ledger>(
         &mut self,
         alloc: Global,
@@ -209,8 +209,8 @@ impl Tracks {
         Ok(due.min(track.next_end()))
     }
 
-    /// The one frame comes that stands for a run which leaves all metrics alone. Where no bucket can end with it, nothing
-    /// is to be done.
+    /// The one frame comes that stands for a run which leaves all metrics alone. Where no bucket can end with it,
+    /// nothing is to be done.
     #[inline(always)]
     pub fn catch_up(&mut self, at: u64, is_pull: bool) -> Result<(), AllocError>
         requires due { AllDue self.old.due self.old.list.items }

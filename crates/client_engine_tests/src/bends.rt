@@ -27,6 +27,17 @@ pub struct Bend {
     pub how: How,
 }
 
+impl Bend {
+    /// What becomes of the item at a place, if anything does.
+    fn at(self, place: usize) -> Option<How> {
+        if place == self.place {
+            Some(self.how)
+        } else {
+            None
+        }
+    }
+}
+
 /// What becomes of each item in turn. 8 is no number of a kind of lanes.
 const HOWS: &[How] = &[
     How::LeftOut,
@@ -81,25 +92,35 @@ pub fn answer_bent(
 /// Items of which one is bent.
 fn bent(alloc: Global, items: &Items, bend: Bend) -> Result<Items, AllocError> {
     let mut new = Items::new(alloc);
-    for (place, item) in items.as_slice().iter().enumerate() {
-        if place == bend.place {
-            push_bent(alloc, &mut new, item, bend.how)?;
-        } else {
-            push_copy(alloc, &mut new, item)?;
+    for place in 0..items.len() {
+        if let Some(item) = items.at(place)? {
+            push_with(alloc, &mut new, item, bend.at(place))?;
         }
     }
     Ok(new)
 }
 
-fn push_bent(alloc: Global, new: &mut Items, item: &Item, how: How) -> Result<(), AllocError> {
+fn push_with(
+    alloc: Global,
+    new: &mut Items,
+    item: Item,
+    how: Option<How>,
+) -> Result<(), AllocError> {
+    match how {
+        Some(how) => push_bent(alloc, new, item, how),
+        None => new.push(item),
+    }
+}
+
+fn push_bent(alloc: Global, new: &mut Items, item: Item, how: How) -> Result<(), AllocError> {
     match how {
         How::LeftOut => Ok(()),
         How::Doubled => {
-            push_copy(alloc, new, item)?;
-            push_copy(alloc, new, item)
+            new.push(item.duplicate(alloc)?)?;
+            new.push(item)
         }
-        How::Raised => new.push(Item::Num(number_of(item, u64::MAX).wrapping_add(1))),
-        How::Lowered => new.push(Item::Num(number_of(item, 0).wrapping_sub(1))),
+        How::Raised => new.push(Item::Num(number_of(&item, u64::MAX).wrapping_add(1))),
+        How::Lowered => new.push(Item::Num(number_of(&item, 0).wrapping_sub(1))),
         How::Number(number) => new.push(Item::Num(number)),
         How::NoLeaves => new.push(Item::Dims(DimKey::new(alloc))),
     }
@@ -110,19 +131,5 @@ fn number_of(item: &Item, other: u64) -> u64 {
     match item {
         Item::Num(number) => *number,
         _ => other,
-    }
-}
-
-fn push_copy(alloc: Global, new: &mut Items, item: &Item) -> Result<(), AllocError> {
-    new.push(copy_of(alloc, item)?)
-}
-
-fn copy_of(alloc: Global, item: &Item) -> Result<Item, AllocError> {
-    match item {
-        Item::Num(number) => Ok(Item::Num(*number)),
-        Item::Dims(key) => Ok(Item::Dims(key.duplicate(alloc)?)),
-        Item::Slices(slices) => Ok(Item::Slices(slices.duplicate(alloc)?)),
-        Item::AtomItem(atom) => Ok(Item::AtomItem(atom.duplicate(alloc)?)),
-        Item::Chunk(bytes) => Ok(Item::Chunk(bytes.duplicate(alloc)?)),
     }
 }

@@ -73,18 +73,18 @@ fn compared(
     next: usize,
 ) -> Result<&'static str, AllocError> {
     let own = items_of(alloc, instance)?;
-    if own.len() == next && are_first(&own, items) {
+    if own.len() == next && are_first(&own, items)? {
         return Ok("built");
     }
     Ok("other items")
 }
 
 /// Whether these items are the first of others.
-fn are_first(own: &Items, items: &Items) -> bool {
+fn are_first(own: &Items, items: &Items) -> Result<bool, AllocError> {
     for place in 0..own.len() {
-        if own.at(place) != items.at(place) {
-            return false;
+        if own.at(place)? != items.at(place)? {
+            return Ok(false);
         }
     }
-    true
+    Ok(true)
 }

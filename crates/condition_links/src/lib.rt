@@ -9,6 +9,6 @@ mod steps;
 
 pub use joined::combine3;
 pub use laws::each_truth_is_made_of_others;
-pub use links::{bind_atom, bind_key, read_key};
+pub use links::{bind_atom, bind_atom_into, bind_key, bind_key_into, read_key, read_key_into};
 pub use search::query;
 pub use steps::Steps;

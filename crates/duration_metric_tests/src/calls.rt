@@ -1,12 +1,13 @@
 //! Calls as words: `3:start=7`, `3:stop=7` and `3:stop_all` are what an atom does to an inner key at a time,
 //! `3:tell=0T9,1F8` the changes of places, each with a truth (T, U or F) and an output key, `cross:10+2` the crossing
-//! of a full end and of so many full buckets after it, `cut:5` a cut, `take` a report, and `inner` shows the inner keys.
-//! `rebuilt` goes on with what the producer's items build, and `turns:100/8` stands for 100 events, each with its
-//! condition: 8 inner keys start one after the other, each true for the output key 7, and stop, the last one first,
-//! again and again. An event's time is its number. `apart:100/8` are the same events, of inner keys that each have an
-//! output key of their own number, and `total` is a report of which the number of rows is shown, and the sum of their
-//! values. `4:tell=0T9*4000` tells of an output key that is a text of 4,000 letters, `bytes` shows how many bytes the
-//! producer's items are spelled with, and `twins:2000` are so many calls by chance, of this producer and of another one.
+//! of a full end and of so many full buckets after it, `cut:5` a cut, `take` a report, and `inner` shows the inner
+//! keys. `rebuilt` goes on with what the producer's items build, and `turns:100/8` stands for 100 events, each with
+//! its condition: 8 inner keys start one after the other, each true for the output key 7, and stop, the last one
+//! first, again and again. An event's time is its number. `apart:100/8` are the same events, of inner keys that each
+//! have an output key of their own number, and `total` is a report of which the number of rows is shown, and the sum
+//! of their values. `4:tell=0T9*4000` tells of an output key that is a text of 4,000 letters, `bytes` shows how many
+//! bytes the producer's items are spelled with, and `twins:2000` are so many calls by chance, of this producer and of
+//! another one.
 use super::saved::bytes_of;
 use super::shown::{push_closed, push_key, push_total};
 use super::twins::push_twins;

@@ -28,8 +28,8 @@ impl Table for Durations {
     }
 }
 
-/// What a producer is made with: whether the longest time is shown or their sum, where its time begins, how long a bucket
-/// is, and how its inner keys are kept.
+/// What a producer is made with: whether the longest time is shown or their sum, where its time begins, how long a
+/// bucket is, and how its inner keys are kept.
 #[derive(Clone, Copy)]
 struct Made {
     is_longest: bool,

@@ -1,10 +1,36 @@
 -- For `can_be_spelled`: loops that go on while each one passes, and an atom that is read back from its payload.
-use Rattle.std.proofs.Common.{◌≡◌, ℕ, ◌+◌, ◌<◌, ◌≤◌, ◌↔◌, Bool, true, IsTrue, List, length, take, get_or, All, refl, subst}
+use Rattle.std.proofs.Common.{◌≡◌, ℕ, ◌+◌, ◌<◌, ◌≤◌, ◌↔◌, Bool, true, IsTrue, Result, Ok, Err, IfOk, List, ◌++◌, length, take, get_or, All, refl, subst, arith}
 use Rattle.std.specs.Bool.{Decides}
-use Rattle.std.proofs.lemmas.List.{get_or_default}
+use Rattle.std.proofs.lemmas.List.{length-append, get_or_default, get_or-append-add}
+use Rattle.std.proofs.lemmas.List.Elements.{All-append}
 use Rattle.atom_record.specs.declared.atom.Atom.{Atom}
 use Rattle.atom_record.specs.AtomSound.{HasNoFault}
 use Rattle.atom_record.proofs.LoopLemmas.{holds_one, holds_all}
+
+module _ {X : Type 0} (P : X → Type 0) where
+  -- what holds of all holds of the later ones
+  pub all_later : (earlier later : List X) → All P (earlier ++ later) → All P later
+  all_later earlier later all = λ k d less.
+      let sum = length-append earlier later in
+      subst P (get_or-append-add earlier later k d) (all (length earlier + k) d (omega arith))
+
+  -- it holds of all exactly where it does of the later ones, if it does of the earlier
+  as_later : (same : Bool) (earlier later : List X)
+      → All P earlier
+      → IsTrue same ↔ All P later
+      → IsTrue same ↔ All P (earlier ++ later)
+  as_later same earlier later first rest = (
+    λ is. All-append P earlier later first (rest.0 is),
+    λ all. rest.1 (all_later earlier later all),
+  )
+
+  -- the same of an answer that may want memory
+  pub if_later : {E : Type 0} (answer : Result Bool E) (earlier later : List X)
+      → All P earlier
+      → IfOk answer (λ same. IsTrue same ↔ All P later)
+      → IfOk answer (λ same. IsTrue same ↔ All P (earlier ++ later))
+  if_later (Ok same) earlier later first rest = as_later same earlier later first rest
+  if_later (Err e) earlier later first none = tt
 
 module _ {X : Type 0} (P : X → Type 0) (xs : List X) (i : ℕ) where
   -- one more passes

@@ -182,6 +182,13 @@ pub one_fails : {X : Type 0} (wrap : X → Item) (items : List Item) (place : �
 one_fails wrap items place item found Bad never = other_kind wrap items place item found never
 one_fails wrap items place item found Memory none = tt
 
+-- no item was read, since none stands there, or for want of memory
+pub unread : {X : Type 0} (wrap : X → Item) (items : List Item) (place : ℕ) (e : FlatError)
+    → (e ≡ Bad → slice_get items place ≡ None)
+    → Builds Anything (λ x. wrap x ∷ []) items place (Err e)
+unread wrap items place Bad none = past_end wrap items place (none refl)
+unread wrap items place Memory none = tt
+
 -- a value that is saved as another is: it is built from the other where that is the form of a valid one
 module _ {X Y : Type 0} (inner_valid : X → Type 0) (inner : X → List Item) (outer_valid : Y → Type 0)
     (outer : Y → List Item) (form : Y → X)

@@ -29,11 +29,11 @@ pub record HasRead (bytes : List ℕ) (items : List Item) (rest : List ℕ) : Ty
   pub only : (others : List Item) → All IsItem others → bytes ≡ spelled_items others → IsFrontOf items others
 
 -- an item that can be spelled and is in range is an item in both ways
-both : (items : List Item) → CanBeSpelled items → All IsItem items
+pub both : (items : List Item) → CanBeSpelled items → All IsItem items
 both items can = λ k d less. (can.0 k d less, can.1 k d less)
 
 -- no item is spelled by no byte
-long_item : (item : Item) → 0 < length (spelled_item item)
+pub long_item : (item : Item) → 0 < length (spelled_item item)
 long_item (Num number) = omega arith
 long_item (Dims dims) = omega arith
 long_item (Slices slices) = omega arith
@@ -95,7 +95,7 @@ first_of_rest rest (item ∷ others) some spelled each = record {
 }
 
 -- one more item adds its spelling
-spelled_push : (xs : List Item) (x : Item) → spelled_items (xs ++ x ∷ []) ≡ spelled_items xs ++ spelled_item x
+pub spelled_push : (xs : List Item) (x : Item) → spelled_items (xs ++ x ∷ []) ≡ spelled_items xs ++ spelled_item x
 spelled_push xs x = flat_map-append spelled_item xs (x ∷ [])
     ∙ ap (λ (l : List ℕ). spelled_items xs ++ l) (append-nil (spelled_item x))
 

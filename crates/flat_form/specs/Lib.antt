@@ -6,3 +6,4 @@ pub mod SavableLaws
 pub mod ItemSpelling
 pub mod ItemReading
 pub mod ItemRange
+pub mod Spelled

@@ -5,8 +5,9 @@ ghost use Rattle.sd_base.specs.Reads.{GivesBy, many};
 ghost use Rattle.flat_form.specs.ItemReading.{NoItem, no_item_of, item_uint_at, counted_at, values_at, leaf_at, slice_at, item_at};
 ghost use Rattle.flat_form.specs.ItemRange.{ReadsItems};
 
+use crate::spelled::SpelledItems;
 use crate::{FlatError, Item, Items};
-use atom_record::{AtomFault, DimKey, Leaf, Slice, Value, decode_value, parse_atom};
+use atom_record::{AtomFault, Bytes, DimKey, Leaf, Slice, Value, decode_value, parse_atom};
 use sd_base::{Seq, split_bytes, split_counted, split_u16, split_u32, split_u64};
 use std::alloc::{AllocError, Global};
 
@@ -230,9 +231,9 @@ fn chunk_of(alloc: Global, bytes: &[u8]) -> Result<(Item, &[u8]), FlatError>
     Ok((Item::Chunk(Seq::from_slice(alloc, chunk)?), rest))
 }
 
-// The item at the front, and the bytes after it.
+/// The item at the front, and the bytes after it.
 #[tactic(auto, unfolding(crate::specs::ItemReading::item_at))]
-fn item_of(alloc: Global, bytes: &[u8]) -> Result<(Item, &[u8]), FlatError>
+pub(crate) fn item_of(alloc: Global, bytes: &[u8]) -> Result<(Item, &[u8]), FlatError>
     ensures { GivesBy no_item_of (λ x. (x.0, x.1.now)) result (item_at bytes.now) }
 {
     let [tag, rest @ ..] = bytes else {
@@ -249,15 +250,9 @@ fn item_of(alloc: Global, bytes: &[u8]) -> Result<(Item, &[u8]), FlatError>
 }
 
 /// The items whose spelling the bytes are. `Bad` comes exactly where they are the spelling of none.
-pub fn decode_items(alloc: Global, bytes: &[u8]) -> Result<Items, FlatError>
-    ensures { ReadsItems bytes.now result }
+pub fn decode_items(alloc: Global, bytes: Bytes) -> Result<Items, FlatError>
+    ensures { ReadsItems bytes result }
 {
-    let mut items = Items::new(alloc);
-    let mut rest = bytes;
-    while !rest.is_empty() {
-        let (item, after) = item_of(alloc, rest)?;
-        items.push(item)?;
-        rest = after;
-    }
-    Ok(items)
+    let spelled = SpelledItems::decode(alloc, bytes.into_vec())?;
+    Ok(Items::of(alloc, spelled))
 }

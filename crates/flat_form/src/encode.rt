@@ -254,11 +254,12 @@ impl Encode for Item {
 }
 
 /// The one spelling of items, each of which can be spelled.
-pub fn encode_items(alloc: Global, items: &Items) -> Result<Bytes, AllocError>
-    requires { AreSavable items.now }
-    ensures { IfOk result (λ bytes. bytes ≡ spelled_items items.now) }
+pub fn encode_items(alloc: Global, items: Items) -> Result<Bytes, AllocError>
+    requires { AreSavable items }
+    ensures { IfOk result (λ bytes. bytes ≡ spelled_items items) }
 {
-    let mut bytes = Vec::new(alloc);
-    encode_all(items.as_slice(), alloc, &mut bytes)?;
+    let (spelled, others) = items.into_parts();
+    let mut bytes = spelled.into_bytes();
+    encode_all(&others, alloc, &mut bytes)?;
     Ok(Seq::from_vec(bytes))
 }

@@ -132,8 +132,8 @@ fn has_no_fault(alloc: Global, atom: &Atom) -> Result<bool, AllocError>
     }
 }
 
-// Whether an item can be spelled.
-fn is_savable(alloc: Global, item: &Item) -> Result<bool, AllocError>
+/// Whether an item can be spelled.
+pub(crate) fn is_savable(alloc: Global, item: &Item) -> Result<bool, AllocError>
     ensures { IfOk result (λ can. IsTrue can ↔ IsSavable item.now) }
 {
     match item {
@@ -162,5 +162,7 @@ fn are_savable(alloc: Global, all: &[Item]) -> Result<bool, AllocError>
 pub fn can_be_spelled(alloc: Global, items: &Items) -> Result<bool, AllocError>
     ensures { IfOk result (λ can. IsTrue can ↔ AreSavable items.now) }
 {
-    are_savable(alloc, items.as_slice())
+    let (spelled, others) = items.parts();
+    spelled.show_spelled();
+    are_savable(alloc, others)
 }

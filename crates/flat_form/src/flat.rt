@@ -1,5 +1,6 @@
 //! The flat form of values: items, from which a value is built again.
-ghost use Rattle.std.specs.Prelude.{◌≡◌, ℕ, ◌+◌, List, [], ◌∷◌, ◌++◌, ◌≤◌, length, All, MatchOption, OnOk, OnErr, slice_get};
+ghost use Rattle.std.specs.Prelude.{◌≡◌, ℕ, ◌+◌, List, [], ◌∷◌, ◌++◌, ◌≤◌, length, All, Some, None, Err, IfOk, OnOk, OnErr, slice_get};
+ghost use Rattle.flat_form.specs.declared.flat_error.FlatError.TheVariants.{Bad};
 ghost use Rattle.std.specs.List.{flat_map};
 ghost use Rattle.std.proofs.Common.{refl};
 ghost use Rattle.flat_form.specs.declared.item.Item.{Item};
@@ -61,17 +62,19 @@ pub trait Flat: Sized {
     ghost spells: { (value : Self) → valid value → savable value → AreSavable (flat value) };
 }
 
-// The item at a place, and the place after it.
-fn read(items: &Items, place: usize) -> Option<(&Item, usize)>
-    ensures { MatchOption result (slice_get items.now place ≡ None)
-        (λ found. (slice_get items.now place ≡ Some found.0.now) × (found.1 ≡ place + 1)) }
+// The item at a place, and the place after it. `Bad` comes exactly past the end.
+fn read(items: &Items, place: usize) -> Result<(Item, usize), FlatError>
+    ensures found { IfOk result
+        (λ read. (slice_get items.now place ≡ Some read.0) × (read.1 ≡ place + 1)) }
+    ensures bad { result ≡ Err Bad → slice_get items.now place ≡ None }
 {
-    let end = items.len();
-    let item = items.at(place)?;
-    if end <= place {
-        return None;
+    if items.len() <= place {
+        return Err(FlatError::Bad);
     }
-    Some((item, place + 1))
+    match items.at(place)? {
+        Some(item) => Ok((item, place + 1)),
+        None => Err(FlatError::Bad),
+    }
 }
 
 /// A value that is saved as one item.
@@ -79,7 +82,7 @@ trait Single: Sized {
     /// The item of a value.
     ghost wrap: { Self → Item };
 
-    /// The value of an item, copied.
+    /// The value of an item, copied: it takes no more room than it needs.
     fn of(alloc: Global, item: &Item) -> Result<Self, FlatError>
         ensures { Holds wrap item.now result };
 
@@ -91,10 +94,8 @@ trait Single: Sized {
 fn build_one<T: Single>(alloc: Global, items: &Items, place: usize) -> Result<(T, usize), FlatError>
     ensures { Builds Anything (λ value. T.wrap value ∷ []) items.now place result }
 {
-    let Some((item, next)) = read(items, place) else {
-        return Err(FlatError::Bad);
-    };
-    let value = T::of(alloc, item)?;
+    let (item, next) = read(items, place)?;
+    let value = T::of(alloc, &item)?;
     Ok((value, next))
 }
 

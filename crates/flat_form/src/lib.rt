@@ -8,7 +8,9 @@ mod flat;
 mod flat_error;
 mod item;
 mod measure;
+mod range;
 mod saved;
+mod spelled;
 
 pub use decode::decode_items;
 pub use encode::encode_items;
@@ -17,4 +19,5 @@ pub use flat::{Flat, build_bytes};
 pub use flat_error::FlatError;
 pub use item::{Item, Items};
 pub use measure::spelled_len;
+pub use range::fit_items;
 pub use saved::{rebuild, save};

@@ -125,5 +125,6 @@ impl Measure for Item {
 pub fn spelled_len(items: &Items) -> u64
     ensures { result ≡ min (length (spelled_items items.now)) (2 ^ 64 - 1) }
 {
-    measure_all(items.as_slice())
+    let (spelled, others) = items.parts();
+    measure_all(others).saturating_add(spelled.size() as u64)
 }

@@ -17,7 +17,7 @@ pub fn save<T: Flat>(alloc: Global, value: &T) -> Result<Bytes, AllocError>
 {
     let mut items = Items::new(alloc);
     value.flatten(alloc, &mut items)?;
-    encode_items(alloc, &items)
+    encode_items(alloc, items)
 }
 
 /// The value again, built from its own items.

@@ -1,6 +1,7 @@
 //! The rows: items by words, and whether they can be spelled, and in how many bytes.
 use super::random::Dice;
-use super::words::items_of;
+use super::words::{are_items_of, items_of};
+use atom_record::Bytes;
 use flat_form::{FlatError, Items, can_be_spelled, decode_items, encode_items, spelled_len};
 use std::alloc::{AllocError, Global};
 use test_tools::{Row, Table, Tester, unsigned};
@@ -31,6 +32,10 @@ fn run_items(
     items: &Items,
 ) -> Result<(), AllocError> {
     tester.case();
+    tester.holds(
+        "each item stands where it was put",
+        are_items_of(alloc, items, row.word("items"))?,
+    )?;
     let can = can_be_spelled(alloc, items)?;
     tester.same_text("can", row.word("can"), if can { "yes" } else { "no" })?;
     let wanted = unsigned(row.word("bytes")).unwrap_or(0);
@@ -40,17 +45,39 @@ fn run_items(
 
 /// Whether items can be spelled, are, in as many bytes as is told, and are read again.
 fn is_spelled(alloc: Global, items: &Items) -> Result<bool, AllocError> {
-    if !can_be_spelled(alloc, items)? {
+    let copy = copy_of(alloc, items)?;
+    if !can_be_spelled(alloc, &copy)? {
         return Ok(false);
     }
-    let bytes = encode_items(alloc, items)?;
-    Ok(bytes.len() as u64 == spelled_len(items) && are_read(alloc, bytes.as_slice(), items)?)
+    let bytes = encode_items(alloc, copy)?;
+    Ok(bytes.len() as u64 == spelled_len(items) && are_read(alloc, bytes, items)?)
+}
+
+/// The same items.
+fn copy_of(alloc: Global, items: &Items) -> Result<Items, AllocError> {
+    let mut copy = Items::new(alloc);
+    for place in 0..items.len() {
+        if let Some(item) = items.at(place)? {
+            copy.push(item)?;
+        }
+    }
+    Ok(copy)
+}
+
+/// Whether both have the same items.
+fn are_same(one: &Items, other: &Items) -> Result<bool, AllocError> {
+    for place in 0..one.len() {
+        if one.at(place)? != other.at(place)? {
+            return Ok(false);
+        }
+    }
+    Ok(one.len() == other.len())
 }
 
 /// Whether these bytes are read as these items.
-fn are_read(alloc: Global, bytes: &[u8], items: &Items) -> Result<bool, AllocError> {
+fn are_read(alloc: Global, bytes: Bytes, items: &Items) -> Result<bool, AllocError> {
     match decode_items(alloc, bytes) {
-        Ok(read) => Ok(read.as_slice() == items.as_slice()),
+        Ok(read) => are_same(&read, items),
         Err(FlatError::Bad) => Ok(false),
         Err(FlatError::Memory) => Err(AllocError),
     }

@@ -20,6 +20,21 @@ pub fn items_of(alloc: Global, text: &str) -> Result<Option<Items>, AllocError> 
     Ok(Some(items))
 }
 
+/// Whether items are those of the words, each at its place, with none after them.
+pub fn are_items_of(alloc: Global, items: &Items, text: &str) -> Result<bool, AllocError> {
+    let mut place: usize = 0;
+    for word in text.split(' ') {
+        if word.is_empty() {
+            continue;
+        }
+        if items.at(place)? != item_of(alloc, word)? {
+            return Ok(false);
+        }
+        place = place.saturating_add(1);
+    }
+    Ok(items.at(place)?.is_none())
+}
+
 fn item_of(alloc: Global, word: &str) -> Result<Option<Item>, AllocError> {
     let (kind, rest) = word.split_once(':').unwrap_or((word, ""));
     match kind {

@@ -17,8 +17,8 @@ use Rattle.hub_core.specs.NamedLives.{saved_rows, names_of, KeepConfigs}
 use Rattle.hub_core.specs.Sleeping.{IsHearing}
 use Rattle.hub_core.specs.Slots.{slot_at}
 
--- Each slot of a live configuration stands for its own matcher, no matcher is below itself, and it hears what its linked
--- form says.
+-- Each slot of a live configuration stands for its own matcher, no matcher is below itself, and it hears what its
+-- linked form says.
 pub record IsHeldIn (table : SlotTable) (live : LiveInstance) : Type 0 where
   pub slots : HoldMatchers table live.slots live.carried.instance.matchers
   pub in_range : AreInRange (named_places live.carried.instance.matchers)

@@ -63,8 +63,8 @@ module _ (moment : Moment) where
   abbrev pub WakesUp : Running → Running → Type 0
   WakesUp old new = (history : History) → StandsAsleep moment old history → InstanceStandsFor new history
 
-  -- whatever history the old slept in, if this frame may come next and is shown so, and the book stands for the log with
-  -- it, the new stands for that history with this frame
+  -- whatever history the old slept in, if this frame may come next and is shown so, and the book stands for the log
+  -- with it, the new stands for that history with this frame
   abbrev pub LogsAwake : Running → LogFrame → List Bool → BookOfStates → Running → Type 0
   LogsAwake old shown truths book new =
       (history : History) (frame : LogFrame) → StandsAsleep moment old history
@@ -73,8 +73,8 @@ module _ (moment : Moment) where
       → StateBookStandsFor book (log_of_history history ++ frame ∷ [])
       → InstanceStandsFor new (with_step history (logged_step frame truths))
 
-  -- whatever history the old slept in, if this frame may come next and is shown so, and the book stands for the log with
-  -- it, a counter of questions rises by no more than the questions of its metrics at the frame
+  -- whatever history the old slept in, if this frame may come next and is shown so, and the book stands for the log
+  -- with it, a counter of questions rises by no more than the questions of its metrics at the frame
   abbrev pub AsksAwake : Running → LogFrame → List Bool → BookOfStates → ℕ → ℕ → Type 0
   AsksAwake old shown truths book before after =
       (history : History) (frame : LogFrame) → StandsAsleep moment old history

@@ -45,8 +45,8 @@ pub record IsTaken (table : SlotTable) (shown : LogFrame) (book : BookOfStates) 
   pub logs : Logs old.carried.instance shown (results_for table shown old.slots) book new.carried.instance
   pub same : HasSameSlots old new
 
--- A configuration woke up by the frame before, took the frame that is shown so, with the results of its slots, and keeps
--- its slots.
+-- A configuration woke up by the frame before, took the frame that is shown so, with the results of its slots, and
+-- keeps its slots.
 pub record IsShown (table : SlotTable) (before : Moment) (shown : LogFrame) (book : BookOfStates)
     (old new : LiveInstance) : Type 0 where
   pub logs : LogsAwake before old.carried.instance shown (results_for table shown old.slots) book

@@ -92,8 +92,9 @@ impl<J: Judge> Hub<J> {
         ensures asked { IfOk result (λ r. HaveRisen (asked_in frame self)
             (J.ticks (judge_of self)) (J.ticks (judge_of r.0))) }
 
-        // Conditions are asked at atoms alone, and only what the atom touches is asked again: once for each metric of all
-        // live ones that it touches, and of a duration at most twice and once for each inner key that was there before.
+        // Conditions are asked at atoms alone, and only what the atom touches is asked again: once for each metric of
+        // all live ones that it touches, and of a duration at most twice and once for each inner key that was there
+        // before.
         ensures questions { (frames : List Frame) → HubStandsFor J.says self frames
             → IsInTime (clock_of frames) frame
             → asks.new ≤ asks.old + questions_in J.says self frames frame }
@@ -115,9 +116,10 @@ impl<J: Judge> Hub<J> {
             → HubStandsFor J.says alone.now (own client frames) → RunsAsAlone client self.now alone.now }
     {}
 
-    /// Takes in a frame of the log: the book of states takes it, then it comes to each configuration that hears it, as it
-    /// is shown, and what it pulled is recorded last. The frame is lent: an atom and a tick stay as they are, and a pull's
-    /// atoms are taken out, so that it is left as one that failed. After want of memory the hub is of no use.
+    /// Takes in a frame of the log: the book of states takes it, then it comes to each configuration that hears it,
+    /// as it is shown, and what it pulled is recorded last. The frame is lent: an atom and a tick stay as they are,
+    /// and a pull's atoms are taken out, so that it is left as one that failed. After want of memory the hub is of no
+    /// use.
     pub fn log<L: Ledger>(
         &mut self,
         frame: &mut LogFrame,

@@ -1,5 +1,5 @@
-//! A live configuration, with the slots of its matchers in the table that all share, and what it hears. It sleeps between
-//! the frames that it hears.
+//! A live configuration, with the slots of its matchers in the table that all share, and what it hears. It sleeps
+//! between the frames that it hears.
 ghost use Rattle.std.specs.Prelude.{◌≡◌, ℕ, ◌<◌, ◌≤◌, ◌^◌, List, IfOk, OnOk};
 ghost use Rattle.atom_record.specs.declared.log.LogFrame.{LogFrame};
 ghost use Rattle.session_frames.specs.Faultless.{IsFaultlessLog};

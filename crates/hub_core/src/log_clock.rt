@@ -11,8 +11,8 @@ use session_frames::time_of;
 // What the time of a frame stays below.
 const TIME_LIMIT: u64 = 1 << 63;
 
-/// The last frame of the log, as the ends of buckets see it: one moment stands for all frames that a configuration slept
-/// through.
+/// The last frame of the log, as the ends of buckets see it: one moment stands for all frames that a configuration
+/// slept through.
 #[derive(Clone, Copy)]
 pub struct LogClock {
     /// Its time in nanoseconds, or 0 where there was none.

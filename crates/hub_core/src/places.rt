@@ -10,8 +10,8 @@ use std::alloc::Global;
 // How many places are kept.
 const KEPT: u64 = 1024;
 
-/// Places of configurations as they were found last, by their names, so that most are found without a hash. What is kept
-/// is looked at before it is used, and need not be so any more.
+/// Places of configurations as they were found last, by their names, so that most are found without a hash. What is
+/// kept is looked at before it is used, and need not be so any more.
 #[derive(Drop)]
 pub struct Places {
     found: Vec<usize>,

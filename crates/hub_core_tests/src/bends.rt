@@ -8,6 +8,22 @@ use sd_base::{Duplicate, Seq};
 use std::alloc::{AllocError, Global};
 use test_tools::{Tester, unsigned};
 
+/// The items one by one.
+fn list_of(alloc: Global, items: &Items) -> Result<Seq<Item>, AllocError> {
+    let mut list = Seq::new(alloc);
+    for place in 0..items.len() {
+        if let Some(item) = items.at(place)? {
+            list.push(item)?;
+        }
+    }
+    Ok(list)
+}
+
+/// Whether both have the same items.
+pub fn are_same(alloc: Global, one: &Items, other: &Items) -> Result<bool, AllocError> {
+    Ok(list_of(alloc, one)? == list_of(alloc, other)?)
+}
+
 /// The items of the hub of some items, if there is one.
 fn saved_again<J: Counting>(alloc: Global, items: &Items) -> Result<Option<Items>, AllocError> {
     match Hub::build(alloc, J::fresh(), items) {
@@ -46,7 +62,7 @@ pub fn compare_bent<J: Counting>(
     tester: &mut Tester,
     tried: &Tried<J>,
 ) -> Result<(), AllocError> {
-    let items = tried.items(alloc)?;
+    let items = list_of(alloc, &tried.items(alloc)?)?;
     bend_each::<J>(alloc, tester, items.as_slice())
 }
 
@@ -95,7 +111,7 @@ fn compare_built<J: Counting>(
     };
     tester.holds(
         "that what is built is saved alike",
-        again.as_slice() == items.as_slice(),
+        are_same(alloc, &again, items)?,
     )
 }
 
@@ -144,17 +160,7 @@ fn longer(alloc: Global, bytes: &Seq<u8>) -> Result<Item, AllocError> {
 }
 
 fn push_copy(alloc: Global, all: &mut Items, item: &Item) -> Result<(), AllocError> {
-    all.push(copy_of(alloc, item)?)
-}
-
-fn copy_of(alloc: Global, item: &Item) -> Result<Item, AllocError> {
-    match item {
-        Item::Num(number) => Ok(Item::Num(*number)),
-        Item::Dims(dims) => Ok(Item::Dims(dims.duplicate(alloc)?)),
-        Item::Slices(slices) => Ok(Item::Slices(slices.duplicate(alloc)?)),
-        Item::AtomItem(atom) => Ok(Item::AtomItem(atom.duplicate(alloc)?)),
-        Item::Chunk(bytes) => Ok(Item::Chunk(bytes.duplicate(alloc)?)),
-    }
+    all.push(item.duplicate(alloc)?)
 }
 
 /// How many items a hub has before the number of what is live, where its books are empty: its moment, and three of each
@@ -169,7 +175,7 @@ pub fn compare_ids<J: Counting>(
     tried: &Tried<J>,
     text: &str,
 ) -> Result<(), AllocError> {
-    let items = tried.items(alloc)?;
+    let items = list_of(alloc, &tried.items(alloc)?)?;
     compare_under::<J>(alloc, tester, items.as_slice(), text)
 }
 

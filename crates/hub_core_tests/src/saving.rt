@@ -1,4 +1,5 @@
 //! Hubs that are saved and built again, and what a saved one takes.
+use super::bends::are_same;
 use super::judges::Counting;
 use super::session::{Size, Step, session};
 use super::tried::Tried;
@@ -56,7 +57,7 @@ fn compare_items<J: Counting>(
     let again = tried.items(alloc)?;
     tester.holds(
         "that the built hub is saved alike",
-        again.as_slice() == items.as_slice(),
+        are_same(alloc, &again, items)?,
     )
 }
 

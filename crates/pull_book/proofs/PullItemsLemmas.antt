@@ -15,7 +15,7 @@ use Rattle.flat_form.specs.declared.item.Item.{Item}
 use Rattle.flat_form.specs.declared.item.Item.TheVariants.{Chunk}
 use Rattle.flat_form.specs.declared.flat_error.FlatError.{FlatError}
 use Rattle.flat_form.specs.declared.flat_error.FlatError.TheVariants.{Bad, Memory}
-use Rattle.flat_form.specs.Flat.{Anything, StandsAt, IsBuilt, Builds, number_items, list_items}
+use Rattle.flat_form.specs.Flat.{Anything, StandsAt, IsBuilt, Builds, number_items, list_items, chunk_items}
 use Rattle.flat_form.proofs.FlatLaws as laws
 use Rattle.dim_table.specs.Table.{Table}
 use Rattle.dim_table.specs.TableItems.{table_items, IsTable}
@@ -45,10 +45,10 @@ kind_of (Atoms atoms) = 1
 
 module _ (items : List Item) (place : ℕ) where
   -- no payload stands there
-  pub no_payload : ((bytes : List ℕ) → ¬ (slice_get items place ≡ Some (Chunk bytes)))
-      → Builds HasNoFault payload_items items place (Err Bad)
-  no_payload never atom sound there =
-      never (payload_of atom) (laws.item_is items place (Chunk (payload_of atom)) there)
+  pub no_payload : (e : FlatError) → Builds Anything chunk_items items place (Err e)
+      → Builds HasNoFault payload_items items place (Err e)
+  no_payload Bad never = λ atom sound there. never (payload_of atom) tt there
+  no_payload Memory none = tt
 
   module _ (payload : List ℕ) (here : slice_get items place ≡ Some (Chunk payload)) where
     -- an atom that stands there has this payload

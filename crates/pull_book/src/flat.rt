@@ -1,19 +1,18 @@
 //! The flat forms of what a pull gave, and of a book.
 ghost use Rattle.std.proofs.Common.{refl};
 ghost use Rattle.flat_form.specs.Bounded.{short_head};
-ghost use Rattle.std.specs.Prelude.{◌≡◌, ◌+◌, ◌++◌, ◌↔◌, ℕ, List, All, IsTrue, IfSome, IfNone, MatchOption, OnOk, OnErr, Some, slice_get};
+ghost use Rattle.std.specs.Prelude.{◌≡◌, ◌++◌, ◌↔◌, All, IsTrue, IfSome, IfNone, OnOk, OnErr};
 ghost use Rattle.std.specs.List.{flat_map};
 ghost use Rattle.atom_record.specs.AtomSound.{HasNoFault};
-ghost use Rattle.flat_form.specs.declared.item.Item.TheVariants.{Chunk};
 ghost use Rattle.flat_form.specs.Flat.{IsFront, Builds, BuildsAll, list_items};
 ghost use Rattle.pull_book.specs.PullBooks.{IsKeptRow, IsPullTable};
 ghost use Rattle.pull_book.specs.PullItems.{payload_items, HoldsSoundAtoms};
 
 use crate::recorded::Recorded;
 use crate::{MAX_IDS, PullBook};
-use atom_record::{Atom, AtomFault, Bytes, PullOutcome, encode_atom, is_pulled, parse_atom};
+use atom_record::{Atom, AtomFault, PullOutcome, encode_atom, is_pulled, parse_atom};
 use dim_table::Guarded;
-use flat_form::{Flat, FlatError, Item, Items};
+use flat_form::{Flat, FlatError, Item, Items, build_bytes};
 use sd_base::Seq;
 use std::alloc::{AllocError, Global};
 
@@ -30,30 +29,11 @@ fn flatten_atoms(atoms: &[Atom], alloc: Global, out: &mut Items) -> Result<(), A
     Ok(())
 }
 
-// The bytes at a place, and the place after them, or none where another item or none stands there.
-fn bytes_at(items: &Items, place: usize) -> Option<(&Bytes, usize)>
-    ensures { MatchOption result
-        ((bytes : List ℕ) → ¬ (slice_get items.now place ≡ Some (Chunk bytes)))
-        (λ found. (slice_get items.now place ≡ Some (Chunk found.0.now)) × (found.1 ≡ place + 1)) }
-{
-    let end = items.len();
-    let item = items.at(place)?;
-    if end <= place {
-        return None;
-    }
-    match item {
-        Item::Chunk(bytes) => Some((bytes, place + 1)),
-        _ => None,
-    }
-}
-
 // The atom whose payload stands at a place, and the place after it.
 fn build_atom(alloc: Global, items: &Items, place: usize) -> Result<(Atom, usize), FlatError>
     ensures { Builds HasNoFault payload_items items.now place result }
 {
-    let Some((payload, next)) = bytes_at(items, place) else {
-        return Err(FlatError::Bad);
-    };
+    let (payload, next) = build_bytes(alloc, items, place)?;
     match parse_atom(alloc, payload.as_slice()) {
         Ok(atom) => Ok((atom, next)),
         Err(AtomFault::Bad(_)) => Err(FlatError::Bad),

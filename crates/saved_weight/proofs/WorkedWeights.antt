@@ -15,11 +15,14 @@ use Rattle.config_links.specs.declared.linked.LMetric.{LMetric}
 use Rattle.config_links.specs.declared.linked.LPredBody.TheVariants.{Simple}
 use Rattle.config_links.specs.declared.linked.LPredicate.{LPredicate}
 use Rattle.config_types.specs.declared.matcher.Operation.TheVariants.{And}
+use Rattle.config_types.specs.declared.matcher.SimpleMatcher.{SimpleMatcher}
 use Rattle.field_select.specs.declared.leaf.FieldSet.{FieldSet}
 use Rattle.metric_meaning.specs.Histories.{Logged, Reported, Step, History}
 use Rattle.saved_weight.specs.BookWeights.{pulls_weight}
 use Rattle.saved_weight.specs.Entries.{key_entry, atom_entry}
+use Rattle.session_frames.specs.declared.frame.Frame.TheVariants.{Log}
 use Rattle.saved_weight.specs.HistoryWeights.{history_weight}
+use Rattle.saved_weight.specs.Weigh.{weigh}
 
 -- a key of a number: an entry, a leaf and a value
 number_key : key_entry (record { dims = One (Int (pos 5)) ∷ []; slices = [] }) ≡ 160
@@ -169,3 +172,8 @@ no_alarm = refl
 pulls : pulls_weight (Pull 1 10001 (Atoms (holding (Int (pos 1)) ∷ holding (Int (pos 2)) ∷ []))
     ∷ Pull 2 10002 Failed ∷ Pull 3 10001 (Atoms (holding (Int (pos 3)) ∷ [])) ∷ []) ≡ 128 + 144 + 128
 pulls = refl
+
+-- ticks weigh nothing, however many there are
+no_tick_weighs : (says : SimpleMatcher → Atom → Bool)
+    → weigh says (Log (Tick 5) ∷ Log (Tick 7) ∷ Log (Tick 7) ∷ []) ≡ 1024
+no_tick_weighs says = refl

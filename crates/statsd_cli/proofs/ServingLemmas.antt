@@ -79,7 +79,8 @@ log_silent before frame = refl
 silent_push : (frames : List Frame) (frame : LogFrame) → AreSilent frames → AreSilent (frames ++ Log frame ∷ [])
 silent_push frames frame silent = λ before.
     more-push before frames (Log frame)
-    ∙ ap (λ l. l ++ bytes_if_any (reply_to matcher_holds (before ++ frames) (Log frame))) (silent before) ∙ log_silent (before ++ frames) frame
+    ∙ ap (λ l. l ++ bytes_if_any (reply_to matcher_holds (before ++ frames) (Log frame))) (silent before)
+    ∙ log_silent (before ++ frames) frame
 
 -- the replies to frames of which the first have none
 silent_first : (before front back : List Frame) → AreSilent front

@@ -42,7 +42,10 @@ fn counted_save<S: Source, K: Sink, L: Ledger>(
     let mut serving = Serving::new(alloc);
     let mut asks: Steps<L> = Steps::new(blank);
     match serve_all(&mut serving, &mut asks, input) {
-        Ending::Done => put_hub(alloc, serving.into_hub(), out),
+        Ending::Done => {
+            let mut hub = serving.into_hub();
+            put_hub(alloc, &mut hub, out)
+        }
         ending => ending,
     }
 }
@@ -64,10 +67,10 @@ fn serve_all<S: Source, L: Ledger>(
 }
 
 /// Puts the saved form of a hub.
-fn put_hub<K: Sink>(alloc: Global, mut hub: Hub<FieldJudge>, out: &mut K) -> Ending
-    ensures { WritesFormOf hub (K.state out.old) (K.state out.new) result }
+fn put_hub<K: Sink>(alloc: Global, hub: &mut Hub<FieldJudge>, out: &mut K) -> Ending
+    ensures { WritesFormOf hub.old (K.state out.old) (K.state out.new) result }
 {
-    match checkpoint::save(alloc, &mut hub) {
+    match checkpoint::save(alloc, hub) {
         Ok(bytes) => match put_framed(bytes.as_slice(), out) {
             Ok(()) => Ending::Done,
             Err(_) => Ending::WriteFault,

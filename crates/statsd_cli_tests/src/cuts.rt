@@ -1,5 +1,5 @@
-//! Sessions that are cut, short ones after each of their frames: what is before the cut is saved, and what is after it is answered
-//! after the saved form, as it is answered in the uncut session.
+//! Sessions that are cut, short ones after each of their frames: what is before the cut is saved, and what is after
+//! it is answered after the saved form, as it is answered in the uncut session.
 use super::forms::{LONG, SHORT, form_of, joined, past, resumed};
 use super::outcomes::{Due, Outcome, compare_due, front};
 use super::streams::{AMPLE, Streams};

@@ -24,8 +24,8 @@ struct Session<'a> {
     is_saved: bool,
 }
 
-/// Runs a session once with each read that fails, and once with each write that does, as many as the row says, over each
-/// kind of source.
+/// Runs a session once with each read that fails, and once with each write that does, as many as the row says, over
+/// each kind of source.
 pub fn run_faults(
     alloc: Global,
     tester: &mut Tester,
@@ -72,8 +72,8 @@ fn run_fault(
     compare_write(tester, session, &run)
 }
 
-/// A run whose read failed ends with the status of that, and has answered what a session is answered that ends there, or
-/// saved nothing. One that had no such read ends as the row says.
+/// A run whose read failed ends with the status of that, and has answered what a session is answered that ends there,
+/// or saved nothing. One that had no such read ends as the row says.
 fn compare_read(
     alloc: Global,
     tester: &mut Tester,
@@ -102,8 +102,8 @@ fn compare_read(
     tester.same_bytes("replies before the read", ended.replies.as_slice(), replies)
 }
 
-/// A run whose write failed ends with the status of that, and not all is written. One that had no such write ends as the
-/// row says.
+/// A run whose write failed ends with the status of that, and not all is written. One that had no such write ends as
+/// the row says.
 fn compare_write(
     tester: &mut Tester,
     session: Session<'_>,

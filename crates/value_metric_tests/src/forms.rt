@@ -1,6 +1,6 @@
 //! Producers that are built again from their items, and items that are those of none.
 use flat_form::{Flat, FlatError, Item, Items, rebuild};
-use sd_base::{Duplicate, Seq};
+use sd_base::Seq;
 use std::alloc::{AllocError, Global};
 use test_tools::unsigned;
 
@@ -85,10 +85,8 @@ fn other_item(alloc: Global, items: &Items, other: Other) -> Result<Item, AllocE
 
 /// A copy of the item at a place, which is a number or a part of a key. No other comes.
 fn copied(alloc: Global, items: &Items, place: usize) -> Result<Item, AllocError> {
-    match items.at(place) {
-        Some(Item::Num(number)) => Ok(Item::Num(*number)),
-        Some(Item::Dims(dims)) => Ok(Item::Dims(dims.duplicate(alloc)?)),
-        Some(Item::Slices(slices)) => Ok(Item::Slices(slices.duplicate(alloc)?)),
-        _ => Ok(Item::Slices(Seq::new(alloc))),
+    match items.at(place)? {
+        Some(item) => Ok(item),
+        None => Ok(Item::Slices(Seq::new(alloc))),
     }
 }

@@ -43,8 +43,9 @@ pub fn begin(alloc: Global, base: u64, metric: &LMetric, spec: PredSpec) -> Lane
     Lane::new(base, metric.size, producer)
 }
 
-/// A frame of the log comes. An atom acts on the inner keys, and what changed of them is told after it. One that neither
-/// touches the metric nor tells a state by which it is sliced does nothing. What stays is found before it acts.
+/// A frame of the log comes. An atom acts on the inner keys, and what changed of them is told after it. One that
+/// neither touches the metric nor tells a state by which it is sliced does nothing. What stays is found before it
+/// acts.
 #[inline(never)]
 pub fn log<L: Ledger>(
     lane: &mut Lane<SumProducer>,

@@ -1,5 +1,6 @@
 //! Signed integers, and numbers that may be missing, through their items.
 use super::super::asserts::assert_found;
+use super::items::are_same;
 use super::samples::numbers;
 use super::values::{is_bad, is_built, items_of};
 use flat_form::Flat;
@@ -13,7 +14,7 @@ fn is_saved_as<T: Flat + Drop + PartialEq>(
 ) -> Result<bool, AllocError> {
     let found = items_of(alloc, value)?;
     let wanted = numbers(alloc, row)?;
-    Ok(found.as_slice() == wanted.as_slice() && is_built(alloc, &wanted, 0, value, row.len()))
+    Ok(are_same(&found, &wanted) && is_built(alloc, &wanted, 0, value, row.len()))
 }
 
 // Whether nothing is built of a number of values that is neither 0 nor 1.

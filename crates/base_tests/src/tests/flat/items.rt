@@ -1,41 +1,63 @@
 //! Items and their bytes.
 ghost use Rattle.flat_form.specs.Savable.{AreSavable};
+ghost use Rattle.flat_form.specs.ItemRange.{ReadsItems};
 
 use super::super::asserts::{assert_found, assert_holds};
 use super::samples::{ATOM, CHUNK, DIMS, NUM, SLICES, items};
+use atom_record::Bytes;
 use flat_form::{FlatError, Item, Items, decode_items, encode_items};
 use std::alloc::{AllocError, Global};
 
 // The bytes of one item of each kind, in the order of the sample.
 const ROWS: &[&[u8]] = &[NUM, DIMS, SLICES, ATOM, CHUNK];
 
-fn same_item(one: Option<&Item>, other: Option<&Item>) -> bool {
-    one == other
+// The items that these bytes spell.
+fn read(alloc: Global, bytes: &[u8]) -> Result<Items, FlatError>
+    ensures { ReadsItems bytes.now result }
+{
+    decode_items(alloc, Bytes::from_slice(alloc, bytes)?)
+}
+
+// Whether the same item, or none, stands at two places.
+fn same_item(one: &Items, place: usize, other: &Items, other_place: usize) -> bool {
+    match (one.at(place), other.at(other_place)) {
+        (Ok(one), Ok(other)) => one == other,
+        _ => false,
+    }
 }
 
 fn is_bad(alloc: Global, bytes: &[u8]) -> bool {
-    matches!(decode_items(alloc, bytes), Err(FlatError::Bad))
+    matches!(read(alloc, bytes), Err(FlatError::Bad))
 }
 
 // Whether these bytes spell one item, the one at this place.
 fn is_read_as(alloc: Global, bytes: &[u8], expected: &Items, place: usize) -> bool {
-    match decode_items(alloc, bytes) {
-        Ok(read) => read.len() == 1 && same_item(read.at(0), expected.at(place)),
+    match read(alloc, bytes) {
+        Ok(read) => read.len() == 1 && same_item(&read, 0, expected, place),
         Err(_) => false,
     }
 }
 
+// Whether two lists have the same items.
+pub fn are_same(one: &Items, other: &Items) -> bool {
+    let mut same = one.len() == other.len();
+    for place in 0..one.len() {
+        same &= same_item(one, place, other, place);
+    }
+    same
+}
+
 // Whether these bytes spell these items.
 fn are_read(alloc: Global, bytes: &[u8], expected: &Items) -> bool {
-    match decode_items(alloc, bytes) {
-        Ok(read) => read.as_slice() == expected.as_slice(),
+    match read(alloc, bytes) {
+        Ok(read) => are_same(&read, expected),
         Err(_) => false,
     }
 }
 
 // Whether these items are spelled by these bytes.
-fn are_spelled(alloc: Global, items: &Items, bytes: &[u8]) -> bool
-    requires { AreSavable items.now }
+fn are_spelled(alloc: Global, items: Items, bytes: &[u8]) -> bool
+    requires { AreSavable items }
 {
     match encode_items(alloc, items) {
         Ok(spelled) => spelled.as_slice() == bytes,
@@ -45,15 +67,15 @@ fn are_spelled(alloc: Global, items: &Items, bytes: &[u8]) -> bool
 
 // Whether so many items stand in these bytes, and are spelled by them again.
 fn is_spelled_again(alloc: Global, bytes: &[u8], number: usize) -> bool {
-    match decode_items(alloc, bytes) {
-        Ok(items) => items.len() == number && are_spelled(alloc, &items, bytes),
+    match read(alloc, bytes) {
+        Ok(items) => items.len() == number && are_spelled(alloc, items, bytes),
         Err(_) => false,
     }
 }
 
 // Whether there are five items, and each row spells the one at its place.
 fn are_rows_read(alloc: Global, expected: &Items) -> bool {
-    let mut all = expected.len() == 5 && expected.at(5).is_none();
+    let mut all = expected.len() == 5 && matches!(expected.at(5), Ok(None));
     for (place, bytes) in ROWS.iter().enumerate() {
         all &= is_read_as(alloc, bytes, expected, place);
     }
@@ -108,13 +130,13 @@ fn is_row_whole(alloc: Global) -> Result<bool, AllocError> {
 fn is_number_spelled(alloc: Global) -> Result<bool, AllocError> {
     let mut items = Items::new(alloc);
     items.push(Item::Num(258))?;
-    Ok(are_spelled(alloc, &items, NUM))
+    Ok(are_spelled(alloc, items, NUM))
 }
 
 // Whether no items are spelled by no bytes.
 fn are_none_spelled(alloc: Global) -> bool {
     let items = Items::new(alloc);
-    are_spelled(alloc, &items, b"")
+    are_spelled(alloc, items, b"")
 }
 
 // Adds 65,537 bytes.

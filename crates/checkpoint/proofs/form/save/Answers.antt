@@ -15,7 +15,7 @@ returns-clause-saves g c =
     record {
       form = record {
         valid = c.in_ok-items.ensures.valid;
-        can_be = subst CanBeSpelled own (c.in_ok-items.ensures.spelled, rw c.as_slice.ensures at c.fit_items.ensures);
+        can_be = subst CanBeSpelled own (c.in_ok-items.ensures.spelled, c.fit_items.ensures);
         spelled = c.in_ok-encode_items.ensures ∙ ap spelled_items own;
       };
       short = let len = ap length c.in_ok-encode_items.ensures in
@@ -32,7 +32,7 @@ returns-then-size-gt-MOST_SAVED-clause-saves g c =
     record {
       form = record {
         valid = c.in_ok-items.ensures.valid;
-        can_be = subst CanBeSpelled own (c.in_ok-items.ensures.spelled, rw c.as_slice.ensures at c.fit_items.ensures);
+        can_be = subst CanBeSpelled own (c.in_ok-items.ensures.spelled, c.fit_items.ensures);
         spelled = refl;
       };
       long = omega (arith, size, is, long);

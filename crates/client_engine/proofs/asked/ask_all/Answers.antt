@@ -8,11 +8,11 @@ loop-at-init g c =
     c.in_ok-ask_nothing.ensures ∙ asked_first c.args.links.now (g.A.Asked.reading c.args.asked.now) c.args.predicates
 
 -- one more link, to one of the predicates
-pub loop-at-preserved-then-place-predicates : goal.loop-at-preserved-then-place-predicates
-loop-at-preserved-then-place-predicates g c =
+pub loop-at-preserved-in-Continue-branch-2 : goal.loop-at-preserved-in-Continue-branch-2
+loop-at-preserved-in-Continue-branch-2 g c =
     asked_one_more c.args.links.now (g.A.Asked.reading c.args.asked.now) c.loop-at.at c.args.predicates
-    c.index-links-at.result c.loop-at.binds.items c.in_ok-binds.field-0 c.loop-at-test.true c.loop-at.auto.at
-    c.index-links-at.is c.loop-at.invariant c.if-place-predicates.true c.in_ok-binds.ensures
+    c.index-links-at.result c.loop-at.binds.items c.bind_into.new.binds c.loop-at-test.true c.loop-at.auto.at
+    c.index-links-at.is c.loop-at.invariant c.if-place-predicates.true c.in_ok-bind_into.ensures
 
 -- or to none of them
 pub loop-at-preserved : goal.loop-at-preserved

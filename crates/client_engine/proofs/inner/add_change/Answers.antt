@@ -1,6 +1,7 @@
 -- What is so of the key at the place is told, unless it was told last.
-use Rattle.std.proofs.Common.{ap, ◌∙◌}
+use Rattle.std.proofs.Common.{[], ◌∷◌, ◌++◌, ap, ◌∙◌}
 use Rattle.std.proofs.lemmas.Result.{on_ok_weaker}
+use Rattle.atom_record.specs.declared.value.MetricKey.{MetricKey}
 use Rattle.duration_metric.specs.InnerKeys.{inner_keys, last_known}
 use Rattle.metric_calls.specs.DurationCalls.{known_in}
 use Rattle.std.specs.Prelude.{slice_get}
@@ -26,11 +27,12 @@ returns-then-was_told-clause-adds g c = λ params calls scene stands found share
     let fields_are = c.fields_of.ensures
     ∙ ap (λ (k : Known). inner_fields (slice_get k.predicates asker.metric.now.what)) c.in_ok-truth.ensures.known in
     let is = known_there given scene asker.metric.now c.fields_of.result.now c.in-Some.key.now c.in_ok-truth.truth
-    c.in_ok-out.out found fields_are (c.in_ok-truth.ensures.truth params calls scene stands found shared keeps there)
-    (c.in_ok-out.ensures c.args.conditions.now scene found) in
+    c.key_into.new.room.key found fields_are
+    (c.in_ok-truth.ensures.truth params calls scene stands found shared keeps there)
+    (c.in_ok-key_into.ensures c.args.conditions.now scene found) in
     told_there (last_known params.spec calls) (known_in scene asker.metric.now) c.args.changes.now c.args.place
     (slice_get (inner_keys params.spec calls) c.args.place) c.in-Some.key.now
-    (record { truth = c.in_ok-truth.truth; out = c.in_ok-out.out }) c.was_told.result there is
+    (record { truth = c.in_ok-truth.truth; out = c.key_into.new.room.key }) c.was_told.result there is
     (c.was_told.ensures params calls stands) c.if-was_told.true
 
 -- it is told
@@ -44,11 +46,13 @@ returns-clause-adds g c =
     let fields_are = c.fields_of.ensures
     ∙ ap (λ (k : Known). inner_fields (slice_get k.predicates asker.metric.now.what)) c.in_ok-truth.ensures.known in
     let is = known_there given scene asker.metric.now c.fields_of.result.now c.in-Some.key.now c.in_ok-truth.truth
-    c.in_ok-out.out found fields_are (c.in_ok-truth.ensures.truth params calls scene stands found shared keeps there)
-    (c.in_ok-out.ensures c.args.conditions.now scene found) in
+    c.key_into.new.room.key found fields_are
+    (c.in_ok-truth.ensures.truth params calls scene stands found shared keeps there)
+    (c.in_ok-key_into.ensures c.args.conditions.now scene found) in
     new_there (last_known params.spec calls) (known_in scene asker.metric.now) c.args.changes.now c.push.new.self
     c.args.place (slice_get (inner_keys params.spec calls) c.args.place) c.in-Some.key.now
-    (record { truth = c.in_ok-truth.truth; out = c.in_ok-out.out }) c.was_told.result there is
+    (record { truth = c.in_ok-truth.truth; out = c.key_into.new.room.key }) c.was_told.result there is
     (c.was_told.ensures params calls stands) c.if-was_told.false
-    added)
+    (added ∙ ap (λ (out : MetricKey). c.args.changes.now
+    ++ record { place = c.args.place; truth = c.in_ok-truth.truth; out = out } ∷ []) c.in_ok-out.ensures))
     c.push.ensures.added

@@ -9,8 +9,8 @@ use Rattle.client_engine.proofs.SliceLemmas.{slice_there, slice_past}
 use Rattle.client_engine.proofs.slices.add_slice.Goals as goal
 
 -- the state's slice
-pub returns-in_ok-key-in-Some : goal.returns-in_ok-key-in-Some
-returns-in_ok-key-in-Some g c = λ log stands.
+pub returns-in_ok-state_key_into-in-Some : goal.returns-in_ok-state_key_into-in-Some
+returns-in_ok-state_key_into-in-Some g c = λ log stands.
     let states = c.args.states.now in
     let by = c.args.by.now in
     let reading = g.A.Asked.reading c.args.asked.now in
@@ -24,7 +24,7 @@ returns-in_ok-key-in-Some g c = λ log stands.
     let same = to_z-of_z w32 c.value.result fits in
     on_ok_weaker c.push.result (λ added. added
     ∙ ap (λ l. c.args.shown.now ++ l) (ap (λ s. s ∷ []) (c.slice.ensures ∙ ap (slice_of state) (same ∙ value))
-    ∙ slice_there states log reading by state c.in_ok-key-in-Some.key there c.in_ok-key-in-Some.ensures))
+    ∙ slice_there states log reading by state c.state_key_into.new.key there c.in_ok-state_key_into-in-Some.ensures))
     c.push.ensures.added
 
 -- no state, no slice

@@ -10,7 +10,7 @@ pub loop-value-init : goal.loop-value-init
 loop-value-init c = (
   [],
   (
-    c.new-binds.ensures ∙ binds_none c.args.places.now,
+    c.clear.ensures ∙ binds_none c.args.places.now,
     c.into_iter-value-iterator.ensures.into_iter_gives ∙ c.into_leaves-value-items.ensures,
   ),
 )

@@ -6,7 +6,7 @@ pub returns-in-Done : goal.returns-in-Done
 returns-in-Done g c =
     let served = c.in-Done.ensures in
     saves_served _ _ _ c.new-serving.result c.serve_all.new.serving served.0 c.new-serving.ensures.clock
-    c.new-serving.ensures.stands served.1 _ _ (rw c.into_hub.ensures at c.put_hub.ensures)
+    c.new-serving.ensures.stands served.1 _ _ (rw c.into_hub-hub.ensures at c.put_hub.ensures)
 
 pub returns-in_default : goal.returns-in_default
 returns-in_default g c =

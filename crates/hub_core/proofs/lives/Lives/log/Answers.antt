@@ -1,5 +1,5 @@
--- The counts are those of the slots, what is noted is as it should be, and the table is held as before, also where memory
--- is wanting.
+-- The counts are those of the slots, what is noted is as it should be, and the table is held as before, also where
+-- memory is wanting.
 use Rattle.std.proofs.Common.{arith, ℕ, ℤ, refl, ◌∙◌, subst}
 use Rattle.std.proofs.lemmas.Grind.{merely}
 use Rattle.std.proofs.lemmas.Result.{on_ok_weaker}
