@@ -3,6 +3,10 @@
 A shape writes the frames of its log up to a count; the client installs the configuration first, and asks for a report
 with a cut at the end.
 """
+import struct
+
+from session_text.layout import INT
+
 from .frames import CONFIG_ID, MILLISECOND, atom, atom_of, install, integers, longs, pull, remove, report, text, tick
 
 CLIENT = 10
@@ -201,6 +205,121 @@ def colliding():
     return matchers(5) + metric("count_metric", 100, 1, fields("dimensions_in_what", 5, 1, 2), f"bound: {KEYS}")
 
 
+def grouped(number, atom_id, values):
+    """A state of an atom, whose values so many stand in groups of a thousand."""
+    groups = "".join(
+        f"group {{ group_id: {first} " + " ".join(f"value: {value}" for value in range(first, first + 1000)) + " }\n"
+        for first in range(0, values, 1000)
+    )
+    return f"state {{ id: {number} atom_id: {atom_id} map {{ {groups} }} }}\n"
+
+
+def sums_by_a_long_map():
+    """Three sums of 3,000 keys, sliced by a state with 60,000 values in groups."""
+    summed = "".join(
+        metric("duration_metric", 100 + place, 11, "slice_by_state: 31", fields("dimensions_in_what", 6, 1), f"bound: {KEYS}")
+        for place in range(3)
+    )
+    return matchers(5, 6, 7) + predicate(11, 2, 3, fields("dimensions", 6, 1)) + grouped(31, 27, 60_000) + summed
+
+
+def state_of(at, value):
+    """An atom of a state that has no key."""
+    return atom_of(at, 27, struct.pack("<BBBBBi", 1, 0, 0, 1, INT, value))
+
+
+def all_keys_then_states(out, count):
+    """3,000 keys are started; then the state is another value of the last group at each atom."""
+    for key in range(KEYS):
+        out.write(atom(0, key, 6))
+    for done in range(count):
+        out.write(state_of(done * MILLISECOND, 59_000 + done % 1000))
+
+
+def linked_keys():
+    """A sum of 3,000 inner keys, each under its own key of a condition."""
+    asked = link(12, fields("fields_in_what", 6, 1), fields("fields_in_condition", 8, 1))
+    return (
+        matchers(5, 6, 7, 8, 9)
+        + predicate(11, 2, 3, fields("dimensions", 6, 1))
+        + predicate(12, 4, 5, fields("dimensions", 8, 1))
+        + metric("duration_metric", 100, 11, "condition: 12", asked, fields("dimensions_in_what", 6, 1), f"bound: {KEYS}")
+    )
+
+
+def both_filled_then_turned(out, count):
+    """3,000 inner keys and as many of the condition are started; then one of the condition turns at each atom."""
+    for key in range(KEYS):
+        out.write(atom(0, key, 6))
+        out.write(atom(0, key, 8))
+    for done in range(count):
+        out.write(atom(done * MILLISECOND, done // 2 % KEYS, 9 - done % 2))
+
+
+def thirty_sums_by_a_state():
+    """Thirty sums of 3,000 keys, sliced by a state of each key."""
+    in_state = (
+        "slice_by_state: 31 state_link { state_atom_id: 27 "
+        + fields("fields_in_what", 6, 1) + " " + fields("fields_in_state", 27, 1) + " }"
+    )
+    summed = "".join(
+        metric("duration_metric", 100 + place, 11, in_state, fields("dimensions_in_what", 6, 1), f"bound: {KEYS}")
+        for place in range(30)
+    )
+    state = "state { id: 31 atom_id: 27 }\n"
+    return matchers(5, 6, 7) + predicate(11, 2, 3, fields("dimensions", 6, 1)) + state + summed
+
+
+def all_keys_then_keyed_states(out, count):
+    """3,000 keys are started; then the state of one of them is another at each atom."""
+    for key in range(KEYS):
+        out.write(atom(0, key, 6))
+    for done in range(count):
+        keyed = struct.pack("<BBBBBi", 1, 0, 0, 2, INT, done % KEYS) + struct.pack("<BBBBBi", 2, 0, 0, 1, INT, done)
+        out.write(atom_of(done * MILLISECOND, 27, keyed))
+
+
+def counted_by_many():
+    """A count by 127 fields of each of 127 fields, so that a key has 16,129 leaves."""
+    inner = " ".join(f"child {{ field: {place} }}" for place in range(1, 128))
+    leaves = " ".join(f"child {{ field: {place} {inner} }}" for place in range(1, 128))
+    return matchers(5) + metric("count_metric", 100, 1, f"dimensions_in_what {{ field: 5 {leaves} }}", f"bound: {KEYS}")
+
+
+def keys_with_one_leaf(out, count):
+    """Atoms of as many keys, of whose leaves the last is there."""
+    for done in range(count):
+        out.write(atom_of(done, 5, text(127, b"%d" % done, 127)))
+
+
+def a_hundred_samplers():
+    """A hundred gauges of one pulled atom, sampled at a trigger."""
+    whole = "gauge_fields_filter { include_all: true } sampling_type: FIRST_N_SAMPLES trigger_event: 2"
+    by_key = fields("dimensions_in_what", PULLED, 1)
+    return matchers(PULLED, 5) + "".join(metric("gauge_metric", 100 + place, 1, whole, by_key) for place in range(100))
+
+
+def triggers(out, count):
+    """Pulls of 200 atoms, and the trigger after each."""
+    for done in range(count // 2):
+        out.write(pull(done * MILLISECOND, PULLED, [integers(key, done + key) for key in range(200)]))
+        out.write(atom(done * MILLISECOND, 0))
+
+
+def cycle_after_references():
+    """A chain of combinations with 100,000 references in all, at whose end two name one another: it is refused."""
+    many = " ".join("matcher: 1" for _ in range(1000))
+    chain = "".join(
+        f"atom_matcher {{ id: {place} combination {{ operation: AND matcher: {place - 1} {many} }} }}\n"
+        for place in range(2, 102)
+    )
+    cycle = (
+        "atom_matcher { id: 200 combination { operation: AND matcher: 201 } }\n"
+        "atom_matcher { id: 201 combination { operation: AND matcher: 200 } }\n"
+    )
+    return matchers(5) + chain + cycle + metric("count_metric", 100, 101)
+
+
 MULTIPLIER = 0x9E3779B97F4A7C15
 FIRST_STATE = 0x243F6A8885A308D3
 
@@ -263,9 +382,17 @@ SHAPES = [
     ("keys that collide", colliding, keys_that_collide, 20_000),
     ("silence with 100 open sums", a_hundred_open, silence, 20_000),
     ("a report after each atom", counted, with_reports, 40_000),
+    ("a map of 60,000 values, of 9,000 keys", sums_by_a_long_map, all_keys_then_states, 20),
+    ("3,000 keys linked to 3,000 that turn", linked_keys, both_filled_then_turned, 1_000),
+    ("30 sums of 3,000 keys by a state", thirty_sums_by_a_state, all_keys_then_keyed_states, 20),
+    ("a report of keys with one leaf of 16,129", counted_by_many, keys_with_one_leaf, 250),
+    ("100 pulled gauges at a trigger", a_hundred_samplers, triggers, 200),
 ]
 
-INSTALLS = ("800 matchers installed again", replaced, 200)
+INSTALLS = [
+    ("800 matchers installed again", replaced, 200),
+    ("a cycle after 100,000 references", cycle_after_references, 50),
+]
 
 
 def written(config, log):

@@ -67,7 +67,8 @@ module _ (before : List AtomField) (bytes : List ℕ) (long : 5 ≤ length bytes
 
       -- the type has a fault
       pub bad_type : (fault : Option ℕ) → FailsBy fault (kind_at number) → FailsBy fault (entry_at before bytes)
-      bad_type fault failed = rw judged (fails_first fault (kind_at number) (after_flags before place flags rest) failed)
+      bad_type fault failed = rw judged
+          (fails_first fault (kind_at number) (after_flags before place flags rest) failed)
 
       module _ (kind : Kind) (named : kind_at number ≡ Ok kind) where
         -- the flags have a fault

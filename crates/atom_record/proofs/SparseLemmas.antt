@@ -41,7 +41,8 @@ spread_later count place later (Many values ∷ leaves) below = let kept = prese
 pub spread_back : (place : ℕ) (leaves : List Leaf) → spread (length leaves) place (present_in place leaves) ≡ leaves
 spread_back place [] = refl
 spread_back place (Missing ∷ leaves) =
-    spread_later (length leaves) place (suc place) leaves (omega arith) ∙ ap (λ l. Missing ∷ l) (spread_back (suc place) leaves)
+    spread_later (length leaves) place (suc place) leaves (omega arith)
+    ∙ ap (λ l. Missing ∷ l) (spread_back (suc place) leaves)
 spread_back place (One value ∷ leaves) = let kept = present_in place (One value ∷ leaves) in
     ap (λ b. if b then One value ∷ spread (length leaves) (suc place) (present_in (suc place) leaves)
     else Missing ∷ spread (length leaves) (suc place) kept) ((Decides-eqb place place).1 refl)
@@ -84,9 +85,11 @@ pub place_from : (place : ℕ) (leaves : List Leaf) (at : ℕ) (one : Present)
 place_from place [] at one is = cc
 place_from place (Missing ∷ leaves) at one is = let later = place_from (suc place) leaves at one is in omega arith
 place_from place (One value ∷ leaves) zero one is = let first : one.place ≡ place = cc in omega arith
-place_from place (One value ∷ leaves) (suc at) one is = let later = place_from (suc place) leaves at one is in omega arith
+place_from place (One value ∷ leaves) (suc at) one is =
+    let later = place_from (suc place) leaves at one is in omega arith
 place_from place (Many values ∷ leaves) zero one is = let first : one.place ≡ place = cc in omega arith
-place_from place (Many values ∷ leaves) (suc at) one is = let later = place_from (suc place) leaves at one is in omega arith
+place_from place (Many values ∷ leaves) (suc at) one is =
+    let later = place_from (suc place) leaves at one is in omega arith
 
 -- of what is kept, what stands earlier has the lower place
 pub places_rise : (place : ℕ) (leaves : List Leaf) (at later : ℕ) (one other : Present) → at < later
@@ -124,8 +127,10 @@ kept_at place (One value ∷ leaves) (suc at) zero one is there =
     let first : one.place ≡ place = cc in absurd (omega arith)
 kept_at place (Many values ∷ leaves) (suc at) zero one is there =
     let first : one.place ≡ place = cc in absurd (omega arith)
-kept_at place (One value ∷ leaves) (suc at) (suc turn) one is there = kept_at (suc place) leaves at turn one is (omega arith)
-kept_at place (Many values ∷ leaves) (suc at) (suc turn) one is there = kept_at (suc place) leaves at turn one is (omega arith)
+kept_at place (One value ∷ leaves) (suc at) (suc turn) one is there =
+    kept_at (suc place) leaves at turn one is (omega arith)
+kept_at place (Many values ∷ leaves) (suc at) (suc turn) one is there =
+    kept_at (suc place) leaves at turn one is (omega arith)
 
 -- where nothing is kept of a place, its leaf is missing, or past the end
 pub none_at : (place : ℕ) (leaves : List Leaf) (at : ℕ)
@@ -182,7 +187,8 @@ module _ (count : ℕ) (kept : List Present) (held : kept ≡ present_in 0 (spre
   missing_added = ap (spread (count + 1) 0) (sym (append-nil kept)) ∙ leaf_added Missing [] refl
 
   pub missing_held : kept ≡ present_in 0 (spread (count + 1) 0 kept)
-  missing_held = sym (append-nil kept) ∙ still_held Missing [] refl ∙ ap (λ l. present_in 0 (spread (count + 1) 0 l)) (append-nil kept)
+  missing_held = sym (append-nil kept) ∙ still_held Missing [] refl
+      ∙ ap (λ l. present_in 0 (spread (count + 1) 0 l)) (append-nil kept)
 
   -- what is kept at a place
   pub found_at : (at turn : ℕ) (one : Present) → slice_get kept turn ≡ Some one → one.place ≡ at
@@ -210,12 +216,14 @@ module _ (count : ℕ) (kept : List Present) (held : kept ≡ present_in 0 (spre
 
   -- where the first that isn't below a place has another one, nothing is kept of it
   pub none_found : (at before : ℕ)
-      → IsPartitionPoint (λ (one : Present). nat_lt one.place at ≡ true) (λ (one : Present). nat_lt one.place at ≡ false) kept before
+      → IsPartitionPoint (λ (one : Present). nat_lt one.place at ≡ true)
+      (λ (one : Present). nat_lt one.place at ≡ false) kept before
       → ((one : Present) → slice_get kept before ≡ Some one → one.place ≢ at)
       → None ≡ not_missing (slice_get (spread count 0 kept) at)
   none_found at before parted other = sym (none_at 0 (spread count 0 kept) at absent)
     where
-      absent : (turn : ℕ) (one : Present) → slice_get (present_in 0 (spread count 0 kept)) turn ≡ Some one → one.place ≢ 0 + at
+      absent : (turn : ℕ) (one : Present) → slice_get (present_in 0 (spread count 0 kept)) turn ≡ Some one
+          → one.place ≢ 0 + at
       absent turn one is there =
           let stands : slice_get kept turn ≡ Some one = ap (λ l. slice_get l turn) held ∙ is in
           let within = slice_get_within kept turn one stands in
@@ -229,7 +237,8 @@ module _ (count : ℕ) (kept : List Present) (held : kept ≡ present_in 0 (spre
                 elim (cases_lt before turn) [
                   | inl later ↦
                       let first = get_or kept before one in
-                      let first_there : slice_get kept before ≡ Some first = slice_get-get_or kept before one (omega arith) in
+                      let first_there : slice_get kept before ≡ Some first =
+                      slice_get-get_or kept before one (omega arith) in
                       let rising = rises before turn first one later first_there stands in
                       let high = parted.1 before one (omega arith) (omega arith) in
                       let not_below : first.place < at → ⊥ = λ below.
@@ -269,7 +278,8 @@ module _ (count other_count : ℕ) (kept other_kept : List Present)
   -- two keys that don't have as many leaves aren't
   pub keys_apart : count ≢ other_count
       → (count == other_count) ≡ pointwise leaf.ghosts.eq (spread count 0 kept) (spread other_count 0 other_kept)
-  keys_apart differ = apart count other_count differ ∙ sym (false_unless (pointwise leaf.ghosts.eq (spread count 0 kept) (spread other_count 0 other_kept))
+  keys_apart differ = apart count other_count differ
+      ∙ sym (false_unless (pointwise leaf.ghosts.eq (spread count 0 kept) (spread other_count 0 other_kept))
       (λ is. differ (sym (spread_length count 0 kept)
       ∙ ap length ((pointwise_decides leaf_exact (spread count 0 kept) (spread other_count 0 other_kept)).0 is)
       ∙ spread_length other_count 0 other_kept)))
@@ -303,7 +313,8 @@ module _ (left at : ℕ) (one : Present) (rest : List Present) (here : one.place
       rest_of : (leaf : Leaf) (leaves : List Leaf) → one ∷ rest ≡ present_in at (leaf ∷ leaves)
           → rest ≡ present_in (suc at) leaves
       rest_of Missing leaves is =
-          let later = place_from (suc at) leaves 0 one (ap (λ l. slice_get l 0) (sym is)) in absurd (omega (arith, here))
+          let later = place_from (suc at) leaves 0 one (ap (λ l. slice_get l 0) (sym is)) in absurd
+          (omega (arith, here))
       rest_of (One value) leaves is = cc
       rest_of (Many values) leaves is = cc
 

@@ -18,8 +18,8 @@ struct Present {
     leaf: Leaf,
 }
 
-/// A key of dimensions: the values at the leaves, in the order of the leaves. A leaf that is missing takes no memory: it
-/// is counted, and not kept.
+/// A key of dimensions: the values at the leaves, in the order of the leaves. A leaf that is missing takes no
+/// memory: it is counted, and not kept.
 #[derive(Drop)]
 pub struct DimKey {
     present: Vec<Present>,
@@ -156,8 +156,8 @@ impl DimKey {
         Ok(())
     }
 
-    /// Writes a number over the one leaf of a key, if that is a number of the same kind. Whether it did; if not, the key
-    /// stays as it was.
+    /// Writes a number over the one leaf of a key, if that is a number of the same kind. Whether it did; if not, the
+    /// key stays as it was.
     #[inline(always)]
     pub fn set_number(&mut self, value: &Value) -> bool
         ensures number { result ≡ true → self.new ≡ One value.now ∷ [] }

@@ -1,23 +1,19 @@
--- What a report shows of rows by their messages is what it shows of the rows: lemmas on `specs/Messages.antt`, for
--- events and gauges.
-use Rattle.std.proofs.Common.{◌≡◌, Bool, true, false, if◌then◌else◌, List, [], ◌∷◌, ◌++◌, map, filter, get_or, refl, ap, ◌∙◌}
+-- What a report shows of a gauge's rows by their messages is what it shows of the rows: lemmas on
+-- `specs/Messages.antt`.
+use Rattle.std.proofs.Common.{◌≡◌, Bool, true, false, if◌then◌else◌, List, [], ◌∷◌, map, filter, get_or, refl, ap, ◌∙◌}
 use Rattle.std.specs.Prelude.{All}
-use Rattle.std.specs.List.{flat_map}
-use Rattle.std.proofs.lemmas.List.Elements.{All-nil, All-head, All-tail, All-append, All-map, All-filter}
+use Rattle.std.proofs.lemmas.List.Elements.{All-map, All-filter}
 use Rattle.atom_record.specs.declared.atom.Atom.{Atom}
 use Rattle.atom_record.specs.declared.value.MetricKey.{MetricKey}
 use Rattle.bucket_meaning.specs.Guard.{firsts}
-use Rattle.report_writer.specs.AtomMessage.{message_of}
-use Rattle.report_writer.specs.Writable.{IsWritableBucket, IsWritableRow, IsWritableEvent}
+use Rattle.report_writer.specs.Writable.{IsWritableBucket, IsWritableRow}
 use Rattle.report_writer.specs.declared.tree.AtomMsg.{AtomMsg}
 use Rattle.metric_producer.specs.declared.row.Row.{Row}
 use Rattle.metric_kinds.specs.Keys.{is_same_key}
 use Rattle.metric_meaning.specs.KeyTrees.{key_trees, group_by, row_key, key_tree, groups_of}
-use Rattle.metric_meaning.specs.EventTrees.{event_trees}
 use Rattle.metric_meaning.specs.GaugeTrees.{sampled_bucket}
 use Rattle.client_engine.specs.Groups.{row_shown}
 use Rattle.client_engine.specs.Messages.{message_row, HasWritableAtoms}
-use Rattle.client_engine.specs.EventsAlong.{event_at, events_in}
 use Rattle.client_engine.specs.GaugesAlong.{sample_bucket, gauge_entry}
 
 -- one map after another
@@ -42,23 +38,6 @@ filter-mapped f passes (x ∷ xs) =
 map-agree : {A B : Type 0} (f g : A → B) → ((x : A) → f x ≡ g x) → (xs : List A) → map f xs ≡ map g xs
 map-agree f g agree [] = refl
 map-agree f g agree (x ∷ xs) = ap (λ y. y ∷ map f xs) (agree x) ∙ ap (λ l. g x ∷ l) (map-agree f g agree xs)
-
--- events by their messages
-pub events-shown : (rows : List (Row (List Atom)))
-    → flat_map events_in (map message_row rows) ≡ flat_map event_trees rows
-events-shown [] = refl
-events-shown (row ∷ rows) =
-    ap (λ l. l ++ flat_map events_in (map message_row rows)) (map-twice (event_at row.start) message_of row.value)
-    ∙ ap (λ l. event_trees row ++ l) (events-shown rows)
-
--- events of messages that can be written
-pub events-writable : (rows : List (Row (List AtomMsg))) → All HasWritableAtoms rows
-    → All IsWritableEvent (flat_map events_in rows)
-events-writable [] all = All-nil IsWritableEvent
-events-writable (row ∷ rows) all =
-    All-append IsWritableEvent (events_in row) (flat_map events_in rows)
-    (All-map IsWritableEvent (event_at row.start) row.value (All-head HasWritableAtoms row rows all))
-    (events-writable rows (All-tail HasWritableAtoms row rows all))
 
 -- the samples of a key by their messages
 gauge-key : (rows : List (Row (List Atom))) (key : MetricKey)

@@ -1,5 +1,5 @@
 -- The lane of a metric of events: what it stands for, and how a report shows what it hands out.
-use Rattle.std.specs.Prelude.{◌≡◌, ℕ, List, map}
+use Rattle.std.specs.Prelude.{◌≡◌, ℕ, List}
 use Rattle.atom_record.specs.declared.atom.Atom.{Atom}
 use Rattle.config_links.specs.declared.linked.LMetric.{LMetric}
 use Rattle.config_links.specs.declared.linked.LKind.TheVariants as kinds
@@ -11,7 +11,7 @@ use Rattle.metric_lane.specs.declared.lane.Lane.{Lane}
 use Rattle.metric_meaning.specs.Histories.{Step, Installation}
 use Rattle.metric_meaning.specs.EventTrees.{events_body}
 use Rattle.metric_calls.specs.EventCalls.{event_asking}
-use Rattle.report_writer.specs.declared.tree.AtomMsg.{AtomMsg}
+use Rattle.report_writer.specs.AtomMessage.{message_of}
 use Rattle.report_writer.specs.declared.tree.EventTree.{EventTree}
 use Rattle.report_writer.specs.declared.tree.MetricTree.{MetricTree}
 use Rattle.client_engine.specs.Along.{Along}
@@ -26,13 +26,9 @@ pub record EventsAlong (metric : LMetric) (installed : Installation) (steps : Li
   pub events : metric.kind ≡ kinds.Event
   pub along : Along (event_asking installed metric) event_law steps lane
 
--- a message of a row, with the row's time
-abbrev pub event_at : ℕ → AtomMsg → EventTree
-event_at at message = record { at = at; atom = message }
-
--- the messages of a row, each with the row's time
-abbrev pub events_in : Row (List AtomMsg) → List EventTree
-events_in row = map (event_at row.start) row.value
+-- the message of an atom, with the time of its row
+abbrev pub event_at : ℕ → Atom → EventTree
+event_at at atom = record { at = at; atom = message_of atom }
 
 -- a metric of events as a report shows it, of what its producer handed out
 abbrev pub events_shown_by : ℕ → LMetric → Taken (Row (List Atom)) → MetricTree

@@ -112,12 +112,12 @@ pub fn metric_key_into(
     metric: &LMetric,
     brought: &Brought<'_>,
     atom: &Atom,
-    key: &mut MetricKey,
+    room: &mut KeyRoom,
 ) -> Result<(), AllocError>
     ensures { (known : Known) (scene : Scene) → IsOfScene (handed_with known brought.now) scene
-        → OnOk result (key.new ≡ metric_key scene metric.now (atom_reading atom.now)) }
+        → OnOk result (room.new.key ≡ metric_key scene metric.now (atom_reading atom.now)) }
 {
-    atom_key_into(alloc, &metric.dims, atom, &mut key.dims)?;
+    atom_key_into(alloc, &metric.dims, atom, &mut room.key.dims)?;
     let by = metric.slices.as_slice();
     atom_slices_into(
         alloc,
@@ -125,11 +125,13 @@ pub fn metric_key_into(
         by,
         atom,
         brought.book,
-        &mut key.slices,
+        &mut room.state,
+        &mut room.key.slices,
     )
 }
 
-// The slices of an atom, in the room of other slices. Most metrics are sliced by no state.
+// The slices of an atom, in the room of other slices, by keys in the room of another key. Most metrics are sliced by no
+// state.
 #[inline(always)]
 fn atom_slices_into(
     alloc: Global,
@@ -137,6 +139,7 @@ fn atom_slices_into(
     slices: &[LSlice],
     atom: &Atom,
     book: &StateBook,
+    key: &mut DimKey,
     shown: &mut Seq<Slice>,
 ) -> Result<(), AllocError>
     ensures { (log : List LogFrame) → StateBookStandsFor book.now log
@@ -146,6 +149,5 @@ fn atom_slices_into(
         shown.clear();
         return Ok(());
     }
-    let mut key = DimKey::new(alloc);
-    slices_into(alloc, states, slices, atom, book, &mut key, shown)
+    slices_into(alloc, states, slices, atom, book, key, shown)
 }

@@ -5,10 +5,11 @@ ghost use Rattle.metric_meaning.specs.Readings.{LeafReading, atom_reading, key_r
 ghost use Rattle.metric_meaning.specs.MetricConditions.{link_binds, binds_at};
 ghost use Rattle.metric_meaning.specs.SnapshotSteps.{nothing_read};
 
+use crate::key_room::atom_key_into;
 use atom_record::{Atom, DimKey};
 use condition_links::{bind_atom_into, bind_key_into, read_key, read_key_into};
 use config_links::LLink;
-use field_select::{FieldSet, key_into, key_of};
+use field_select::{FieldSet, key_of};
 use predicate_state::BindList;
 use sd_base::Seq;
 use std::alloc::{AllocError, Global};
@@ -49,7 +50,7 @@ impl Asked for Atom {
         set: &FieldSet,
         values: &mut DimKey,
     ) -> Result<(), AllocError> {
-        key_into(alloc, set, self, values)
+        atom_key_into(alloc, set, self, values)
     }
 
     fn bind_into(

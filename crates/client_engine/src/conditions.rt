@@ -16,6 +16,7 @@ mod saved;
 
 use crate::asked::{Asked, InnerKey, ask_all};
 use crate::inner::key_event;
+use crate::key_room::KeyRoom;
 use crate::lists::find_matched;
 use crate::marks::no_marks;
 use crate::tables::{Act, act_on_each, drops_of, new_tables};
@@ -32,6 +33,7 @@ use report_writer::Drop64;
 use sd_base::Seq;
 use std::alloc::{AllocError, Global};
 use std::marker::Model;
+use std::mem;
 use std::sync::ledger::Ledger;
 
 /// The predicates of a configuration, and what they know.
@@ -52,6 +54,8 @@ pub struct Conditions {
     no_fields: FieldSet,
     /// What a metric asks of each predicate. Only the room is kept from metric to metric.
     binds: Vec<BindList>,
+    /// The room in which a duration's output keys are made, from one that asks to the next.
+    room: KeyRoom,
 }
 
 impl Model for Conditions {
@@ -112,6 +116,7 @@ impl Conditions {
                 leaves: Seq::new(alloc),
             },
             binds: Vec::new(alloc),
+            room: KeyRoom::new(alloc),
         })
     }
 
@@ -307,6 +312,20 @@ impl Conditions {
             Some(predicate) => key_event(alloc, &predicate.body, atom, matched),
             None => Ok(None),
         }
+    }
+
+    /// Takes the room for keys, which the next one that asks gets if it is given back.
+    pub fn take_room(&mut self, alloc: Global) -> KeyRoom
+        ensures { self.new ≡ self.old }
+    {
+        mem::replace(&mut self.room, KeyRoom::new(alloc))
+    }
+
+    /// Gives the room for keys back.
+    pub fn give_room(&mut self, room: KeyRoom)
+        ensures { self.new ≡ self.old }
+    {
+        self.room = room;
     }
 
     /// How often a key found no room, for each predicate where that is so.

@@ -189,7 +189,7 @@ pub fn changes_of<K: Inners, L: Ledger>(
         stays,
         shared,
     };
-    let mut room = KeyRoom::new(alloc);
+    let mut room = conditions.take_room(alloc);
     for place in first..count {
         add_change(
             alloc,
@@ -202,6 +202,7 @@ pub fn changes_of<K: Inners, L: Ledger>(
             asks,
         )?;
     }
+    conditions.give_room(room);
     Ok(changes)
 }
 

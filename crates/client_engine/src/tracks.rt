@@ -188,8 +188,8 @@ impl Tracks {
         requires within { AllAskWithin conditions.old self.old.list.items }
         requires matched { CanBeBrought brought.now }
         requires marks { length self.old.marks.items ≡ length self.old.list.items }
-        ensures woken { OnMoreWoken (handed_with conditions.old brought.now) brought.now.frame.now brought.now.matched.now
-            self.old.list.items self.old.marks.items asks.old due
+        ensures woken { OnMoreWoken (handed_with conditions.old brought.now) brought.now.frame.now
+            brought.now.matched.now self.old.list.items self.old.marks.items asks.old due
             (λ woken. IfOk result (woken self.new.list.items self.new.marks.items asks.new)) }
         ensures here { OnOk result (IsMarked self.new.marks.items place) }
         ensures stay { KeepsMarks self.old.marks.items self.new.marks.items }

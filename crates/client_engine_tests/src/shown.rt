@@ -5,8 +5,8 @@ use std::alloc::{AllocError, Global};
 
 /// A report as text: `LAST..NOW`, and for each metric ` | ID BASE SIZE`, what it didn't show, and for each key
 /// ` [LEAVES] {ATOM=STATE} START-END=COUNT ..`, a group as `ATOM:GROUP`; and then ` | ATOM lost COUNT` for each atom of
-/// states, and what of ids; ` | alarm ID TIME SUM [LEAVES] {ATOM=STATE}` for each alarm, and ` | ID unlisted COUNT`. A leaf
-/// that is missing is `-`.
+/// states, and what of ids; ` | alarm ID TIME SUM [LEAVES] {ATOM=STATE}` for each alarm, and ` | ID unlisted COUNT`.
+/// A leaf that is missing is `-`.
 pub fn text_of(alloc: Global, tree: &ReportTree) -> Result<String, AllocError> {
     let mut text = String::new(alloc);
     write!(text, "{}..{}", tree.last, tree.now)?;

@@ -41,7 +41,8 @@ missing_as_none (Some (Many values)) = refl
 
 -- what a key has at the place of a leaf is its value there
 pub one_read : (leaves : List LeafPath) (key : List Leaf) (leaf : LeafPath) (place : ℕ) (value : Value)
-    → Some place ≡ position (λ other. same_leaf other leaf) leaves → Some (One value) ≡ not_missing (slice_get key place)
+    → Some place ≡ position (λ other. same_leaf other leaf) leaves
+    → Some (One value) ≡ not_missing (slice_get key place)
     → value_at_leaf leaves key leaf ≡ One value
 one_read leaves key leaf place value found there =
     ap (λ at. leaf_or_missing (option_and_then (slice_get key) at)) (sym found)

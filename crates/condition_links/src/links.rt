@@ -117,7 +117,8 @@ pub fn read_key(
     Ok(values)
 }
 
-/// The same, in the room of another key, of which nothing is left. A number is written over the number that stood there.
+/// The same, in the room of another key, of which nothing is left. A number is written over the number that stood
+/// there.
 pub fn read_key_into(
     alloc: Global,
     inner: &FieldSet,

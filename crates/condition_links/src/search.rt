@@ -11,8 +11,8 @@ use config_links::{CondTree, LPredBody, LPredicate, MOST_PREDICATES};
 use predicate_state::{BindList, PredTable, Truth};
 use std::sync::ledger::Ledger;
 
-/// The truth of the condition. Each predicate is asked or joined at most once, and no memory is taken. It is one question,
-/// whatever the condition is.
+/// The truth of the condition. Each predicate is asked or joined at most once, and no memory is taken. It is one
+/// question, whatever the condition is.
 pub fn query<L: Ledger>(
     tree: &CondTree,
     tables: &[PredTable],

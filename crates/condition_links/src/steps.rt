@@ -4,8 +4,8 @@ ghost use Rattle.std.specs.Prelude.{◌≡◌, ◌<◌, ◌+◌};
 use std::marker::Model;
 use std::sync::ledger::{Blank, Book, Ledger, Share};
 
-/// How many questions were asked. It takes no bytes, and only a tick raises it. A caller that counts nothing makes one of
-/// a ledger of its own.
+/// How many questions were asked. It takes no bytes, and only a tick raises it. A caller that counts nothing makes
+/// one of a ledger of its own.
 #[derive(Drop)]
 pub struct Steps<L: Ledger> {
     book: Book<L>,

@@ -18,7 +18,7 @@ use Rattle.config_links.specs.MetricActivations.{bad_activations}
 use Rattle.config_links.specs.MetricKinds.{bad_kind}
 use Rattle.config_links.specs.MetricLinks.{bad_links}
 use Rattle.config_links.specs.MetricSlices.{bad_times, bad_slices}
-use Rattle.config_links.specs.Verdict.{verdict, bad_type_fault, bad_part_fault, bad_metric_fault, bad_alert_fault, matchers_linked, predicates_linked, states_linked, metrics_linked, alerts_linked, linked_form}
+use Rattle.config_links.specs.Verdict.{verdict, bad_type_fault, bad_part_fault, bad_metric_fault, bad_alert_fault, matchers_linked, predicates_linked, states_linked, alerts_linked, linked_form}
 use Rattle.config_links.proofs.LinkWorked.{nothing, atom, count, duration}
 
 -- an alert of this id on a metric

@@ -1,9 +1,9 @@
--- The activations of a metric are sound where their names are known, their numbers within their limits, and none of their
--- reasons holds.
-use Rattle.std.proofs.Common.{◌≡◌, ℕ, ◌<◌, ◌≤◌, ◌*◌, Bool, true, false, not, ◌&&◌, ◌||◌, ◌==◌, List, [], ◌∷◌, map, length, Option, Some, None, is_none, if◌then◌else◌, nat_lt, nat_le, All, refl, ap, arith}
+-- The activations of a metric are sound where their names are known, their numbers within their limits, and none of
+-- their reasons holds.
+use Rattle.std.proofs.Common.{◌≡◌, ℕ, ◌<◌, ◌≤◌, ◌*◌, Bool, true, false, not, ◌&&◌, ◌||◌, ◌==◌, List, [], ◌∷◌, map, length, Option, Some, None, is_none, All, refl, ap, arith}
 use Rattle.std.specs.Prelude.{ℤ, pos, negsuc}
 use Rattle.std.specs.Ordering.{int_eq}
-use Rattle.std.specs.Option.{option_map, unwrap_or}
+use Rattle.std.specs.Option.{unwrap_or}
 use Rattle.std.specs.List.{AllByRecursion, list_any, flat_map}
 use Rattle.std.proofs.lemmas.List.{length-map}
 use Rattle.std.proofs.lemmas.List.Elements.{All-from_recursion}
@@ -23,12 +23,11 @@ use Rattle.link_rules.proofs.LinkFaultLemmas.{none_of, none_in}
 use Rattle.field_select.specs.declared.leaf.FieldSet.{FieldSet}
 use Rattle.config_links.specs.declared.linked.LActivation.{LActivation}
 use Rattle.config_links.specs.declared.scope.Scope.{Scope}
-use Rattle.config_links.specs.declared.reasons.Reason.{Reason}
 use Rattle.config_links.specs.LinkReasons.{set_or_none}
 use Rattle.config_links.specs.LinkScopes.{names_pulled}
 use Rattle.config_links.specs.MetricSlices.{is_pulled_kind}
 use Rattle.config_links.specs.MetricKinds.{linked_kind, value_form, gauge_form, duration_form, timed_spec}
-use Rattle.config_links.specs.MetricActivations.{is_half, activation_reasons, linked_activation, linked_activations}
+use Rattle.config_links.specs.MetricActivations.{is_half, linked_activation, linked_activations}
 use Rattle.config_links.specs.SoundConfig.{IsLifetime, IsSoundActivation, MayBeActive}
 use Rattle.config_links.proofs.SoundParts.{limit_step, number_from_one}
 use Rattle.config_links.proofs.SoundNames.{MayBeKnown, may_known, may_be_within, place_below, is_zero}

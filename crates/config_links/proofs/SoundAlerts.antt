@@ -1,16 +1,14 @@
 -- An alert is sound where its metric is known, its numbers are within their limits, and none of its reasons holds.
-use Rattle.std.proofs.Common.{◌≡◌, ℕ, zero, suc, ◌<◌, ◌≤◌, ◌*◌, Bool, true, false, not, ◌||◌, List, [], ◌∷◌, map, length, get_or, Option, Some, None, is_none, slice_get, nat_le, All, refl, sym, ap, ◌∙◌, subst, arith}
+use Rattle.std.proofs.Common.{◌≡◌, ℕ, zero, suc, ◌<◌, ◌≤◌, true, false, ◌||◌, List, [], ◌∷◌, map, length, get_or, Option, Some, None, is_none, slice_get, All, refl, sym, ap, ◌∙◌, subst, arith}
 use Rattle.std.specs.Prelude.{ℤ, pos, negsuc}
 use Rattle.std.specs.Ordering.{int_eq}
 use Rattle.std.specs.Option.{option_map, option_and_then, unwrap_or}
 use Rattle.std.specs.List.{AllByRecursion}
 use Rattle.std.proofs.lemmas.Bool.{leb-true}
-use Rattle.std.proofs.lemmas.List.{length-map}
 use Rattle.std.proofs.lemmas.List.Elements.{All-from_recursion}
 use Rattle.std.proofs.lemmas.Option.{slice_get-map, slice_get_within, get_or_from_slice_get}
 use Rattle.config_types.specs.declared.alert.AlertDef.{AlertDef}
-use Rattle.config_types.specs.AlertSpecs.{most_parts, most_threshold, refractory_seconds, most_refractory, IsAlertSpec}
-use Rattle.config_types.specs.Buckets.{second_nanos}
+use Rattle.config_types.specs.AlertSpecs.{most_parts, most_threshold, refractory_seconds}
 use Rattle.field_select.specs.WellFormed.{number_or_zero}
 use Rattle.link_rules.specs.declared.entities.Metric.{Metric}
 use Rattle.link_rules.specs.declared.entities.Kind.{Kind}
@@ -21,9 +19,8 @@ use Rattle.link_rules.specs.EntityLimits.{bound_or_default, number_limit, amount
 use Rattle.link_rules.specs.EntityNames.{first_unknown, metrics_of_alert}
 use Rattle.link_rules.proofs.LinkFaultLemmas.{none_of}
 use Rattle.config_links.specs.declared.linked.LMetric.{LMetric}
-use Rattle.config_links.specs.declared.linked.LAlert.{LAlert}
 use Rattle.config_links.specs.declared.scope.Scope.{Scope}
-use Rattle.config_links.specs.LinkAlerts.{metric_named, watched, counts_atoms, counts_none, lacks_part, alert_reasons, bad_alert, bound_of, alert_spec, linked_alert}
+use Rattle.config_links.specs.LinkAlerts.{metric_named, watched, counts_atoms, counts_none, alert_reasons, bad_alert, bound_of, linked_alert}
 use Rattle.config_links.specs.MetricKinds.{linked_kind}
 use Rattle.config_links.specs.LinkMetrics.{bucket_bound, linked_metric}
 use Rattle.config_links.specs.SoundConfig.{IsFromOne, IsBound, MayBeWatched, IsSoundAlert}

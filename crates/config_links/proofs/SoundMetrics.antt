@@ -1,9 +1,8 @@
 -- A metric is sound where its names are known, its numbers within their limits, and none of its reasons holds.
-use Rattle.std.proofs.Common.{◌≡◌, ℕ, ◌<◌, ◌≤◌, ◌*◌, Bool, true, false, not, ◌&&◌, ◌||◌, ◌==◌, List, [], ◌∷◌, map, length, Option, Some, None, is_none, All, refl, ap, arith}
-use Rattle.std.specs.Prelude.{ℤ, pos}
+use Rattle.std.proofs.Common.{◌≡◌, ◌<◌, ◌≤◌, ◌*◌, Bool, true, false, not, ◌&&◌, ◌||◌, ◌==◌, List, [], ◌∷◌, map, length, Option, Some, None, is_none, All, refl, ap, arith}
+use Rattle.std.specs.Prelude.{ℤ}
 use Rattle.std.specs.Ordering.{int_eq}
-use Rattle.std.specs.Option.{option_map, unwrap_or}
-use Rattle.std.specs.List.{AllByRecursion, list_all, list_any, flat_map}
+use Rattle.std.specs.List.{AllByRecursion, list_all, flat_map}
 use Rattle.std.proofs.lemmas.List.Elements.{All-from_recursion}
 use Rattle.field_select.specs.declared.leaf.FieldSet.{FieldSet}
 use Rattle.link_rules.specs.declared.entities.Metric.{Metric}
@@ -29,7 +28,7 @@ use Rattle.config_links.specs.MetricTrees.{metric_stands, metric_sets, own_tree,
 use Rattle.config_links.specs.MetricLinks.{is_even, is_asked, are_asked, is_bound, linked_link, linked_links, link_reasons, bad_links}
 use Rattle.config_links.specs.MetricSlices.{fit_states, fits_state, fit_slices, may_be_sliced, sliced_atoms, linked_slice, is_pulled_kind, time_reasons, bad_times, slice_reasons, bad_slices}
 use Rattle.config_links.specs.MetricKinds.{kind_reasons, bad_kind, value_form, gauge_form, duration_form, linked_kind, timed_spec, first_leaf, trigger_place, sampled_fields, may_sample}
-use Rattle.config_links.specs.MetricActivations.{is_half, activation_reasons, bad_activations}
+use Rattle.config_links.specs.MetricActivations.{activation_reasons, bad_activations}
 use Rattle.config_links.specs.LinkMetrics.{what_id, metric_parts, what_place, bucket_size, bucket_bound, bad_rest, bad_metric, linked_metric}
 use Rattle.config_links.specs.SoundConfig.{MayBeWithin, IsBound, IsSize, IsPulledAt, IsValueField, IsFilter, AreSamples, IsSoundDuration, IsSoundKind, IsSoundMetric}
 use Rattle.config_links.proofs.SoundParts.{holds, left_holds, right_holds, no_test, set_is_sound, bound_fits}

@@ -1,5 +1,5 @@
 -- What the activations of a metric can't be, and their linked form.
-use Rattle.std.specs.Prelude.{ℕ, ℤ, pos, ◌*◌, ◌==◌, ◌≤◌, Bool, not, ◌&&◌, ◌||◌, List, [], ◌∷◌, length, map, Option, is_none}
+use Rattle.std.specs.Prelude.{ℤ, pos, ◌*◌, ◌==◌, ◌≤◌, Bool, not, ◌&&◌, ◌||◌, List, [], ◌∷◌, length, map, Option, is_none}
 use Rattle.std.specs.Option.{option_map, unwrap_or}
 use Rattle.std.specs.List.{All, list_any}
 use Rattle.config_types.specs.declared.metric.ActivationDef.{ActivationDef}

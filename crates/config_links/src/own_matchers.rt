@@ -8,7 +8,8 @@ use sd_base::Seq;
 use std::alloc::AllocError;
 
 impl LPredBody {
-    /// Adds the places of its matchers: of those that stop it at all keys, stop it and start it, as far as it names them.
+    /// Adds the places of its matchers: of those that stop it at all keys, stop it and start it, as far as it names
+    /// them.
     pub fn add_matchers(&self, places: &mut Seq<u32>) -> Result<(), AllocError>
         ensures { OnOk result (places.new ≡ places.old ++ predicate_matchers self.now) }
     {

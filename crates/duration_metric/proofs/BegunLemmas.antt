@@ -72,7 +72,8 @@ pub outs_still : (rows : List (LeafKey × Inner)) (place : ℕ) (was : Inner) (f
     → slice_get (values_of rows) place ≡ Some was
     → found_out (slice_get (set_value_at rows place (record was { tallied = flag })) at) ≡ found_out (slice_get rows at)
 outs_still [] place was flag at there = refl
-outs_still (row ∷ rows) zero was flag zero there = ap (λ (i : Inner). row_out (row.0, i)) (sym (same_Some row.1 was there))
+outs_still (row ∷ rows) zero was flag zero there =
+    ap (λ (i : Inner). row_out (row.0, i)) (sym (same_Some row.1 was there))
 outs_still (row ∷ rows) zero was flag (suc at) there = refl
 outs_still (row ∷ rows) (suc place) was flag zero there = refl
 outs_still (row ∷ rows) (suc place) was flag (suc at) there = outs_still rows place was flag at there

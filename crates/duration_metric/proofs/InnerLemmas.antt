@@ -95,7 +95,8 @@ module _ (known : LeafKey → Option Known) where
 -- a table by its parts
 pub parts_are : (it : InnerTable) (one other : Table LeafKey Inner) (touched places : List ℕ)
     (gone left : List MetricKey) → one ≡ other → touched ≡ places → gone ≡ left
-    → record it { keys = one; touched = touched; gone = gone } ≡ record it { keys = other; touched = places; gone = left }
+    → record it { keys = one; touched = touched; gone = gone }
+    ≡ record it { keys = other; touched = places; gone = left }
 parts_are it one other touched places gone left keys_are touched_are gone_are =
     λ i. record it { keys = keys_are i; touched = touched_are i; gone = gone_are i }
 
@@ -176,7 +177,8 @@ takes_all old new is = record {
 
 -- a new key is listed, of which nothing was told, or it is counted
 pub lists_key : (old new : InnerTable) (table : Table LeafKey Inner) (key : LeafKey) (count : ℕ) (answer : Admit)
-    → ¬ Contains (keys old.keys) key → Admits old.keys table key (record { count = count; known = None; tallied = false }) answer
+    → ¬ Contains (keys old.keys) key
+    → Admits old.keys table key (record { count = count; known = None; tallied = false }) answer
     → new ≡ record old { keys = table } → ListsKey old new key count
 lists_key old new table key count (At place) absent admits is = ⊎_elim
     (λ (there : IsThere old.keys table key place).

@@ -136,7 +136,8 @@ module _ (params : DurationParams) where
         dropped = has.dropped;
         in_bucket = λ sized. subst (λ (s : Standing). s.last ≤ s.next_end) comes (has.in_bucket sized);
         holds = subst (λ (s : Standing). HoldsSums it bound (active_since params.spec others) s.last has.others books)
-            comes (subst (λ keys. HoldsSums it bound keys (come_to calls).last has.others books) alike.active has.holds);
+            comes (subst (λ keys. HoldsSums it bound keys (come_to calls).last has.others books) alike.active
+            has.holds);
       }
 
   -- and one of longest durations

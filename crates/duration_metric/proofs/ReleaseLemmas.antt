@@ -56,7 +56,8 @@ releases_none it tally places = record {
 }
 
 module _ (first mid last : Table LeafKey Inner) (before some now : List (MetricKey × ℕ)) (places rest : List ℕ)
-    (tolds : List MetricKey) (place : ℕ) (so_far : ReleasesPlaces first mid before some places (place ∷ rest) tolds) where
+    (tolds : List MetricKey) (place : ℕ)
+    (so_far : ReleasesPlaces first mid before some places (place ∷ rest) tolds) where
   abbrev here : List MetricKey
   here = found_told (slice_get first.rows place)
 
@@ -110,7 +111,8 @@ module _ (first mid last : Table LeafKey Inner) (before some now : List (MetricK
       let at = value_there mid.rows place row there in
       let own : (that : LeafKey × Inner) → that.1 ≡ fresh → row_tallied that ≡ row_out that =
       λ that same. ap tallied_key same ∙ sym off.1 ∙ sym (ap (λ (i : Inner). out_for i.count i.known) same) in
-      subst (λ (t : Table LeafKey Inner). ReleasesPlaces first t before now places rest (tolds ++ here)) (sym is) (record {
+      subst (λ (t : Table LeafKey Inner). ReleasesPlaces first t before now places rest (tolds ++ here)) (sym is)
+      (record {
         bound_is = so_far.bound_is;
         dropped_is = so_far.dropped_is;
         counts_are = counts-same mid.rows place row.1 fresh at refl ∙ so_far.counts_are;

@@ -71,7 +71,8 @@ pub stays : (it : SparseBooks) → TakesLongestMarks it it []
 stays it bound books has = has
 
 -- some marks come, and then others
-pub then_more : (old mid new : SparseBooks) (first second : List (Mark (MetricKey × ℕ))) → TakesLongestMarks old mid first
+pub then_more : (old mid new : SparseBooks) (first second : List (Mark (MetricKey × ℕ)))
+    → TakesLongestMarks old mid first
     → TakesLongestMarks mid new second → TakesLongestMarks old new (first ++ second)
 then_more old mid new first second one other bound books has =
     subst (HoldsTimes new bound) (sym (books-append (drops longest_kind bound) books first second))

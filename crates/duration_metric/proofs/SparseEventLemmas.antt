@@ -88,7 +88,8 @@ module _ (old : SparseKeys) (at : ℕ) (event : InnerEvent) where
     -- what a look-up finds
     pub looked_up : lookup (same_leaves event.key) (sparse_state old).counts ≡ Some row.1.count
     looked_up =
-        sym (value_at_position (same_leaves event.key) (map entry_count old.table.rows) place (entry_count row) found_count
+        sym (value_at_position (same_leaves event.key) (map entry_count old.table.rows) place
+        (entry_count row) found_count
         (slice_get-map entry_count old.table.rows place ∙ ap (option_map entry_count) there))
 
     -- another entry is another count

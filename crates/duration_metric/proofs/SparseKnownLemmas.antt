@@ -139,7 +139,8 @@ module _ (spec : PredSpec) (calls : List DurationCall) where
       -- the time of one that is on goes on from what it was
       pub time-on : is_on spec (calls ++ call ∷ []) key ≡ true
           → running_time spec (calls ++ call ∷ []) end key
-          ≡ running_time spec calls at key + (if is_told_timed (last_known spec (calls ++ call ∷ []) key) then end - at else 0)
+          ≡ running_time spec calls at key
+          + (if is_told_timed (last_known spec (calls ++ call ∷ []) key) then end - at else 0)
       time-on on = moments end (at ∷ []) turns
           ∙ since_off-on (outputs (inner_moment spec key) calls) (record {
             at = at;

@@ -157,7 +157,8 @@ rows_on (row ∷ rows) distinct =
           (off_unlisted row.0 rows (apart_from row.0 (keys_of rows) apart)),
       all_both (λ (other : Row). same_leaves row.0 other.0 ≡ false)
           (λ (other : Row). is_among same_leaves other.0 (on_keys (map entry_count rows)) ≡ nat_lt 0 other.1.count)
-          (λ (other : Row). is_among same_leaves other.0 (on_keys (map entry_count (row ∷ rows))) ≡ nat_lt 0 other.1.count)
+          (λ (other : Row). is_among same_leaves other.0 (on_keys (map entry_count (row ∷ rows)))
+          ≡ nat_lt 0 other.1.count)
           rows (λ other differ is. passed other.0 (nat_lt 0 row.1.count) (entry_count row) others differ ∙ is)
           (all_rows (λ other. same_leaves row.0 other ≡ false) rows apart)
           (rows_on rows (IsDistinct-tail same_leaves row.0 (keys_of rows) distinct)),

@@ -60,10 +60,12 @@ module _ (spec : PredSpec) (calls : List DurationCall) where
   on_are it is = ap (λ (s : PredicateState LeafKey). on_keys s.counts) (sym is)
 
   -- each of its rows is on as its count says
-  pub all_counted : (it : SparseKeys) → sparse_state it ≡ inner_state spec calls → IsDistinct same_leaves (keys it.table)
+  pub all_counted : (it : SparseKeys) → sparse_state it ≡ inner_state spec calls
+      → IsDistinct same_leaves (keys it.table)
       → AllByRecursion (IsOnAsCounted (λ key. arrival_for None 0) (is_on spec calls)) it.table.rows
   all_counted it is distinct =
-      all_map (λ (row : Row). is_among same_leaves row.0 (on_keys (map entry_count it.table.rows)) ≡ nat_lt 0 row.1.count)
+      all_map (λ (row : Row). is_among same_leaves row.0 (on_keys (map entry_count it.table.rows))
+      ≡ nat_lt 0 row.1.count)
       (IsOnAsCounted (λ key. arrival_for None 0) (is_on spec calls)) it.table.rows
       (λ row on. ap (is_among same_leaves row.0) (on_are it is) ∙ on) (rows_on it.table.rows distinct)
 

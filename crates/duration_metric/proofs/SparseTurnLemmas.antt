@@ -172,7 +172,8 @@ module _ (old : SparseKeys) (at : ℕ) (key : LeafKey) where
     -- it stays listed with a count
     set_is : (less : ℕ) → less ≡ count_after_stop old.spec.nesting entry.count
         → (less == 0 && not old.unknown) ≡ false
-        → state_after same_leaves old.spec (sparse_state old) Stop key ≡ with_key_count same_leaves (sparse_state old) key less
+        → state_after same_leaves old.spec (sparse_state old) Stop key
+        ≡ with_key_count same_leaves (sparse_state old) key less
     set_is less is stays_listed =
         stop_is
         ∙ ap (λ n. if n == 0 && not old.unknown then without_key same_leaves (sparse_state old) key

@@ -74,7 +74,8 @@ module _ (items : List Item) (place : ℕ) where
   -- where no such parts stand, no sum does
   pub sum_parts_fail : (e : FlatError) → Builds IsSumForm sum_form_items items place (Err e)
       → Builds IsSumProducer sum_producer_items items place (Err e)
-  sum_parts_fail e fails = laws.form_fails IsSumForm sum_form_items IsSumProducer sum_producer_items sum_form (λ it. refl) form_valid
+  sum_parts_fail e fails = laws.form_fails IsSumForm sum_form_items IsSumProducer sum_producer_items sum_form
+      (λ it. refl) form_valid
       items place e fails
 
   module _ (form : SumForm) (next : ℕ) (one : IsBuilt IsSumForm sum_form_items items place form next) where
@@ -97,7 +98,8 @@ module _ (items : List Item) (place : ℕ) where
         }
 
     -- parts that no sum has aren't a sum
-    pub sum_unmade : (e : FlatError) → RestoresSum form (Err e) → Builds IsSumProducer sum_producer_items items place (Err e)
+    pub sum_unmade : (e : FlatError) → RestoresSum form (Err e)
+        → Builds IsSumProducer sum_producer_items items place (Err e)
     sum_unmade Bad never = λ it valid there. never it (parts_are it valid there)
     sum_unmade Memory none = tt
 

@@ -104,7 +104,8 @@ module _ (it : Summing) (inner : InnerTable) (rows last : Table LeafKey Inner)
         bound_is = releases.bound_is ∙ recounts.bound_is ∙ stands.bound_is;
         state_is = same_state inner.unknown (releases.counts_are ∙ recounts.counts_are)
             (releases.dropped_is ∙ recounts.dropped_is) ∙ stands.state_is;
-        known_are = releases.known_are (last_known spec told) (recounts.known_are (last_known spec told) stands.known_are);
+        known_are = releases.known_are (last_known spec told)
+            (recounts.known_are (last_known spec told) stands.known_are);
       }
 
   new_steady : AreSteady [] last.rows
@@ -173,7 +174,8 @@ module _ (it : Summing) (inner : InnerTable) (rows last : Table LeafKey Inner)
       sym (list_any-append (λ other. is_same_key other key) inner.gone tolds) ∙ first_fails ends begins neither in
       ⊎_elim
       (λ (was : is_among is_same_key key before ≡ true).
-      let more = not_fewer key (first_fails (is_among is_same_key key inner.gone) (is_among is_same_key key tolds) stays)
+      let more = not_fewer key (first_fails (is_among is_same_key key inner.gone)
+      (is_among is_same_key key tolds) stays)
       (second_fails (is_among is_same_key key inner.gone) (is_among is_same_key key tolds) stays) in
       let had : nat_lt 0 (tally_at tally key) ≡ true = sym (counted key) ∙ was in
       let has : nat_lt 0 (tally_at left key) ≡ true = grind (arith, more, had) in

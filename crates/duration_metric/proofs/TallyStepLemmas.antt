@@ -87,7 +87,8 @@ raises_first was old mid new key own is same none copy put =
     let zero : tally_at old key ≡ 0 = ap (λ found. unwrap_or found 0) (sym none) in
     subst (λ l. Raises l new key) is
     (raises_by old new key (Some 1)
-    (writes_again old mid new key own (Some 1) (sym copy) (writes_none old mid key same none) put) (omega (arith, zero)))
+    (writes_again old mid new key own (Some 1) (sym copy) (writes_none old mid key same none) put)
+    (omega (arith, zero)))
 
 -- for one that isn't there none counts
 pub lowers_none : (was old new : List (MetricKey × ℕ)) (key : MetricKey) → old ≡ was → new ≡ old

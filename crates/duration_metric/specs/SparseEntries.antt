@@ -115,7 +115,8 @@ TakesKeyEvent old new at event marks =
 abbrev pub ListsKey : SparseKeys → SparseKeys → ℕ → LeafKey → ℕ → List (Mark (MetricKey × ℕ)) → Type 0
 ListsKey old new at key count marks =
     (event : PredEvent)
-    → state_after same_leaves old.spec (sparse_state old) event key ≡ with_new_key old.spec.bound (sparse_state old) key count
+    → state_after same_leaves old.spec (sparse_state old) event key
+    ≡ with_new_key old.spec.bound (sparse_state old) key count
     → TakesKeyEvent old new at (record { event = event; key = key }) marks
 
 -- whatever calls the old one stood for, at a later time the new one stands for a condition more

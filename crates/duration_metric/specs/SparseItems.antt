@@ -31,9 +31,10 @@ longest_rest_items it = table_items dims_items entry_items it.keys.table ++ long
 abbrev pub longest_part_items : MaxProducer → List Item
 longest_part_items it = Num it.books.start ∷ Num it.books.lost ∷ longest_rest_items it
 
--- A longest duration is how its inner keys are kept (whether starts are counted, whether keys were unknown at first, for
--- how many there is room, how many leaves each has), whether keys that aren't listed are unknown now, where its open
--- part began, how many inner keys found no room since the last report, its inner keys, its table and its kept rows.
+-- A longest duration is how its inner keys are kept (whether starts are counted, whether keys were unknown at
+-- first, for how many there is room, how many leaves each has), whether keys that aren't listed are unknown now,
+-- where its open part began, how many inner keys found no room since the last report, its inner keys, its table and
+-- its kept rows.
 abbrev pub longest_items : MaxProducer → List Item
 longest_items it =
     Num (flag_number it.keys.spec.nesting) ∷ Num (flag_number it.keys.spec.unknown) ∷ Num it.keys.spec.bound

@@ -122,7 +122,8 @@ sum_savable it is can =
     let places = All-append IsSavable (list_items number_items it.inner.touched)
     (list_items key_items it.inner.gone ++ sum_books_items it) touched left in
     let rest = All-append IsSavable (table_items dims_items inner_items it.inner.keys)
-    (list_items number_items it.inner.touched ++ (list_items key_items it.inner.gone ++ sum_books_items it)) inner places in
+    (list_items number_items it.inner.touched ++ (list_items key_items it.inner.gone ++ sum_books_items it)) inner
+    places in
     let unknown = items_savable (Num (flag_number it.inner.unknown)) (sum_rest_items it) tt rest in
     let nesting = items_savable (Num (flag_number it.inner.nesting))
     (Num (flag_number it.inner.unknown) ∷ sum_rest_items it) tt unknown in

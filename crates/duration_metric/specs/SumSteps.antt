@@ -172,8 +172,8 @@ ReleasesAt old new before now place =
     × (known_key row.1.known ≡ key ∷ []) × Lowers before now key
     × (new ≡ with_value_at old place (record row.1 { tallied = false })))
 
--- The rows at some places that count no more are out of the tally, but for those that are left. It has the same of other
--- keys than those that were told of them.
+-- The rows at some places that count no more are out of the tally, but for those that are left. It has the same of
+-- other keys than those that were told of them.
 pub record ReleasesPlaces (first last : Table LeafKey Inner) (before now : List (MetricKey × ℕ)) (places left : List ℕ)
     (tolds : List MetricKey) : Type 0 where
   pub bound_is : last.bound ≡ first.bound

@@ -1,5 +1,5 @@
 -- For `SpelledItems`: what is held as bytes is read back, wherever it begins, and grows by one spelling at a time.
-use Rattle.std.proofs.Common.{◌≡◌, ℕ, zero, suc, ◌+◌, ◌≤◌, ◌<◌, List, [], ◌∷◌, ◌++◌, Some, Ok, length, drop, map, refl, sym, ap, subst, ◌∙◌, append_assoc, arith}
+use Rattle.std.proofs.Common.{◌≡◌, ◌≢◌, ℕ, zero, suc, ◌+◌, ◌≤◌, ◌<◌, List, [], ◌∷◌, ◌++◌, Some, Ok, Err, length, drop, map, refl, sym, ap, subst, ◌∙◌, append_assoc, arith}
 use Rattle.std.specs.Prelude.{All, slice_get}
 use Rattle.std.proofs.Transfers.{drop-appended}
 use Rattle.std.specs.Option.{option_map}
@@ -7,7 +7,7 @@ use Rattle.std.proofs.lemmas.Option.{slice_get-map}
 use Rattle.std.proofs.lemmas.List.{length-append, length-map, append-nil, map-append}
 use Rattle.std.proofs.lemmas.List.Elements.{All-nil, All-push}
 use Rattle.flat_form.specs.declared.item.Item.{Item}
-use Rattle.flat_form.specs.ItemReading.{item_at}
+use Rattle.flat_form.specs.ItemReading.{NoItem, item_at}
 use Rattle.flat_form.specs.ItemSpelling.{spelled_item, spelled_items}
 use Rattle.flat_form.specs.Savable.{IsSavable}
 use Rattle.flat_form.specs.ItemRange.{IsItemInRange}
@@ -37,7 +37,8 @@ reads_back p [] after each = refl
 reads_back p (item ∷ items) after each =
     let bytes = p ++ (spelled_items (item ∷ items) ++ after) in
     let first : read_item (item_at (drop (length p) bytes)) ≡ item =
-    ap (λ l. read_item (item_at (drop (length p) (p ++ l)))) (append_assoc (spelled_item item) (spelled_items items) after)
+    ap (λ l. read_item (item_at (drop (length p) (p ++ l))))
+    (append_assoc (spelled_item item) (spelled_items items) after)
     ∙ ap read_item (begins p item (spelled_items items ++ after) (each 0 item (omega arith))) in
     let rest : items_from ((p ++ spelled_item item) ++ (spelled_items items ++ after))
     (starts_of (length (p ++ spelled_item item)) items) ≡ items =
@@ -82,7 +83,8 @@ pub holds : (bytes places : List ℕ) (items : List Item)
     → places ≡ starts_of 0 items
     → IsHeld bytes places items
 holds bytes places items each spelled begin =
-    let view : items_from bytes places ≡ items = ap (λ l. items_from l places) (spelled ∙ sym (append-nil (spelled_items items)))
+    let view : items_from bytes places ≡ items =
+    ap (λ l. items_from l places) (spelled ∙ sym (append-nil (spelled_items items)))
     ∙ ap (items_from (spelled_items items ++ [])) begin ∙ reads_back [] items [] each in
     record {
       view = view;
@@ -145,7 +147,8 @@ finds bytes places rest place item after has some stands read =
     let at : place ≡ length (spelled_items items) = omega arith in
     let left : drop place bytes ≡ rest = ap (λ n. drop n bytes) at
     ∙ drop-appended (spelled_items items) bytes rest has.read.parts in
-    let last : read_item (item_at (drop place bytes)) ≡ item = ap (λ l. read_item (item_at l)) left ∙ ap read_item read in
+    let last : read_item (item_at (drop place bytes)) ≡ item =
+    ap (λ l. read_item (item_at l)) left ∙ ap read_item read in
     let view : items_from bytes (places ++ place ∷ []) ≡ items ++ item ∷ [] =
     map-append (λ start. read_item (item_at (drop start bytes))) places (place ∷ [])
     ∙ ap (λ i. items ++ i ∷ []) last in
@@ -178,10 +181,29 @@ begin_within from (item ∷ items) (suc place) start found =
     let later = begin_within (from + length (spelled_item item)) items place start found in
     omega arith
 
+-- where an item begins that stands between other bytes, one is read
+reads_one : (p : List ℕ) (items : List Item) (after : List ℕ) (place start : ℕ) (none : NoItem)
+    → All IsItem items
+    → slice_get (starts_of (length p) items) place ≡ Some start
+    → item_at (drop start (p ++ (spelled_items items ++ after))) ≢ Err none
+unfolding starts_of
+reads_one p [] after place start none each found fails = absurd cc
+reads_one p (item ∷ items) after zero start none each found fails =
+    let same : length p ≡ start = cc in
+    let read = ap (λ n. item_at (drop n (p ++ (spelled_items (item ∷ items) ++ after)))) (sym same)
+    ∙ ap (λ l. item_at (drop (length p) (p ++ l))) (append_assoc (spelled_item item) (spelled_items items) after)
+    ∙ begins p item (spelled_items items ++ after) (each 0 item (omega arith)) in
+    absurd cc
+reads_one p (item ∷ items) after (suc place) start none each found fails =
+    reads_one (p ++ spelled_item item) items after place start none (λ k d less. each (suc k) d (omega arith))
+    (ap (λ n. slice_get (starts_of n items) place) (length-append p (spelled_item item)) ∙ found)
+    (ap (λ l. item_at (drop start l)) (sym (regroup p (spelled_item item) (spelled_items items) after)) ∙ fails)
+
 -- what is known of the place where an item begins
 pub record IsPlaceOf (bytes places : List ℕ) (place start : ℕ) : Type 0 where
   pub within : start ≤ length bytes
   pub found : slice_get (items_from bytes places) place ≡ Some (read_item (item_at (drop start bytes)))
+  pub read : (none : NoItem) → item_at (drop start bytes) ≢ Err none
 
 -- an item that is held begins within the bytes and is read there
 pub is_place : (bytes places : List ℕ) (place start : ℕ)
@@ -196,6 +218,9 @@ is_place bytes places place start are found =
     record {
       within = omega arith;
       found = slice_get-map read places place ∙ ap (option_map read) found;
+      read = λ none fails. reads_one [] items [] place start none (both items are.can_be)
+          (ap (λ l. slice_get l place) (sym are.begin) ∙ found)
+          (ap (λ l. item_at (drop start l)) (append-nil (spelled_items items) ∙ sym are.spelled) ∙ fails);
     }
 
 -- an item has a byte at least

@@ -138,10 +138,11 @@ fn item_from(
     let Some(start) = starts.get(place) else {
         return Ok(None);
     };
-    // An item begins there, so that only memory may be wanting.
     match item_of(alloc, bytes_from(bytes, *start)) {
         Ok((item, _after)) => Ok(Some(item)),
-        Err(_) => Err(AllocError),
+        Err(FlatError::Memory) => Err(AllocError),
+        // An item begins there.
+        Err(FlatError::Bad) => unreachable!(),
     }
 }
 

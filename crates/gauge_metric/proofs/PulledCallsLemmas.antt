@@ -96,12 +96,14 @@ triggered old new at takes =
     ap (λ mode. marks_if (is_trigger_moment mode old.told) old.snapshot) stands.books.mode
     ∙ ap (λ told. marks_if (is_trigger_moment params.spec.mode told) old.snapshot) stands.told
     ∙ ap (marks_if (is_trigger_moment params.spec.mode (last_condition calls))) stands.snapshot in
-    subst (λ more. HoldsSampled new params (after_marks params books more)) marks (takes.holds params books stands.books))
+    subst (λ more. HoldsSampled new params (after_marks params books more)) marks
+    (takes.holds params books stands.books))
     (λ calls is. takes.snapshot ∙ is) (λ calls is. takes.told ∙ is)
 
 -- the condition was told
 pub condition_told : (old new : PulledGauge) (at : ℕ) (now : Truth)
-    → TakesSampleMarks (record old { told = Some now }) new (marks_if (is_told_moment old.mode old.told now) old.snapshot)
+    → TakesSampleMarks (record old { told = Some now }) new
+    (marks_if (is_told_moment old.mode old.told now) old.snapshot)
     → Moves pulled_law old new (Learned at now)
 condition_told old new at now takes =
     pulled_moves old new (Learned at now)

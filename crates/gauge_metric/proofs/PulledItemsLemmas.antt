@@ -194,12 +194,14 @@ module _ (items : List Item) (place : ℕ) where
   pub pulled_fails : (e : FlatError) → Builds IsPulledForm pulled_form_items items place (Err e)
       → Builds IsPulledGauge pulled_items items place (Err e)
   pulled_fails e fails =
-      laws.form_fails IsPulledForm pulled_form_items IsPulledGauge pulled_items form_of (λ it. refl) form_valid items place e
+      laws.form_fails IsPulledForm pulled_form_items IsPulledGauge pulled_items form_of
+      (λ it. refl) form_valid items place e
       fails
 
   module _ (form : PulledForm) (next : ℕ) (one : IsBuilt IsPulledForm pulled_form_items items place form next) where
     -- the parts that stand there are those of every gauge whose items do
-    the_form : (other : PulledGauge) → IsPulledGauge other → StandsAt items place (pulled_items other) → form_of other ≡ form
+    the_form : (other : PulledGauge) → IsPulledGauge other → StandsAt items place (pulled_items other)
+        → form_of other ≡ form
     the_form other other_valid there = one.only (form_of other) (form_valid other other_valid) there
 
     -- they are no gauge's, so no gauge's items stand there

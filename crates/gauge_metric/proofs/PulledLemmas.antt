@@ -35,7 +35,8 @@ abbrev TheTable : Type 0
 TheTable = Table MetricKey (List Atom)
 
 -- what was told last doesn't matter to the books
-pub told_anew : (it : PulledGauge) (told : Option Truth) (snapshot : Option (List KeyedAtom)) (params : PulledGaugeParams)
+pub told_anew : (it : PulledGauge) (told : Option Truth) (snapshot : Option (List KeyedAtom))
+    (params : PulledGaugeParams)
     (books : Books (MetricKey × Atom)) → HoldsSampled it params books
     → HoldsSampled (record it { told = told; snapshot = snapshot }) params books
 told_anew it told snapshot params books has = record {

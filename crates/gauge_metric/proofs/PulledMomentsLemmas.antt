@@ -66,21 +66,25 @@ module _ (params : PulledGaugeParams) (is_start : params.spec.mode ≡ AtStart) 
   begun_within before (Got at (Snapshot found) ∷ calls) within =
       let call : PulledGaugeCall = Got at (Snapshot found) in
       let next = before ++ call ∷ [] in
-      let same : is_told_held (last_condition next) ≡ is_told_held (last_condition before) = ap is_told_held (truth_push before call) in
+      let same : is_told_held (last_condition next) ≡ is_told_held (last_condition before) =
+      ap is_told_held (truth_push before call) in
       begun_within next calls within.1
       ∙ ap (λ held. begun_marks (intervals_ahead held (seen_in_part next calls))) same
-      ∙ sym (seen_by_event (is_told_held (last_condition before)) (is_told_held (last_condition next)) (last_snapshot next)
+      ∙ sym (seen_by_event (is_told_held (last_condition before)) (is_told_held (last_condition next))
+      (last_snapshot next)
       (seen_in_part next calls) same)
   begun_within before (Got at Trigger ∷ calls) within =
       let call : PulledGaugeCall = Got at Trigger in
       let next = before ++ call ∷ [] in
-      let same : is_told_held (last_condition next) ≡ is_told_held (last_condition before) = ap is_told_held (truth_push before call) in
+      let same : is_told_held (last_condition next) ≡ is_told_held (last_condition before) =
+      ap is_told_held (truth_push before call) in
       let none : call_marks pulled_collecting params before call ≡ [] =
       ap (λ mode. call_marks pulled_collecting (with_mode params mode) before call) is_start in
       ap (λ marks. marks ++ outputs_after (call_marks pulled_collecting params) next calls) none
       ∙ begun_within next calls within.1
       ∙ ap (λ held. begun_marks (intervals_ahead held (seen_in_part next calls))) same
-      ∙ sym (seen_by_event (is_told_held (last_condition before)) (is_told_held (last_condition next)) (last_snapshot next)
+      ∙ sym (seen_by_event (is_told_held (last_condition before)) (is_told_held (last_condition next))
+      (last_snapshot next)
       (seen_in_part next calls) same)
   begun_within before (Learned at now ∷ calls) within =
       let call : PulledGaugeCall = Learned at now in

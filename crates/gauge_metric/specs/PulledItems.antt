@@ -146,7 +146,8 @@ snapshot_few (Some samples) =
     omega arith
 
 -- a head of fourteen items, and eight at most for each entry
-pub pulled_bounded : (it : PulledGauge) → IsPulledGauge it → length (pulled_items it) ≤ most_items 14 (pulled_entries it)
+pub pulled_bounded : (it : PulledGauge) → IsPulledGauge it
+    → length (pulled_items it) ≤ most_items 14 (pulled_entries it)
 pulled_bounded it is =
     let snapshot = snapshot_bounded it.snapshot in
     let table = table_bounded key_items (list_items atom_items) Anything (All Anything) it.table is.table in

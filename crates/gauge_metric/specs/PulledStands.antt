@@ -22,7 +22,8 @@ use Rattle.gauge_metric.specs.GaugeStands.{sample_row, AreSampled, HaveSamples}
 use Rattle.gauge_metric.specs.PulledSampling.{PulledGaugeParams, PulledGaugeCall, last_snapshot, last_condition, is_start_moment, keyed, moment_marks, marks_if, pulled_collecting}
 
 -- The gauge holds these books. The table's own count is handed over after each moment.
-pub record HoldsSampled (it : PulledGauge) (params : PulledGaugeParams) (books : Books (MetricKey × Atom)) : Type 0 where
+pub record HoldsSampled (it : PulledGauge) (params : PulledGaugeParams)
+    (books : Books (MetricKey × Atom)) : Type 0 where
   pub bound : it.table.bound ≡ params.bound
   pub samples : it.samples ≡ params.spec.samples
   pub some : 1 ≤ params.spec.samples
@@ -34,7 +35,8 @@ pub record HoldsSampled (it : PulledGauge) (params : PulledGaugeParams) (books :
   pub missing : it.missing ≡ count_in_u64 books.missing
 
 -- the gauge was made with these, and has got these calls: it holds their books, and has what they told last
-pub record PulledGaugeStandsFor (it : PulledGauge) (params : PulledGaugeParams) (calls : List PulledGaugeCall) : Type 0 where
+pub record PulledGaugeStandsFor (it : PulledGauge) (params : PulledGaugeParams)
+    (calls : List PulledGaugeCall) : Type 0 where
   pub books : HoldsSampled it params (books_by (calls_mean pulled_collecting) params calls)
   pub snapshot : it.snapshot ≡ last_snapshot calls
   pub told : it.told ≡ last_condition calls

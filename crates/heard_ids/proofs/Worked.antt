@@ -57,7 +57,8 @@ others_hold_idle : silent_truths five_and_others ≡ false ∷ true ∷ []
 others_hold_idle = refl
 
 -- the order of the matchers doesn't matter
-named_before : silent_truths (Combo Not (1 ∷ []) ∷ Combo Nand (2 ∷ 2 ∷ []) ∷ atoms_of 5 ∷ []) ≡ false ∷ true ∷ false ∷ []
+named_before : silent_truths (Combo Not (1 ∷ []) ∷ Combo Nand (2 ∷ 2 ∷ []) ∷ atoms_of 5 ∷ []) ≡ false ∷ true ∷ false
+    ∷ []
 named_before = refl
 
 -- who counts the atoms of any other id hears all of them, and who counts those of id 5 doesn't

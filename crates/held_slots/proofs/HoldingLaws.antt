@@ -83,7 +83,8 @@ release_keeps old new released slots matchers used releases holds =
 
 -- an evaluation does
 pub evaluation_keeps : (says : SimpleMatcher → Atom → Bool) (atom : Atom) (old new : SlotTable) (slots : List ℕ)
-    (matchers : List LMatcher) → Evaluates says atom old new → HoldMatchers old slots matchers → HoldMatchers new slots matchers
+    (matchers : List LMatcher) → Evaluates says atom old new → HoldMatchers old slots matchers
+    → HoldMatchers new slots matchers
 evaluation_keeps says atom old new slots matchers evaluates holds =
     stays_held old new slots matchers
     (λ place h. ap (λ (xs : List (Option SharedMatcher)). matcher_at xs (get_or slots place 0)) evaluates.slots) holds
@@ -100,7 +101,8 @@ module _ (matchers : List LMatcher) where
       subst (λ (xs : List ℕ). Contains xs y) (sym (children_of named_matchers matchers x m is)) named
 
   same_found : (f g : ℕ → Tree) (x : ℕ) (found : Option LMatcher) → slice_get matchers x ≡ found
-      → ((y : ℕ) → Refers (named_places matchers) x y → f y ≡ g y) → matcher_tree_from f found ≡ matcher_tree_from g found
+      → ((y : ℕ) → Refers (named_places matchers) x y → f y ≡ g y)
+      → matcher_tree_from f found ≡ matcher_tree_from g found
   same_found f g x None is same = refl
   same_found f g x (Some m) is same = same_tree f g m (λ y named. same y (refers x y m is named))
 
@@ -116,7 +118,8 @@ module _ (matchers : List LMatcher) where
   map_twice f g (x ∷ xs) = ap (λ (ts : List Tree). f (g x) ∷ ts) (map_twice f g xs)
 
   module _ (in_range : AreInRange (named_places matchers)) (no_cycle : HasNoCycle (named_places matchers))
-      (table : SlotTable) (slots : List ℕ) (sound : IsSoundTable table) (holds : HoldMatchers table slots matchers) where
+      (table : SlotTable) (slots : List ℕ) (sound : IsSoundTable table)
+      (holds : HoldMatchers table slots matchers) where
     own_equation : (x : ℕ) → x < length matchers
         → matcher_tree matchers x ≡ matcher_tree_from (matcher_tree matchers) (slice_get matchers x)
     own_equation x h =
@@ -126,7 +129,8 @@ module _ (matchers : List LMatcher) where
 
     by_matcher : (m : LMatcher)
         → ((c : ℕ) → Contains (named_matchers m) c → slot_tree table.slots (get_or slots c 0) ≡ matcher_tree matchers c)
-        → tree_from (slot_tree table.slots) (Some (in_slots slots m)) ≡ matcher_tree_from (matcher_tree matchers) (Some m)
+        → tree_from (slot_tree table.slots) (Some (in_slots slots m))
+        ≡ matcher_tree_from (matcher_tree matchers) (Some m)
     by_matcher (Simple simple) below = refl
     by_matcher (Combo op children) below =
         ap (λ (ts : List Tree). Branch op (trees_of ts))

@@ -18,7 +18,7 @@ use Rattle.matcher_table.specs.Truths.{Evaluates, tree_truth, trees_truths}
 use Rattle.matcher_table.specs.TableFacts.{IsSoundTable}
 use Rattle.matcher_table.specs.Contents.{contents_of}
 use Rattle.matcher_table.specs.declared.table.MatcherTable.{MatcherTable}
-use Rattle.matcher_table.proofs.TableLaws.{sound_table, is_sound, had_held, had_indexed, had_used}
+use Rattle.matcher_table.proofs.TableLaws.{sound_table, had}
 use Rattle.held_slots.specs.Holdings.{HoldMatchers, matcher_tree_from, matcher_tree_step}
 use Rattle.held_slots.proofs.HoldingLaws.{held_live, held_tree}
 
@@ -44,12 +44,14 @@ module _ (says : SimpleMatcher → Atom → Bool) (atom : Atom) where
       ≡ unroll (truth_step says atom matchers) false depth x
   truth_unrolled matchers zero x = refl
   truth_unrolled matchers (suc depth) x =
-      truth-own (unroll (matcher_tree_step matchers) NoMatcher depth) (unroll (truth_step says atom matchers) false depth)
+      truth-own (unroll (matcher_tree_step matchers) NoMatcher depth)
+      (unroll (truth_step says atom matchers) false depth)
       (truth_unrolled matchers depth) (slice_get matchers x)
 
   module _ (old new : SlotTable) (slots : List ℕ) (matchers : List LMatcher)
       (in_range : AreInRange (named_places matchers)) (no_cycle : HasNoCycle (named_places matchers))
-      (sound : IsSoundTable new) (evaluates : Evaluates says atom old new) (holds : HoldMatchers new slots matchers) where
+      (sound : IsSoundTable new) (evaluates : Evaluates says atom old new)
+      (holds : HoldMatchers new slots matchers) where
     held_truth : (place : ℕ) → place < length matchers
         → result_at new (get_or slots place 0) ≡ matches says atom matchers place
     held_truth place h =
@@ -66,6 +68,4 @@ module _ (says : SimpleMatcher → Atom → Bool) (atom : Atom) where
 
 -- the law of every table
 pub table_sound : (table : MatcherTable) → IsSoundTable (contents_of table)
-table_sound table =
-    sound_table table.store (is_sound table.store (had_held table.store table.sound)
-    (had_indexed table.store table.sound) (had_used table.store table.sound))
+table_sound table = sound_table table.store (had table.store table.sound)

@@ -75,8 +75,24 @@ impl LiveInstance {
         })
     }
 
-    /// A configuration that is carried, with its matchers interned, where this is its linked form.
-    pub fn of(
+    /// A configuration that is carried, with its matchers interned. After want of memory some may be.
+    pub fn carry(
+        alloc: Global,
+        carried: Carried,
+        table: &mut MatcherTable,
+    ) -> Result<LiveInstance, AllocError>
+        ensures carried { IfOk result (λ live. live.carried ≡ carried) }
+        ensures holds { IfOk result (IsHeldIn (contents_of table.new)) }
+        ensures uses { IfOk result (λ live. AddsUses (contents_of table.old) live.slots
+            (contents_of table.new)) }
+        ensures others { OnOk result (KeepsLive (contents_of table.old) (contents_of table.new)) }
+    {
+        let linked = carried.linked(alloc)?;
+        LiveInstance::of(alloc, carried, &linked, table)
+    }
+
+    // The same where this is its linked form.
+    fn of(
         alloc: Global,
         carried: Carried,
         linked: &Linked,

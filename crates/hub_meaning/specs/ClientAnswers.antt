@@ -61,7 +61,8 @@ module _ (says : SimpleMatcher → Atom → Bool) where
   abbrev pub answer : List Frame → Frame → Option Reply
   answer before (Log frame) = None
   answer before (Install uid id bytes) =
-      reply_of uid id (install_answer uid id before (acceptance uid id bytes (live before)) (config_at id (live before)))
+      reply_of uid id (install_answer uid id before (acceptance uid id bytes (live before))
+      (config_at id (live before)))
   answer before (Remove uid id) = reply_of uid id (remove_answer uid id before (config_at id (live before)))
   answer before (Report uid id include_current) =
       reply_of uid id (report_answer uid id before include_current (config_at id (live before)))

@@ -40,7 +40,8 @@ module _ (says : SimpleMatcher → Atom → Bool) (atom : Atom) where
       (enough : IsEnough slots atom group) (meets : TreesMeetTheirStep slots)
       (children_live : (s c : ℕ) → 0 < times_among c (children_of (matcher_at slots s)) → matcher_at slots c ≢ None)
       (here : i < length group) (within : get_or group i 0 < length truths)
-      (done : (y : ℕ) → 0 < times_among y (take i group) → get_or truths y false ≡ tree_truth says atom (slot_tree slots y))
+      (done : (y : ℕ) → 0 < times_among y (take i group)
+      → get_or truths y false ≡ tree_truth says atom (slot_tree slots y))
       (rest : (y : ℕ) → matcher_at slots y ≢ None → times_among y group ≡ 0
       → get_or truths y false ≡ tree_truth says atom (slot_tree slots y))
       (is_b : b ≡ truth_with says atom (λ y. get_or truths y false) (matcher_at slots (get_or group i 0))) where

@@ -1,14 +1,14 @@
 -- What stays true where slots without a use are freed, one after another.
-use Rattle.std.proofs.Common.{◌≡◌, ◌≢◌, ℕ, ◌+◌, ◌<◌, ◌≤◌, List, length, get_or, set, take, Option, Some, None, false, refl, sym, ap, subst, ◌∙◌, arith, inl, inr}
+use Rattle.std.proofs.Common.{◌≡◌, ◌≢◌, ℕ, ◌+◌, ◌<◌, ◌≤◌, List, length, get_or, set, take, Option, None, false, refl, sym, ap, subst, ◌∙◌, arith, inl, inr}
 use Rattle.std.specs.List.{remove}
 use Rattle.std.proofs.lemmas.Bool.{cases_eq, cases_lt}
 use Rattle.std.proofs.lemmas.List.{take_all}
 use Rattle.matcher_table.specs.declared.shared.SharedMatcher.{SharedMatcher}
+use Rattle.matcher_table.specs.declared.hanging.AtomSlots.{AtomSlots}
 use Rattle.matcher_table.specs.declared.store.Store.{Store}
 use Rattle.matcher_table.specs.Slots.{matcher_at, children_of, times_among}
-use Rattle.matcher_table.specs.Finding.{slot_for}
 use Rattle.matcher_table.specs.Steps.{Releases}
-use Rattle.matcher_table.specs.StoreParts.{AreSlotsHeld, AreReady, StoreIsHeld, StoreIsIndexed, StoreIsReady, IsUsed, UsedFrom, Frees, ChangesOutside, table_in}
+use Rattle.matcher_table.specs.StoreParts.{AreSlotsHeld, AreReady, StoreStands, StoreIsHeld, StoreIsIndexed, StoreIsReady, IsUsed, UsedFrom, Frees, LosesSlot, ChangesOutside, table_in}
 use Rattle.matcher_table.specs.Hanging.{slots_under, atom_ids, UnhangsFrom}
 use Rattle.matcher_table.proofs.Counting.{one_if_other, places_more, take_remove_below}
 use Rattle.matcher_table.proofs.IndexLaws.{indexed_freed, some_same}
@@ -72,16 +72,10 @@ frees_more a b c p q = record {
   ];
 }
 
--- one slot without a use is gone
-module _ (old new : Store) (at : ℕ) (held : StoreIsHeld old) (within : at < length old.order.items)
-    (unused : ¬ IsUsed old (get_or old.order.items at 0)) (from : UsedFrom old (at + 1))
-    (slots : new.bodies.slots ≡ set old.bodies.slots (get_or old.order.items at 0) None)
-    (next : new.bodies.vacant_key ≡ get_or old.order.items at 0)
-    (order : new.order.items ≡ remove old.order.items at) (outside : new.outside.items ≡ old.outside.items)
-    (results : new.results.items ≡ old.results.items)
-    (uses : (s : ℕ) → get_or new.uses.items s 0
-    + times_among s (children_of (matcher_at old.bodies.slots (get_or old.order.items at 0))) ≡ get_or old.uses.items s 0)
-    (long : length new.uses.items ≡ length old.uses.items) where
+-- One slot without a use is gone. Before it was taken out its lists were let go of, and the front that was settled.
+module _ (old new : Store) (at : ℕ) (hanging : AtomSlots) (settled : ℕ) (stands : StoreStands old (at + 1))
+    (within : at < length old.order.items) (unused : ¬ IsUsed old (get_or old.order.items at 0))
+    (out : LosesSlot (record old { hanging = hanging; settled = settled }) new at) where
   no_uses : get_or old.uses.items (get_or old.order.items at 0) 0 ≡ 0
   no_uses = elim (cases_eq (get_or old.uses.items (get_or old.order.items at 0) 0) 0) [
     | inl none ↦ none
@@ -95,74 +89,79 @@ module _ (old new : Store) (at : ℕ) (held : StoreIsHeld old) (within : at < le
   ]
 
   others : (k : ℕ) → k ≢ get_or old.order.items at 0 → matcher_at new.bodies.slots k ≡ matcher_at old.bodies.slots k
-  others = freed_others held new.bodies.slots at (get_or old.order.items at 0) new.uses.items within refl slots no_uses
-      no_outside uses long
+  others = freed_others stands.held new.bodies.slots at
+      (get_or old.order.items at 0) new.uses.items within refl out.slots no_uses
+      no_outside out.uses out.same
 
   gone : matcher_at new.bodies.slots (get_or old.order.items at 0) ≡ None
-  gone = now_gone held new.bodies.slots at (get_or old.order.items at 0) new.uses.items within refl slots no_uses
-      no_outside uses long
+  gone = now_gone stands.held new.bodies.slots at
+      (get_or old.order.items at 0) new.uses.items within refl out.slots no_uses
+      no_outside out.uses out.same
 
   was_live : matcher_at old.bodies.slots (get_or old.order.items at 0) ≢ None
-  was_live = order_live held at within
+  was_live = order_live stands.held at within
 
   before : (s : ℕ) → matcher_at new.bodies.slots s ≢ None
       → (s ≢ get_or old.order.items at 0) × (matcher_at old.bodies.slots s ≢ None)
-  before = live_before held new.bodies.slots at (get_or old.order.items at 0) new.uses.items within refl slots no_uses
-      no_outside uses long
+  before = live_before stands.held new.bodies.slots at
+      (get_or old.order.items at 0) new.uses.items within refl out.slots no_uses
+      no_outside out.uses out.same
 
-  pub freed_held : StoreIsHeld new
+  freed_held : StoreIsHeld new
   freed_held =
-      subst (λ (xs : List ℕ). AreSlotsHeld new.bodies.slots xs new.outside.items new.uses.items new.results.items) (sym order)
-      (subst (λ (os : List ℕ). AreSlotsHeld new.bodies.slots (remove old.order.items at) os new.uses.items new.results.items)
-      (sym outside)
+      subst (λ (xs : List ℕ). AreSlotsHeld new.bodies.slots xs new.outside.items new.uses.items new.results.items)
+      (sym out.order)
+      (subst (λ (os : List ℕ). AreSlotsHeld new.bodies.slots
+      (remove old.order.items at) os new.uses.items new.results.items)
+      (sym out.outside)
       (subst (λ rs. AreSlotsHeld new.bodies.slots (remove old.order.items at) old.outside.items new.uses.items rs)
-      (sym results)
-      (held_freed held new.bodies.slots at (get_or old.order.items at 0) new.uses.items within refl slots no_uses
-      no_outside uses long)))
+      (sym out.results)
+      (held_freed stands.held new.bodies.slots at
+      (get_or old.order.items at 0) new.uses.items within refl out.slots no_uses
+      no_outside out.uses out.same)))
 
   -- the index loses the slot's matcher alone
-  pub freed_indexed : StoreIsIndexed old
-      → ((wanted : SharedMatcher) → matcher_at old.bodies.slots (get_or old.order.items at 0) ≡ Some wanted
-      → slot_for new.index wanted ≡ None)
-      → ((wanted : SharedMatcher) → matcher_at old.bodies.slots (get_or old.order.items at 0) ≢ Some wanted
-      → slot_for new.index wanted ≡ slot_for old.index wanted) → StoreIsIndexed new
-  freed_indexed indexed lost stay = elim (cases_live (matcher_at old.bodies.slots (get_or old.order.items at 0))) [
+  freed_indexed : StoreIsIndexed new
+  freed_indexed = elim (cases_live (matcher_at old.bodies.slots (get_or old.order.items at 0))) [
     | inl none ↦ absurd (was_live none)
     | inr live ↦
-        indexed_freed indexed new.bodies.slots new.index (get_or old.order.items at 0) live.0 live.1 gone others
-        (lost live.0 live.1) (λ wanted other. stay wanted (λ e. other (some_same wanted live.0 (sym e ∙ live.1))))
+        indexed_freed stands.indexed new.bodies.slots new.index (get_or old.order.items at 0) live.0 live.1 gone others
+        (out.gone live.0 live.1) (λ wanted other. out.stay wanted
+        (λ e. other (some_same wanted live.0 (sym e ∙ live.1))))
   ]
 
   -- the lists of its ids lose it, and what stays keeps its idle truth
-  pub freed_ready : StoreIsReady old
-      → UnhangsFrom old.hanging (get_or old.order.items at 0) new.hanging → new.idle.items ≡ old.idle.items
-      → new.last ≡ old.last → (at < old.settled → new.settled + 1 ≡ old.settled)
-      → (old.settled ≤ at → new.settled ≡ old.settled) → StoreIsReady new
-  freed_ready ready unhangs idle last above below =
+  freed_ready : UnhangsFrom old.hanging (get_or old.order.items at 0) hanging
+      → (at < old.settled → settled + 1 ≡ old.settled) → (old.settled ≤ at → settled ≡ old.settled) → StoreIsReady new
+  freed_ready unhangs above below =
+      let unhangs_new : UnhangsFrom old.hanging (get_or old.order.items at 0) new.hanging =
+      subst (UnhangsFrom old.hanging (get_or old.order.items at 0)) (sym out.hanging) unhangs in
       let under = slots_under new.hanging in
       let ids = atom_ids new.hanging in
       let removed : AreSlotsHeld new.bodies.slots (remove old.order.items at) new.outside.items new.uses.items
       old.results.items =
       subst (λ bs. AreSlotsHeld new.bodies.slots (remove old.order.items at) new.outside.items new.uses.items bs)
-      results
+      out.results
       (subst (λ (xs : List ℕ). AreSlotsHeld new.bodies.slots xs new.outside.items new.uses.items new.results.items)
-      order freed_held) in
+      out.order freed_held) in
       subst (λ (xs : List ℕ). AreReady new.bodies.slots under ids xs new.settled new.last new.idle.items
-      new.results.items) (sym order)
+      new.results.items) (sym out.order)
       (subst (λ (n : ℕ). AreReady new.bodies.slots under ids (remove old.order.items at) new.settled n new.idle.items
-      new.results.items) (sym last)
+      new.results.items) (sym out.last)
       (subst (λ bs. AreReady new.bodies.slots under ids (remove old.order.items at) new.settled old.last bs
-      new.results.items) (sym idle)
+      new.results.items) (sym out.idle)
       (subst (λ bs. AreReady new.bodies.slots under ids (remove old.order.items at) new.settled old.last
-      old.idle.items bs) (sym results)
-      (ready_freed old.hanging new.hanging ready held at (get_or old.order.items at 0) new.settled removed within gone
-      others (sym (held.uses_are (get_or old.order.items at 0)) ∙ no_uses) unhangs above below))))
+      old.idle.items bs) (sym out.results)
+      (ready_freed old.hanging new.hanging stands.ready stands.held at
+      (get_or old.order.items at 0) new.settled removed within gone
+      others (sym (stands.held.uses_are (get_or old.order.items at 0)) ∙ no_uses) unhangs_new
+      (λ before. omega (arith, out.settled, above before)) (λ later. out.settled ∙ below later)))))
 
   pub freed_frees : Frees old new
   freed_frees = record {
-    outside = outside;
-    results = results;
-    fewer = λ s. omega (arith, uses s);
+    outside = out.outside;
+    results = out.results;
+    fewer = λ s. omega (arith, out.uses s);
     kept = λ s live. others s (before s live).0;
     stays = λ s more.
         let differs : s ≢ get_or old.order.items at 0 = λ e.
@@ -171,21 +170,21 @@ module _ (old new : Store) (at : ℕ) (held : StoreIsHeld old) (within : at < le
         omega arith in
         others s differs;
     next = inr (
-      λ none. was_live (ap (matcher_at old.bodies.slots) (sym next) ∙ none),
-      ap (matcher_at new.bodies.slots) next ∙ gone,
+      λ none. was_live (ap (matcher_at old.bodies.slots) (sym out.next) ∙ none),
+      ap (matcher_at new.bodies.slots) out.next ∙ gone,
     );
   }
 
   front : take at new.order.items ≡ take at old.order.items
-  front = ap (take at) order ∙ take_remove_below old.order.items at at within (omega arith)
+  front = ap (take at) out.order ∙ take_remove_below old.order.items at at within (omega arith)
 
   in_front : (s : ℕ) → 0 < times_among s (take at old.order.items) → 0 < times_among s (take at new.order.items)
   in_front s counted = subst (λ (xs : List ℕ). 0 < times_among s xs) (sym front) counted
 
-  pub freed_used : UsedFrom new at
+  freed_used : UsedFrom new at
   freed_used s live =
       let was = before s live in
-      elim (from s was.1) [
+      elim (stands.used s was.1) [
         | inr counted ↦
             inr (in_front s (omega (
               arith,
@@ -194,15 +193,25 @@ module _ (old new : Store) (at : ℕ) (held : StoreIsHeld old) (within : at < le
             )))
         | inl has ↦
             elim has [
-              | inl outer ↦ inl (inl (subst (λ (xs : List ℕ). 0 < get_or xs s 0) (sym outside) outer))
+              | inl outer ↦ inl (inl (subst (λ (xs : List ℕ). 0 < get_or xs s 0) (sym out.outside) outer))
               | inr child ↦
                   elim (cases_lt 0 (times_among s (children_of (matcher_at old.bodies.slots
                   (get_or old.order.items at 0))))) [
-                    | inl named ↦ inr (in_front s (held.after at s within named))
-                    | inr none ↦ inl (inr (omega (arith, uses s)))
+                    | inl named ↦ inr (in_front s (stands.held.after at s within named))
+                    | inr none ↦ inl (inr (omega (arith, out.uses s)))
                   ]
             ]
       ]
+
+  pub freed_stands : UnhangsFrom old.hanging (get_or old.order.items at 0) hanging
+      → (at < old.settled → settled + 1 ≡ old.settled) → (old.settled ≤ at → settled ≡ old.settled)
+      → StoreStands new at
+  freed_stands unhangs above below = record {
+    held = freed_held;
+    indexed = freed_indexed;
+    ready = freed_ready unhangs above below;
+    used = freed_used;
+  }
 
 -- one outside use fewer, of a slot that keeps another use
 module _ (old new : Store) (slot : ℕ) (held : StoreIsHeld old) (had : 0 < get_or old.outside.items slot 0)

@@ -1,5 +1,5 @@
 -- What a table's calls rest on.
-use Rattle.std.proofs.Common.{◌≡◌, ◌≢◌, ℕ, ◌+◌, ◌<◌, Bool, List, length, map, get_or, Option, Some, None, refl, sym, ap, subst, ◌∙◌, arith, inl, inr}
+use Rattle.std.proofs.Common.{◌≡◌, ◌≢◌, ◌⊎◌, ℕ, ◌+◌, ◌<◌, Bool, List, length, take, map, get_or, Option, Some, None, refl, sym, ap, subst, ◌∙◌, arith, inl, inr}
 use Rattle.std.proofs.Props.{props}
 use Rattle.std.specs.List.{All}
 use Rattle.std.proofs.lemmas.Bool.{cases_eq}
@@ -15,7 +15,7 @@ use Rattle.matcher_table.specs.Steps.{Interns, Releases}
 use Rattle.matcher_table.specs.Trees.{slot_tree}
 use Rattle.matcher_table.specs.Truths.{MayAskAbout}
 use Rattle.matcher_table.specs.TableFacts.{IsSoundTable, KeepsTrees}
-use Rattle.matcher_table.specs.StoreParts.{AreSlotsHeld, StoreIsHeld, StoreIsIndexed, StoreIsReady, StoreIsSound, UsedFrom, table_in}
+use Rattle.matcher_table.specs.StoreParts.{AreSlotsHeld, StoreStands, IsUsed, table_in}
 use Rattle.matcher_table.proofs.Counting.{place_of}
 use Rattle.matcher_table.proofs.HeldLaws.{cases_live}
 use Rattle.matcher_table.proofs.IndexLaws.{matchers_set, one_slot}
@@ -31,62 +31,39 @@ module _ {slots : List (Option SharedMatcher)} {order outside uses : List ℕ} {
   pub all_askable : (s : ℕ) → MayAskAbout (matcher_at slots s)
   all_askable s = may_ask s (matcher_at slots s) refl
 
--- what is merely sound is sound
-pub had_held : (store : Store) → ∥ StoreIsSound store ∥₁ → StoreIsHeld store
-had_held store sound = ∥∥₁_elim sound (hlevel props) (λ s. s.held)
+-- where no slot may do without a use, each live one has one
+has_use : (store : Store) (s : ℕ) → IsUsed store s ⊎ (0 < times_among s (take 0 store.order.items))
+    → 0 < get_or store.outside.items s 0 + get_or store.uses.items s 0
+has_use store s (inr counted) = absurd (omega arith)
+has_use store s (inl (inl outer)) = omega arith
+has_use store s (inl (inr child)) = omega arith
 
-pub had_indexed : (store : Store) → ∥ StoreIsSound store ∥₁ → StoreIsIndexed store
-had_indexed store sound = ∥∥₁_elim sound (hlevel (props, matchers_set)) (λ s. s.indexed)
-
-pub had_ready : (store : Store) → ∥ StoreIsSound store ∥₁ → StoreIsReady store
-had_ready store sound = ∥∥₁_elim sound (hlevel props) (λ s. s.ready)
-
-pub had_used : (store : Store) → ∥ StoreIsSound store ∥₁ → UsedFrom store 0
-had_used store sound s live =
-    let some : 0 < get_or store.outside.items s 0 + get_or store.uses.items s 0 =
-    ∥∥₁_elim sound (hlevel props) (λ it. it.used s live) in
-    elim (cases_eq (get_or store.outside.items s 0) 0) [
-      | inl none ↦ inl (inr (omega arith))
-      | inr more ↦ inl (inl (omega arith))
-    ]
-
--- what the law of every table rests on
-abbrev pub HasItsUses : Store → Type 0
-HasItsUses store =
-    StoreIsHeld store × StoreIsIndexed store
-    × ((s : ℕ) → matcher_at store.bodies.slots s ≢ None
-    → 0 < get_or store.outside.items s 0 + get_or store.uses.items s 0)
-
-pub is_sound : (store : Store) → StoreIsHeld store → StoreIsIndexed store → UsedFrom store 0 → HasItsUses store
-is_sound store held indexed used = (
-  held,
-  indexed,
-  λ s live. elim (used s live) [
-    | inr counted ↦ absurd (omega arith)
-    | inl has ↦ elim has [ inl outer ↦ omega arith | inr child ↦ omega arith ]
-  ],
-)
-
-pub store_sound : (store : Store) → StoreIsHeld store → StoreIsIndexed store → StoreIsReady store → UsedFrom store 0
-    → StoreIsSound store
-store_sound store held indexed ready used = record {
-  held = held;
-  indexed = indexed;
-  ready = ready;
-  used = (is_sound store held indexed used).2;
+-- what merely stands stands
+pub had : (store : Store) → ∥ StoreStands store 0 ∥₁ → StoreStands store 0
+had store merely = record {
+  held = ∥∥₁_elim merely (hlevel props) (λ it. it.held);
+  indexed = ∥∥₁_elim merely (hlevel (props, matchers_set)) (λ it. it.indexed);
+  ready = ∥∥₁_elim merely (hlevel props) (λ it. it.ready);
+  used = λ s live.
+      let some : 0 < get_or store.outside.items s 0 + get_or store.uses.items s 0 =
+      ∥∥₁_elim merely (hlevel props) (λ it. has_use store s (it.used s live)) in
+      elim (cases_eq (get_or store.outside.items s 0) 0) [
+        | inl none ↦ inl (inr (omega arith))
+        | inr more ↦ inl (inl (omega arith))
+      ];
 }
 
 -- what callers may know of every table
-pub sound_table : (store : Store) → HasItsUses store → IsSoundTable (table_in store)
-sound_table store sound = record {
-  used = λ s live. omega (arith, sound.2 s live, sound.0.uses_are s);
-  unused = λ s gone. omega (arith, sound.0.none_outside s gone, sound.0.none_below s gone);
+pub sound_table : (store : Store) → StoreStands store 0 → IsSoundTable (table_in store)
+sound_table store stands = record {
+  used = λ s live. omega (arith, has_use store s (stands.used s live), stands.held.uses_are s);
+  unused = λ s gone. omega (arith, stands.held.none_outside s gone, stands.held.none_below s gone);
   apart = λ s t live same. elim (cases_live (matcher_at store.bodies.slots s)) [
     | inl none ↦ absurd (live none)
-    | inr there ↦ one_slot sound.1 s t there.0 there.1 (sym same ∙ there.1)
+    | inr there ↦ one_slot stands.indexed s t there.0 there.1 (sym same ∙ there.1)
   ];
-  children = λ s c named. named_live sound.0 s c named;
-  trees = λ s live. trees_meet_their_step sound.0 s live;
+  children = λ s c named. named_live stands.held s c named;
+  trees = λ s live. trees_meet_their_step stands.held s live;
 }
 
 pub unchanged_trees : (old new : Store) → IsUnchanged (table_in old) (table_in new)
@@ -108,14 +85,14 @@ interned_same old new shared slot interns s live =
           ]
     ]
 
-pub interned_trees : (old new : Store) (shared : SharedMatcher) (slot : ℕ) → StoreIsHeld old → StoreIsHeld new
+pub interned_trees : (old new : Store) (shared : SharedMatcher) (slot : ℕ) → StoreStands old 0 → StoreStands new 0
     → Interns (table_in old) shared slot (table_in new) → KeepsTrees (table_in old) (table_in new)
-interned_trees old new shared slot held held' interns s was live =
-    sym (tree_kept held' held (interned_same old new shared slot interns) s was)
+interned_trees old new shared slot first last interns s was live =
+    sym (tree_kept last.held first.held (interned_same old new shared slot interns) s was)
 
-pub released_trees : (old new : Store) (slot : ℕ) → StoreIsHeld old → StoreIsHeld new
+pub released_trees : (old new : Store) (slot : ℕ) → StoreStands old 0 → StoreStands new 0
     → Releases (table_in old) slot (table_in new) → KeepsTrees (table_in old) (table_in new)
-released_trees old new slot held held' releases s was live = tree_kept held held' releases.kept s live
+released_trees old new slot first last releases s was live = tree_kept first.held last.held releases.kept s live
 
 -- what slots name is live, where each of the slots is
 pub children_live : (slots : List (Option SharedMatcher)) (children : List Slot) (xs : List ℕ)

@@ -1,6 +1,6 @@
 -- How a store holds a table. No public clause cites this.
-use Rattle.std.specs.Prelude.{◌≡◌, ◌≢◌, ◌⊎◌, ℕ, ◌+◌, ◌<◌, ◌≤◌, Bool, false, List, length, take, Option, Some, None, slice_index_or, is_some, vec_len, vec_capacity}
-use Rattle.std.specs.List.{count_by}
+use Rattle.std.specs.Prelude.{◌≡◌, ◌≢◌, ◌⊎◌, ℕ, ◌+◌, ◌<◌, ◌≤◌, Bool, false, List, length, take, Option, Some, None, slice_index_or, slice_set, is_some, vec_len, vec_capacity}
+use Rattle.std.specs.List.{count_by, remove}
 use Rattle.atom_record.specs.declared.atom.Atom.{Atom}
 use Rattle.config_types.specs.declared.matcher.SimpleMatcher.{SimpleMatcher}
 use Rattle.config_types.specs.Askable.{IsAskable}
@@ -8,6 +8,7 @@ use Rattle.matcher_table.specs.declared.shared.SharedMatcher.{SharedMatcher}
 use Rattle.matcher_table.specs.declared.shared.SharedMatcher.TheVariants.{Simple}
 use Rattle.matcher_table.specs.declared.index.SlotIndex.{SlotIndex}
 use Rattle.matcher_table.specs.declared.store.Store.{Store}
+use Rattle.matcher_table.specs.Counts.{CanAdd}
 use Rattle.matcher_table.specs.Finding.{slot_for, HasSpare}
 use Rattle.matcher_table.specs.Slots.{matcher_at, children_of, times_among, child_uses, live_count}
 use Rattle.matcher_table.specs.Tables.{SlotTable}
@@ -138,10 +139,45 @@ pub record ChangesOutside (old new : Store) (slot : ℕ) : Type 0 where
   pub results : new.results.items ≡ old.results.items
   pub others : (s : ℕ) → s ≢ slot → slice_index_or new.outside.items s 0 ≡ slice_index_or old.outside.items s 0
 
--- what a table keeps between two calls
-pub record StoreIsSound (store : Store) : Type 0 where
+-- What a store keeps between two calls. While slots are freed those in this front of its order may have no use.
+pub record StoreStands (store : Store) (front : ℕ) : Type 0 where
   pub held : StoreIsHeld store
   pub indexed : StoreIsIndexed store
   pub ready : StoreIsReady store
-  pub used : (s : ℕ) → matcher_at store.bodies.slots s ≢ None
-      → 0 < slice_index_or store.outside.items s 0 + slice_index_or store.uses.items s 0
+  pub used : UsedFrom store front
+
+-- a matcher that stands nowhere can be put into the slot that comes next
+pub record AwaitsMatcher (store : Store) (shared : SharedMatcher) : Type 0 where
+  pub held : StoreIsHeld store
+  pub indexed : StoreIsIndexed store
+  pub rested : StoreIsRested store
+  pub enough : IsEnoughWith store shared
+  pub used : UsedFrom store 0
+  pub may : MayIntern store shared
+  pub is_new : (s : ℕ) → matcher_at store.bodies.slots s ≢ Some shared
+  pub room : HasRoomReserved store
+  pub can_add : CanAdd store.uses.items (children_of (Some shared))
+
+-- the slot at a place of the order
+abbrev pub slot_in_order : Store → ℕ → ℕ
+slot_in_order store at = slice_index_or store.order.items at 0
+
+-- the slot at this place of the order is out of a store, and nothing else is other but the uses of its children
+pub record LosesSlot (old new : Store) (at : ℕ) : Type 0 where
+  pub slots : new.bodies.slots ≡ slice_set old.bodies.slots (slot_in_order old at) None
+  pub next : new.bodies.vacant_key ≡ slot_in_order old at
+  pub order : new.order.items ≡ remove old.order.items at
+  pub outside : new.outside.items ≡ old.outside.items
+  pub results : new.results.items ≡ old.results.items
+  pub uses : (s : ℕ) → slice_index_or new.uses.items s 0
+      + times_among s (children_of (matcher_at old.bodies.slots (slot_in_order old at)))
+      ≡ slice_index_or old.uses.items s 0
+  pub same : length new.uses.items ≡ length old.uses.items
+  pub gone : (wanted : SharedMatcher) → matcher_at old.bodies.slots (slot_in_order old at) ≡ Some wanted
+      → slot_for new.index wanted ≡ None
+  pub stay : (wanted : SharedMatcher) → matcher_at old.bodies.slots (slot_in_order old at) ≢ Some wanted
+      → slot_for new.index wanted ≡ slot_for old.index wanted
+  pub hanging : new.hanging ≡ old.hanging
+  pub idle : new.idle.items ≡ old.idle.items
+  pub last : new.last ≡ old.last
+  pub settled : new.settled ≡ old.settled

@@ -7,7 +7,7 @@ ghost use Rattle.matcher_table.specs.Truths.{Evaluates, HaveRisen, questions};
 ghost use Rattle.matcher_table.specs.Slots.{matcher_at, children_of, times_among};
 ghost use Rattle.matcher_table.specs.Tables.{IsUnchanged};
 ghost use Rattle.matcher_table.specs.Steps.{Interns, Releases};
-ghost use Rattle.matcher_table.specs.StoreParts.{StoreIsHeld, StoreIsIndexed, StoreIsReady, StoreIsRested, IsEnoughWith, IsUsed, UsedFrom, table_in, Frees, MayIntern, HasRoomReserved, ChangesOutside};
+ghost use Rattle.matcher_table.specs.StoreParts.{StoreStands, StoreIsHeld, StoreIsIndexed, AwaitsMatcher, IsUsed, Frees, LosesSlot, MayIntern, HasRoomReserved, ChangesOutside, slot_in_order, table_in};
 ghost use Rattle.matcher_table.specs.Counts.{CanAdd};
 ghost use Rattle.matcher_table.specs.Finding.{slot_for};
 ghost use Rattle.matcher_table.specs.declared.shared.SharedMatcher.{SharedMatcher};
@@ -44,10 +44,7 @@ pub struct Store {
 impl Store {
     /// No slot is live.
     pub fn new(alloc: Global) -> Store
-        ensures held { StoreIsHeld result }
-        ensures indexed { StoreIsIndexed result }
-        ensures ready { StoreIsReady result }
-        ensures used { UsedFrom result 0 }
+        ensures stands { StoreStands result 0 }
         ensures slots { result.bodies.slots ≡ [] }
         ensures next { result.bodies.vacant_key ≡ 0 }
     {
@@ -67,17 +64,11 @@ impl Store {
 
     /// The slot of an equal matcher, or a new one.
     pub fn intern(&mut self, alloc: Global, shared: SharedMatcher) -> Result<usize, AllocError>
-        requires held { StoreIsHeld self.old }
-        requires indexed { StoreIsIndexed self.old }
-        requires ready { StoreIsReady self.old }
-        requires used { UsedFrom self.old 0 }
+        requires stands { StoreStands self.old 0 }
         requires may { MayIntern self.old shared }
         ensures interns { IfOk result (λ slot. Interns (table_in self.old) shared slot (table_in self.new)) }
         ensures err { OnErr result (IsUnchanged (table_in self.old) (table_in self.new)) }
-        ensures held { StoreIsHeld self.new }
-        ensures indexed { StoreIsIndexed self.new }
-        ensures ready { StoreIsReady self.new }
-        ensures used { UsedFrom self.new 0 }
+        ensures stands { StoreStands self.new 0 }
     {
         match self.index.find(&shared) {
             Some(slot) => self.raise(slot, &shared),
@@ -87,18 +78,12 @@ impl Store {
 
     // One more outside use of a live slot. It takes no memory: the count may stand at its type's end.
     fn raise(&mut self, slot: usize, shared: &SharedMatcher) -> Result<usize, AllocError>
-        requires held { StoreIsHeld self.old }
-        requires indexed { StoreIsIndexed self.old }
-        requires ready { StoreIsReady self.old }
-        requires used { UsedFrom self.old 0 }
+        requires stands { StoreStands self.old 0 }
         requires live { matcher_at self.old.bodies.slots slot ≡ Some shared.now }
         ensures interns { IfOk result (λ s. Interns (table_in self.old) shared.now s (table_in self.new)) }
         ensures full { OnErr result (slice_index self.old.outside.items slot ≡ usize.MAX) }
         ensures err { OnErr result (IsUnchanged (table_in self.old) (table_in self.new)) }
-        ensures held { StoreIsHeld self.new }
-        ensures indexed { StoreIsIndexed self.new }
-        ensures ready { StoreIsReady self.new }
-        ensures used { UsedFrom self.new 0 }
+        ensures stands { StoreStands self.new 0 }
     {
         if self.outside[slot] == usize::MAX {
             return Err(AllocError);
@@ -109,18 +94,12 @@ impl Store {
 
     // A new slot.
     fn make(&mut self, alloc: Global, shared: SharedMatcher) -> Result<usize, AllocError>
-        requires held { StoreIsHeld self.old }
-        requires indexed { StoreIsIndexed self.old }
-        requires ready { StoreIsReady self.old }
-        requires used { UsedFrom self.old 0 }
+        requires stands { StoreStands self.old 0 }
         requires may { MayIntern self.old shared }
         requires is_new { (s : ℕ) → matcher_at self.old.bodies.slots s ≢ Some shared }
         ensures interns { IfOk result (λ slot. Interns (table_in self.old) shared slot (table_in self.new)) }
         ensures err { OnErr result (IsUnchanged (table_in self.old) (table_in self.new)) }
-        ensures held { StoreIsHeld self.new }
-        ensures indexed { StoreIsIndexed self.new }
-        ensures ready { StoreIsReady self.new }
-        ensures used { UsedFrom self.new 0 }
+        ensures stands { StoreStands self.new 0 }
     {
         if !can_add(self.uses.as_slice(), shared.children()) {
             return Err(AllocError);
@@ -133,17 +112,11 @@ impl Store {
 
     // Room for one slot more.
     fn reserve(&mut self) -> Result<(), AllocError>
-        requires held { StoreIsHeld self.old }
-        requires indexed { StoreIsIndexed self.old }
-        requires ready { StoreIsReady self.old }
-        requires used { UsedFrom self.old 0 }
+        requires stands { StoreStands self.old 0 }
         ensures room { OnOk result (HasRoomReserved self.new) }
         ensures unchanged { IsUnchanged (table_in self.old) (table_in self.new) }
         ensures uses { (s : ℕ) → slice_index self.new.uses.items s ≡ slice_index self.old.uses.items s }
-        ensures held { StoreIsHeld self.new }
-        ensures indexed { StoreIsIndexed self.new }
-        ensures ready { StoreIsReady self.new }
-        ensures used { UsedFrom self.new 0 }
+        ensures stands { StoreStands self.new 0 }
     {
         self.bodies.reserve(1)?;
         self.index.reserve()?;
@@ -157,21 +130,10 @@ impl Store {
 
     // Puts it into the vacant slot that comes next.
     fn place(&mut self, shared: SharedMatcher, key: SharedMatcher) -> usize
-        requires held { StoreIsHeld self.old }
-        requires indexed { StoreIsIndexed self.old }
-        requires rested { StoreIsRested self.old }
-        requires enough { IsEnoughWith self.old shared }
-        requires used { UsedFrom self.old 0 }
-        requires may { MayIntern self.old shared }
-        requires is_new { (s : ℕ) → matcher_at self.old.bodies.slots s ≢ Some shared }
-        requires room { HasRoomReserved self.old }
-        requires can_add { CanAdd self.old.uses.items (children_of (Some shared)) }
+        requires awaits { AwaitsMatcher self.old shared }
         requires key { key ≡ shared }
         ensures interns { Interns (table_in self.old) shared result (table_in self.new) }
-        ensures held { StoreIsHeld self.new }
-        ensures indexed { StoreIsIndexed self.new }
-        ensures ready { StoreIsReady self.new }
-        ensures used { UsedFrom self.new 0 }
+        ensures stands { StoreStands self.new 0 }
     {
         let idle = idle_of(&shared, self.idle.as_slice());
         add_uses(&mut self.uses, shared.children());
@@ -186,16 +148,10 @@ impl Store {
 
     /// One outside use fewer. A slot without a use goes, and its places in the child uses of others go too.
     pub fn release(&mut self, slot: usize)
-        requires held { StoreIsHeld self.old }
-        requires indexed { StoreIsIndexed self.old }
-        requires ready { StoreIsReady self.old }
-        requires used { UsedFrom self.old 0 }
+        requires stands { StoreStands self.old 0 }
         requires outside { 0 < slice_index self.old.outside.items slot }
         ensures releases { Releases (table_in self.old) slot (table_in self.new) }
-        ensures held { StoreIsHeld self.new }
-        ensures indexed { StoreIsIndexed self.new }
-        ensures ready { StoreIsReady self.new }
-        ensures used { UsedFrom self.new 0 }
+        ensures stands { StoreStands self.new 0 }
     {
         self.lower(slot);
         if self.is_used(slot) {
@@ -220,15 +176,11 @@ impl Store {
     }
 
     fn lower(&mut self, slot: usize)
-        requires held { StoreIsHeld self.old }
-        requires indexed { StoreIsIndexed self.old }
-        requires ready { StoreIsReady self.old }
+        requires stands { StoreStands self.old 0 }
         requires outside { 0 < slice_index self.old.outside.items slot }
         ensures outside { ChangesOutside self.old self.new slot }
         ensures lower { slice_index self.new.outside.items slot + 1 ≡ slice_index self.old.outside.items slot }
-        ensures held { StoreIsHeld self.new }
-        ensures indexed { StoreIsIndexed self.new }
-        ensures ready { StoreIsReady self.new }
+        ensures stands { StoreStands self.new (length self.new.order.items) }
     {
         self.outside[slot] -= 1;
     }
@@ -236,17 +188,11 @@ impl Store {
     /// The truths of all live slots: those under the atom's id are found, and the others have their idle truths, to
     /// which those under the last id, if it is another, and the new ones are put back. It takes no memory.
     pub fn evaluate<J: Judge>(&mut self, atom: &Atom, judge: &mut J)
-        requires held { StoreIsHeld self.old }
-        requires indexed { StoreIsIndexed self.old }
-        requires ready { StoreIsReady self.old }
-        requires used { UsedFrom self.old 0 }
+        requires stands { StoreStands self.old 0 }
         requires sound { HasNoFault atom.now }
         ensures evaluates { Evaluates J.says atom.now (table_in self.old) (table_in self.new) }
         ensures asked { HaveRisen (questions atom.now self.old.bodies.slots) (J.ticks judge.old) (J.ticks judge.new) }
-        ensures held { StoreIsHeld self.new }
-        ensures indexed { StoreIsIndexed self.new }
-        ensures ready { StoreIsReady self.new }
-        ensures used { UsedFrom self.new 0 }
+        ensures stands { StoreStands self.new 0 }
     {
         put_all_back(
             &mut self.results,
@@ -277,14 +223,9 @@ impl Store {
 
     // Frees what has no use. In this direction a slot comes before its children, so that one pass is enough.
     fn sweep(&mut self)
-        requires held { StoreIsHeld self.old }
-        requires indexed { StoreIsIndexed self.old }
-        requires ready { StoreIsReady self.old }
+        requires stands { StoreStands self.old (length self.old.order.items) }
         ensures frees { Frees self.old self.new }
-        ensures held { StoreIsHeld self.new }
-        ensures indexed { StoreIsIndexed self.new }
-        ensures ready { StoreIsReady self.new }
-        ensures used { UsedFrom self.new 0 }
+        ensures stands { StoreStands self.new 0 }
     {
         let mut at = self.order.len();
         while at > 0 {
@@ -294,17 +235,11 @@ impl Store {
     }
 
     fn free_if_unused(&mut self, at: usize)
-        requires held { StoreIsHeld self.old }
-        requires indexed { StoreIsIndexed self.old }
-        requires ready { StoreIsReady self.old }
+        requires stands { StoreStands self.old (at + 1) }
         requires within { at < length self.old.order.items }
-        requires used { UsedFrom self.old (at + 1) }
         ensures within { at ≤ length self.new.order.items }
         ensures frees { Frees self.old self.new }
-        ensures held { StoreIsHeld self.new }
-        ensures indexed { StoreIsIndexed self.new }
-        ensures ready { StoreIsReady self.new }
-        ensures used { UsedFrom self.new at }
+        ensures stands { StoreStands self.new at }
     {
         let slot = self.slot_at(at);
         if self.is_used(slot) {
@@ -320,27 +255,8 @@ impl Store {
         requires held { StoreIsHeld self.old }
         requires indexed { StoreIsIndexed self.old }
         requires within { at < length self.old.order.items }
-        requires unused { slice_index self.old.uses.items (slice_index self.old.order.items at) ≡ 0 }
-        ensures slots { self.new.bodies.slots
-            ≡ slice_set self.old.bodies.slots (slice_index self.old.order.items at) None }
-        ensures next { self.new.bodies.vacant_key ≡ slice_index self.old.order.items at }
-        ensures order { self.new.order.items ≡ remove self.old.order.items at }
-        ensures outside { self.new.outside.items ≡ self.old.outside.items }
-        ensures results { self.new.results.items ≡ self.old.results.items }
-        ensures uses { (s : ℕ) → slice_index self.new.uses.items s
-            + times_among s (children_of (matcher_at self.old.bodies.slots (slice_index self.old.order.items at)))
-            ≡ slice_index self.old.uses.items s }
-        ensures same { length self.new.uses.items ≡ length self.old.uses.items }
-        ensures gone { (wanted : SharedMatcher)
-            → matcher_at self.old.bodies.slots (slice_index self.old.order.items at) ≡ Some wanted
-            → slot_for self.new.index wanted ≡ None }
-        ensures stay { (wanted : SharedMatcher)
-            → matcher_at self.old.bodies.slots (slice_index self.old.order.items at) ≢ Some wanted
-            → slot_for self.new.index wanted ≡ slot_for self.old.index wanted }
-        ensures hanging { self.new.hanging ≡ self.old.hanging }
-        ensures idle { self.new.idle.items ≡ self.old.idle.items }
-        ensures last { self.new.last ≡ self.old.last }
-        ensures settled { self.new.settled ≡ self.old.settled }
+        requires unused { slice_index self.old.uses.items (slot_in_order self.old at) ≡ 0 }
+        ensures { LosesSlot self.old self.new at }
     {
         let slot = self.order.remove(at);
         let shared = self.bodies.remove(slot);

@@ -1,6 +1,6 @@
 //! The table that all clients share.
 ghost use Rattle.std.specs.Prelude.{◌≡◌, ◌↔◌, map, IfOk, IsTrue};
-ghost use Rattle.matcher_table.specs.StoreParts.{StoreIsSound};
+ghost use Rattle.matcher_table.specs.StoreParts.{StoreStands};
 
 use crate::SharedMatcher;
 use crate::store::Store;
@@ -21,7 +21,7 @@ pub struct Slot {
 pub struct MatcherTable {
     alloc: Global,
     store: Store,
-    ghost sound: { ∥ StoreIsSound store ∥₁ },
+    ghost sound: { ∥ StoreStands store 0 ∥₁ },
 }
 
 impl MatcherTable {

@@ -6,8 +6,8 @@ ghost use Rattle.config_links.specs.declared.linked.LMatcher.{LMatcher};
 ghost use Rattle.link_graph.specs.Links.{AreInRange, HasNoCycle};
 ghost use Rattle.matcher_truths.specs.MatcherTruths.{named_places, truth_from, matches};
 
-/// Where no matcher is below itself, each one's truth is what it makes of the truths at the places that it names. It does
-/// nothing when it runs.
+/// Where no matcher is below itself, each one's truth is what it makes of the truths at the places that it names. It
+/// does nothing when it runs.
 pub fn truths_come_from_children()
     ensures { (says : SimpleMatcher → Atom → Bool) (atom : Atom) (matchers : List LMatcher)
         → AreInRange (named_places matchers) → HasNoCycle (named_places matchers) → (place : ℕ)

@@ -229,7 +229,8 @@ module _ (spec : PredSpec) (was : LeafKey → Option Known) (now : LeafKey → K
       → changes_place spec (changes_from was now from keys) place ≡ false
   none_changes from place [] before = refl
   none_changes from place (key ∷ keys) before =
-      by_said (says (was key) (now key)) (grind (arith, before)) (none_changes (from + 1) place keys (omega (arith, before)))
+      by_said (says (was key) (now key)) (grind (arith, before))
+      (none_changes (from + 1) place keys (omega (arith, before)))
     where
       by_said : (said : Bool) → (from == place) ≡ false
           → changes_place spec (changes_from was now (from + 1) keys) place ≡ false
@@ -270,7 +271,8 @@ module _ (spec : PredSpec) (was : LeafKey → Option Known) (now : LeafKey → K
   told_or_now : (keys : List LeafKey) (key : LeafKey) (told : Option Known) → was key ≡ told
       → is_among same_leaves key keys ≡ true
       → (option_map_or (λ known. true) told false
-      || option_map_or (changes_place spec (changes_from was now 0 keys)) (position (same_leaves key) keys) false) ≡ true
+      || option_map_or (changes_place spec (changes_from was now 0 keys)) (position (same_leaves key) keys) false)
+      ≡ true
   told_or_now keys key (Some known) is among = refl
   told_or_now keys key None is among =
       let first = position_or_len (same_leaves key) keys in
@@ -278,7 +280,8 @@ module _ (spec : PredSpec) (was : LeafKey → Option Known) (now : LeafKey → K
       (position_is key keys among)
       ∙ some_changes (changes_from was now 0 keys) first (now key)
       (ap (λ (o : Option Known). last_or o (known_at (changes_from was now 0 keys) (Some first))) (sym is)
-      ∙ sym (ap (λ place. last_or (was key) (known_at (changes_from was now 0 keys) place)) (position_is key keys among))
+      ∙ sym (ap (λ place. last_or (was key) (known_at (changes_from was now 0 keys) place))
+      (position_is key keys among))
       ∙ told_once key keys among)
 
   pub each_told : (keys some : List LeafKey)

@@ -261,12 +261,14 @@ module _ (installed : Installation) (metric : LMetric) (spec : PredSpec) where
           told = λ key. ⊎_elim
               (λ (on : is_among same_leaves key listed ≡ true).
               last_known-listed spec calls call key
-              (subst (λ (s : PredicateState LeafKey). is_among same_leaves key (keys_of s.counts) ≡ true) (sym state) on)
+              (subst (λ (s : PredicateState LeafKey). is_among same_leaves key (keys_of s.counts) ≡ true)
+              (sym state) on)
               ∙ ap (λ (s : PredicateState LeafKey). last_or (last_known spec calls key)
               (known_at changes (position (same_leaves key) (keys_of s.counts)))) knows.state
               ∙ ap (λ (o : Option Known). last_or o (known_at changes (position (same_leaves key) listed)))
               (knows.told key on)
-              ∙ told_once spec (told_after installed metric spec before) (known_after installed metric steps) key listed on
+              ∙ told_once spec (told_after installed metric spec before)
+              (known_after installed metric steps) key listed on
               ∙ sym (listed_told steps key on))
               (λ (off : is_among same_leaves key listed ≡ false).
               last_known-absent spec (calls ++ call ∷ []) key
@@ -277,7 +279,8 @@ module _ (installed : Installation) (metric : LMetric) (spec : PredSpec) where
         } in
         record {
           knows = both;
-          since = since-learned spec calls at (record { changes = changes }) ∙ active_are (calls ++ call ∷ []) steps both;
+          since = since-learned spec calls at (record { changes = changes })
+              ∙ active_are (calls ++ call ∷ []) steps both;
         }
 
     -- where nothing changed and no event came, all was told
@@ -294,7 +297,8 @@ module _ (installed : Installation) (metric : LMetric) (spec : PredSpec) where
               (position_is key listed on))
               ∙ ap (λ cs. last_or (told_after installed metric spec before key)
               (known_at cs (position (same_leaves key) listed))) (sym none)
-              ∙ told_once spec (told_after installed metric spec before) (known_after installed metric steps) key listed on
+              ∙ told_once spec (told_after installed metric spec before)
+              (known_after installed metric steps) key listed on
               ∙ sym (listed_told steps key on))
               (λ (off : is_among same_leaves key listed ≡ false).
               last_known-absent spec calls key

@@ -267,7 +267,8 @@ module _ (installed : Installation) (metric : LMetric) (spec : PredSpec) where
           (acted_none installed metric spec before step calls step.at has.tells refl is)) key end later
       by_changes (first ∷ others) some is =
           told_times calls (record { changes = first ∷ others })
-          (subst (λ cs. TellsInner installed metric spec (calls ++ Learned step.at (record { changes = cs }) ∷ []) after)
+          (subst (λ cs. TellsInner installed metric spec
+          (calls ++ Learned step.at (record { changes = cs }) ∷ []) after)
           some (learned installed metric spec before step calls step.at
           (acted_none installed metric spec before step calls step.at has.tells refl is)))
           (λ k on. has.times k step.at in_time) key end
@@ -323,7 +324,8 @@ module _ (installed : Installation) (metric : LMetric) (spec : PredSpec) where
         times = λ key end later. time-idle spec cut Took key end refl
             ∙ cutting_times calls size include_current at end key ∙ has.times key end later;
       } in
-      let tells = quiet_tells installed metric spec before step took (report_quiet at include_current truths) now.tells in
+      let tells = quiet_tells installed metric spec before step took
+      (report_quiet at include_current truths) now.tells in
       subst (λ cs. TimesInner cs (before ++ step ∷ []))
       (append_assoc calls (cutting size include_current at) (Took ∷ [])) (record {
         tells = tells;

@@ -311,7 +311,8 @@ module _ (installed : Installation) (metric : LMetric) (fields : Option FieldSet
           ∙ ap (marks_if (is_trigger_moment mode (Some now))) (snapshot_is after (Some now, Some found) is)
 
   -- what is asked at a frame has the marks that the frame brings
-  gauge_marks : metric.kind ≡ PulledGauge fields samples mode trigger → (before : List Step) (frame : LogFrame) (at : ℕ) (truths : List Bool)
+  gauge_marks : metric.kind ≡ PulledGauge fields samples mode trigger
+      → (before : List Step) (frame : LogFrame) (at : ℕ) (truths : List Bool)
       → let asking = pulled_gauge_asking installed metric fields samples mode trigger in
       marks_after asking pulled_collecting (calls_crossed asking pulled_collecting before frame at)
       (asked_at asking before frame at truths)
@@ -380,7 +381,8 @@ module _ (installed : Installation) (metric : LMetric) (fields : Option FieldSet
           told : (touched matches : Bool)
               → let asking = pulled_gauge_asking installed metric fields samples mode trigger in
               let demands = own_demands asking pulled_collecting in
-              let now = truth_in (scene_after installed (before ++ frame_step (AtomAt when atom) at truths ∷ [])) metric in
+              let now = truth_in (scene_after installed (before ++ frame_step (AtomAt when atom) at truths ∷ []))
+              metric in
               let calls : List PulledGaugeCall = if touched
               then Learned at now ∷ map (λ event. Got at event) (if matches then Trigger ∷ [] else []) else [] in
               AreAskedAt demands at calls

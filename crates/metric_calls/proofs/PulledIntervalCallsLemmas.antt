@@ -306,7 +306,8 @@ module _ (installed : Installation) (metric : LMetric) (source : ValueLeaf) (spe
   -- what is asked at a frame begins what the frame itself begins
   asked_begins : (before : List Step) (frame : LogFrame) (at : ℕ) (truths : List Bool) (calls : List PulledValueCall)
       → memory_of calls ≡ stands_now before
-      → outputs_after begun_at calls (asked_at (pulled_value_asking installed metric source spec) before frame at truths)
+      → outputs_after begun_at calls
+      (asked_at (pulled_value_asking installed metric source spec) before frame at truths)
       ≡ begun_by_step watch before (frame_step frame at truths)
   asked_begins before (Tick when) at truths calls is =
       let step = frame_step (Tick when) at truths in
@@ -405,7 +406,8 @@ module _ (installed : Installation) (metric : LMetric) (source : ValueLeaf) (spe
 
   -- and once a frame's crossing came
   pub open_crossed : (before : List Step) (frame : LogFrame) (at : ℕ) (truths : List Bool)
-      → open_by_calls (calls_crossed (pulled_value_asking installed metric source spec) pulled_collecting before frame at)
+      → open_by_calls (calls_crossed
+      (pulled_value_asking installed metric source spec) pulled_collecting before frame at)
       ≡ open_before watch before (frame_step frame at truths)
   open_crossed before frame at truths =
       let asking = pulled_value_asking installed metric source spec in

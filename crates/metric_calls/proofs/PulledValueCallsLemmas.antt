@@ -73,7 +73,8 @@ module _ (installed : Installation) (metric : LMetric) (source : ValueLeaf) (spe
       let gives = flat_map (interval_marks spec) in
       let stays = found_kept installed metric before step refl in
       let found_now : last_found crossed ≡ watch.found (before ++ step ∷ []) =
-      found_is installed metric source spec crossed before (remembered_crossed installed metric source spec before frame at)
+      found_is installed metric source spec crossed before
+      (remembered_crossed installed metric source spec before frame at)
       ∙ ap (option_map (pulled_integers metric source)) (sym stays) in
       append-nil (gives (ended_at_moment (open_by_calls crossed)
       (record { holds = is_truth now; found = last_found crossed })))
@@ -122,9 +123,11 @@ module _ (installed : Installation) (metric : LMetric) (source : ValueLeaf) (spe
     at_boundary = λ before.
         let calls = calls_by_steps (pulled_value_asking installed metric source spec) pulled_collecting before in
         let gives = flat_map (interval_marks spec) in
-        let found_now = found_is installed metric source spec calls before (remembered_now installed metric source spec before) in
+        let found_now = found_is installed metric source spec calls before
+        (remembered_now installed metric source spec before) in
         record {
-          closing = λ at. ap (λ going. gives (ended_with going (last_found calls))) (open_is installed metric source spec before)
+          closing = λ at. ap (λ going. gives (ended_with going (last_found calls)))
+              (open_is installed metric source spec before)
               ∙ ap (λ found. gives (ended_with (open_interval watch before) found)) found_now;
           closing_again = λ at.
               ap (λ seen. gives (ended_with (open_after None seen) (last_found calls)))

@@ -1,4 +1,5 @@
--- Steps that aren't atoms leave what is so of inner keys: lemmas on `specs/DurationCalls.antt`, for proofs of durations.
+-- Steps that aren't atoms leave what is so of inner keys: lemmas on `specs/DurationCalls.antt`, for proofs of
+-- durations.
 use Rattle.std.proofs.Common.{◌≡◌, ℕ, ℤ, Bool, not, ◌&&◌, List, [], ◌∷◌, ◌++◌, map, filter, Option, Some, None, if◌then◌else◌, refl, sym, ap, ◌∙◌, append_assoc, append-nil}
 use Rattle.std.specs.List.{flat_map, last_or}
 use Rattle.std.specs.Prelude.{slice_get}

@@ -103,8 +103,8 @@ truth_and takes = record {
   learns = λ told at now. (Some now, told.1);
 }
 
--- `takes` is what a producer remembers of an event, and `shows` of what is found; of what is told of an atom besides its
--- condition it remembers nothing.
+-- `takes` is what a producer remembers of an event, and `shows` of what is found; of what is told of an atom
+-- besides its condition it remembers nothing.
 pub record TakesTold {Event S : Type 0} (telling : Telling Event) (takes : S → Event → S)
     (shows : Option (List Atom) → S) : Type 0 where
   pub snapshot : (was : S) (found : Option (List Atom)) → takes was (telling.snapshot found) ≡ shows found

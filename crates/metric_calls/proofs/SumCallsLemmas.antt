@@ -142,7 +142,8 @@ module _ (installed : Installation) (metric : LMetric) (spec : PredSpec) where
     }
 
   -- no key is lost where their number stays
-  lost_none : {X : Type 0} → (dropped : ℕ) (lost : List (Mark X)) → lost ≡ replicate (dropped - dropped) Lost → lost ≡ []
+  lost_none : {X : Type 0} → (dropped : ℕ) (lost : List (Mark X)) → lost ≡ replicate (dropped - dropped) Lost
+      → lost ≡ []
   lost_none dropped lost is =
       let zero_is : dropped - dropped ≡ 0 = omega arith in
       is ∙ ap (λ n. replicate n Lost) zero_is
@@ -211,7 +212,8 @@ module _ (installed : Installation) (metric : LMetric) (spec : PredSpec) where
         let got : List DurationCall = calls ++ Got at event ∷ [] in
         let turn : List (Mark (Active MetricKey)) = turned at (active_since spec got)
         (active_after spec (got ++ Learned at (record { changes = changes }) ∷ [])) in
-        ap (λ (s : PredicateState LeafKey). replicate (s.dropped - (inner_state spec calls).dropped) Lost ++ (turn ++ []))
+        ap (λ (s : PredicateState LeafKey). replicate
+        (s.dropped - (inner_state spec calls).dropped) Lost ++ (turn ++ []))
         knows.state
         ∙ ap (λ (s : PredicateState LeafKey). replicate
         ((inner_after installed metric spec (before ++ step ∷ [])).dropped - s.dropped) Lost ++ (turn ++ []))

@@ -49,5 +49,6 @@ abbrev pub pulled_gauge_asking : Installation → LMetric → Option FieldSet �
     (Row (List Atom))
 pulled_gauge_asking installed metric fields samples mode trigger =
     told_asking (pulled_gauge_way installed metric fields samples mode trigger)
-    (pulled_gauge_params installed.base metric (sample_spec samples mode)) (gauge_telling metric fields trigger) installed
+    (pulled_gauge_params installed.base metric (sample_spec samples mode))
+    (gauge_telling metric fields trigger) installed
     metric

@@ -31,7 +31,8 @@ overflow_rows start end [] = []
 overflow_rows start end (first ∷ more) =
     record { key = no_key; start = start; end = end; value = overflow_cell (length (first ∷ more)) } ∷ []
 
--- what is shown of the arrivals whose keys found no room: a metric gathers them in an overflow row, or doesn't show them
+-- what is shown of the arrivals whose keys found no room: a metric gathers them in an overflow row, or doesn't show
+-- them
 abbrev pub gathered : Bool → ℕ → ℕ → List (MetricKey × ℕ) → List (Row CountCell)
 gathered true = overflow_rows
 gathered false = not_shown

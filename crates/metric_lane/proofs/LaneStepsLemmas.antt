@@ -73,7 +73,8 @@ module _ {Event After : Type 0} (demands : Demands Event After) where
   module _ {News : Type 0} (steps : List (LaneStep News)) (last : ℕ) (standing : Standing)
       (along : IsAlong demands steps last standing) where
     -- a frame that isn't before the last one may cross
-    pub may_cross : (clock : Option Times) (at : ℕ) → HasClock clock demands.base demands.size (told_by steps) → last ≤ at
+    pub may_cross : (clock : Option Times) (at : ℕ) → HasClock clock demands.base demands.size (told_by steps)
+        → last ≤ at
         → at < time_limit → MayCross clock at
     may_cross None at has later fits = tt
     may_cross (Some clock) at has later fits =
@@ -201,7 +202,8 @@ module _ {P Params Event After X K C Value : Type 0} (law : Law P Params Event A
     lane_logs = opened_logs [] (tt, tt)
 
     -- one more report of such a lane
-    pub lane_reports : (old new : Lane P Event After Value) (at : ℕ) (include_current : Bool) (closed : Taken (Row Value))
+    pub lane_reports : (old new : Lane P Event After Value) (at : ℕ) (include_current : Bool)
+        (closed : Taken (Row Value))
         → GetsReport law old new at include_current closed
         → LaneStandsFor law asks old params steps
         → AreTimely (demands_of law params).base (steps ++ Reported at include_current ∷ [])

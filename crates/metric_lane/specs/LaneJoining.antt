@@ -13,7 +13,8 @@ use Rattle.metric_lane.specs.LaneStands.{LaneHas, OpenedStandsFor}
 use Rattle.metric_lane.specs.declared.lane.Lane.{Lane}
 
 -- A frame covers another: it doesn't come before it, and crosses each end that the other one crosses. Of two at the
--- same time one that is no pull covers the other, and a pull covers a pull alone, since it leaves the end at its own time.
+-- same time one that is no pull covers the other, and a pull covers a pull alone, since it leaves the end at its
+-- own time.
 pub record Covers (covered frame : Moment) : Type 0 where
   pub not_sooner : covered.at ≤ frame.at
   pub crosses_all : (end : ℕ) → crosses covered end ≡ true → crosses frame end ≡ true

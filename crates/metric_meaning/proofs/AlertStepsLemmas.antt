@@ -33,7 +33,8 @@ arrival_told at (Some key) = refl
 report_told : (size : ℕ) (include_current : Bool) (at : ℕ) → 0 < size
     → flat_map notices_of (cut_marks no_edges size include_current at ++ (Asked ∷ [])) ≡ report_notices include_current
 report_told size true at sized =
-    ap (λ b. flat_map notices_of ((if b then boundary no_edges at else []) ++ (Asked ∷ []))) ((Decides-ltb 0 size).1 sized)
+    ap (λ b. flat_map notices_of ((if b then boundary no_edges at else []) ++ (Asked ∷ [])))
+    ((Decides-ltb 0 size).1 sized)
 report_told size false at sized = refl
 
 module _ (installed : Installation) (metric : LMetric) where

@@ -181,7 +181,8 @@ module _ (installed : Installation) (metric : LMetric) where
       → CountsBalance installed metric overflow steps now
   counts_balance overflow steps now fits =
       let few = outputs-few (arrival_at installed metric) [] steps in
-      let fit : length (arrived_by_all (marks_of (count_news installed metric) installed.base metric.size steps)) < 2 ^ 64 =
+      let fit : length (arrived_by_all (marks_of (count_news installed metric) installed.base metric.size steps))
+      < 2 ^ 64 =
       omega (arith, count_came steps, few, fits) in
       record {
         arrived = sym (count_came steps)
@@ -240,7 +241,13 @@ module _ (installed : Installation) (metric : LMetric) where
         event_rows start end key [] fits = refl
         event_rows start end key (event ∷ events) fits =
             let rest = event_rows start end key events (omega (arith, length-append (event ∷ []) events, fits)) in
-            omega (arith, sum_by-cons row_events (event_row event) (map event_row events), rest, length-append (event ∷ []) events)
+            omega (
+              arith,
+              sum_by-cons row_events (event_row event) (map event_row events),
+              rest,
+              length-append
+                  (event ∷ []) events,
+            )
 
   sum_quiet : (spec : PredSpec) → IsQuietNews (sum_news installed metric spec)
   sum_quiet spec = record {
@@ -248,7 +255,8 @@ module _ (installed : Installation) (metric : LMetric) where
     edges = λ before. record { closing = λ at. refl; closing_again = λ at. refl; opening = λ at. refl };
     comes = λ before step.
         both_quiet (inner_drops installed metric spec before step)
-        (turned step.at (active_keys installed metric spec before) (active_keys installed metric spec (before ++ step ∷ [])))
+        (turned step.at (active_keys installed metric spec before)
+        (active_keys installed metric spec (before ++ step ∷ [])))
         (lost_quiet ((inner_after installed metric spec (before ++ step ∷ [])).dropped
         - (inner_after installed metric spec before).dropped))
         (turn_quiet step.at (active_keys installed metric spec (before ++ step ∷ []))
@@ -272,10 +280,13 @@ module _ (installed : Installation) (metric : LMetric) where
     times = amounts_balance (sum_way installed metric spec) metric_key_exact row_value
         (λ start end others. refl) (λ time. time) (λ n. n ≡ n) (λ m n le fits. refl) time_row steps now refl;
   } where
-    time_row : (start end : ℕ) (key : MetricKey) (times : List ℕ) → sum_by (λ time. time) times ≡ sum_by (λ time. time) times
+    time_row : (start end : ℕ) (key : MetricKey) (times : List ℕ)
+        → sum_by (λ time. time) times ≡ sum_by (λ time. time) times
         → sum_by row_value ((sum_way installed metric spec).kind.row start end key times) ≡ sum_by (λ time. time) times
     time_row start end key times fits = by_case (sum times) (sum times == 0) refl where
       by_case : (time : ℕ) (b : Bool) → (time == 0) ≡ b
-          → sum_by row_value (if b then [] else record { key = key; start = start; end = end; value = time } ∷ []) ≡ time
+          → sum_by row_value (if b then [] else record { key = key; start = start; end = end; value = time } ∷ [])
+          ≡ time
       by_case time true is = grind (arith, nat_tests, is)
-      by_case time false is = sum_by-cons row_value (record { key = key; start = start; end = end; value = time }) [] ∙ omega arith
+      by_case time false is = sum_by-cons row_value (record { key = key; start = start; end = end; value = time }) []
+          ∙ omega arith

@@ -1,4 +1,5 @@
--- What marks without a report among them make of books: all that comes is in their parts, and what is dropped is counted.
+-- What marks without a report among them make of books: all that comes is in their parts, and what is dropped is
+-- counted.
 use Rattle.std.proofs.Common.{◌≡◌, ℕ, ◌+◌, List, [], ◌∷◌, ◌++◌, sym, ap, ◌∙◌, arith, append_assoc}
 use Rattle.std.specs.List.{flat_map, sum_by}
 use Rattle.std.proofs.lemmas.List.{append-nil}

@@ -38,10 +38,12 @@ module _ {K C R : Type 0} (way : Way (K × C) K C R) (quiet : IsQuietNews way.sh
   held_nothing : held [] ≡ 0
   held_nothing = ap (dropped way.kind.same way.bound) (keys [])
 
-  held_more : (came : List (K × C)) (what : K × C) → held came + drops way.kind way.bound came what ≡ held (came ++ what ∷ [])
+  held_more : (came : List (K × C)) (what : K × C)
+      → held came + drops way.kind way.bound came what ≡ held (came ++ what ∷ [])
   held_more came what =
       let before = ap (dropped way.kind.same way.bound) (keys came) in
-      let now = ap (dropped way.kind.same way.bound) (keys (came ++ what ∷ []) ∙ map-append arrival_key came (what ∷ [])) in
+      let now = ap (dropped way.kind.same way.bound)
+      (keys (came ++ what ∷ []) ∙ map-append arrival_key came (what ∷ [])) in
       let grows = dropped-grows way.kind.same exact way.bound (map arrival_key came) what.0 in
       omega (arith, before, now, grows)
 
@@ -64,7 +66,8 @@ module _ {K C R : Type 0} (way : Way (K × C) K C R) (quiet : IsQuietNews way.sh
   -- a report tells the books' drops, if its number holds them
   told_drop : (before : List Step) (at : ℕ) (what : What) (truths : List Bool)
       → let step : Step = record { at = at; what = what; truths = truths } in
-      sum (drops_at way quiet before step) < 2 ^ 64 → sum (told_drops way before step) ≡ sum (drops_at way quiet before step)
+      sum (drops_at way quiet before step) < 2 ^ 64
+      → sum (told_drops way before step) ≡ sum (drops_at way quiet before step)
   told_drop before at (Logged frame) truths fits = refl
   told_drop before at (Reported cut) truths fits =
       let n = (books_told way before cut at).dropped in
@@ -78,7 +81,8 @@ module _ {K C R : Type 0} (way : Way (K × C) K C R) (quiet : IsQuietNews way.sh
   told_all before [] fits = refl
   told_all before (step ∷ steps) fits =
       let later = before ++ step ∷ [] in
-      let all = sum_by-append (λ m. m) (drops_at way quiet before step) (outputs_after (drops_at way quiet) later steps) in
+      let all = sum_by-append (λ m. m) (drops_at way quiet before step)
+      (outputs_after (drops_at way quiet) later steps) in
       let shown = sum_by-append (λ m. m) (told_drops way before step) (outputs_after (told_drops way) later steps) in
       let here = told_drop before step.at step.what step.truths (omega (arith, all, fits)) in
       let rest = told_all later steps (omega (arith, all, fits)) in
@@ -103,7 +107,8 @@ module _ {K C R : Type 0} (way : Way (K × C) K C R) (quiet : IsQuietNews way.sh
       ∙ ap (λ l. flat_map (λ (part : Part (K × C)). part.came) told ++ l) in_books ∙ all_came way quiet steps)
 
   away_all : (steps : List Step) (now : ℕ)
-      → sum_by (turned_away_in way one) (all_parts way steps now) + sum_by lost_at (marks_of way.shown way.base way.size steps)
+      → sum_by (turned_away_in way one) (all_parts way steps now) + sum_by lost_at
+      (marks_of way.shown way.base way.size steps)
       ≡ sum (outputs (drops_at way quiet) steps) + (books_after way steps).dropped
   away_all steps now =
       let books = books_after way steps in
@@ -115,7 +120,8 @@ module _ {K C R : Type 0} (way : Way (K × C) K C R) (quiet : IsQuietNews way.sh
       let law = all_told way quiet held held_nothing held_more steps in
       omega (arith, each, apart, in_books, law)
 
-  -- so many were dropped as were turned away, if their number holds them, and no table of the metric's own turned one away
+  -- so many were dropped as were turned away, if their number holds them, and no table of the metric's own turned
+  -- one away
   dropped_all : (steps : List Step) (now : ℕ) → sum_by (turned_away_in way one) (all_parts way steps now) < 2 ^ 64
       → sum_by lost_at (marks_of way.shown way.base way.size steps) ≡ 0
       → drops_by way steps ≡ sum_by (turned_away_in way one) (all_parts way steps now)

@@ -18,7 +18,8 @@ of_key-le {K} {C} same amount key (first ∷ arrivals) =
     let rest = of_key-le same amount key arrivals in
     let all = sum_by-cons (λ (arrival : K × C). amount arrival.1) first arrivals in
     by_case (same first.0 key) rest all where
-      by_case : (b : Bool) → sum_by amount (of_key same key arrivals) ≤ sum_by (λ (arrival : K × C). amount arrival.1) arrivals
+      by_case : (b : Bool) → sum_by amount (of_key same key arrivals)
+          ≤ sum_by (λ (arrival : K × C). amount arrival.1) arrivals
           → sum_by (λ (arrival : K × C). amount arrival.1) (first ∷ arrivals)
           ≡ amount first.1 + sum_by (λ (arrival : K × C). amount arrival.1) arrivals
           → sum_by amount (if b then first.1 ∷ of_key same key arrivals else of_key same key arrivals)
@@ -30,13 +31,14 @@ of_key-le {K} {C} same amount key (first ∷ arrivals) =
 pub kept_front : {R : Type 0} (weight : R → ℕ) (room : ℕ) (rows : List R)
     → take (length (kept weight room rows)) rows ≡ kept weight room rows
 kept_front weight room [] = refl
-kept_front weight room (row ∷ rows) = by_case (nat_le (weight row) room) (kept_front weight (room - weight row) rows) where
-  by_case : (b : Bool)
-      → take (length (kept weight (room - weight row) rows)) rows ≡ kept weight (room - weight row) rows
-      → take (length (if b then row ∷ kept weight (room - weight row) rows else [])) (row ∷ rows)
-      ≡ (if b then row ∷ kept weight (room - weight row) rows else [])
-  by_case true rest = ap (λ l. row ∷ l) rest
-  by_case false rest = refl
+kept_front weight room (row ∷ rows) =
+    by_case (nat_le (weight row) room) (kept_front weight (room - weight row) rows) where
+      by_case : (b : Bool)
+          → take (length (kept weight (room - weight row) rows)) rows ≡ kept weight (room - weight row) rows
+          → take (length (if b then row ∷ kept weight (room - weight row) rows else [])) (row ∷ rows)
+          ≡ (if b then row ∷ kept weight (room - weight row) rows else [])
+      by_case true rest = ap (λ l. row ∷ l) rest
+      by_case false rest = refl
 
 module _ {X K C R : Type 0} (kind : Kind X K C R) (bound : ℕ)
     (exact : (one other : K) → Decides (kind.same one other) (one ≡ other))
@@ -68,7 +70,8 @@ module _ {X K C R : Type 0} (kind : Kind X K C R) (bound : ℕ)
       (λ key. shows part.start part.end key (of_key kind.same key arrivals)
       (fewer (sum_by amount (of_key kind.same key arrivals)) (arrived part)
       (of_key-le kind.same amount key arrivals) few)) keys in
-      let split = parted kind.same exact amount keys (admitted-distinct kind.same bound (kind.keys part.came)) arrivals in
+      let split = parted kind.same exact amount keys
+      (admitted-distinct kind.same bound (kind.keys part.came)) arrivals in
       let gone = ap (λ ks. sum_by (λ (arrival : K × C). amount arrival.1)
       (filter (λ (arrival : K × C). not (is_among kind.same arrival.0 (admitted kind.same bound ks))) arrivals))
       (kind.keys_are part.came part.end) in

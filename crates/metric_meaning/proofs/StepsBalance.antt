@@ -28,15 +28,18 @@ pub record IsQuietNews {X : Type 0} (news : StepNews X) : Type 0 where
   pub comes : (before : List Step) (step : Step) → HasNoReport (news.comes before step)
 
 -- marks without a report, and more of them
-pub both_quiet : {X : Type 0} (marks more : List (Mark X)) → HasNoReport marks → HasNoReport more → HasNoReport (marks ++ more)
-both_quiet marks more one other = sum_by-append asks marks more ∙ ap (λ n. n + sum_by asks more) one ∙ omega (arith, other)
+pub both_quiet : {X : Type 0} (marks more : List (Mark X)) → HasNoReport marks → HasNoReport more
+    → HasNoReport (marks ++ more)
+both_quiet marks more one other =
+    sum_by-append asks marks more ∙ ap (λ n. n + sum_by asks more) one ∙ omega (arith, other)
 
 one_boundary : {X : Type 0} (edges : Edges X) → HasQuietEdges edges → (at : ℕ) → HasNoReport (boundary edges at)
 one_boundary edges quiet at =
     both_quiet (edges.closing at) (Ends at ∷ edges.opening at) (quiet.closing at)
     (omega (arith, sum_by-cons asks (Ends at) (edges.opening at), quiet.opening at))
 
-boundaries : {X : Type 0} (edges : Edges X) → HasQuietEdges edges → (ends : List ℕ) → HasNoReport (boundary_marks edges ends)
+boundaries : {X : Type 0} (edges : Edges X) → HasQuietEdges edges → (ends : List ℕ)
+    → HasNoReport (boundary_marks edges ends)
 boundaries edges quiet [] = refl
 boundaries edges quiet (at ∷ ends) =
     both_quiet (boundary edges at) (boundary_marks (edges_again edges) ends) (one_boundary edges quiet at)
@@ -63,7 +66,8 @@ module _ {X K C R : Type 0} (way : Way X K C R) (quiet : IsQuietNews way.shown) 
 
   books_push : (before : List Step) (step : Step)
       → books_after way (before ++ step ∷ [])
-      ≡ books_from (drops way.kind way.bound) (books_after way before) (marks_at way.shown way.base way.size before step)
+      ≡ books_from (drops way.kind way.bound) (books_after way before)
+      (marks_at way.shown way.base way.size before step)
   books_push before step =
       ap (books_of (drops way.kind way.bound) way.base) (marks_push before step)
       ∙ books-append (drops way.kind way.bound)
@@ -72,7 +76,8 @@ module _ {X K C R : Type 0} (way : Way X K C R) (quiet : IsQuietNews way.shown) 
 
   told_by_cut : (before : List Step) (cut : Bool) (at : ℕ)
       → books_told way before cut at
-      ≡ books_from (drops way.kind way.bound) (books_after way before) (cut_marks (way.shown.edges before) way.size cut at)
+      ≡ books_from (drops way.kind way.bound) (books_after way before)
+      (cut_marks (way.shown.edges before) way.size cut at)
   told_by_cut before cut at =
       books-append (drops way.kind way.bound)
       (record { start = way.base; came = []; closed = []; dropped = 0; missing = 0 })
@@ -168,73 +173,74 @@ module _ {X K C R : Type 0} (way : Way X K C R) (quiet : IsQuietNews way.shown) 
 
   -- by how many of what came in a part are dropped
   module _ (held : List X → ℕ) (nothing : held [] ≡ 0)
-      (counts : (came : List X) (what : X) → held came + drops way.kind way.bound came what ≡ held (came ++ what ∷ [])) where
-    -- how many of a part are dropped
-    abbrev held_in : Part X → ℕ
-    held_in part = held part.came
+      (counts : (came : List X) (what : X) → held came + drops way.kind way.bound came what ≡ held (came ++ what ∷ []))
+    where
+      -- how many of a part are dropped
+      abbrev held_in : Part X → ℕ
+      held_in part = held part.came
 
-    -- what was dropped till then is told, or in the books
-    abbrev pub AllTold : List Step → Type 0
-    AllTold steps =
-        sum (outputs drops_at steps) + (books_after way steps).dropped
-        ≡ sum_by held_in (outputs (told_parts way) steps) + (sum_by held_in (books_after way steps).closed
-        + held (books_after way steps).came) + sum_by lost_at (marks_of way.shown way.base way.size steps)
+      -- what was dropped till then is told, or in the books
+      abbrev pub AllTold : List Step → Type 0
+      AllTold steps =
+          sum (outputs drops_at steps) + (books_after way steps).dropped
+          ≡ sum_by held_in (outputs (told_parts way) steps) + (sum_by held_in (books_after way steps).closed
+          + held (books_after way steps).came) + sum_by lost_at (marks_of way.shown way.base way.size steps)
 
-    -- one step more
-    told_step : (before : List Step) (at : ℕ) (what : What) (truths : List Bool) → AllTold before
-        → AllTold (before ++ record { at = at; what = what; truths = truths } ∷ [])
-    told_step before at (Logged frame) truths is =
-        let step : Step = record { at = at; what = Logged frame; truths = truths } in
-        let marks = marks_at way.shown way.base way.size before step in
-        let parts = outputs (told_parts way) before in
-        let counted = outputs drops_at before in
-        let ends = boundaries (way.shown.edges before) (quiet.edges before)
-        (crossed_at way.base way.size before step) in
-        let calm = both_quiet (boundary_marks (way.shown.edges before) (crossed_at way.base way.size before step))
-        (way.shown.comes before step) ends (quiet.comes before step) in
-        let same_parts = ap (sum_by held_in) (outputs-push (told_parts way) before step ∙ append-nil parts) in
-        let same_drops = ap sum (outputs-push drops_at before step ∙ append-nil counted) in
-        let dropped_now = ap (λ (b : Books X). b.dropped) (books_push before step) in
-        let held_now = ap (λ (b : Books X). sum_by held_in b.closed + held b.came) (books_push before step) in
-        let lost_now = ap (sum_by lost_at) (marks_push before step)
-        ∙ sum_by-append lost_at (marks_of way.shown way.base way.size before) marks in
-        let one = marks_drop (drops way.kind way.bound) held nothing counts (books_after way before) marks calm in
-        omega (arith, is, same_parts, same_drops, dropped_now, held_now, lost_now, one)
-    told_step before at (Reported cut) truths is =
-        let step : Step = record { at = at; what = Reported cut; truths = truths } in
-        let cuts = cut_marks (way.shown.edges before) way.size cut at in
-        let parts = outputs (told_parts way) before in
-        let counted = outputs drops_at before in
-        let old = books_after way before in
-        let closed = books_from (drops way.kind way.bound) old cuts in
-        let calm = cut_quiet (way.shown.edges before) (quiet.edges before) way.size cut at in
-        let more_parts = ap (sum_by held_in) (outputs-push (told_parts way) before step
-        ∙ ap (λ (b : Books X). parts ++ b.closed) (told_by_cut before cut at))
-        ∙ sum_by-append held_in parts closed.closed in
-        let more_drops = ap sum (outputs-push drops_at before step
-        ∙ ap (λ (b : Books X). counted ++ b.dropped ∷ []) (told_by_cut before cut at))
-        ∙ sum_by_push (λ n. n) counted closed.dropped in
-        let new : books_after way (before ++ step ∷ []) ≡ after (drops way.kind way.bound) closed Asked =
-        books_push before step ∙ books-append (drops way.kind way.bound) old cuts (Asked ∷ []) in
-        let dropped_now = ap (λ (b : Books X). b.dropped) new in
-        let held_now = ap (λ (b : Books X). sum_by held_in b.closed + held b.came) new in
-        let lost_now = ap (sum_by lost_at) (marks_push before step)
-        ∙ sum_by-append lost_at (marks_of way.shown way.base way.size before) (cuts ++ Asked ∷ [])
-        ∙ ap (λ n. sum_by lost_at (marks_of way.shown way.base way.size before) + n)
-        (sum_by_push lost_at cuts Asked) in
-        let one = marks_drop (drops way.kind way.bound) held nothing counts old cuts calm in
-        omega (arith, is, more_parts, more_drops, dropped_now, held_now, lost_now, one)
+      -- one step more
+      told_step : (before : List Step) (at : ℕ) (what : What) (truths : List Bool) → AllTold before
+          → AllTold (before ++ record { at = at; what = what; truths = truths } ∷ [])
+      told_step before at (Logged frame) truths is =
+          let step : Step = record { at = at; what = Logged frame; truths = truths } in
+          let marks = marks_at way.shown way.base way.size before step in
+          let parts = outputs (told_parts way) before in
+          let counted = outputs drops_at before in
+          let ends = boundaries (way.shown.edges before) (quiet.edges before)
+          (crossed_at way.base way.size before step) in
+          let calm = both_quiet (boundary_marks (way.shown.edges before) (crossed_at way.base way.size before step))
+          (way.shown.comes before step) ends (quiet.comes before step) in
+          let same_parts = ap (sum_by held_in) (outputs-push (told_parts way) before step ∙ append-nil parts) in
+          let same_drops = ap sum (outputs-push drops_at before step ∙ append-nil counted) in
+          let dropped_now = ap (λ (b : Books X). b.dropped) (books_push before step) in
+          let held_now = ap (λ (b : Books X). sum_by held_in b.closed + held b.came) (books_push before step) in
+          let lost_now = ap (sum_by lost_at) (marks_push before step)
+          ∙ sum_by-append lost_at (marks_of way.shown way.base way.size before) marks in
+          let one = marks_drop (drops way.kind way.bound) held nothing counts (books_after way before) marks calm in
+          omega (arith, is, same_parts, same_drops, dropped_now, held_now, lost_now, one)
+      told_step before at (Reported cut) truths is =
+          let step : Step = record { at = at; what = Reported cut; truths = truths } in
+          let cuts = cut_marks (way.shown.edges before) way.size cut at in
+          let parts = outputs (told_parts way) before in
+          let counted = outputs drops_at before in
+          let old = books_after way before in
+          let closed = books_from (drops way.kind way.bound) old cuts in
+          let calm = cut_quiet (way.shown.edges before) (quiet.edges before) way.size cut at in
+          let more_parts = ap (sum_by held_in) (outputs-push (told_parts way) before step
+          ∙ ap (λ (b : Books X). parts ++ b.closed) (told_by_cut before cut at))
+          ∙ sum_by-append held_in parts closed.closed in
+          let more_drops = ap sum (outputs-push drops_at before step
+          ∙ ap (λ (b : Books X). counted ++ b.dropped ∷ []) (told_by_cut before cut at))
+          ∙ sum_by_push (λ n. n) counted closed.dropped in
+          let new : books_after way (before ++ step ∷ []) ≡ after (drops way.kind way.bound) closed Asked =
+          books_push before step ∙ books-append (drops way.kind way.bound) old cuts (Asked ∷ []) in
+          let dropped_now = ap (λ (b : Books X). b.dropped) new in
+          let held_now = ap (λ (b : Books X). sum_by held_in b.closed + held b.came) new in
+          let lost_now = ap (sum_by lost_at) (marks_push before step)
+          ∙ sum_by-append lost_at (marks_of way.shown way.base way.size before) (cuts ++ Asked ∷ [])
+          ∙ ap (λ n. sum_by lost_at (marks_of way.shown way.base way.size before) + n)
+          (sum_by_push lost_at cuts Asked) in
+          let one = marks_drop (drops way.kind way.bound) held nothing counts old cuts calm in
+          omega (arith, is, more_parts, more_drops, dropped_now, held_now, lost_now, one)
 
-    told_from : (before steps : List Step) → AllTold before → AllTold (before ++ steps)
-    told_from before [] is = subst AllTold (sym (append-nil before)) is
-    told_from before (step ∷ steps) is =
-        subst AllTold (append_assoc before (step ∷ []) steps)
-        (told_from (before ++ step ∷ []) steps (told_step before step.at step.what step.truths is))
+      told_from : (before steps : List Step) → AllTold before → AllTold (before ++ steps)
+      told_from before [] is = subst AllTold (sym (append-nil before)) is
+      told_from before (step ∷ steps) is =
+          subst AllTold (append_assoc before (step ∷ []) steps)
+          (told_from (before ++ step ∷ []) steps (told_step before step.at step.what step.truths is))
 
-    -- Each drop is told once, or waits.
-    pub all_told : (steps : List Step) → AllTold steps
-    all_told steps =
-        let start : Books X = record { start = way.base; came = []; closed = []; dropped = 0; missing = 0 } in
-        let one = marks_drop (drops way.kind way.bound) held nothing counts start (way.shown.begins ++ [])
-        (both_quiet way.shown.begins [] quiet.begins refl) in
-        told_from [] steps (omega (arith, one, nothing))
+      -- Each drop is told once, or waits.
+      pub all_told : (steps : List Step) → AllTold steps
+      all_told steps =
+          let start : Books X = record { start = way.base; came = []; closed = []; dropped = 0; missing = 0 } in
+          let one = marks_drop (drops way.kind way.bound) held nothing counts start (way.shown.begins ++ [])
+          (both_quiet way.shown.begins [] quiet.begins refl) in
+          told_from [] steps (omega (arith, one, nothing))

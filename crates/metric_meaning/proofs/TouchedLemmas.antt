@@ -176,7 +176,8 @@ none_arrives : (scene : Scene) (metric : LMetric) (at : ℕ) (what : What) (trut
     → truth_at metric.what truths ≡ false
     → arriving_by scene metric (record { at = at; what = what; truths = truths }) ≡ None
 none_arrives scene metric at (Logged (AtomAt when atom)) truths e =
-    ap (λ b. if b && (is_active_in scene metric at && holds_in scene metric (atom_reading atom)) then Some atom else None) e
+    ap (λ b. if b && (is_active_in scene metric at && holds_in scene metric (atom_reading atom)) then Some atom
+    else None) e
 none_arrives scene metric at (Logged (Tick when)) truths e = refl
 none_arrives scene metric at (Logged (Pull when id outcome)) truths e = refl
 none_arrives scene metric at (Reported include_current) truths e = refl

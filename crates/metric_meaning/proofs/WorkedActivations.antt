@@ -1,5 +1,5 @@
--- Worked histories of metrics with activations, and what reports show of them, by computing. The matcher at 0 means what
--- is counted, those at 1 and 3 start an activation, and the one at 2 cancels the first.
+-- Worked histories of metrics with activations, and what reports show of them, by computing. The matcher at 0 means
+-- what is counted, those at 1 and 3 start an activation, and the one at 2 cancels the first.
 use Rattle.std.proofs.Common.{◌≡◌, ℕ, pos, true, false, List, [], ◌∷◌, Option, Some, None, refl}
 use Rattle.atom_record.specs.declared.atom.Atom.{Atom}
 use Rattle.config_links.specs.declared.linked.LActivation.{LActivation}

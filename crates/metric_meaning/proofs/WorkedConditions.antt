@@ -75,7 +75,13 @@ what at = came at (false ∷ false ∷ true ∷ [])
 
 -- so many were counted from 0 to a time
 abbrev row : ℕ → ℕ → Row CountCell
-row end count = record { key = record { dims = []; slices = [] }; start = 0; end = end; value = record { number = count; overflow = false } }
+row end count = record {
+  key = record { dims = []; slices = [] };
+  start = 0;
+  end = end;
+  value =
+      record { number = count; overflow = false };
+}
 
 -- two starts and a stop leave it on, where starts are counted
 nesting_counted :

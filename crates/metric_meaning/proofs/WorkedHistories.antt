@@ -117,7 +117,8 @@ next_bucket_admits_anew :
 next_bucket_admits_anew = refl
 
 -- a pull at a full end crosses nothing; a cut there closes the part, and the end is crossed by the next tick
-pull_at_an_end : counts_shown (under []) guarded false (texted 1 65 ∷ pull 1000 ∷ asked 1000 true ∷ tick 1000 ∷ []) true 1000
+pull_at_an_end : counts_shown (under []) guarded false
+    (texted 1 65 ∷ pull 1000 ∷ asked 1000 true ∷ tick 1000 ∷ []) true 1000
     ≡ record { rows = []; not_kept = 0; dropped = 0; missing = 0 }
 pull_at_an_end = refl
 
@@ -126,7 +127,13 @@ truths_are_handed_in : counts_shown (under []) guarded false
     (logged 1 (AtomAt 1 (record { id = 6; fields = [] })) (true ∷ [])
     ∷ logged 2 (AtomAt 2 (record { id = 5; fields = [] })) (false ∷ []) ∷ []) true 2
     ≡ record {
-      rows = record { key = record { dims = Missing ∷ []; slices = [] }; start = 0; end = 2; value = record { number = 1; overflow = false } } ∷ [];
+      rows = record {
+        key = record { dims = Missing ∷ []; slices = [] };
+        start = 0;
+        end = 2;
+        value =
+            record { number = 1; overflow = false };
+      } ∷ [];
       not_kept = 0;
       dropped = 0;
       missing = 0;
@@ -168,7 +175,8 @@ two_buckets : report_of
           slices = [];
           overflow = false;
           buckets = bucket 0 1000 (pos 1) ∷ bucket 1000 1003 (pos 1) ∷ [];
-        } ∷ record { leaves = text_leaf 66 ∷ []; slices = []; overflow = false; buckets = bucket 0 1000 (pos 1) ∷ [] } ∷ []);
+        } ∷ record { leaves = text_leaf 66 ∷ []; slices = []; overflow = false; buckets = bucket 0 1000 (pos 1) ∷ [] }
+            ∷ []);
       } ∷ [];
       predicate_drops = [];
       state_drops = [];
@@ -179,7 +187,8 @@ two_buckets : report_of
 unfolding report_of
 two_buckets = refl
 
--- after a report of the crowd two arrivals wait in the open part: of seven in all three were shown, and two were dropped
+-- after a report of the crowd two arrivals wait in the open part: of seven in all three were shown, and two were
+-- dropped
 abbrev told_once : List Step
 told_once = crowd ++ asked 1000 false ∷ texted 1001 65 ∷ texted 1002 67 ∷ []
 

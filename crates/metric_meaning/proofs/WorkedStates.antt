@@ -81,7 +81,13 @@ told at frame = logged at frame (false ∷ [])
 -- a row of a slice
 abbrev row : Slice → ℕ → ℕ → Row CountCell
 row slice end count =
-    record { key = record { dims = []; slices = slice ∷ [] }; start = 0; end = end; value = record { number = count; overflow = false } }
+    record {
+      key = record { dims = []; slices = slice ∷ [] };
+      start = 0;
+      end = end;
+      value =
+          record { number = count; overflow = false };
+    }
 
 -- a report shows these rows, and nothing was dropped
 abbrev shown : List (Row CountCell) → Taken (Row CountCell)

@@ -166,8 +166,8 @@ EventsBalance installed metric steps now =
 abbrev pub row_value : Row ℕ → ℕ
 row_value row = row.value
 
--- Of summed durations: wherever the active keys changed, it is told in one of the parts; and the time of all runs in these
--- parts was shown, or not kept, or is that of runs that were turned away, or waits.
+-- Of summed durations: wherever the active keys changed, it is told in one of the parts; and the time of all runs
+-- in these parts was shown, or not kept, or is that of runs that were turned away, or waits.
 pub record SumsBalance (installed : Installation) (metric : LMetric) (spec : PredSpec) (steps : List Step) (now : ℕ)
     : Type 0 where
   pub parts : IsAllInParts (sum_way installed metric spec) steps now

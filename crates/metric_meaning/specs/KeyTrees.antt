@@ -44,5 +44,6 @@ abbrev pub key_tree : {B T : Type 0} → (List LeafTree → List Slice → List 
 key_tree tree key buckets = tree (key_trees 0 key.dims) key.slices buckets
 
 -- the rows by their keys, where `bucket` shows a row
-abbrev pub groups_of : {V B T : Type 0} → (List LeafTree → List Slice → List B → T) → (Row V → B) → List (Row V) → List T
+abbrev pub groups_of : {V B T : Type 0} → (List LeafTree → List Slice → List B → T) → (Row V → B) → List (Row V)
+    → List T
 groups_of tree bucket = groups_by is_same_key row_key (key_tree tree) bucket

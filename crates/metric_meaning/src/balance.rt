@@ -7,8 +7,8 @@ ghost use Rattle.metric_meaning.specs.Histories.{Step, Installation};
 
 /// After any steps, and at any time after them, what arrived at a metric since its installation is what reports showed,
 /// what stood in rows that weren't kept, what was turned away, and what waits for the next report. Of counts and events
-/// it is told in numbers, with those turned away as reports tell them; of sums of durations in nanoseconds, over parts of
-/// which each change of the active keys is in one. It does nothing when it runs.
+/// it is told in numbers, with those turned away as reports tell them; of sums of durations in nanoseconds, over
+/// parts of which each change of the active keys is in one. It does nothing when it runs.
 pub fn books_balance()
     ensures counts { (installed : Installation) (metric : LMetric) (overflow : Bool) (steps : List Step)
         (now : ℕ) → length steps < 2 ^ 64 → CountsBalance installed metric overflow steps now }

@@ -77,7 +77,8 @@ module _ {X : Type 0} where
       → boundary_marks one ends ≡ boundary_marks other ends
   alike_marks one other [] alike = refl
   alike_marks one other (at ∷ ends) alike =
-      ap (λ closing. (closing ++ (Ends at ∷ one.opening at)) ++ boundary_marks (edges_again one) ends) (alike.closing at)
+      ap (λ closing. (closing ++ (Ends at ∷ one.opening at)) ++ boundary_marks (edges_again one) ends)
+      (alike.closing at)
       ∙ ap (λ opening. (other.closing at ++ (Ends at ∷ opening)) ++ boundary_marks (edges_again one) ends)
       (alike.opening at)
       ∙ ap (λ later. boundary other at ++ later)
@@ -96,14 +97,16 @@ same_joined f stays calls one other whole =
 -- how far both crossings come is how far the whole comes
 pub standing_joined : {Event After : Type 0} (demands : Demands Event After) (calls : List (Call Event After))
     (one other whole : Crossings) → IsJoined one other whole
-    → standing_of demands (calls ++ Crossed whole ∷ []) ≡ standing_of demands (calls ++ Crossed one ∷ Crossed other ∷ [])
+    → standing_of demands (calls ++ Crossed whole ∷ [])
+    ≡ standing_of demands (calls ++ Crossed one ∷ Crossed other ∷ [])
 standing_joined {Event} {After} demands calls one other whole made =
     let first = first_standing demands in
     let standing : Standing = standing_of demands calls in
     let size : whole.size ≡ other.size = made.size ∙ sym made.same_size in
     let last : last_end whole ≡ last_end other = sym (last_joined one other whole made) in
     standing_from-append demands first calls (Crossed whole ∷ [])
-    ∙ ap (λ end. let to : Standing = record standing { start = end; next_end = end + whole.size; last = end } in to) last
+    ∙ ap (λ end. let to : Standing = record standing { start = end; next_end = end + whole.size; last = end } in to)
+    last
     ∙ ap (λ n. let to : Standing = record standing {
       start = last_end other;
       next_end = last_end other + n;
@@ -134,8 +137,10 @@ module _ {Params Event After X K C R : Type 0} (collecting : Collecting Params E
         ∙ ap (λ more. before ++ more) (boundary_marks-append edges one.first_end rest (ends_of (Some other)))
         ∙ ap (λ more. before ++ (boundary_marks edges (ends_of (Some one)) ++ more))
         (sym (alike_marks later (edges_again edges) (ends_of (Some other)) (anew calls one)))
-        ∙ sym (append_assoc before (boundary_marks edges (ends_of (Some one))) (boundary_marks later (ends_of (Some other))))
-        ∙ ap (λ more. more ++ boundary_marks later (ends_of (Some other))) (sym (outputs-push marks calls (Crossed one)))
+        ∙ sym (append_assoc before (boundary_marks edges (ends_of (Some one)))
+        (boundary_marks later (ends_of (Some other))))
+        ∙ ap (λ more. more ++ boundary_marks later (ends_of (Some other)))
+        (sym (outputs-push marks calls (Crossed one)))
         ∙ sym (outputs-push marks (calls ++ Crossed one ∷ []) (Crossed other))
         ∙ ap (marks_by (calls_mean collecting) params) (append_assoc calls (Crossed one ∷ []) (Crossed other ∷ []))
 

@@ -1,4 +1,5 @@
--- The arrivals whose keys found no room are as many as were dropped: for the proofs of producers, and of what reports show.
+-- The arrivals whose keys found no room are as many as were dropped: for the proofs of producers, and of what
+-- reports show.
 use Rattle.std.proofs.Common.{◌≡◌, ℕ, ◌+◌, ◌-◌, Bool, true, false, not, cond, if◌then◌else◌, List, [], ◌∷◌, ◌++◌, map, filter, length, count_by, refl, ap, arith}
 use Rattle.std.specs.Bool.{Decides}
 use Rattle.std.proofs.lemmas.List.{length-append}

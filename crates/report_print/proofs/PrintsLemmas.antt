@@ -1,4 +1,5 @@
--- On specs/Prints.antt: what the print says of an input that tells its bytes, for callers, and of an output that failed.
+-- On specs/Prints.antt: what the print says of an input that tells its bytes, for callers, and of an output that
+-- failed.
 use Rattle.std.proofs.Common.{◌≡◌, ℕ, ◌+◌, ◌≤◌, ◌⊎◌, inl, inr, List, [], ◌++◌, length, Result, Err, sym, ap, ◌∙◌, subst, arith}
 use Rattle.std.proofs.lemmas.List.{append-nil, length-append}
 use Rattle.sd_io.specs.States.{Ports}

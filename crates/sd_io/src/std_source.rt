@@ -7,8 +7,8 @@ use crate::{ReadFailed, Source};
 use std::io::Read;
 use std::marker::Model;
 
-/// Reads from a reader of std, by one call of its `read` for each call. Every error, an interruption too, is a fault. It
-/// holds no bytes.
+/// Reads from a reader of std, by one call of its `read` for each call. Every error, an interruption too, is a
+/// fault. It holds no bytes.
 #[derive(Drop)]
 pub struct StdSource<R> {
     inner: R,

@@ -406,7 +406,8 @@ broken_more place left more fault e other =
     let content : take (size_at (left ++ more)) (drop 4 (left ++ more)) ≡ take size body = ap₂ take same grows
     ∙ take-append-le size body more here.0 in (
       ap₂ nat_lt (ap length grows ∙ length-append body more) same ∙ here.1,
-      λ broken. ap (λ l. followed_by (drop (size_at (left ++ more)) (drop 4 (left ++ more))) (frame_of place.clock l)) content
+      λ broken. ap (λ l. followed_by (drop (size_at (left ++ more)) (drop 4 (left ++ more))) (frame_of place.clock l))
+          content
           ∙ followed_more (drop size body) (drop (size_at (left ++ more)) (drop 4 (left ++ more)))
           (frame_of place.clock (take size body)) fault broken,
     )) e other
@@ -466,7 +467,8 @@ pub next_ended : (place : Place) (left : List ℕ) → next_frame place left ≡
 unfolding next_frame
 next_ended place left e =
     none_of_no_length left (ended_by (length left == 0) _ _ _ _ _ _ _
-    (followed_not_ended (drop (size_at left) (drop 4 left)) (frame_of place.clock (take (size_at left) (drop 4 left)))) e)
+    (followed_not_ended (drop (size_at left) (drop 4 left)) (frame_of place.clock (take (size_at left) (drop 4 left))))
+    e)
 
 short_len : (len : ℕ) → nat_lt len 4 ≡ true → len < 4
 short_len len e = grind (arith, nat_tests)
@@ -583,7 +585,8 @@ needed_some place left = asked_some (nat_le most_session_frames place.frames) (n
 size_within : (most size : ℕ) → nat_lt most size ≡ false → size ≤ most
 size_within most size e = grind (arith, nat_tests)
 
-asked_most : (over short long : Bool) (size : ℕ) → nat_lt most_body size ≡ long → asked over short long size ≤ most_pending
+asked_most : (over short long : Bool) (size : ℕ) → nat_lt most_body size ≡ long
+    → asked over short long size ≤ most_pending
 asked_most true short long size e = omega arith
 asked_most false true long size e = omega arith
 asked_most false false true size e = omega arith
@@ -650,7 +653,8 @@ pub needed_front : (place : Place) (left : List ℕ)
     → needed place (take (needed place left) left) ≡ needed place left
 unfolding needed
 needed_front place left here =
-    let count = asked (nat_le most_session_frames place.frames) (nat_lt (length left) 4) (nat_lt most_body (size_at left))
+    let count = asked (nat_le most_session_frames place.frames) (nat_lt (length left) 4)
+    (nat_lt most_body (size_at left))
     (size_at left) in
     let front = take count left in
     let len : length front ≡ count = length-take-le count left here in

@@ -78,7 +78,8 @@ unfolding needed
 asks_for_one = refl
 
 -- a uid and an id below 0
-below_zero : next_frame (with_clock 0) (14 ∷ 0 ∷ 0 ∷ 0 ∷ 18 ∷ 255 ∷ 255 ∷ 255 ∷ 255 ∷ 254 ∷ 255 ∷ 255 ∷ 255 ∷ 255 ∷ 255 ∷ 255 ∷ 255
+below_zero : next_frame (with_clock 0)
+    (14 ∷ 0 ∷ 0 ∷ 0 ∷ 18 ∷ 255 ∷ 255 ∷ 255 ∷ 255 ∷ 254 ∷ 255 ∷ 255 ∷ 255 ∷ 255 ∷ 255 ∷ 255 ∷ 255
     ∷ 0 ∷ 9 ∷ []) ≡ Whole (Report (negsuc 0) (negsuc 1) false) (9 ∷ [])
 unfolding next_frame report_body
 below_zero = refl
@@ -109,7 +110,8 @@ unfolding next_frame
 kind_nine = refl
 
 -- a tick, at the clock, and its faults: a byte short, a byte over, a time of 2^63, a time before the clock
-a_tick : next_frame (with_clock 3) (9 ∷ 0 ∷ 0 ∷ 0 ∷ 1 ∷ 3 ∷ 0 ∷ 0 ∷ 0 ∷ 0 ∷ 0 ∷ 0 ∷ 0 ∷ 7 ∷ []) ≡ Whole (Log (Tick 3)) (7 ∷ [])
+a_tick : next_frame (with_clock 3) (9 ∷ 0 ∷ 0 ∷ 0 ∷ 1 ∷ 3 ∷ 0 ∷ 0 ∷ 0 ∷ 0 ∷ 0 ∷ 0 ∷ 0 ∷ 7 ∷ [])
+    ≡ Whole (Log (Tick 3)) (7 ∷ [])
 unfolding next_frame time_at tick_body
 a_tick = refl
 
@@ -121,11 +123,13 @@ tick_over : next_frame (with_clock 0) (10 ∷ 0 ∷ 0 ∷ 0 ∷ 1 ∷ 3 ∷ 0 �
 unfolding next_frame time_at tick_body
 tick_over = refl
 
-tick_late : next_frame (with_clock 0) (10 ∷ 0 ∷ 0 ∷ 0 ∷ 1 ∷ 0 ∷ 0 ∷ 0 ∷ 0 ∷ 0 ∷ 0 ∷ 0 ∷ 128 ∷ 0 ∷ []) ≡ Broken (BadBody 4)
+tick_late : next_frame (with_clock 0) (10 ∷ 0 ∷ 0 ∷ 0 ∷ 1 ∷ 0 ∷ 0 ∷ 0 ∷ 0 ∷ 0 ∷ 0 ∷ 0 ∷ 128 ∷ 0 ∷ [])
+    ≡ Broken (BadBody 4)
 unfolding next_frame time_at tick_body
 tick_late = refl
 
-tick_backwards : next_frame (with_clock 4) (9 ∷ 0 ∷ 0 ∷ 0 ∷ 1 ∷ 3 ∷ 0 ∷ 0 ∷ 0 ∷ 0 ∷ 0 ∷ 0 ∷ 0 ∷ []) ≡ Broken (TimeBackwards 4 3)
+tick_backwards : next_frame (with_clock 4) (9 ∷ 0 ∷ 0 ∷ 0 ∷ 1 ∷ 3 ∷ 0 ∷ 0 ∷ 0 ∷ 0 ∷ 0 ∷ 0 ∷ 0 ∷ [])
+    ≡ Broken (TimeBackwards 4 3)
 unfolding next_frame time_at tick_body
 tick_backwards = refl
 
@@ -141,7 +145,8 @@ unfolding next_frame time_at tick_body
 last_tick = refl
 
 -- an atom with an entry; a late time is told before the id 0, and the id before time that falls
-an_atom : next_frame (with_clock 0) (22 ∷ 0 ∷ 0 ∷ 0 ∷ 2 ∷ 2 ∷ 0 ∷ 0 ∷ 0 ∷ 0 ∷ 0 ∷ 0 ∷ 0 ∷ 5 ∷ 0 ∷ 0 ∷ 0 ∷ 1 ∷ 0 ∷ 0 ∷ 0 ∷ 1 ∷ 7 ∷ 0
+an_atom : next_frame (with_clock 0)
+    (22 ∷ 0 ∷ 0 ∷ 0 ∷ 2 ∷ 2 ∷ 0 ∷ 0 ∷ 0 ∷ 0 ∷ 0 ∷ 0 ∷ 0 ∷ 5 ∷ 0 ∷ 0 ∷ 0 ∷ 1 ∷ 0 ∷ 0 ∷ 0 ∷ 1 ∷ 7 ∷ 0
     ∷ 0 ∷ 0 ∷ [])
     ≡ Whole (Log (AtomAt 2 (record {
       id = 5;
@@ -151,16 +156,19 @@ an_atom : next_frame (with_clock 0) (22 ∷ 0 ∷ 0 ∷ 0 ∷ 2 ∷ 2 ∷ 0 ∷ 
 unfolding next_frame time_at atom_body atom_at id_at entries_in entry_at value_at
 an_atom = refl
 
-late_before_the_atom : next_frame (with_clock 0) (13 ∷ 0 ∷ 0 ∷ 0 ∷ 2 ∷ 0 ∷ 0 ∷ 0 ∷ 0 ∷ 0 ∷ 0 ∷ 0 ∷ 128 ∷ 0 ∷ 0 ∷ 0 ∷ 0 ∷ [])
+late_before_the_atom : next_frame (with_clock 0)
+    (13 ∷ 0 ∷ 0 ∷ 0 ∷ 2 ∷ 0 ∷ 0 ∷ 0 ∷ 0 ∷ 0 ∷ 0 ∷ 0 ∷ 128 ∷ 0 ∷ 0 ∷ 0 ∷ 0 ∷ [])
     ≡ Broken (BadBody 4)
 unfolding next_frame time_at atom_body atom_at id_at entries_in entry_at value_at
 late_before_the_atom = refl
 
-id_zero : next_frame (with_clock 3) (13 ∷ 0 ∷ 0 ∷ 0 ∷ 2 ∷ 2 ∷ 0 ∷ 0 ∷ 0 ∷ 0 ∷ 0 ∷ 0 ∷ 0 ∷ 0 ∷ 0 ∷ 0 ∷ 0 ∷ []) ≡ Broken (BadAtom 2)
+id_zero : next_frame (with_clock 3) (13 ∷ 0 ∷ 0 ∷ 0 ∷ 2 ∷ 2 ∷ 0 ∷ 0 ∷ 0 ∷ 0 ∷ 0 ∷ 0 ∷ 0 ∷ 0 ∷ 0 ∷ 0 ∷ 0 ∷ [])
+    ≡ Broken (BadAtom 2)
 unfolding next_frame time_at atom_body atom_at id_at entries_in entry_at value_at
 id_zero = refl
 
-id_short : next_frame (with_clock 0) (12 ∷ 0 ∷ 0 ∷ 0 ∷ 2 ∷ 2 ∷ 0 ∷ 0 ∷ 0 ∷ 0 ∷ 0 ∷ 0 ∷ 0 ∷ 5 ∷ 0 ∷ 0 ∷ []) ≡ Broken (BadAtom 2)
+id_short : next_frame (with_clock 0) (12 ∷ 0 ∷ 0 ∷ 0 ∷ 2 ∷ 2 ∷ 0 ∷ 0 ∷ 0 ∷ 0 ∷ 0 ∷ 0 ∷ 0 ∷ 5 ∷ 0 ∷ 0 ∷ [])
+    ≡ Broken (BadAtom 2)
 unfolding next_frame time_at atom_body atom_at id_at entries_in entry_at value_at
 id_short = refl
 
@@ -175,7 +183,8 @@ unfolding next_frame time_at atom_body atom_at id_at entries_in entry_at value_a
 backwards = refl
 
 -- a pull of two atoms, of none, and one that failed
-a_pull : next_frame (with_clock 0) (37 ∷ 0 ∷ 0 ∷ 0 ∷ 3 ∷ 2 ∷ 0 ∷ 0 ∷ 0 ∷ 0 ∷ 0 ∷ 0 ∷ 0 ∷ 17 ∷ 39 ∷ 0 ∷ 0 ∷ 0 ∷ 2 ∷ 0 ∷ 4 ∷ 0 ∷ 17
+a_pull : next_frame (with_clock 0)
+    (37 ∷ 0 ∷ 0 ∷ 0 ∷ 3 ∷ 2 ∷ 0 ∷ 0 ∷ 0 ∷ 0 ∷ 0 ∷ 0 ∷ 0 ∷ 17 ∷ 39 ∷ 0 ∷ 0 ∷ 0 ∷ 2 ∷ 0 ∷ 4 ∷ 0 ∷ 17
     ∷ 39 ∷ 0 ∷ 0 ∷ 13 ∷ 0 ∷ 17 ∷ 39 ∷ 0 ∷ 0 ∷ 1 ∷ 0 ∷ 0 ∷ 0 ∷ 1 ∷ 7 ∷ 0 ∷ 0 ∷ 0 ∷ [])
     ≡ Whole (Log (Pull 2 10001 (Atoms (record { id = 10001; fields = [] }
     ∷ record { id = 10001; fields = record { field = 1; index = 0; sub = 0; flags = 0; value = Int (pos 7) } ∷ [] }
@@ -184,7 +193,8 @@ unfolding next_frame time_at pull_body pull_id_at outcome_at snapshot_at many pu
     entries_in entry_at value_at
 a_pull = refl
 
-pull_of_none : next_frame (with_clock 0) (16 ∷ 0 ∷ 0 ∷ 0 ∷ 3 ∷ 2 ∷ 0 ∷ 0 ∷ 0 ∷ 0 ∷ 0 ∷ 0 ∷ 0 ∷ 17 ∷ 39 ∷ 0 ∷ 0 ∷ 0 ∷ 0 ∷ 0 ∷ [])
+pull_of_none : next_frame (with_clock 0)
+    (16 ∷ 0 ∷ 0 ∷ 0 ∷ 3 ∷ 2 ∷ 0 ∷ 0 ∷ 0 ∷ 0 ∷ 0 ∷ 0 ∷ 0 ∷ 17 ∷ 39 ∷ 0 ∷ 0 ∷ 0 ∷ 0 ∷ 0 ∷ [])
     ≡ Whole (Log (Pull 2 10001 (Atoms []))) []
 unfolding next_frame time_at pull_body pull_id_at outcome_at snapshot_at many pulled_at payload_at atom_at id_at
     entries_in entry_at value_at
@@ -196,7 +206,8 @@ unfolding next_frame time_at pull_body pull_id_at outcome_at snapshot_at many pu
     entries_in entry_at value_at
 pull_failed = refl
 
-pull_failed_over : next_frame (with_clock 0) (15 ∷ 0 ∷ 0 ∷ 0 ∷ 3 ∷ 2 ∷ 0 ∷ 0 ∷ 0 ∷ 0 ∷ 0 ∷ 0 ∷ 0 ∷ 17 ∷ 39 ∷ 0 ∷ 0 ∷ 1 ∷ 0 ∷ [])
+pull_failed_over : next_frame (with_clock 0)
+    (15 ∷ 0 ∷ 0 ∷ 0 ∷ 3 ∷ 2 ∷ 0 ∷ 0 ∷ 0 ∷ 0 ∷ 0 ∷ 0 ∷ 0 ∷ 17 ∷ 39 ∷ 0 ∷ 0 ∷ 1 ∷ 0 ∷ [])
     ≡ Broken (BadBody 2)
 unfolding next_frame time_at pull_body pull_id_at outcome_at snapshot_at many pulled_at payload_at atom_at id_at
     entries_in entry_at value_at
@@ -215,49 +226,57 @@ unfolding next_frame time_at pull_body pull_id_at outcome_at snapshot_at many pu
     entries_in entry_at value_at
 flag_two = refl
 
-no_flag : next_frame (with_clock 0) (13 ∷ 0 ∷ 0 ∷ 0 ∷ 3 ∷ 2 ∷ 0 ∷ 0 ∷ 0 ∷ 0 ∷ 0 ∷ 0 ∷ 0 ∷ 17 ∷ 39 ∷ 0 ∷ 0 ∷ []) ≡ Broken (BadBody 1)
+no_flag : next_frame (with_clock 0) (13 ∷ 0 ∷ 0 ∷ 0 ∷ 3 ∷ 2 ∷ 0 ∷ 0 ∷ 0 ∷ 0 ∷ 0 ∷ 0 ∷ 0 ∷ 17 ∷ 39 ∷ 0 ∷ 0 ∷ [])
+    ≡ Broken (BadBody 1)
 unfolding next_frame time_at pull_body pull_id_at outcome_at snapshot_at many pulled_at payload_at atom_at id_at
     entries_in entry_at value_at
 no_flag = refl
 
-too_many_atoms : next_frame (with_clock 0) (16 ∷ 0 ∷ 0 ∷ 0 ∷ 3 ∷ 2 ∷ 0 ∷ 0 ∷ 0 ∷ 0 ∷ 0 ∷ 0 ∷ 0 ∷ 17 ∷ 39 ∷ 0 ∷ 0 ∷ 0 ∷ 201 ∷ 0
+too_many_atoms : next_frame (with_clock 0)
+    (16 ∷ 0 ∷ 0 ∷ 0 ∷ 3 ∷ 2 ∷ 0 ∷ 0 ∷ 0 ∷ 0 ∷ 0 ∷ 0 ∷ 0 ∷ 17 ∷ 39 ∷ 0 ∷ 0 ∷ 0 ∷ 201 ∷ 0
     ∷ []) ≡ Broken (BadBody 5)
 unfolding next_frame time_at pull_body pull_id_at outcome_at snapshot_at many pulled_at payload_at atom_at id_at
     entries_in entry_at value_at
 too_many_atoms = refl
 
-atoms_short : next_frame (with_clock 0) (16 ∷ 0 ∷ 0 ∷ 0 ∷ 3 ∷ 2 ∷ 0 ∷ 0 ∷ 0 ∷ 0 ∷ 0 ∷ 0 ∷ 0 ∷ 17 ∷ 39 ∷ 0 ∷ 0 ∷ 0 ∷ 200 ∷ 0 ∷ [])
+atoms_short : next_frame (with_clock 0)
+    (16 ∷ 0 ∷ 0 ∷ 0 ∷ 3 ∷ 2 ∷ 0 ∷ 0 ∷ 0 ∷ 0 ∷ 0 ∷ 0 ∷ 0 ∷ 17 ∷ 39 ∷ 0 ∷ 0 ∷ 0 ∷ 200 ∷ 0 ∷ [])
     ≡ Broken (BadBody 1)
 unfolding next_frame time_at pull_body pull_id_at outcome_at snapshot_at many pulled_at payload_at atom_at id_at
     entries_in entry_at value_at
 atoms_short = refl
 
 -- a payload that isn't whole is told before its id, another id before the entries, an id that none has before both
-payload_cut : next_frame (with_clock 0) (22 ∷ 0 ∷ 0 ∷ 0 ∷ 3 ∷ 2 ∷ 0 ∷ 0 ∷ 0 ∷ 0 ∷ 0 ∷ 0 ∷ 0 ∷ 17 ∷ 39 ∷ 0 ∷ 0 ∷ 0 ∷ 1 ∷ 0 ∷ 5 ∷ 0
+payload_cut : next_frame (with_clock 0)
+    (22 ∷ 0 ∷ 0 ∷ 0 ∷ 3 ∷ 2 ∷ 0 ∷ 0 ∷ 0 ∷ 0 ∷ 0 ∷ 0 ∷ 0 ∷ 17 ∷ 39 ∷ 0 ∷ 0 ∷ 0 ∷ 1 ∷ 0 ∷ 5 ∷ 0
     ∷ 0 ∷ 0 ∷ 0 ∷ 0 ∷ []) ≡ Broken (BadBody 1)
 unfolding next_frame time_at pull_body pull_id_at outcome_at snapshot_at many pulled_at payload_at atom_at id_at
     entries_in entry_at value_at
 payload_cut = refl
 
-other_id : next_frame (with_clock 0) (23 ∷ 0 ∷ 0 ∷ 0 ∷ 3 ∷ 2 ∷ 0 ∷ 0 ∷ 0 ∷ 0 ∷ 0 ∷ 0 ∷ 0 ∷ 17 ∷ 39 ∷ 0 ∷ 0 ∷ 0 ∷ 1 ∷ 0 ∷ 5 ∷ 0 ∷ 18
+other_id : next_frame (with_clock 0)
+    (23 ∷ 0 ∷ 0 ∷ 0 ∷ 3 ∷ 2 ∷ 0 ∷ 0 ∷ 0 ∷ 0 ∷ 0 ∷ 0 ∷ 0 ∷ 17 ∷ 39 ∷ 0 ∷ 0 ∷ 0 ∷ 1 ∷ 0 ∷ 5 ∷ 0 ∷ 18
     ∷ 39 ∷ 0 ∷ 0 ∷ 1 ∷ []) ≡ Broken (BadAtom 8)
 unfolding next_frame time_at pull_body pull_id_at outcome_at snapshot_at many pulled_at payload_at atom_at id_at
     entries_in entry_at value_at
 other_id = refl
 
-no_id_before_other : next_frame (with_clock 0) (22 ∷ 0 ∷ 0 ∷ 0 ∷ 3 ∷ 2 ∷ 0 ∷ 0 ∷ 0 ∷ 0 ∷ 0 ∷ 0 ∷ 0 ∷ 17 ∷ 39 ∷ 0 ∷ 0 ∷ 0 ∷ 1 ∷ 0
+no_id_before_other : next_frame (with_clock 0)
+    (22 ∷ 0 ∷ 0 ∷ 0 ∷ 3 ∷ 2 ∷ 0 ∷ 0 ∷ 0 ∷ 0 ∷ 0 ∷ 0 ∷ 0 ∷ 17 ∷ 39 ∷ 0 ∷ 0 ∷ 0 ∷ 1 ∷ 0
     ∷ 4 ∷ 0 ∷ 0 ∷ 0 ∷ 0 ∷ 0 ∷ []) ≡ Broken (BadAtom 2)
 unfolding next_frame time_at pull_body pull_id_at outcome_at snapshot_at many pulled_at payload_at atom_at id_at
     entries_in entry_at value_at
 no_id_before_other = refl
 
-entry_before_left_over : next_frame (with_clock 0) (24 ∷ 0 ∷ 0 ∷ 0 ∷ 3 ∷ 2 ∷ 0 ∷ 0 ∷ 0 ∷ 0 ∷ 0 ∷ 0 ∷ 0 ∷ 17 ∷ 39 ∷ 0 ∷ 0 ∷ 0 ∷ 1
+entry_before_left_over : next_frame (with_clock 0)
+    (24 ∷ 0 ∷ 0 ∷ 0 ∷ 3 ∷ 2 ∷ 0 ∷ 0 ∷ 0 ∷ 0 ∷ 0 ∷ 0 ∷ 0 ∷ 17 ∷ 39 ∷ 0 ∷ 0 ∷ 0 ∷ 1
     ∷ 0 ∷ 5 ∷ 0 ∷ 17 ∷ 39 ∷ 0 ∷ 0 ∷ 1 ∷ 9 ∷ []) ≡ Broken (BadAtom 3)
 unfolding next_frame time_at pull_body pull_id_at outcome_at snapshot_at many pulled_at payload_at atom_at id_at
     entries_in entry_at value_at
 entry_before_left_over = refl
 
-pull_left_over : next_frame (with_clock 3) (17 ∷ 0 ∷ 0 ∷ 0 ∷ 3 ∷ 2 ∷ 0 ∷ 0 ∷ 0 ∷ 0 ∷ 0 ∷ 0 ∷ 0 ∷ 17 ∷ 39 ∷ 0 ∷ 0 ∷ 0 ∷ 0 ∷ 0 ∷ 9
+pull_left_over : next_frame (with_clock 3)
+    (17 ∷ 0 ∷ 0 ∷ 0 ∷ 3 ∷ 2 ∷ 0 ∷ 0 ∷ 0 ∷ 0 ∷ 0 ∷ 0 ∷ 0 ∷ 17 ∷ 39 ∷ 0 ∷ 0 ∷ 0 ∷ 0 ∷ 0 ∷ 9
     ∷ []) ≡ Broken (BadBody 2)
 unfolding next_frame time_at pull_body pull_id_at outcome_at snapshot_at many pulled_at payload_at atom_at id_at
     entries_in entry_at value_at
@@ -274,7 +293,8 @@ remove_over : next_frame (with_clock 0) (14 ∷ 0 ∷ 0 ∷ 0 ∷ 17 ∷ 10 ∷ 
 unfolding next_frame remove_body
 remove_over = refl
 
-remove_short : next_frame (with_clock 0) (12 ∷ 0 ∷ 0 ∷ 0 ∷ 17 ∷ 10 ∷ 0 ∷ 0 ∷ 0 ∷ 7 ∷ 0 ∷ 0 ∷ 0 ∷ 0 ∷ 0 ∷ 0 ∷ []) ≡ Broken (BadBody 1)
+remove_short : next_frame (with_clock 0) (12 ∷ 0 ∷ 0 ∷ 0 ∷ 17 ∷ 10 ∷ 0 ∷ 0 ∷ 0 ∷ 7 ∷ 0 ∷ 0 ∷ 0 ∷ 0 ∷ 0 ∷ 0 ∷ [])
+    ≡ Broken (BadBody 1)
 unfolding next_frame remove_body
 remove_short = refl
 
@@ -289,12 +309,14 @@ unfolding next_frame install_body
 install_empty = refl
 
 -- a flag of 2 is told before a byte that is left over
-report_flag_two : next_frame (with_clock 0) (15 ∷ 0 ∷ 0 ∷ 0 ∷ 18 ∷ 10 ∷ 0 ∷ 0 ∷ 0 ∷ 7 ∷ 0 ∷ 0 ∷ 0 ∷ 0 ∷ 0 ∷ 0 ∷ 0 ∷ 2 ∷ 0 ∷ [])
+report_flag_two : next_frame (with_clock 0)
+    (15 ∷ 0 ∷ 0 ∷ 0 ∷ 18 ∷ 10 ∷ 0 ∷ 0 ∷ 0 ∷ 7 ∷ 0 ∷ 0 ∷ 0 ∷ 0 ∷ 0 ∷ 0 ∷ 0 ∷ 2 ∷ 0 ∷ [])
     ≡ Broken (BadBody 3)
 unfolding next_frame report_body
 report_flag_two = refl
 
-report_over : next_frame (with_clock 0) (15 ∷ 0 ∷ 0 ∷ 0 ∷ 18 ∷ 10 ∷ 0 ∷ 0 ∷ 0 ∷ 7 ∷ 0 ∷ 0 ∷ 0 ∷ 0 ∷ 0 ∷ 0 ∷ 0 ∷ 1 ∷ 0 ∷ [])
+report_over : next_frame (with_clock 0)
+    (15 ∷ 0 ∷ 0 ∷ 0 ∷ 18 ∷ 10 ∷ 0 ∷ 0 ∷ 0 ∷ 7 ∷ 0 ∷ 0 ∷ 0 ∷ 0 ∷ 0 ∷ 0 ∷ 0 ∷ 1 ∷ 0 ∷ [])
     ≡ Broken (BadBody 2)
 unfolding next_frame report_body
 report_over = refl
@@ -323,6 +345,7 @@ replaced : reply_bytes (record {
     ∷ 4 ∷ 24 ∷ 0 ∷ 32 ∷ 0 ∷ []
 replaced = refl
 
-removed : reply_bytes (record { uid = pos 10; id = pos 7; body = Removed (7 ∷ []) }) ≡ 14 ∷ 0 ∷ 0 ∷ 0 ∷ 0 ∷ 0 ∷ 0 ∷ 0 ∷ 9
+removed : reply_bytes (record { uid = pos 10; id = pos 7; body = Removed (7 ∷ []) }) ≡ 14 ∷ 0 ∷ 0 ∷ 0 ∷ 0 ∷ 0 ∷ 0 ∷ 0
+    ∷ 9
     ∷ 10 ∷ 0 ∷ 0 ∷ 0 ∷ 7 ∷ 0 ∷ 0 ∷ 0 ∷ 0 ∷ 0 ∷ 0 ∷ 0 ∷ 7 ∷ []
 removed = refl

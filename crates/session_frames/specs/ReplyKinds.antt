@@ -1,5 +1,5 @@
--- The numbers of the kinds of replies, and of the classes of refusals. No kind has the numbers 2 and 4, which were those
--- of a replaced and of a removed configuration before their answers had a body.
+-- The numbers of the kinds of replies, and of the classes of refusals. No kind has the numbers 2 and 4, which were
+-- those of a replaced and of a removed configuration before their answers had a body.
 use Rattle.std.specs.Prelude.{ℕ}
 
 -- the configuration is live

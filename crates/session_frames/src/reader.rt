@@ -105,8 +105,8 @@ impl FrameReader {
         Ok((self, frame))
     }
 
-    /// The same, where the reader stands: nothing of it is moved. After an error it is of no use. A frame that stands whole
-    /// in what the source holds is read where it stands.
+    /// The same, where the reader stands: nothing of it is moved. After an error it is of no use. A frame that
+    /// stands whole in what the source holds is read where it stands.
     pub fn read<S: Source>(&mut self, src: &mut S) -> Result<Option<Frame>, FrameError>
         ensures gives { self.old.ended ≡ false
             → IfOk result (λ found. GivesFrame (S.state src.old) (S.state src.new) self.old self.new found) }
@@ -138,8 +138,9 @@ impl FrameReader {
         Ok(Some(frame))
     }
 
-    /// Takes what stands next, where it is a tick or an atom that stands whole in what the source holds and has no fault,
-    /// and reads it in a room. The answer is its kind. Where nothing is taken, the reader and the source stay as they are.
+    /// Takes what stands next, where it is a tick or an atom that stands whole in what the source holds and has no
+    /// fault, and reads it in a room. The answer is its kind. Where nothing is taken, the reader and the source stay
+    /// as they are.
     #[inline(always)]
     pub fn take_log<S: Source>(&mut self, src: &mut S, room: &mut LogRoom) -> Option<LogKind>
         ensures gives { IfSome result (λ kind. GivesFrame (S.state src.old) (S.state src.new) self.old self.new

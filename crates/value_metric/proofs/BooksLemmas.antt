@@ -108,7 +108,8 @@ pub closes : (old new : ValueBooks) (end : ℕ) → new.start ≡ end → new.ag
 closes old new end start aggregation hides_zeros table adds missing form books has =
     let bound = form.bound in
     let part : Part (MetricKey × ℤ) = record { start = books.start; end = end; came = books.came } in
-    let rows : flat_map (total_rows old.hides_zeros old.start end) old.table.rows ≡ rows_of (form_kind form) bound part =
+    let rows : flat_map (total_rows old.hides_zeros old.start end) old.table.rows
+    ≡ rows_of (form_kind form) bound part =
     ap (λ hides. flat_map (total_rows hides old.start end) old.table.rows) has.hides_zeros
     ∙ ap (λ s. flat_map (total_rows form.hides_zeros s end) old.table.rows) has.start
     ∙ ap (flat_map (total_rows form.hides_zeros books.start end))

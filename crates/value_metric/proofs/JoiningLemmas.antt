@@ -42,7 +42,8 @@ crossed_begins : (calls : List PulledValueCall) (crossings : Crossings)
 crossed_begins calls crossings =
     ap (λ holds. open_after None (record { holds = holds; found = last_found (calls ++ Crossed crossings ∷ []) }))
     (crossed_truth calls crossings)
-    ∙ ap (λ found. open_after None (record { holds = is_told_true calls; found = found })) (crossed_found calls crossings)
+    ∙ ap (λ found. open_after None (record { holds = is_told_true calls; found = found }))
+    (crossed_found calls crossings)
 
 -- after a crossing that interval is the open one
 crossed_open : (calls : List PulledValueCall) (crossings : Crossings)

@@ -31,7 +31,8 @@ module _ {S : Type 0} where
 record IsMoment (before : List PulledValueCall) (call : PulledValueCall) : Type 0 where
   ended : ended_by_call before call
       ≡ ended_at_moment (open_by_calls before) (seen_after_calls (before ++ call ∷ []))
-  opens : open_by_calls (before ++ call ∷ []) ≡ open_after (open_by_calls before) (seen_after_calls (before ++ call ∷ []))
+  opens : open_by_calls (before ++ call ∷ [])
+      ≡ open_after (open_by_calls before) (seen_after_calls (before ++ call ∷ []))
 
 -- a call that tells no condition and begins no part
 quiet : (before : List PulledValueCall) (call : PulledValueCall) → starts_at call ≡ [] → truth_told call ≡ []

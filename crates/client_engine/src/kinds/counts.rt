@@ -28,12 +28,13 @@ use crate::arriving::{arriving, metric_key_into};
 use crate::brought::Brought;
 use crate::conditions::Conditions;
 use crate::groups::{RowShape, groups_of};
+use crate::key_room::KeyRoom;
 use crate::leaves::leaves_of;
 use crate::moments::comes_by_pull;
 use crate::request::ReportRequest;
 use crate::watches::{tell_ends, tell_key, tell_report};
 use alert_watch::AlertWatch;
-use atom_record::{DimKey, MetricKey};
+use atom_record::MetricKey;
 use condition_links::Steps;
 use config_links::LMetric;
 use count_metric::{CountCell, CountProducer};
@@ -111,8 +112,8 @@ impl RowShape for CountRows {
 pub struct CountLane {
     lane: Lane<CountProducer>,
     watches: Vec<AlertWatch>,
-    /// The key that arrived last. Nothing of it is read again.
-    key: MetricKey,
+    /// Nothing of the key that arrived last is read again.
+    room: KeyRoom,
 }
 
 impl Model for CountLane {
@@ -168,10 +169,7 @@ pub fn begin(
     CountLane {
         lane: Lane::new(base, metric.size, producer),
         watches,
-        key: MetricKey {
-            dims: DimKey::new(alloc),
-            slices: Seq::new(alloc),
-        },
+        room: KeyRoom::new(alloc),
     }
 }
 
@@ -193,8 +191,12 @@ pub fn log<L: Ledger>(
     ensures asks { AsksFew (CountsAlong metric.now) (metric.now ∷ [])
         conditions.old brought.now lane.old asks.old asks.new }
 {
-    let CountLane { lane, watches, key } = lane;
-    let key = arrival(alloc, metric, is_active, brought, conditions, asks, key)?;
+    let CountLane {
+        lane,
+        watches,
+        room,
+    } = lane;
+    let key = arrival(alloc, metric, is_active, brought, conditions, asks, room)?;
     let at = time_of(brought.frame);
     let is_pull = comes_by_pull(brought.frame);
     tell_ends(watches, lane, at, is_pull);
@@ -248,7 +250,7 @@ fn arrival<'k, L: Ledger>(
     brought: &Brought<'_>,
     conditions: &mut Conditions,
     asks: &mut Steps<L>,
-    room: &'k mut MetricKey,
+    room: &'k mut KeyRoom,
 ) -> Result<Option<&'k MetricKey>, AllocError>
     requires within { MayBeWithin (length conditions.old.predicates) metric.now.condition }
     ensures key { (scene : Scene) → IsOfScene (handed_with conditions.old brought.now) scene
@@ -263,5 +265,5 @@ fn arrival<'k, L: Ledger>(
         return Ok(None);
     };
     metric_key_into(alloc, metric, brought, atom, room)?;
-    Ok(Some(room))
+    Ok(Some(&room.key))
 }

@@ -1,5 +1,5 @@
 //! Metrics of events.
-ghost use Rattle.std.specs.Prelude.{◌≡◌, ◌+◌, ◌≤◌, ◌∷◌, ◌<◌, ◌++◌, [], length, map, OnOk, IfOk};
+ghost use Rattle.std.specs.Prelude.{◌≡◌, ◌+◌, ◌≤◌, ◌∷◌, ◌<◌, ◌++◌, [], length, map, All, OnOk, IfOk};
 ghost use Rattle.std.specs.List.{flat_map};
 ghost use Rattle.bucket_meaning.specs.Limits.{time_limit};
 ghost use Rattle.config_links.specs.SoundConfig.{MayBeWithin};
@@ -8,18 +8,17 @@ ghost use Rattle.session_frames.specs.FrameReading.{log_time};
 ghost use Rattle.metric_meaning.specs.Histories.{Installation};
 ghost use Rattle.metric_meaning.specs.Scenes.{Scene};
 ghost use Rattle.metric_meaning.specs.Arrivals.{arriving_by, is_active_in};
-ghost use Rattle.metric_meaning.specs.EventTrees.{events_body};
-ghost use Rattle.report_writer.specs.Writable.{AreWritableRows, IsWritableMetric};
+ghost use Rattle.metric_meaning.specs.EventTrees.{event_trees, events_body};
+ghost use Rattle.report_writer.specs.Writable.{IsWritableEvent, AreWritableRows, IsWritableMetric};
 ghost use Rattle.client_engine.specs.Handed.{IsOfScene};
 ghost use Rattle.client_engine.specs.NextSteps.{TakesReport};
 ghost use Rattle.client_engine.specs.AskedFew.{AsksFew, arrival_questions};
 ghost use Rattle.client_engine.specs.Bringing.{handed_with, brought_step, TakesBroughtWhile};
-ghost use Rattle.client_engine.specs.EventsAlong.{EventsAlong, event_at, events_in, events_shown_by};
+ghost use Rattle.client_engine.specs.EventsAlong.{EventsAlong, event_at, events_shown_by};
 
 use crate::arriving::arriving;
 use crate::brought::Brought;
 use crate::conditions::Conditions;
-use crate::messages::message_rows;
 use crate::moments::comes_by_pull;
 use crate::request::ReportRequest;
 use atom_record::Atom;
@@ -28,7 +27,7 @@ use config_links::LMetric;
 use gauge_metric::EventProducer;
 use metric_lane::Lane;
 use metric_producer::{Closed, Row};
-use report_writer::{AtomMsg, EventTree, MetricBody, MetricTree};
+use report_writer::{EventTree, MetricBody, MetricTree, atom_msg};
 use sd_base::Seq;
 use session_frames::time_of;
 use std::alloc::{AllocError, Global};
@@ -111,31 +110,36 @@ fn events_body(alloc: Global, rows: Seq<Row<Seq<Atom>>>) -> Result<MetricBody, A
     ensures shown { IfOk result (λ body. body ≡ events_body rows) }
     ensures writable { IfOk result AreWritableRows }
 {
-    let rows = message_rows(alloc, rows)?;
-    Ok(MetricBody::Events(events_of(alloc, rows)?))
+    let events = events_of(alloc, rows.as_slice())?;
+    Ok(MetricBody::Events(events))
 }
 
-// The messages of these rows, one by one, each with the time of its row.
-fn events_of(alloc: Global, rows: Seq<Row<Seq<AtomMsg>>>) -> Result<Seq<EventTree>, AllocError>
-    ensures { IfOk result (λ events. events ≡ flat_map events_in rows) }
+// The messages of the atoms of these rows, one by one, each with the time of its row.
+fn events_of(alloc: Global, rows: &[Row<Seq<Atom>>]) -> Result<Seq<EventTree>, AllocError>
+    ensures shown { IfOk result (λ events. events ≡ flat_map event_trees rows.now) }
+    ensures writable { IfOk result (All IsWritableEvent) }
 {
-    let mut events = Seq::new(alloc);
-    for row in rows.into_vec() {
-        let Row { start, value, .. } = row;
-        add_events(&mut events, start, value)?;
+    // An event is a row of one atom.
+    let mut events = Seq::with_capacity(alloc, rows.len())?;
+    for row in rows {
+        add_events(alloc, &mut events, row.start, row.value.as_slice())?;
     }
     Ok(events)
 }
 
-// Adds the messages of one row.
+// Adds the messages of the atoms of one row.
 fn add_events(
+    alloc: Global,
     events: &mut Seq<EventTree>,
     at: u64,
-    messages: Seq<AtomMsg>,
+    atoms: &[Atom],
 ) -> Result<(), AllocError>
-    ensures { OnOk result (events.new ≡ events.old ++ map (event_at at) messages) }
+    requires writable { All IsWritableEvent events.old }
+    ensures shown { OnOk result (events.new ≡ events.old ++ map (event_at at) atoms.now) }
+    ensures writable { OnOk result (All IsWritableEvent events.new) }
 {
-    for atom in messages.into_vec() {
+    for atom in atoms {
+        let atom = atom_msg(alloc, atom)?;
         events.push(EventTree { at, atom })?;
     }
     Ok(())

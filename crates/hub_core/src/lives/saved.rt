@@ -95,7 +95,6 @@ impl Lives {
         ensures slots { IfOk result (λ incoming. incoming.rows.slots ≡ self.slots) }
         ensures counts { IfOk result (λ incoming. incoming.rows.counts ≡ self.counts) }
     {
-        let linked = carried.linked(alloc)?;
         let name = carried.name();
         // From here on the facts of the type may be false.
         let Lives {
@@ -104,7 +103,7 @@ impl Lives {
             notes,
             mut table,
         } = self;
-        let live = LiveInstance::of(alloc, carried, &linked, &mut table)?;
+        let live = LiveInstance::carry(alloc, carried, &mut table)?;
         Ok(Incoming {
             name,
             live,

@@ -11,7 +11,8 @@ pub returns-in_err-entry : goal.returns-in_err-entry
 returns-in_err-entry c =
     let p = err_from_is_err_and c.from_residual.result c.from_residual.ensures.1 in
     let some : 0 < length c.loop-rest.rest.now = grind (arith, nat_tests, c.is_empty.ensures) in
-    let failed : FailsBy (reason_of c.in_err-entry.field-0.0) (entry_at c.loop-rest.entries.items c.loop-rest.rest.now) =
+    let failed : FailsBy (reason_of c.in_err-entry.field-0.0)
+    (entry_at c.loop-rest.entries.items c.loop-rest.rest.now) =
     rw c.as_slice.ensures.value at c.in_err-entry.ensures in
     let whole = ends c.loop-rest.entries.items c.loop-rest.rest.now c.in_err-entry.field-0.0 some failed in
     rw (p.1, p.2) (rw c.loop-rest.invariant.reads at whole)
@@ -19,14 +20,16 @@ returns-in_err-entry c =
 -- an entry takes a byte at least
 pub loop-rest-smaller : goal.loop-rest-smaller
 loop-rest-smaller c =
-    let read : entry_at c.loop-rest.entries.items c.loop-rest.rest.now ≡ Ok (c.in_ok-entry.entry, c.in_ok-entry.after.now) =
+    let read : entry_at c.loop-rest.entries.items c.loop-rest.rest.now
+    ≡ Ok (c.in_ok-entry.entry, c.in_ok-entry.after.now) =
     rw c.as_slice.ensures.value at c.in_ok-entry.ensures in
     entry_shortens c.loop-rest.entries.items c.loop-rest.rest.now _ read
 
 -- one more entry is read
 pub loop-rest-preserved : goal.loop-rest-preserved
 loop-rest-preserved c =
-    let read : entry_at c.loop-rest.entries.items c.loop-rest.rest.now ≡ Ok (c.in_ok-entry.entry, c.in_ok-entry.after.now) =
+    let read : entry_at c.loop-rest.entries.items c.loop-rest.rest.now
+    ≡ Ok (c.in_ok-entry.entry, c.in_ok-entry.after.now) =
     rw c.as_slice.ensures.value at c.in_ok-entry.ensures in
     record {
       reads = rw c.in_ok-push.ensures.items (goes_on c.loop-rest.entries.items c.loop-rest.rest.now _ _ read

@@ -40,7 +40,7 @@ loop-place-init g c = (
       c.new-changes.ensures
       ∙ ap (λ n. changes_from was now n (drop n keys)) c.first_asked-first.ensures
       ∙ sym (first_skipped was now c.args.stays keys keeps),
-  c.in_ok-shared.ensures.known,
+  c.take_room-room.ensures ∙ c.in_ok-shared.ensures.known,
   asks_first g.K.Inners.stands c.args.keys.now c.args.stays c.first_asked-first.result
       c.len-count.result c.args.asks.now
       c.shared_truth.new.asks (let more = c.if-count-first.false in omega (arith, more)) c.len-count.ensures.value
@@ -83,7 +83,7 @@ returns-clause-changes g c = λ params calls scene stands found keeps.
     (omega (arith, ends, len)) (c.loop-place.invariant.0 params calls scene stands found keeps)
 
 pub returns-clause-known : goal.returns-clause-known
-returns-clause-known g c = c.loop-place.invariant.1
+returns-clause-known g c = c.give_room.ensures ∙ c.loop-place.invariant.1
 
 -- where no key is asked, nothing is
 pub returns-then-count-first-clause-asks : goal.returns-then-count-first-clause-asks

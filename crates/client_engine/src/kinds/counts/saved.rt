@@ -1,9 +1,9 @@
 //! The flat form of a lane of counts: the lane, and the watches beside it. Its room isn't saved.
 
 use super::CountLane;
+use crate::key_room::KeyRoom;
 use crate::saved::lists::{flatten_list, show_list};
 use alert_watch::AlertWatch;
-use atom_record::{DimKey, MetricKey};
 use count_metric::CountProducer;
 use flat_form::{Flat, FlatError, Items};
 use metric_lane::Lane;
@@ -51,10 +51,7 @@ impl Flat for CountLane {
         let lane = CountLane {
             lane,
             watches: watches.into_vec(),
-            key: MetricKey {
-                dims: DimKey::new(alloc),
-                slices: Seq::new(alloc),
-            },
+            room: KeyRoom::new(alloc),
         };
         Ok((lane, next))
     }

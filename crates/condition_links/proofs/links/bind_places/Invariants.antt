@@ -5,4 +5,5 @@ use Rattle.condition_links.specs.LinkBinds.{binds_of}
 use Rattle.condition_links.proofs.links.bind_places.Given as goal
 
 abbrev pub invariant-loop-value : goal.invariant-loop-value
-invariant-loop-value l = (done : List Leaf) × ((l.binds ≡ binds_of l.places done) × (done ++ l.value-iterator ≡ l.fn.values))
+invariant-loop-value l = (done : List Leaf) ×
+    ((l.binds ≡ binds_of l.places done) × (done ++ l.value-iterator ≡ l.fn.values))

@@ -9,7 +9,8 @@ use Rattle.condition_links.proofs.BindsLemmas.{binds_none, binds_more}
 use Rattle.condition_links.proofs.links.bind_values_at.Goals as goal
 
 -- what is made of one more is bound
-one_more : {X : Type 0} (f : X → Leaf) (places : List ℕ) (xs : List X) (i : ℕ) (d : X) (old new : List Bind) (value : Leaf)
+one_more : {X : Type 0} (f : X → Leaf) (places : List ℕ) (xs : List X) (i : ℕ) (d : X) (old new : List Bind)
+    (value : Leaf)
     → i < length xs → old ≡ binds_of places (map f (take i xs)) → value ≡ f (get_or xs i d)
     → new ≡ with_next (slice_get places (length old)) value old → new ≡ binds_of places (map f (take (i + 1) xs))
 one_more f places xs i d old new value within so_far is next =

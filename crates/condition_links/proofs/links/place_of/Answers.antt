@@ -15,7 +15,8 @@ turned leaf leaves = λ i. position (λ other. laws-law.symm leaf other i) leave
 
 pub returns-in-Some : goal.returns-in-Some
 returns-in-Some c =
-    let those = subst (λ (table : Option (List LeafPath)). IfSome table (λ found. found ≡ c.args.leaves.now)) c.in-Some.is
+    let those = subst (λ (table : Option (List LeafPath)). IfSome table (λ found. found ≡ c.args.leaves.now))
+    c.in-Some.is
     c.requires in
     c.place.ensures.place ∙ ap (first_place (same_leaf c.args.leaf.now)) those
     ∙ turned c.args.leaf.now c.args.leaves.now

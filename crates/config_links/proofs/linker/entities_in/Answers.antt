@@ -1,4 +1,4 @@
-use Rattle.std.proofs.Common.{◌≡◌, List, Option, None, Err, ap, subst, rules}
+use Rattle.std.proofs.Common.{List, Err, ap, subst, rules}
 use Rattle.std.proofs.lemmas.Result.{err_from_is_err_and}
 use Rattle.link_rules.specs.LinkFaults.{Links}
 use Rattle.link_rules.proofs.LinkFaultLemmas.{breaks_second}

@@ -19,4 +19,5 @@ returns-in_default g c =
 pub returns : goal.returns
 returns g c =
     valid_all (IsValidPair g.K.Flat.valid g.V.Flat.valid) c.args.table.now.rows c.loop-place.place
-    (subst (λ count. count ≤ c.loop-place.place) c.len-count.ensures.value c.loop-place-test.false) c.loop-place.invariant
+    (subst (λ count. count ≤ c.loop-place.place) c.len-count.ensures.value c.loop-place-test.false)
+    c.loop-place.invariant

@@ -44,7 +44,8 @@ returns-clause-counts c =
     let ends = c.loop-place-test.false in
     let places = c.args.places.now in
     let first = c.args.keys.now in
-    subst (λ done. ReleasesPlaces first c.loop-place.keys c.args.tally.now c.loop-place.tally places [] (tolds_at first.rows done))
+    subst (λ done. ReleasesPlaces first c.loop-place.keys c.args.tally.now c.loop-place.tally places []
+    (tolds_at first.rows done))
     (take_all c.loop-place.place-index places (omega (arith, ends)))
     (subst (λ left. ReleasesPlaces first c.loop-place.keys c.args.tally.now c.loop-place.tally places left
     (tolds_at first.rows (take c.loop-place.place-index places)))

@@ -15,10 +15,12 @@ returns-in_err-item g c =
 pub returns-in_err-value : goal.returns-in_err-value
 returns-in_err-value g c =
     let p = err_from_is_err_and c.from_residual-in_err-value.result c.from_residual-in_err-value.ensures.1 in
-    rw (p.1, p.2) (one_fails g.T.Single.wrap c.args.items.now c.args.place c.in_ok-item.item c.in_ok-item.ensures.found.0
+    rw (p.1, p.2) (one_fails g.T.Single.wrap c.args.items.now c.args.place c.in_ok-item.item
+    c.in_ok-item.ensures.found.0
     c.in_err-value.field-0.0 c.in_err-value.ensures)
 
 pub returns : goal.returns
 returns g c =
     one_built g.T.Single.wrap c.args.items.now c.args.place g.met.T.Single.distinct c.in_ok-item.item
-    c.in_ok-value.value c.in_ok-item.next c.in_ok-item.ensures.found.0 c.in_ok-item.ensures.found.1 c.in_ok-value.ensures
+    c.in_ok-value.value c.in_ok-item.next c.in_ok-item.ensures.found.0 c.in_ok-item.ensures.found.1
+    c.in_ok-value.ensures

@@ -1,5 +1,5 @@
 -- The items that are held as they are can be spelled, as all can.
-use Rattle.std.proofs.Common.{All, subst}
+use Rattle.std.proofs.Common.{subst}
 use Rattle.flat_form.specs.Savable.{IsSavable, AreSavable}
 use Rattle.flat_form.proofs.FitsLemmas.{all_later}
 use Rattle.flat_form.proofs.range.fit_items.Goals as goal

@@ -1,4 +1,4 @@
-use Rattle.std.proofs.Common.{◌≡◌, List, map, Option, None, Err, rules, subst}
+use Rattle.std.proofs.Common.{◌≡◌, List, map, None, Err, rules, subst}
 use Rattle.std.proofs.lemmas.Result.{err_from_is_err_and}
 use Rattle.config_types.specs.declared.alert.AlertDef.{AlertDef}
 use Rattle.config_types.specs.declared.matcher.MatcherDef.{MatcherDef}

@@ -20,7 +20,8 @@ loop-at-preserved c =
     let at = c.loop-at.at in
     let bind = c.index-binds-at.result in
     let within : at < length key = omega (arith, c.loop-at-test.true, c.if-binds-len.false, c.len.ensures) in
-    values_more c.args.binds.now key at bind (get_or key at Missing) c.loop-at-test.true within (leaf_read key at within)
+    values_more c.args.binds.now key at bind (get_or key at Missing) c.loop-at-test.true within
+    (leaf_read key at within)
     (told_same key at (get_or c.args.binds.now at bind).value c.has_leaf.result within c.has_leaf.ensures
     c.if-not-has_leaf.false)
     c.loop-at.invariant

@@ -26,7 +26,8 @@ invariant_of-self-2 c =
     let more : c.in-Some.count ≡ count + 1 = grind (arith, common_steps) in
     let one : Present = record { place = count; leaf = c.args.leaf } in
     rw (more, c.in_ok-push.ensures.items)
-    (still_held count kept c.self.invariant c.args.leaf (one ∷ []) (one_kept count c.args.leaf c.in_default-leaf.not-Missing))
+    (still_held count kept c.self.invariant c.args.leaf (one ∷ [])
+    (one_kept count c.args.leaf c.in_default-leaf.not-Missing))
 
 pub returns : goal.returns
 returns c =
@@ -36,7 +37,8 @@ returns c =
     let one : Present = record { place = count; leaf = c.args.leaf } in
     record {
       added = rw (more, c.in_ok-push.ensures.items, ← c.self.view_is)
-          (leaf_added count kept c.self.invariant c.args.leaf (one ∷ []) (one_kept count c.args.leaf c.in_default-leaf.not-Missing));
+          (leaf_added count kept c.self.invariant c.args.leaf (one ∷ [])
+          (one_kept count c.args.leaf c.in_default-leaf.not-Missing));
       missing = λ is. absurd (c.in_default-leaf.not-Missing is);
       err = tt;
     }

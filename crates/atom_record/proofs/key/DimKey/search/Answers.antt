@@ -29,7 +29,8 @@ returns-in_err-found c =
     let past : length kept ≤ before = rw (← c.deref.ensures.value)
     (ltb-false before (length c.deref.result.now) (sym c.in_err-found.ensures.lookup.0)) in
     let none : slice_get kept before ≡ None = slice_get_past kept before past in
-    rw (c.from_residual.ensures, ← c.self.view_is) (none_found c.self.inside.count kept c.self.invariant c.args.at before point
+    rw (c.from_residual.ensures, ← c.self.view_is)
+    (none_found c.self.inside.count kept c.self.invariant c.args.at before point
     (λ one is. none_there (sym is ∙ none)))
 
 pub returns-then-found-at : goal.returns-then-found-at
@@ -57,5 +58,6 @@ returns c =
     ap (λ l. slice_get l before) (sym c.deref.ensures.value)
     ∙ slice_get_read c.deref.result.now (length c.deref.result.now) before c.in_ok-found.found.now refl
     c.in_ok-found.ensures.lookup.3.0 c.in_ok-found.ensures.lookup.1 in
-    rw (← c.self.view_is) (found_at c.self.inside.count kept c.self.invariant c.args.at before c.in_ok-found.found.now there
+    rw (← c.self.view_is) (found_at c.self.inside.count kept c.self.invariant c.args.at before c.in_ok-found.found.now
+    there
     c.if-found-at.false)

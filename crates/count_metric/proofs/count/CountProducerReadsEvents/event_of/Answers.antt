@@ -19,4 +19,5 @@ returns-in-Full-clause-moves c =
     came c.args.self.now _ c.args.at c.args.ev.now 1 refl refl refl
     (λ n is. omega (arith, is, c.saturating_add-self.ensures))
     (takes_none c.args.self.now.table c.admit_copy.new.self c.args.ev.now
-    (subst (Admits c.args.self.now.table c.admit_copy.new.self c.args.ev.now 0) c.in-Full.is c.in_ok-place.ensures.answer))
+    (subst (Admits c.args.self.now.table c.admit_copy.new.self c.args.ev.now 0) c.in-Full.is
+    c.in_ok-place.ensures.answer))

@@ -11,4 +11,5 @@ returns-in_err-parts c =
 
 -- the producer of the parts
 pub returns : goal.returns
-returns c = count_built c.args.alloc c.args.items.now c.args.place c.in_ok-parts.parts c.in_ok-parts.next c.in_ok-parts.ensures
+returns c = count_built c.args.alloc c.args.items.now c.args.place c.in_ok-parts.parts c.in_ok-parts.next
+    c.in_ok-parts.ensures

@@ -6,7 +6,8 @@ use Rattle.duration_metric.proofs.sparse.MaxProducer.was_told.Goals as goal
 -- no key is there
 pub returns-in_default : goal.returns-in_default
 returns-in_default c params calls stands =
-    says_nothing c.args.self.now.keys params.spec calls _ stands.keys c.args.place (sym (rw (c.in_default.is) at c.pair.ensures))
+    says_nothing c.args.self.now.keys params.spec calls _ stands.keys c.args.place
+    (sym (rw (c.in_default.is) at c.pair.ensures))
     (record { truth = c.args.truth; out = c.args.out.now })
 
 pub returns : goal.returns

@@ -47,7 +47,8 @@ returns-clause-moves c =
     let stepped = subst (λ l. StepsSome old.table part l (is_counted released) at)
     (c.as_slice-5.ensures ∙ c.replace-gone.ensures.value) c.step_keys.ensures in
     let told = subst (λ l. StepsSome part ended l (is_counted released) at)
-    (ap (tolds_at last.rows) c.as_slice-6.ensures.value ∙ tolds_after rows last lowered released places [] tolds releases
+    (ap (tolds_at last.rows) c.as_slice-6.ensures.value
+    ∙ tolds_after rows last lowered released places [] tolds releases
     places) c.step_tolds.ensures in
     let resumed = subst (λ l. StepsSome ended mid l (is_counted released) at)
     (ap (outs_at last.rows) c.as_slice-7.ensures ∙ outs_after rows last lowered released places [] tolds releases began)
@@ -66,7 +67,8 @@ returns-clause-moves c =
     (steps_more (is_counted released) at old.table part ended inner.gone tolds stepped told))
     (steps_same released left ended mid outs at same resumed)
     (subst (λ l. BeginsAll mid new [] l at)
-    (ap (outs_at last.rows) c.as_slice-10.ensures ∙ outs_after rows last lowered released places [] tolds releases began)
+    (ap (outs_at last.rows) c.as_slice-10.ensures
+    ∙ outs_after rows last lowered released places [] tolds releases began)
     begins)))
     c.begin_outs.ensures.begins
 

@@ -1,5 +1,5 @@
 -- The item that was added stands at the end, and is read where it begins.
-use Rattle.std.proofs.Common.{◌≡◌, ℕ, List, [], ◌∷◌, ◌++◌, length, ap, ◌∙◌}
+use Rattle.std.proofs.Common.{◌≡◌, ℕ, List, [], ◌∷◌, ◌++◌, ap, ◌∙◌}
 use Rattle.flat_form.specs.ItemSpelling.{spelled_item}
 use Rattle.flat_form.specs.Spelled.{items_from}
 use Rattle.flat_form.proofs.SpelledLaws.{IsHeld, grown}

@@ -16,6 +16,6 @@ invariant_of-result c = record {
   named = named_more (c.name-name.result, c.in_ok-live.live) c.args.self.slots.entries
       (c.name-name.ensures ∙ ap (λ (it : Saved). it.name) (sym c.in_ok-live.ensures.carried)) c.args.self.named;
   held = merely (interned c.name-name.result c.in_ok-live.live c.args.self.slots.entries
-      (contents_of c.args.self.table) (contents_of c.of.new.table) (table_held c.args.self)
+      (contents_of c.args.self.table) (contents_of c.carry.new.table) (table_held c.args.self)
       c.in_ok-live.ensures.holds c.in_ok-live.ensures.uses c.in_ok-live.ensures.others);
 }

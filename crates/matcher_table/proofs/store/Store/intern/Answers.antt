@@ -3,4 +3,4 @@ use Rattle.matcher_table.proofs.store.Store.intern.Goals as goal
 
 pub raise-requires-clause-live : goal.raise-requires-clause-live
 raise-requires-clause-live c =
-    c.requires.indexed.found c.in-Some.slot c.args.shared (sym c.find.ensures ∙ c.in-Some.is)
+    c.requires.stands.indexed.found c.in-Some.slot c.args.shared (sym c.find.ensures ∙ c.in-Some.is)

@@ -11,7 +11,7 @@ returns-clause-interns c =
     let slot = c.args.slot in
     let count = c.index_mut.result.now in
     let live = some_live (matcher_at c.args.self.now.bodies.slots slot) c.args.shared.now c.requires.live in
-    let room : slot < length counts = c.requires.held.room_outside slot live in
+    let room : slot < length counts = c.requires.stands.held.room_outside slot live in
     record {
       here = c.requires.live;
       outside = omega (
@@ -25,7 +25,7 @@ returns-clause-interns c =
         outside = λ s other. get_or-set_other counts slot s (count + 1) 0 other;
         results = λ s other. refl;
       };
-      one = λ s there. one_slot c.requires.indexed slot s c.args.shared.now c.requires.live there;
+      one = λ s there. one_slot c.requires.stands.indexed slot s c.args.shared.now c.requires.live there;
       found = λ there. (refl, refl);
       made = λ none. absurd (live none);
       either = inl c.requires.live;

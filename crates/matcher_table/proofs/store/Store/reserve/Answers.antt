@@ -1,96 +1,117 @@
 use Rattle.std.proofs.Common.{refl, ap, arith}
-use Rattle.matcher_table.proofs.HeldLaws.{held_longer}
-use Rattle.matcher_table.proofs.IndexLaws.{indexed_as}
-use Rattle.matcher_table.proofs.MadeLaws.{held_as}
-use Rattle.matcher_table.proofs.ReadyLaws.{ready_as}
+use Rattle.matcher_table.proofs.MadeLaws.{lengthened}
 use Rattle.matcher_table.proofs.store.Store.reserve.Goals as goal
 
-pub returns-in_err-lengthen-clause-held : goal.returns-in_err-lengthen-clause-held
-returns-in_err-lengthen-clause-held c =
-    let now = c.args.self.now in
-    held_as now.bodies.slots _ now.order.items _ _ _ _ (ap (λ s. s.slots) c.reserve.ensures.rest_kept)
-    c.reserve-3.ensures.items
-    (held_longer c.requires.held c.lengthen.new.counts.items now.uses.items now.results.items c.lengthen.ensures.longer
-    (omega arith) (omega arith) c.lengthen.ensures.same (λ s. refl))
+pub returns-in_err-reserve-2-clause-stands : goal.returns-in_err-reserve-2-clause-stands
+returns-in_err-reserve-2-clause-stands c =
+    lengthened c.args.self.now _ c.requires.stands (record {
+      slots = ap (λ s. s.slots) c.reserve.ensures.rest_kept;
+      index = c.reserve-2.ensures.same;
+      order = refl;
+      outside_long = omega arith;
+      outside = λ s. refl;
+      uses_long = omega arith;
+      uses = λ s. refl;
+      results_long = omega arith;
+      results = λ s. refl;
+      idle_long = omega arith;
+      idle = λ s. refl;
+      hanging = refl;
+      settled = refl;
+      last = refl;
+    })
 
-pub returns-in_err-lengthen-2-clause-held : goal.returns-in_err-lengthen-2-clause-held
-returns-in_err-lengthen-2-clause-held c =
-    let now = c.args.self.now in
-    held_as now.bodies.slots _ now.order.items _ _ _ _ (ap (λ s. s.slots) c.reserve.ensures.rest_kept)
-    c.reserve-3.ensures.items
-    (held_longer c.requires.held c.lengthen.new.counts.items c.lengthen-2.new.counts.items now.results.items
-    c.lengthen.ensures.longer c.lengthen-2.ensures.longer
-    (omega arith) c.lengthen.ensures.same c.lengthen-2.ensures.same)
+pub returns-in_err-reserve-3-clause-stands : goal.returns-in_err-reserve-3-clause-stands
+returns-in_err-reserve-3-clause-stands c =
+    lengthened c.args.self.now _ c.requires.stands (record {
+      slots = ap (λ s. s.slots) c.reserve.ensures.rest_kept;
+      index = c.reserve-2.ensures.same;
+      order = c.reserve-3.ensures.items;
+      outside_long = omega arith;
+      outside = λ s. refl;
+      uses_long = omega arith;
+      uses = λ s. refl;
+      results_long = omega arith;
+      results = λ s. refl;
+      idle_long = omega arith;
+      idle = λ s. refl;
+      hanging = refl;
+      settled = refl;
+      last = refl;
+    })
 
-pub returns-clause-held : goal.returns-clause-held
-returns-clause-held c =
-    let now = c.args.self.now in
-    held_as now.bodies.slots _ now.order.items _ _ _ _ (ap (λ s. s.slots) c.reserve.ensures.rest_kept)
-    c.reserve-3.ensures.items
-    (held_longer c.requires.held c.lengthen.new.counts.items c.lengthen-2.new.counts.items
-    c.lengthen_truths.new.truths.items c.lengthen.ensures.longer c.lengthen-2.ensures.longer
-    c.lengthen_truths.ensures.longer c.lengthen.ensures.same c.lengthen-2.ensures.same)
+pub returns-in_err-lengthen-clause-stands : goal.returns-in_err-lengthen-clause-stands
+returns-in_err-lengthen-clause-stands c =
+    lengthened c.args.self.now _ c.requires.stands (record {
+      slots = ap (λ s. s.slots) c.reserve.ensures.rest_kept;
+      index = c.reserve-2.ensures.same;
+      order = c.reserve-3.ensures.items;
+      outside_long = c.lengthen.ensures.longer;
+      outside = c.lengthen.ensures.same;
+      uses_long = omega arith;
+      uses = λ s. refl;
+      results_long = omega arith;
+      results = λ s. refl;
+      idle_long = omega arith;
+      idle = λ s. refl;
+      hanging = refl;
+      settled = refl;
+      last = refl;
+    })
 
-pub returns-in_err-lengthen_truths-clause-held : goal.returns-in_err-lengthen_truths-clause-held
-returns-in_err-lengthen_truths-clause-held c =
-    let now = c.args.self.now in
-    held_as now.bodies.slots _ now.order.items _ _ _ _ (ap (λ s. s.slots) c.reserve.ensures.rest_kept)
-    c.reserve-3.ensures.items
-    (held_longer c.requires.held c.lengthen.new.counts.items c.lengthen-2.new.counts.items
-    c.lengthen_truths.new.truths.items c.lengthen.ensures.longer c.lengthen-2.ensures.longer
-    c.lengthen_truths.ensures.longer c.lengthen.ensures.same c.lengthen-2.ensures.same)
+pub returns-in_err-lengthen-2-clause-stands : goal.returns-in_err-lengthen-2-clause-stands
+returns-in_err-lengthen-2-clause-stands c =
+    lengthened c.args.self.now _ c.requires.stands (record {
+      slots = ap (λ s. s.slots) c.reserve.ensures.rest_kept;
+      index = c.reserve-2.ensures.same;
+      order = c.reserve-3.ensures.items;
+      outside_long = c.lengthen.ensures.longer;
+      outside = c.lengthen.ensures.same;
+      uses_long = c.lengthen-2.ensures.longer;
+      uses = c.lengthen-2.ensures.same;
+      results_long = omega arith;
+      results = λ s. refl;
+      idle_long = omega arith;
+      idle = λ s. refl;
+      hanging = refl;
+      settled = refl;
+      last = refl;
+    })
 
-pub returns-in_err-reserve-2-clause-indexed : goal.returns-in_err-reserve-2-clause-indexed
-returns-in_err-reserve-2-clause-indexed c =
-    indexed_as c.requires.indexed _ _ (ap (λ s. s.slots) c.reserve.ensures.rest_kept) c.reserve-2.ensures.same
+pub returns-in_err-lengthen_truths-clause-stands : goal.returns-in_err-lengthen_truths-clause-stands
+returns-in_err-lengthen_truths-clause-stands c =
+    lengthened c.args.self.now _ c.requires.stands (record {
+      slots = ap (λ s. s.slots) c.reserve.ensures.rest_kept;
+      index = c.reserve-2.ensures.same;
+      order = c.reserve-3.ensures.items;
+      outside_long = c.lengthen.ensures.longer;
+      outside = c.lengthen.ensures.same;
+      uses_long = c.lengthen-2.ensures.longer;
+      uses = c.lengthen-2.ensures.same;
+      results_long = c.lengthen_truths.ensures.longer;
+      results = c.lengthen_truths.ensures.same;
+      idle_long = omega arith;
+      idle = λ s. refl;
+      hanging = refl;
+      settled = refl;
+      last = refl;
+    })
 
-pub returns-in_err-reserve-3-clause-indexed : goal.returns-in_err-reserve-3-clause-indexed
-returns-in_err-reserve-3-clause-indexed c =
-    indexed_as c.requires.indexed _ _ (ap (λ s. s.slots) c.reserve.ensures.rest_kept) c.reserve-2.ensures.same
-
-pub returns-in_err-lengthen-clause-indexed : goal.returns-in_err-lengthen-clause-indexed
-returns-in_err-lengthen-clause-indexed c =
-    indexed_as c.requires.indexed _ _ (ap (λ s. s.slots) c.reserve.ensures.rest_kept) c.reserve-2.ensures.same
-
-pub returns-in_err-lengthen-2-clause-indexed : goal.returns-in_err-lengthen-2-clause-indexed
-returns-in_err-lengthen-2-clause-indexed c =
-    indexed_as c.requires.indexed _ _ (ap (λ s. s.slots) c.reserve.ensures.rest_kept) c.reserve-2.ensures.same
-
-pub returns-clause-indexed : goal.returns-clause-indexed
-returns-clause-indexed c =
-    indexed_as c.requires.indexed _ _ (ap (λ s. s.slots) c.reserve.ensures.rest_kept) c.reserve-2.ensures.same
-
-pub returns-in_err-lengthen_truths-clause-indexed : goal.returns-in_err-lengthen_truths-clause-indexed
-returns-in_err-lengthen_truths-clause-indexed c =
-    indexed_as c.requires.indexed _ _ (ap (λ s. s.slots) c.reserve.ensures.rest_kept) c.reserve-2.ensures.same
-
-pub returns-in_err-reserve-2-clause-ready : goal.returns-in_err-reserve-2-clause-ready
-returns-in_err-reserve-2-clause-ready c =
-    ready_as c.requires.ready _ _ _ _ _ _ (ap (λ s. s.slots) c.reserve.ensures.rest_kept) (λ id. refl) (λ s. refl)
-    refl (omega arith) (λ s. refl) (λ s. refl)
-
-pub returns-in_err-reserve-3-clause-ready : goal.returns-in_err-reserve-3-clause-ready
-returns-in_err-reserve-3-clause-ready c =
-    ready_as c.requires.ready _ _ _ _ _ _ (ap (λ s. s.slots) c.reserve.ensures.rest_kept) (λ id. refl) (λ s. refl)
-    c.reserve-3.ensures.items (omega arith) (λ s. refl) (λ s. refl)
-
-pub returns-in_err-lengthen-clause-ready : goal.returns-in_err-lengthen-clause-ready
-returns-in_err-lengthen-clause-ready c =
-    ready_as c.requires.ready _ _ _ _ _ _ (ap (λ s. s.slots) c.reserve.ensures.rest_kept) (λ id. refl) (λ s. refl)
-    c.reserve-3.ensures.items (omega arith) (λ s. refl) (λ s. refl)
-
-pub returns-in_err-lengthen-2-clause-ready : goal.returns-in_err-lengthen-2-clause-ready
-returns-in_err-lengthen-2-clause-ready c =
-    ready_as c.requires.ready _ _ _ _ _ _ (ap (λ s. s.slots) c.reserve.ensures.rest_kept) (λ id. refl) (λ s. refl)
-    c.reserve-3.ensures.items (omega arith) (λ s. refl) (λ s. refl)
-
-pub returns-in_err-lengthen_truths-clause-ready : goal.returns-in_err-lengthen_truths-clause-ready
-returns-in_err-lengthen_truths-clause-ready c =
-    ready_as c.requires.ready _ _ _ _ _ _ (ap (λ s. s.slots) c.reserve.ensures.rest_kept) (λ id. refl) (λ s. refl)
-    c.reserve-3.ensures.items (omega arith) (λ s. refl) c.lengthen_truths.ensures.same
-
-pub returns-clause-ready : goal.returns-clause-ready
-returns-clause-ready c =
-    ready_as c.requires.ready _ _ _ _ _ _ (ap (λ s. s.slots) c.reserve.ensures.rest_kept) (λ id. refl) (λ s. refl)
-    c.reserve-3.ensures.items c.lengthen_truths-2.ensures.longer c.lengthen_truths-2.ensures.same
-    c.lengthen_truths.ensures.same
+pub returns-clause-stands : goal.returns-clause-stands
+returns-clause-stands c =
+    lengthened c.args.self.now _ c.requires.stands (record {
+      slots = ap (λ s. s.slots) c.reserve.ensures.rest_kept;
+      index = c.reserve-2.ensures.same;
+      order = c.reserve-3.ensures.items;
+      outside_long = c.lengthen.ensures.longer;
+      outside = c.lengthen.ensures.same;
+      uses_long = c.lengthen-2.ensures.longer;
+      uses = c.lengthen-2.ensures.same;
+      results_long = c.lengthen_truths.ensures.longer;
+      results = c.lengthen_truths.ensures.same;
+      idle_long = c.lengthen_truths-2.ensures.longer;
+      idle = c.lengthen_truths-2.ensures.same;
+      hanging = refl;
+      settled = refl;
+      last = refl;
+    })

@@ -1,14 +1,11 @@
 use Rattle.std.proofs.Common.{◌≤◌, length}
-use Rattle.matcher_table.specs.StoreParts.{StoreIsHeld, StoreIsIndexed, StoreIsReady, UsedFrom, Frees}
+use Rattle.matcher_table.specs.StoreParts.{StoreStands, Frees}
 use Rattle.matcher_table.proofs.store.Store.sweep.Given as goal
 
 abbrev pub invariant-loop-at : goal.invariant-loop-at
 invariant-loop-at l = record {
   within : l.at ≤ length l.self.order.items;
-  held : StoreIsHeld l.self;
-  indexed : StoreIsIndexed l.self;
-  ready : StoreIsReady l.self;
-  used : UsedFrom l.self l.at;
+  stands : StoreStands l.self l.at;
   frees : Frees l.fn.self l.self;
 }
 

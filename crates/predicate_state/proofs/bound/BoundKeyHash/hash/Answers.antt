@@ -20,5 +20,6 @@ loop-at-preserved g c =
     let values = length-map binds (λ (b : Bind). b.value) in
     c.hash.ensures
     ∙ ap (λ state. fold write state (leaf_hash.ghosts.hash_input value)) c.loop-at.invariant
-    ∙ sym (fed_more write leaf_hash.ghosts.hash_input (fold write c.args.state.now (fed.usize (length binds))) (bound_key binds) c.loop-at.at value
+    ∙ sym (fed_more write leaf_hash.ghosts.hash_input (fold write c.args.state.now (fed.usize (length binds)))
+    (bound_key binds) c.loop-at.at value
     (omega (arith, c.loop-at-test.true, values)) (value_read binds c.loop-at.at bind value c.loop-at-test.true))

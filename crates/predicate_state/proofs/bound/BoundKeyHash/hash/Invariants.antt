@@ -11,4 +11,5 @@ use Rattle.predicate_state.proofs.bound.BoundKeyHash.hash.Given as goal
 abbrev pub invariant-loop-at : goal.invariant-loop-at
 invariant-loop-at g l =
     l.state ≡ fold g.H.Hasher.write l.fn.state
-    (fed.usize (length l.self.binds.now) ++ flat_map leaf_hash.ghosts.hash_input (take l.at (bound_key l.self.binds.now)))
+    (fed.usize (length l.self.binds.now) ++ flat_map leaf_hash.ghosts.hash_input
+    (take l.at (bound_key l.self.binds.now)))

@@ -34,7 +34,8 @@ pub loop-key-preserved : goal.loop-key-preserved
 loop-key-preserved c =
     let fits : IsLong c.in-Some.sum = search rules in
     let yes : c.in_ok-add_own.field-0 ≡ true = grind arith in
-    let added = subst (AddsOwnRow c.loop-key.sums c.add_own.new.self c.in-Some.key (to_z w128 (of_z w128 c.in-Some.sum)))
+    let added = subst (AddsOwnRow c.loop-key.sums c.add_own.new.self c.in-Some.key
+    (to_z w128 (of_z w128 c.in-Some.sum)))
     yes c.in_ok-add_own.ensures in (
       added.1 ∙ ap (λ n. c.loop-key.sums ++ (c.in-Some.key, n) ∷ []) (to_z-of_z w128 c.in-Some.sum fits)
           ∙ ap (λ l. l ++ (c.in-Some.key, c.in-Some.sum) ∷ []) c.loop-key.invariant.0,
