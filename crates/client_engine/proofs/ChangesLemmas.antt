@@ -2,6 +2,7 @@
 use Rattle.std.proofs.Common.{◌≡◌, ℕ, zero, suc, ◌+◌, ◌<◌, ◌≤◌, Bool, true, false, List, [], ◌∷◌, ◌++◌, drop, length, slice_get, Option, Some, None, if◌then◌else◌, refl, sym, ap, ◌∙◌, arith, append-nil, append_assoc}
 use Rattle.std.specs.Option.{option_map, option_map_or, option_and_then}
 use Rattle.std.proofs.lemmas.List.{drop_all}
+use Rattle.std.proofs.lemmas.Bool.{false≢true}
 use Rattle.std.proofs.lemmas.Option.{none-some, same_Some}
 use Rattle.atom_record.specs.declared.value.MetricKey.{MetricKey}
 use Rattle.field_select.specs.declared.leaf.FieldSet.{FieldSet}
@@ -19,8 +20,8 @@ use Rattle.metric_meaning.specs.Scenes.{Scene}
 use Rattle.metric_calls.specs.DurationCalls.{told_as, known_in, change_at, changes_from}
 use Rattle.metric_calls.proofs.InnerChangesLemmas.{says-itself}
 use Rattle.client_engine.specs.declared.stays.Stays.{Stays}
-use Rattle.client_engine.specs.declared.stays.Stays.TheVariants.{Keys, Truths, Nothing}
-use Rattle.client_engine.specs.Staying.{KeepsWhatStays, truth_kept, first_asked}
+use Rattle.client_engine.specs.declared.stays.Stays.TheVariants.{Keys, Others, Truths, Nothing}
+use Rattle.client_engine.specs.Staying.{KeepsWhatStays, truth_kept, first_asked, is_kept}
 use Rattle.client_engine.specs.Handed.{Handed, IsOfScene}
 use Rattle.client_engine.specs.InnerTold.{told_of_place, reading_in}
 use Rattle.client_engine.proofs.ArrivingLemmas.{condition_there}
@@ -38,14 +39,17 @@ truth_there given scene metric key truth found truth_is =
     found.predicates
 
 -- a truth that stays is the truth now
-pub kept_there : (stays : Stays) (was : LeafKey → Option Known) (now : LeafKey → Known) (keys : List LeafKey)
-    (place : ℕ) (key : LeafKey) (truth : Truth) → KeepsWhatStays stays was now keys → Some key ≡ slice_get keys place
+pub kept_there : (fields : FieldSet) (stays : Stays) (was : LeafKey → Option Known) (now : LeafKey → Known)
+    (keys : List LeafKey) (place : ℕ) (key : LeafKey) (truth : Truth) → KeepsWhatStays fields stays was now keys
+    → Some key ≡ slice_get keys place
     → Some truth ≡ truth_kept stays (option_and_then (λ key. option_map (λ (known : Known). known.truth) (was key))
     (slice_get keys place))
     → truth ≡ (now key).truth
-kept_there (Keys listed) was now keys place key truth keeps is kept = absurd (none-some truth (sym kept))
-kept_there Nothing was now keys place key truth keeps is kept = absurd (none-some truth (sym kept))
-kept_there Truths was now keys place key truth keeps is kept =
+kept_there fields (Keys listed) was now keys place key truth keeps is kept = absurd (none-some truth (sym kept))
+kept_there fields (Others turn listed) was now keys place key truth keeps is kept =
+    absurd (none-some truth (sym kept))
+kept_there fields Nothing was now keys place key truth keeps is kept = absurd (none-some truth (sym kept))
+kept_there fields Truths was now keys place key truth keeps is kept =
     by (was key) refl (kept ∙ ap (λ found. option_and_then
     (λ key. option_map (λ (known : Known). known.truth) (was key)) found) (sym is)) where
       by : (told : Option Known) → was key ≡ told → Some truth ≡ option_map (λ (known : Known). known.truth) told
@@ -91,6 +95,18 @@ module _ (was : LeafKey → Option Known) (now : LeafKey → Known) where
       else record { place = place; truth = (now key).truth; out = (now key).out } ∷ []) ++ [])) said)
       ∙ ap (λ o. changes ++ told_of_place was now place o) is
 
+  -- nor of one of which all stays
+  pub kept_told : (fields : FieldSet) (stays : Stays) (keys : List LeafKey) (changes : List InnerChange) (place : ℕ)
+      (key : LeafKey) → KeepsWhatStays fields stays was now keys → Some key ≡ slice_get keys place
+      → is_kept stays place fields key ≡ true → changes ≡ changes ++ told_of_place was now place (slice_get keys place)
+  kept_told fields (Keys listed) keys changes place key keeps there kept = absurd (false≢true kept)
+  kept_told fields Truths keys changes place key keeps there kept = absurd (false≢true kept)
+  kept_told fields Nothing keys changes place key keeps there kept = absurd (false≢true kept)
+  kept_told fields (Others turn listed) keys changes place key keeps there kept =
+      told_there changes place (slice_get keys place) key (now key) true there refl
+      (sym (sym (ap (λ o. option_map_or (λ k. says (was k) (now key)) o false) there)
+      ∙ ap (λ o. says o (now key)) (keeps place key kept (sym there)) ∙ says-itself (now key))) refl
+
   -- of any other, what is so of it
   pub new_there : (changes more : List InnerChange) (place : ℕ) (found : Option LeafKey) (key : LeafKey) (known : Known)
       (told : Bool) → Some key ≡ found → known ≡ now key
@@ -123,19 +139,21 @@ module _ (was : LeafKey → Option Known) (now : LeafKey → Known) where
       ∙ ap (λ n. changes_from was now n (drop most keys)) on
 
   -- so nothing is told of the keys that aren't asked
-  pub first_skipped : (stays : Stays) (keys : List LeafKey) → KeepsWhatStays stays was now keys
+  pub first_skipped : (fields : FieldSet) (stays : Stays) (keys : List LeafKey)
+      → KeepsWhatStays fields stays was now keys
       → changes_from was now 0 keys ≡ changes_from was now (first_asked stays) (drop (first_asked stays) keys)
-  first_skipped Nothing keys keeps = refl
-  first_skipped Truths keys keeps = refl
-  first_skipped (Keys listed) keys keeps =
+  first_skipped fields Nothing keys keeps = refl
+  first_skipped fields Truths keys keeps = refl
+  first_skipped fields (Others turn listed) keys keeps = refl
+  first_skipped fields (Keys listed) keys keeps =
       let all : 0 + listed ≡ listed = omega arith in
       skipped listed 0 keys keeps ∙ ap (λ n. changes_from was now n (drop listed keys)) all
 
   -- nor of any where there are no more
-  pub all_skipped : (stays : Stays) (keys : List LeafKey) → length keys ≤ first_asked stays
-      → KeepsWhatStays stays was now keys → [] ≡ changes_from was now 0 keys
-  all_skipped stays keys past keeps =
-      sym (first_skipped stays keys keeps
+  pub all_skipped : (fields : FieldSet) (stays : Stays) (keys : List LeafKey) → length keys ≤ first_asked stays
+      → KeepsWhatStays fields stays was now keys → [] ≡ changes_from was now 0 keys
+  all_skipped fields stays keys past keeps =
+      sym (first_skipped fields stays keys keeps
       ∙ ap (λ l. changes_from was now (first_asked stays) l) (drop_all (first_asked stays) keys past))
 
   -- what is told from a place on: what is told of the key there, and then of the others

@@ -2,6 +2,7 @@
 use Rattle.std.proofs.Common.{◌≡◌, ℕ, Bool, false, List, [], ◌∷◌, ◌++◌, length, slice_get, Option, Some, None, refl, sym, ap, subst, ◌∙◌, append_assoc, append-nil}
 use Rattle.std.specs.Prelude.{is_some}
 use Rattle.std.specs.Map.{keys_of}
+use Rattle.std.specs.Option.{option_copied}
 use Rattle.std.proofs.lemmas.Option.{none-some, slice_get_within, get_or_from_slice_get, same_Some}
 use Rattle.atom_record.specs.declared.atom.Atom.{Atom}
 use Rattle.atom_record.specs.declared.log.LogFrame.{LogFrame}
@@ -49,8 +50,10 @@ use Rattle.client_engine.specs.KeptPredicates.{HasItsLeaves, KeepsItsLeaves}
 use Rattle.client_engine.specs.NextSteps.{logged_step, with_logged, ComeInTime, MayLog}
 use Rattle.client_engine.specs.SoundMetrics.{IsSoundIn}
 use Rattle.client_engine.specs.Touchers.{tells_one}
+use Rattle.client_engine.specs.Turning.{IsTurn}
 use Rattle.client_engine.specs.Staying.{stays_by, KeepsWhatStays}
 use Rattle.client_engine.specs.InnerTold.{StaysInScene}
+use Rattle.client_engine.specs.declared.stays.Before.{Before}
 use Rattle.client_engine.specs.declared.stays.Stays.{Stays}
 use Rattle.client_engine.proofs.AlongLemmas.{along_logs, along_crosses}
 use Rattle.client_engine.proofs.ShownLemmas.{shown_moment}
@@ -132,15 +135,16 @@ pub no_calls : {P Params Event After X K C V : Type 0} (law : Law P Params Event
     (lane : Lane P Event After V) → GetsCalls law lane lane []
 no_calls law lane params told calls has admitted = subst (LaneHas law lane params told) (sym (append-nil calls)) has
 
--- What is found of inner keys once an atom's event came: how many were listed before it, what stays by the two tests,
--- and what changed, where that stays.
+-- What is found of inner keys once an atom's event came: what was known before it, what stays by the two tests, and
+-- what changed, where that stays.
 pub record IsFoundAt {P X K C V : Type 0} (law : Law P DurationParams InnerEvent InnerDelta X K C (Row V))
-    (metric : LMetric) (given : Handed) (truths : List Bool) (atom : Atom) (crossed middle : P) (listed : ℕ)
+    (metric : LMetric) (given : Handed) (truths : List Bool) (atom : Atom) (crossed middle : P) (was : Before)
     (stays : Stays) (changes : List InnerChange) : Type 0 where
   pub listed_there : (params : DurationParams) (calls : List DurationCall) → law.stands crossed params calls
-      → listed ≡ length (inner_keys params.spec calls)
+      → was.listed ≡ length (inner_keys params.spec calls)
+  pub turn_there : IsTurn given.known.predicates metric truths atom (option_copied was.turn)
   pub stays_there : stays ≡ stays_by (acts_below given.known.predicates truths metric.condition)
-      (tells_one given.states atom.id metric.slices) listed
+      (tells_one given.states atom.id metric.slices) was
   pub changes_there : (params : DurationParams) (calls : List DurationCall) (scene : Scene)
       → law.stands middle params calls → IsOfScene given scene → StaysInScene stays params calls scene metric
       → changes ≡ changes_from (last_known params.spec calls) (known_in scene metric) 0 (inner_keys params.spec calls)
@@ -251,19 +255,20 @@ module _ {P X K C V : Type 0} (law : Law P DurationParams InnerEvent InnerDelta 
 
   -- an atom brings the event that it makes, and the changes that are found once that came
   pub atom_comes : (steps : List Step) (shown frame : LogFrame) (truths : List Bool) (given : Handed)
-      (crossed middle : P) (event : Option InnerEvent) (listed : ℕ) (stays : Stays)
+      (crossed middle : P) (event : Option InnerEvent) (was : Before) (stays : Stays)
       (changes : List InnerChange) (at : ℕ)
       (atom : Atom) → shown ≡ AtomAt at atom
       → event ≡ event_in (slice_get given.known.predicates metric.what) truths atom
-      → IsFoundAt law metric given truths atom crossed middle listed stays changes
+      → IsFoundAt law metric given truths atom crossed middle was stays changes
       → MayLog installed steps given shown frame truths
       → IsNewsAt steps frame truths crossed middle event (delta_with (is_some event) changes)
-  atom_comes steps shown frame truths given crossed middle event listed stays changes at atom is event_there there may =
+  atom_comes steps shown frame truths given crossed middle event was stays changes at atom is event_there there may =
       let params = duration_params installed.base metric spec in
       let step = logged_step frame truths in
       let now = known_after installed metric (steps ++ step ∷ []) in
       let listed_now = listed_after installed metric spec (steps ++ step ∷ []) in
       let found = measured installed metric in
+      let fields = inner_fields found in
       let log = log_after installed steps in
       let frame_is = shown_atom log frame at atom (sym may.shown_is ∙ is) in
       record {
@@ -274,18 +279,20 @@ module _ {P X K C V : Type 0} (law : Law P DurationParams InnerEvent InnerDelta 
             ∙ shown_event found log frame truths;
         delta_there = λ calls time before tells stands knows.
             let acted = calls ++ coming time event in
-            let keeps : KeepsWhatStays stays (last_known spec acted) now (inner_keys spec acted) =
-            subst (λ f. KeepsWhatStays stays (last_known spec acted)
+            let keeps : KeepsWhatStays fields stays (last_known spec acted) now (inner_keys spec acted) =
+            subst (λ f. KeepsWhatStays fields stays (last_known spec acted)
             (known_after installed metric (steps ++ logged_step f truths ∷ [])) (inner_keys spec acted)) (sym frame_is)
-            (subst (λ s. KeepsWhatStays s (last_known spec acted)
+            (subst (λ s. KeepsWhatStays fields s (last_known spec acted)
             (known_after installed metric (steps ++ logged_step (AtomAt at atom) truths ∷ [])) (inner_keys spec acted))
             (sym there.stays_there)
             (stays_so installed metric spec steps truths at atom calls time event tells
             (subst (λ f. KnowsActed installed metric spec acted steps (logged_step f truths)) frame_is knows)
             (acts_below given.known.predicates truths metric.condition) (tells_one given.states atom.id metric.slices)
-            listed (sym (ap (λ ps. acts_below ps truths metric.condition) may.found.predicates))
+            was (sym (ap (λ ps. acts_below ps truths metric.condition) may.found.predicates))
             (sym (ap (λ states. tells_one states atom.id metric.slices) may.found.states))
-            (there.listed_there params calls before))) in
+            (there.listed_there params calls before)
+            (subst (λ ps. IsTurn ps metric truths atom (option_copied was.turn)) may.found.predicates
+            there.turn_there))) in
             ap (delta_with (is_some event))
             (there.changes_there params acted
             (scene_after installed (with_logged steps frame truths)) stands may.found keeps

@@ -43,6 +43,7 @@ use Rattle.client_engine.specs.NextSteps.{logged_step, with_logged, ComeInTime, 
 use Rattle.client_engine.specs.Questions.{duration_questions}
 use Rattle.client_engine.specs.Staying.{stays_by, truth_kept}
 use Rattle.client_engine.specs.Touchers.{tells_one}
+use Rattle.client_engine.specs.declared.stays.Before.{Before}
 use Rattle.client_engine.specs.declared.stays.Stays.{Stays}
 use Rattle.client_engine.specs.declared.stays.Stays.TheVariants.{Truths}
 use Rattle.client_engine.proofs.AlongLemmas.{along_crosses}
@@ -127,18 +128,18 @@ module _ {P X K C V : Type 0} (law : Law P DurationParams InnerEvent InnerDelta 
   -- an atom that touches the metric or tells a state by which it is sliced costs no more than its questions
   pub atom_few : (shown frame : LogFrame) (truths : List Bool) (given : Handed)
       (old crossed middle : Lane P InnerEvent InnerDelta V) (event : Option InnerEvent) (steps : List Step)
-      (listed : ℕ) (stays : Stays) (before after at : ℕ) (atom : Atom) → shown ≡ AtomAt at atom
+      (was : Before) (stays : Stays) (before after at : ℕ) (atom : Atom) → shown ≡ AtomAt at atom
       → GetsFrame law old crossed (moment_of shown (log_time shown))
       → GetsCalls law crossed middle (coming (log_time shown) event)
       → event ≡ event_in (slice_get given.known.predicates metric.what) truths atom
       → stays ≡ stays_by (acts_below given.known.predicates truths metric.condition)
-      (tells_one given.states atom.id metric.slices) listed
+      (tells_one given.states atom.id metric.slices) was
       → (is_touched given.known.predicates metric truths || tells_one given.states atom.id metric.slices) ≡ true
       → AsksOfAll law.stands middle.producer stays before after
       → MayLog installed steps given shown frame truths → Along own law steps old
       → after ≤ before + (if is_touched installed.linked.predicates metric truths
       then duration_questions installed steps metric spec else 0)
-  atom_few shown frame truths given old crossed middle event steps listed stays before after at atom is crosses acts
+  atom_few shown frame truths given old crossed middle event steps was stays before after at atom is crosses acts
       event_there stays_are changes asks may along =
       let step = logged_step frame truths in
       let log = log_after installed steps in
@@ -178,5 +179,5 @@ module _ {P X K C V : Type 0} (law : Law P DurationParams InnerEvent InnerDelta 
       (neither (names_atom_itself metric truths) _ given_off).1).0 in
       let tells_it = second_of (is_touched predicates metric truths) (tells_one given.states atom.id metric.slices)
       given_off changes in
-      stays_are ∙ ap (λ b. stays_by b (tells_one given.states atom.id metric.slices) listed) calm
-      ∙ ap (λ b. stays_by false b listed) tells_it)
+      stays_are ∙ ap (λ b. stays_by b (tells_one given.states atom.id metric.slices) was) calm
+      ∙ ap (λ b. stays_by false b was) tells_it)

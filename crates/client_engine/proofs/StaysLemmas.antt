@@ -1,7 +1,10 @@
 -- What stays of inner keys after an atom: what `specs/Staying.antt` says stays, does.
-use Rattle.std.proofs.Common.{◌≡◌, ℕ, ◌<◌, Bool, true, false, List, [], ◌∷◌, ◌++◌, length, slice_get, Option, Some, sym, ap, subst, ◌∙◌, ⊎_elim, arith}
+use Rattle.std.proofs.Common.{◌≡◌, ℕ, ◌<◌, Bool, true, false, nat_lt, List, [], ◌∷◌, ◌++◌, length, slice_get, Option, Some, None, sym, ap, subst, ◌∙◌, ⊎_elim, arith}
+use Rattle.std.specs.Borrow.{Bor}
 use Rattle.std.specs.Map.{keys_of}
+use Rattle.std.specs.Option.{option_copied}
 use Rattle.std.proofs.lemmas.Bool.{cases_Bool}
+use Rattle.std.proofs.lemmas.Bool.Decides.{Decides-ltb}
 use Rattle.std.proofs.lemmas.Option.{none-some, same_Some}
 use Rattle.atom_record.specs.declared.atom.Atom.{Atom}
 use Rattle.atom_record.specs.declared.log.LogFrame.TheVariants.{AtomAt}
@@ -15,14 +18,18 @@ use Rattle.duration_metric.specs.declared.change.InnerEvent.{InnerEvent}
 use Rattle.duration_metric.specs.declared.inner.Known.{Known}
 use Rattle.duration_metric.specs.InnerKeys.{DurationCall, inner_keys, last_known}
 use Rattle.metric_meaning.specs.Histories.{Step, Installation}
+use Rattle.metric_meaning.specs.DurationSteps.{inner_fields, measured}
 use Rattle.metric_meaning.specs.Touched.{acts_below}
 use Rattle.metric_calls.specs.DurationCalls.{listed_after, known_after, told_after}
 use Rattle.metric_calls.proofs.InnerToldLemmas.{TellsInner, KnowsActed, listed_told, unlisted_told}
 use Rattle.client_engine.specs.NextSteps.{logged_step}
-use Rattle.client_engine.specs.Staying.{stays_by, KeepsWhatStays}
+use Rattle.client_engine.specs.Staying.{stays_apart, stays_by, KeepsWhatStays}
 use Rattle.client_engine.specs.Touchers.{tells_one}
+use Rattle.client_engine.specs.Turning.{asks_for_turn, IsTurn}
+use Rattle.client_engine.specs.declared.stays.Before.{Before}
+use Rattle.client_engine.specs.declared.turn.Turn.{Turn}
 use Rattle.client_engine.proofs.OldKeysLemmas.{among_there, are_old}
-use Rattle.client_engine.proofs.UntouchedLemmas.{truth_left, known_stays}
+use Rattle.client_engine.proofs.UntouchedLemmas.{truth_left, known_stays, known_apart}
 
 module _ (installed : Installation) (metric : LMetric) (spec : PredSpec) (steps : List Step) (truths : List Bool)
     (at : ℕ) (atom : Atom) (calls : List DurationCall) (time : ℕ) (event : Option InnerEvent)
@@ -64,18 +71,38 @@ module _ (installed : Installation) (metric : LMetric) (spec : PredSpec) (steps 
       absurd (none-some known (sym (unlisted_told installed metric spec steps key off) ∙ is)))
       (cases_Bool (is_among same_leaves key (listed_after installed metric spec steps)))
 
+  -- of the inner keys that don't ask for the key that turned, all stays
+  apart_so : (turn : Option (Bor Turn)) (listed : ℕ)
+      → tells_one installed.linked.states atom.id metric.slices ≡ false → listed ≡ length (inner_keys spec calls)
+      → IsTurn installed.linked.predicates metric truths atom (option_copied turn)
+      → KeepsWhatStays (inner_fields (measured installed metric)) (stays_apart turn listed) (last_known spec acted) now
+      (inner_keys spec acted)
+  apart_so None listed untold many turns = tt
+  apart_so (Some turn) listed untold many turns =
+      λ place key kept there.
+      let asks = asks_for_turn (inner_fields (measured installed metric)) key turn.now in
+      let here : nat_lt place listed ≡ true = grind (arith, kept) in
+      let apart : asks ≡ false = grind (arith, kept) in
+      let within : place < listed = (Decides-ltb place listed).0 here in
+      told_old place key (omega (arith, within, many)) there
+      ∙ ap (λ (k : Known). Some k)
+      (sym (known_apart installed metric spec steps truths at at atom turn.now turns untold key apart))
+
   -- what stays by the two tests is so of inner keys after the atom
-  pub stays_so : (touched is_told : Bool) (listed : ℕ)
+  pub stays_so : (touched is_told : Bool) (before : Before)
       → acts_below installed.linked.predicates truths metric.condition ≡ touched
       → tells_one installed.linked.states atom.id metric.slices ≡ is_told
-      → listed ≡ length (inner_keys spec calls)
-      → KeepsWhatStays (stays_by touched is_told listed) (last_known spec acted) now (inner_keys spec acted)
-  stays_so true is_told listed touches tells_state many = tt
-  stays_so false true listed off tells_state many =
+      → before.listed ≡ length (inner_keys spec calls)
+      → IsTurn installed.linked.predicates metric truths atom (option_copied before.turn)
+      → KeepsWhatStays (inner_fields (measured installed metric)) (stays_by touched is_told before)
+      (last_known spec acted) now (inner_keys spec acted)
+  stays_so true true before touches tells_state many turns = tt
+  stays_so true false before touches untold many turns = apart_so before.turn before.listed untold many turns
+  stays_so false true before off tells_state many turns =
       λ place key known there was.
       ap (λ (k : Known). k.truth) (told_is key known (sym (told_before place key there) ∙ was))
       ∙ sym (truth_left installed metric spec steps truths at at atom off key)
-  stays_so false false listed off untold many =
+  stays_so false false before off untold many turns =
       λ place key within there.
       told_old place key (omega (arith, within, many)) there
       ∙ ap (λ (k : Known). Some k) (sym (known_stays installed metric spec steps truths at at atom off untold key))

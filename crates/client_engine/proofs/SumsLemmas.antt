@@ -39,6 +39,7 @@ use Rattle.client_engine.specs.SoundMetrics.{IsSoundIn}
 use Rattle.client_engine.specs.SumsAlong.{SumLane, SumsAlong}
 use Rattle.client_engine.specs.declared.brought.Brought.{Brought}
 use Rattle.client_engine.specs.declared.request.ReportRequest.{ReportRequest}
+use Rattle.client_engine.specs.declared.stays.Before.{Before}
 use Rattle.client_engine.specs.declared.stays.Stays.{Stays}
 use Rattle.client_engine.proofs.InnerQuestionsLemmas.{atom_few}
 use Rattle.client_engine.proofs.QuestionsLemmas.{one_questions}
@@ -101,13 +102,13 @@ module _ (given : Handed) (metric : LMetric) (shown : LogFrame) (truths : List B
 
   -- an atom brings its event, and then what changed
   pub sums_turn : (at : ℕ) (atom : Atom) → shown ≡ AtomAt at atom → (middle new : SumLane) (event : Option InnerEvent)
-      (listed : ℕ) (stays : Stays) (changes : List InnerChange)
+      (was : Before) (stays : Stays) (changes : List InnerChange)
       → GetsCalls sum_law crossed middle (coming (log_time shown) event)
       → GetsCalls sum_law middle new (learning (log_time shown) (delta_with (is_some event) changes))
       → event ≡ event_in (slice_get given.known.predicates metric.what) truths atom
-      → IsFoundAt sum_law metric given truths atom crossed.producer middle.producer listed stays changes
+      → IsFoundAt sum_law metric given truths atom crossed.producer middle.producer was stays changes
       → TakesFrame (SumsAlong metric) given shown truths old new
-  sums_turn at atom is middle new event listed stays changes acts learns event_there found
+  sums_turn at atom is middle new event was stays changes acts learns event_there found
       installed steps frame has may =
       let way = sum_way installed metric has.spec in
       let well = sums_ask_well installed metric has.spec has.timed in
@@ -119,29 +120,29 @@ module _ (given : Handed) (metric : LMetric) (shown : LogFrame) (truths : List B
         along = inner_takes sum_law metric has.spec installed way well refl tell has.timed shown frame truths given old
             crossed middle new event (delta_with (is_some event) changes) steps crosses acts learns
             (atom_comes sum_law metric has.spec installed way well refl tell has.timed steps shown frame truths given
-            crossed.producer middle.producer event listed stays changes at atom is event_there found may) may has.along;
+            crossed.producer middle.producer event was stays changes at atom is event_there found may) may has.along;
       }
 
 -- an atom that touches the metric or tells a state by which it is sliced costs no more than its questions
 pub sums_few : (metric : LMetric) (conditions : Known) (brought : Brought) (old crossed middle : SumLane)
-    (event : Option InnerEvent) (listed : ℕ) (stays : Stays) (before after at : ℕ) (atom : Atom)
+    (event : Option InnerEvent) (was : Before) (stays : Stays) (before after at : ℕ) (atom : Atom)
     → brought.frame.now ≡ AtomAt at atom
     → GetsFrame sum_law old crossed (moment_of brought.frame.now (log_time brought.frame.now))
     → GetsCalls sum_law crossed middle (coming (log_time brought.frame.now) event)
     → event ≡ event_in (slice_get conditions.predicates metric.what) brought.matched.now atom
     → stays ≡ stays_by (acts_below conditions.predicates brought.matched.now metric.condition)
-    (tells_one brought.states.now atom.id metric.slices) listed
+    (tells_one brought.states.now atom.id metric.slices) was
     → (is_touched conditions.predicates metric brought.matched.now
     || tells_one brought.states.now atom.id metric.slices) ≡ true
     → AsksOfAll sum_law.stands middle.producer stays before after
     → AsksFew (SumsAlong metric) (metric ∷ []) conditions brought old before after
-sums_few metric conditions brought old crossed middle event listed stays before after at atom is crosses acts event_is
+sums_few metric conditions brought old crossed middle event was stays before after at atom is crosses acts event_is
     stays_are changes asks installed steps frame has may =
     let truths = brought.matched.now in
     let few = atom_few sum_law metric has.spec installed (sum_way installed metric has.spec)
     (sums_ask_well installed metric has.spec has.timed) refl (crossed_tell installed metric has.spec)
     (ap (λ kind. timed_predicate (record metric { kind = kind })) has.sums) brought.frame.now frame truths
-    (handed_with conditions brought) old crossed middle event steps listed stays before after at atom is crosses acts
+    (handed_with conditions brought) old crossed middle event steps was stays before after at atom is crosses acts
     event_is stays_are changes asks may has.along in
     let many : touched_questions installed steps metric ≡ duration_questions installed steps metric has.spec =
     ap (λ kind. touched_questions installed steps (record metric { kind = kind })) has.sums in

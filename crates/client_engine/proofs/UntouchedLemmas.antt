@@ -1,8 +1,9 @@
 -- What an atom leaves of the inner keys of a duration whose condition it doesn't touch; and where it doesn't touch the
 -- metric at all, nor tells a state by which it is sliced, nothing is told.
-use Rattle.std.proofs.Common.{◌≡◌, ℕ, Bool, true, false, ◌||◌, List, [], ◌∷◌, ◌++◌, length, Some, sym, ap, subst, ◌∙◌, append_assoc, arith}
+use Rattle.std.proofs.Common.{◌≡◌, ℕ, Bool, true, false, ◌||◌, List, [], ◌∷◌, ◌++◌, length, slice_get, Option, Some, None, refl, sym, ap, subst, ◌∙◌, append_assoc, arith}
 use Rattle.std.specs.Map.{keys_of}
 use Rattle.std.proofs.lemmas.Grind.{flat_map-append}
+use Rattle.std.proofs.lemmas.Option.{none-some}
 use Rattle.atom_record.specs.declared.atom.Atom.{Atom}
 use Rattle.atom_record.specs.declared.log.LogFrame.{LogFrame}
 use Rattle.atom_record.specs.declared.log.LogFrame.TheVariants.{Tick, AtomAt, Pull}
@@ -11,25 +12,30 @@ use Rattle.bucket_meaning.specs.Guard.{is_among}
 use Rattle.config_types.specs.declared.parameters.PredSpec.{PredSpec}
 use Rattle.config_links.specs.declared.linked.LMetric.{LMetric}
 use Rattle.config_links.specs.declared.linked.LKind.TheVariants as kinds
+use Rattle.config_links.specs.declared.linked.LPredicate.{LPredicate}
 use Rattle.condition_links.specs.ThreeValues.{is_true}
 use Rattle.predicate_state.specs.declared.truth.Truth.{Truth}
-use Rattle.predicate_state.specs.PredicateStates.{PredicateState}
+use Rattle.predicate_state.specs.PredicateStates.{PredicateState, KeyEvent}
+use Rattle.predicate_state.specs.PredicateTruths.{agrees}
 use Rattle.predicate_state.specs.PredicateTable.{LeafKey, same_leaves}
 use Rattle.duration_metric.specs.declared.inner.Known.{Known}
 use Rattle.metric_meaning.specs.Histories.{Logged, Step, Installation, frames_at, logged_frames, log_after}
 use Rattle.metric_meaning.specs.ShownFrames.{shown_as}
 use Rattle.metric_meaning.specs.PredicateSteps.{tables_after}
-use Rattle.metric_meaning.specs.MetricConditions.{condition_truth}
+use Rattle.metric_meaning.specs.MetricConditions.{link_binds, condition_truth}
 use Rattle.metric_meaning.specs.Readings.{LeafReading}
 use Rattle.metric_meaning.specs.StateSlices.{named_slices}
-use Rattle.metric_meaning.specs.DurationSteps.{inner_reading}
+use Rattle.metric_meaning.specs.DurationSteps.{inner_fields, measured, inner_reading}
 use Rattle.metric_meaning.specs.Touched.{acts_below, names_atom_itself, timed_predicate, is_touched}
 use Rattle.metric_meaning.proofs.TouchedLemmas.{neither, condition_stays}
 use Rattle.metric_meaning.proofs.TouchedDurations.{untouched_inner}
-use Rattle.metric_calls.specs.DurationCalls.{told_as, listed_after, known_after, told_after, inner_changes}
+use Rattle.metric_meaning.proofs.ApartLemmas.{condition_stays_apart}
+use Rattle.metric_calls.specs.DurationCalls.{event_in, told_as, listed_after, known_after, told_after, inner_changes}
 use Rattle.metric_calls.proofs.InnerChangesLemmas.{nothing_told}
-use Rattle.metric_calls.proofs.InnerToldLemmas.{listed_told}
+use Rattle.metric_calls.proofs.InnerToldLemmas.{events_of, one_event, listed_told}
 use Rattle.client_engine.specs.Touchers.{tells_one}
+use Rattle.client_engine.specs.Turning.{asks_for_turn, TurnsKey}
+use Rattle.client_engine.specs.declared.turn.Turn.{Turn}
 use Rattle.client_engine.proofs.StatesStayLemmas.{slices_stay}
 use Rattle.client_engine.proofs.TouchersLemmas.{past_below}
 
@@ -76,11 +82,18 @@ module _ (installed : Installation) (metric : LMetric) (spec : PredSpec) (steps 
   truth_left off key =
       ap (λ truth. told_as (is_true truth)) (condition_left off (inner_reading installed metric key))
 
-  -- and all that is so of it, where the atom tells no state either by which the metric is sliced
-  pub known_stays : acts_below installed.linked.predicates truths metric.condition ≡ false
-      → tells_one installed.linked.states atom.id metric.slices ≡ false → (key : LeafKey)
+  -- the truth of the condition of an inner key after some steps
+  abbrev truth_after : List Step → LeafKey → Truth
+  truth_after these key =
+      condition_truth installed.linked.predicates (tables_after installed.linked.predicates these) metric
+      (inner_reading installed metric key)
+
+  -- and all that is so of it stays, where its condition's truth does, and the atom tells no state by which the metric
+  -- is sliced
+  known_alike : tells_one installed.linked.states atom.id metric.slices ≡ false → (key : LeafKey)
+      → truth_after (steps ++ step ∷ []) key ≡ truth_after steps key
       → known_after installed metric (steps ++ step ∷ []) key ≡ known_after installed metric steps key
-  known_stays off untold key =
+  known_alike untold key alike =
       let reading = inner_reading installed metric key in
       let predicates = installed.linked.predicates in
       let states = installed.linked.states in
@@ -89,10 +102,36 @@ module _ (installed : Installation) (metric : LMetric) (spec : PredSpec) (steps 
         out = record { dims = reading metric.dims; slices = slices };
       } in
       ap (λ truth. now truth (named_slices states (log_after installed (steps ++ step ∷ [])) reading metric.slices))
-      (condition_left off reading)
+      alike
       ∙ ap (now (condition_truth predicates (tables_after predicates steps) metric reading))
       (ap (λ log. named_slices states log reading metric.slices) (log_on installed steps time (AtomAt at atom) truths)
       ∙ slices_stay states (log_after installed steps) at atom reading metric.slices untold)
+
+  -- so it does where the atom doesn't touch the condition
+  pub known_stays : acts_below installed.linked.predicates truths metric.condition ≡ false
+      → tells_one installed.linked.states atom.id metric.slices ≡ false → (key : LeafKey)
+      → known_after installed metric (steps ++ step ∷ []) key ≡ known_after installed metric steps key
+  known_stays off untold key = known_alike untold key (condition_left off (inner_reading installed metric key))
+
+  -- and where it turns one key of the condition for which the inner key doesn't ask
+  pub known_apart : (turn : Turn) → TurnsKey installed.linked.predicates metric truths atom turn
+      → tells_one installed.linked.states atom.id metric.slices ≡ false → (key : LeafKey)
+      → asks_for_turn (inner_fields (measured installed metric)) key turn ≡ false
+      → known_after installed metric (steps ++ step ∷ []) key ≡ known_after installed metric steps key
+  known_apart turn turns untold key apart =
+      known_alike untold key (by (slice_get installed.linked.predicates turns.root) refl turns.acts) where
+        event : KeyEvent LeafKey
+        event = record { event = turns.event; key = turn.key }
+
+        by : (found : Option LPredicate) → slice_get installed.linked.predicates turns.root ≡ found
+            → event_in found truths atom ≡ Some (record { event = turns.event; key = turn.key })
+            → truth_after (steps ++ step ∷ []) key ≡ truth_after steps key
+        by None there acts = absurd (none-some _ acts)
+        by (Some predicate) there acts =
+            let reading = inner_reading installed metric key in
+            condition_stays_apart installed.linked.predicates steps step metric reading turns.root predicate event
+            turns.asks there (one_event (Some predicate) step ∙ ap events_of acts) turns.of_one
+            (ap (λ link. agrees (link_binds reading link) turn.key) turns.linked ∙ apart)
 
   -- where the atom doesn't touch the metric at all, nothing changes of any
   pub nothing_changes : is_touched installed.linked.predicates metric truths ≡ false

@@ -1,5 +1,6 @@
 -- What is found of inner keys, one at a time: for private clauses.
 use Rattle.std.specs.Prelude.{◌≡◌, ℕ, Bool, List, [], ◌∷◌, ◌++◌, drop, slice_get, Option, Some, None}
+use Rattle.field_select.specs.declared.leaf.FieldSet.{FieldSet}
 use Rattle.config_links.specs.declared.linked.LMetric.{LMetric}
 use Rattle.predicate_state.specs.declared.truth.Truth.{Truth}
 use Rattle.predicate_state.specs.PredicateTable.{LeafKey}
@@ -41,10 +42,15 @@ abbrev pub told_of_place : (LeafKey → Option Known) → (LeafKey → Known) �
 told_of_place was now place None = changes_from was now place []
 told_of_place was now place (Some key) = changes_from was now place (key ∷ [])
 
+-- the fields of a metric's inner keys in a scene
+abbrev pub fields_in : Scene → LMetric → FieldSet
+fields_in scene metric = inner_fields (slice_get scene.linked.predicates metric.what)
+
 -- what stays of inner keys, whatever a producer stands for that keeps them, is so of them in the scene
 abbrev pub StaysInScene : Stays → DurationParams → List DurationCall → Scene → LMetric → Type 0
 StaysInScene stays params calls scene metric =
-    KeepsWhatStays stays (last_known params.spec calls) (known_in scene metric) (inner_keys params.spec calls)
+    KeepsWhatStays (fields_in scene metric) stays (last_known params.spec calls) (known_in scene metric)
+    (inner_keys params.spec calls)
 
 -- this is the truth of the condition of the inner key at a place, whatever the producer stands for
 abbrev pub HasTruth : {K : Type 0} → (K → DurationParams → List DurationCall → Type 0) → K → ℕ → LeafKey → Asker

@@ -21,6 +21,7 @@ pub mod Messages
 pub mod GaugesAlong
 pub mod PulledGaugesAlong
 pub mod EventsAlong
+pub mod Turning
 pub mod Staying
 pub mod Questions
 pub mod AskedFew

@@ -56,6 +56,8 @@ pub struct Conditions {
     binds: Vec<BindList>,
     /// The room in which a duration's output keys are made, from one that asks to the next.
     room: KeyRoom,
+    /// The room in which the key of an inner event is made.
+    event_key: DimKey,
 }
 
 impl Model for Conditions {
@@ -117,6 +119,7 @@ impl Conditions {
             },
             binds: Vec::new(alloc),
             room: KeyRoom::new(alloc),
+            event_key: DimKey::new(alloc),
         })
     }
 
@@ -297,20 +300,37 @@ impl Conditions {
         fields_at(self.tree.nodes.as_slice(), &self.no_fields, place)
     }
 
-    /// What an atom does to the keys of a predicate, if it does something.
+    /// What an atom does to the keys of a predicate, if it does something. Its key is made in the room of the last one
+    /// that was given back.
     pub fn inner_event(
-        &self,
+        &mut self,
         alloc: Global,
         place: u32,
         atom: &Atom,
         matched: &[bool],
     ) -> Result<Option<InnerEvent>, AllocError>
-        ensures { IfOk result (λ event. event
-            ≡ event_in (slice_get self.now.predicates place) matched.now atom.now) }
+        ensures event { IfOk result (λ event. event
+            ≡ event_in (slice_get self.old.predicates place) matched.now atom.now) }
+        ensures known { self.new ≡ self.old }
     {
         match self.tree.nodes.get(place as usize) {
-            Some(predicate) => key_event(alloc, &predicate.body, atom, matched),
+            Some(predicate) => key_event(
+                alloc,
+                &predicate.body,
+                atom,
+                matched,
+                &mut self.event_key,
+            ),
             None => Ok(None),
+        }
+    }
+
+    /// Gives an event back, whose key's room the next one gets.
+    pub fn give_event(&mut self, event: Option<InnerEvent>)
+        ensures { self.new ≡ self.old }
+    {
+        if let Some(event) = event {
+            self.event_key = event.key;
         }
     }
 

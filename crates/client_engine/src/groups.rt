@@ -9,6 +9,7 @@ ghost use Rattle.client_engine.specs.Groups.{row_shown, row_group, AddsRow, grou
 
 use atom_record::MetricKey;
 use indexmap::IndexMap;
+use key_hash::KeyHashing;
 use metric_producer::Row;
 use sd_base::Seq;
 use std::alloc::{AllocError, Global};
@@ -82,11 +83,12 @@ pub fn groups_of<S: RowShape>(
 fn collected<S: RowShape>(
     alloc: Global,
     rows: Seq<Row<S::Value>>,
-) -> Result<IndexMap<S::Group, Seq<S::Bucket>>, AllocError>
+) -> Result<IndexMap<S::Group, Seq<S::Bucket>, KeyHashing>, AllocError>
     ensures { IfOk result (λ groups. groups.entries
         ≡ grouped S.Group.eq (row_group S.group_of) (row_shown S.bucket) rows) }
 {
-    let mut groups = IndexMap::with_capacity(alloc, rows.len())?;
+    let hashing = KeyHashing::new();
+    let mut groups = IndexMap::with_capacity_and_hasher(alloc, rows.len(), hashing)?;
     for row in rows.into_vec() {
         add_row::<S>(alloc, &mut groups, row)?;
     }
@@ -96,7 +98,7 @@ fn collected<S: RowShape>(
 // One more row: a bucket more for a group that is there, or a new group.
 fn add_row<S: RowShape>(
     alloc: Global,
-    groups: &mut IndexMap<S::Group, Seq<S::Bucket>>,
+    groups: &mut IndexMap<S::Group, Seq<S::Bucket>, KeyHashing>,
     row: Row<S::Value>,
 ) -> Result<(), AllocError>
     ensures { OnOk result
@@ -124,7 +126,7 @@ fn add_row<S: RowShape>(
 
 // One more bucket of the group at a place.
 fn add_bucket<G: Eq + Hash + Drop, B: Drop>(
-    groups: &mut IndexMap<G, Seq<B>>,
+    groups: &mut IndexMap<G, Seq<B>, KeyHashing>,
     place: usize,
     bucket: B,
 ) -> Result<(), AllocError>

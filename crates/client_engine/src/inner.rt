@@ -14,7 +14,8 @@ ghost use Rattle.metric_calls.specs.DurationCalls.{first_event_of, delta_with, t
 ghost use Rattle.client_engine.specs.Bringing.{handed_with};
 ghost use Rattle.client_engine.specs.Handed.{IsOfScene};
 ghost use Rattle.client_engine.specs.InnerTold.{HasShared, IsStanding, StaysInScene, HasTruth, AddsChange};
-ghost use Rattle.client_engine.specs.Staying.{truth_kept, is_nothing};
+ghost use Rattle.client_engine.specs.Staying.{truth_kept, is_nothing, is_kept};
+ghost use Rattle.metric_meaning.specs.DurationSteps.{inner_fields};
 ghost use Rattle.client_engine.specs.AskedFew.{AsksOfPlace, AsksOfAll};
 ghost use Rattle.client_engine.specs.Touchers.{tells_one};
 
@@ -22,7 +23,7 @@ use crate::arriving::key_into;
 use crate::asked::{InnerKey, Nothing};
 use crate::brought::Brought;
 use crate::conditions::Conditions;
-use crate::key_room::KeyRoom;
+use crate::key_room::{KeyRoom, atom_key_into};
 use crate::slices::tells_one;
 use crate::stays::Stays;
 use crate::tables::event_by;
@@ -30,10 +31,10 @@ use atom_record::{Atom, DimKey, MetricKey};
 use condition_links::Steps;
 use config_links::{LMetric, LPredBody};
 use duration_metric::{InnerChange, InnerDelta, InnerEvent, MaxProducer, SumProducer};
-use field_select::key_of;
 use predicate_state::Truth;
 use sd_base::{Duplicate, Seq};
 use std::alloc::{AllocError, Global};
+use std::mem;
 use std::sync::ledger::Ledger;
 
 /// A producer of durations, as it is asked for its inner keys.
@@ -103,12 +104,14 @@ impl Inners for MaxProducer {
     }
 }
 
-/// What an atom does to the keys of a predicate, if it does something.
+/// What an atom does to the keys of a predicate, if it does something. Its key is made in the room of another one,
+/// which it takes.
 pub fn key_event(
     alloc: Global,
     body: &LPredBody,
     atom: &Atom,
     matched: &[bool],
+    room: &mut DimKey,
 ) -> Result<Option<InnerEvent>, AllocError>
     ensures { IfOk result (λ event. event
         ≡ first_event_of (atom_events body.now matched.now atom.now)) }
@@ -122,7 +125,8 @@ pub fn key_event(
             spec: _,
         } => match event_by(*start, *stop, *stop_all, matched) {
             Some(event) => {
-                let key = key_of(alloc, dims, atom)?;
+                let mut key = mem::replace(room, DimKey::new(alloc));
+                atom_key_into(alloc, dims, atom, &mut key)?;
                 Ok(Some(InnerEvent { event, key }))
             }
             None => Ok(None),
@@ -152,7 +156,7 @@ pub fn changes_with(
 struct Asker<'a> {
     metric: &'a LMetric,
     brought: &'a Brought<'a>,
-    stays: Stays,
+    stays: Stays<'a>,
     shared: Option<bool>,
 }
 
@@ -163,18 +167,18 @@ pub fn changes_of<K: Inners, L: Ledger>(
     keys: &K,
     metric: &LMetric,
     brought: &Brought<'_>,
-    stays: Stays,
+    stays: Stays<'_>,
     conditions: &mut Conditions,
     asks: &mut Steps<L>,
 ) -> Result<Seq<InnerChange>, AllocError>
     requires within { MayBeWithin (length conditions.old.predicates) metric.now.condition }
     ensures changes { (params : DurationParams) (calls : List DurationCall) (scene : Scene)
         → K.stands keys.now params calls → IsOfScene (handed_with conditions.old brought.now) scene
-        → StaysInScene stays params calls scene metric.now
+        → StaysInScene stays.entry params calls scene metric.now
         → IfOk result (λ changes. changes ≡ changes_from (last_known params.spec calls)
         (known_in scene metric.now) 0 (inner_keys params.spec calls)) }
     ensures known { conditions.new ≡ conditions.old }
-    ensures asks { AsksOfAll K.stands keys.now stays asks.old asks.new }
+    ensures asks { AsksOfAll K.stands keys.now stays.entry asks.old asks.new }
 {
     let mut changes = Seq::new(alloc);
     let first = stays.first_asked();
@@ -211,14 +215,14 @@ pub fn changes_of<K: Inners, L: Ledger>(
 fn shared_truth<L: Ledger>(
     alloc: Global,
     metric: &LMetric,
-    stays: Stays,
+    stays: Stays<'_>,
     conditions: &mut Conditions,
     asks: &mut Steps<L>,
 ) -> Result<Option<bool>, AllocError>
     requires within { MayBeWithin (length conditions.old.predicates) metric.now.condition }
     ensures shared { IfOk result (HasShared conditions.old metric.now) }
     ensures known { conditions.new ≡ conditions.old }
-    ensures asks { asks.new ≤ asks.old + (if is_nothing stays then 1 else 0) }
+    ensures asks { asks.new ≤ asks.old + (if is_nothing stays.entry then 1 else 0) }
 {
     if !stays.is_nothing() || !metric.links.is_empty() {
         return Ok(None);
@@ -247,6 +251,9 @@ fn add_change<K: Inners, L: Ledger>(
     let Some(key) = keys.key(place) else {
         return Ok(());
     };
+    if stays_at(place, key, asker, conditions) {
+        return Ok(());
+    }
     let truth = truth_at(alloc, keys, place, key, asker, conditions, asks)?;
     let inner = InnerKey {
         fields: conditions.fields_of(asker.metric.what),
@@ -262,6 +269,18 @@ fn add_change<K: Inners, L: Ledger>(
         truth,
         out,
     })
+}
+
+// Whether all stays that is so of the inner key at a place.
+fn stays_at(place: usize, key: &DimKey, asker: &Asker<'_>, conditions: &Conditions) -> bool
+    ensures { result ≡ is_kept asker.now.stays place
+        (inner_fields (slice_get conditions.now.predicates asker.now.metric.now.what)) key.now }
+{
+    let inner = InnerKey {
+        fields: conditions.fields_of(asker.metric.what),
+        key,
+    };
+    asker.stays.keeps(place, &inner)
 }
 
 // The truth that is told of the inner key at a place: the one that was told last where that stays, or else the one that
@@ -287,13 +306,13 @@ fn truth_at<K: Inners, L: Ledger>(
 }
 
 // The truth that was told last of the inner key at a place, where truths stay.
-fn kept_truth<K: Inners>(keys: &K, place: usize, stays: Stays) -> Option<Truth>
+fn kept_truth<K: Inners>(keys: &K, place: usize, stays: Stays<'_>) -> Option<Truth>
     ensures { (params : DurationParams) (calls : List DurationCall) → K.stands keys.now params calls
-        → result ≡ truth_kept stays (told_truth params.spec calls place) }
+        → result ≡ truth_kept stays.entry (told_truth params.spec calls place) }
 {
     match stays {
         Stays::Truths => keys.truth(place),
-        Stays::Keys(_) | Stays::Nothing => None,
+        Stays::Keys(_) | Stays::Others(..) | Stays::Nothing => None,
     }
 }
 

@@ -36,6 +36,7 @@ mod tables;
 mod touchers;
 mod track;
 mod tracks;
+mod turn;
 mod turns;
 mod watches;
 

@@ -1,66 +1,100 @@
 //! What stays after an atom of the inner keys that were there before it: what stays isn't asked again.
 ghost use Rattle.std.specs.Prelude.{◌≡◌};
 ghost use Rattle.metric_meaning.specs.Touched.{acts_below};
-ghost use Rattle.client_engine.specs.Staying.{stays_by, first_asked, is_nothing};
+ghost use Rattle.client_engine.specs.Staying.{stays_by, stays_apart, first_asked, is_nothing, is_kept};
 ghost use Rattle.client_engine.specs.Touchers.{tells_one};
 
+use crate::asked::InnerKey;
 use crate::brought::Brought;
 use crate::conditions::Conditions;
 use crate::slices::tells_one;
+use crate::turn::Turn;
 use atom_record::Atom;
 use config_links::LMetric;
 
+/// What is known of an atom before it acts on inner keys: how many are listed, and the key of the condition that it
+/// turns, if it is one alone.
+#[derive(Clone, Copy)]
+pub struct Before<'a> {
+    pub listed: usize,
+    pub turn: Option<&'a Turn<'a>>,
+}
+
 /// What stays after an atom of the inner keys that were there before it.
 #[derive(Clone, Copy)]
-pub enum Stays {
+pub enum Stays<'a> {
     /// All that is so of the keys before this place. One that the atom appended stands from there on.
     Keys(usize),
+    /// The same, but for the keys by whose values the link asks for the key that turned.
+    Others(&'a Turn<'a>, usize),
     /// Their truths. The keys for which they count may be others.
     Truths,
     /// Nothing: each is asked.
     Nothing,
 }
 
-impl Stays {
+impl Stays<'_> {
     /// The place from which on inner keys are asked.
     pub fn first_asked(self) -> usize
-        ensures { result ≡ first_asked self }
+        ensures { result ≡ first_asked self.entry }
     {
         match self {
             Stays::Keys(listed) => listed,
-            Stays::Truths | Stays::Nothing => 0,
+            Stays::Others(..) | Stays::Truths | Stays::Nothing => 0,
         }
     }
 
     /// Whether each key is asked for its truth.
     pub fn is_nothing(self) -> bool
-        ensures { result ≡ is_nothing self }
+        ensures { result ≡ is_nothing self.entry }
     {
         match self {
             Stays::Nothing => true,
-            Stays::Keys(_) | Stays::Truths => false,
+            Stays::Keys(_) | Stays::Others(..) | Stays::Truths => false,
+        }
+    }
+
+    /// Whether all that is so of the inner key at a place stays, although others are asked before it and after it.
+    pub fn keeps(self, place: usize, inner: &InnerKey<'_>) -> bool
+        ensures { result ≡ is_kept self.entry place inner.now.fields.now inner.now.key.now }
+    {
+        match self {
+            Stays::Others(turn, listed) => place < listed && !turn.asks(inner),
+            Stays::Keys(_) | Stays::Truths | Stays::Nothing => false,
         }
     }
 }
 
-/// What stays of a metric's inner keys, of which so many were listed before an atom: their truths where it doesn't
-/// touch the condition, and all where it doesn't tell a state either by which the metric is sliced.
-pub fn stays_with(
+/// What stays of a metric's inner keys after an atom: their truths where it doesn't touch the condition, and all where
+/// it doesn't tell a state either by which the metric is sliced. Where it turns one key of the condition, all stays but
+/// of those that ask for that key.
+pub fn stays_with<'a>(
     metric: &LMetric,
     brought: &Brought<'_>,
     atom: &Atom,
     conditions: &Conditions,
-    listed: usize,
-) -> Stays
+    before: Before<'a>,
+) -> Stays<'a>
     ensures { result
         ≡ stays_by (acts_below conditions.now.predicates brought.now.matched.now metric.now.condition)
-        (tells_one brought.now.states.now atom.now.id metric.now.slices) listed }
+        (tells_one brought.now.states.now atom.now.id metric.now.slices) before.entry }
 {
-    if conditions.acts_below(metric.condition, brought.matched) {
-        return Stays::Nothing;
+    let touches = conditions.acts_below(metric.condition, brought.matched);
+    let tells = tells_one(brought.states, atom.id, metric.slices.as_slice());
+    match (touches, tells) {
+        (true, true) => Stays::Nothing,
+        (true, false) => others_stay(before),
+        (false, true) => Stays::Truths,
+        (false, false) => Stays::Keys(before.listed),
     }
-    if tells_one(brought.states, atom.id, metric.slices.as_slice()) {
-        return Stays::Truths;
+}
+
+// What stays where the condition is touched, and no state is told.
+fn others_stay(before: Before<'_>) -> Stays<'_>
+    ensures { result ≡ stays_apart before.entry.turn before.entry.listed }
+{
+    match before.turn {
+        Some(turn) => Stays::Others(turn, before.listed),
+        None => Stays::Nothing,
     }
-    Stays::Keys(listed)
 }

@@ -107,7 +107,7 @@ fn act_on(
         } => match event_by(*start, *stop, *stop_all, matched) {
             Some(event) => {
                 let key = key_of(alloc, dims, atom)?;
-                table.apply(event, key)
+                table.apply(event, &key)
             }
             None => Ok(()),
         },

@@ -1,23 +1,25 @@
 //! What a lane of durations gets at a frame: an event if one comes, and then what is told, if something is.
 ghost use Rattle.std.specs.Prelude.{OnOk};
+ghost use Rattle.std.specs.Option.{option_copied};
 ghost use Rattle.metric_producer.specs.LaneCalls.{coming};
 ghost use Rattle.metric_lane.specs.LaneStands.{GetsCalls};
 ghost use Rattle.metric_calls.specs.DurationCalls.{learning};
 
 use metric_lane::Lane;
-use metric_producer::Producer;
+use metric_producer::{Producer, ReadsEvents};
 use std::alloc::AllocError;
 
-/// Hands an event on, if one comes.
-pub fn act<P: Producer>(
+/// Shows an event, if one comes.
+pub fn act<P: ReadsEvents>(
     lane: &mut Lane<P>,
     at: u64,
-    event: Option<P::Event>,
+    event: Option<&P::Event>,
 ) -> Result<(), AllocError>
-    ensures { OnOk result (GetsCalls P.law lane.old lane.new (coming at event)) }
+    ensures { OnOk result
+        (GetsCalls P.law lane.old lane.new (coming at (option_copied event.entry))) }
 {
     match event {
-        Some(event) => lane.event(at, event),
+        Some(event) => lane.event_of(at, event),
         None => Ok(()),
     }
 }

@@ -238,8 +238,8 @@ fn place_of(
     }
 }
 
-// The same, by a search from the first leaf on.
-fn first_place(leaves: &[LeafPath], leaf: &LeafPath) -> Option<usize>
+/// The same, by a search from the first leaf on.
+pub(crate) fn first_place(leaves: &[LeafPath], leaf: &LeafPath) -> Option<usize>
     ensures { result ≡ position (λ other. same_leaf other leaf.now) leaves.now }
 {
     leaves.iter().position(|other| *other == *leaf)

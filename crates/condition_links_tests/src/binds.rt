@@ -1,6 +1,6 @@
 //! What a link asks for.
 use atom_record::{Atom, AtomField, DimKey, Leaf, Value};
-use condition_links::{bind_atom, bind_key};
+use condition_links::{asks_for, bind_atom, bind_key};
 use config_links::LLink;
 use field_select::{FieldSet, LeafPath};
 use predicate_state::Bind;
@@ -96,5 +96,24 @@ fn binds_what_a_key_has(rt: HostRuntime) -> Result<(), Fail> {
     let key = key(rt.alloc(), &[Some(10), Some(20), None, Some(40)])?;
     let binds = bind_key(rt.alloc(), &link, &inner, &key)?;
     assert!(rt; ask(binds.as_slice(), &WANTED));
+    Ok(())
+}
+
+// Whether a link to the places 1 and 0 asks for a key of these two leaves, for a key whose leaves 3 and 4 are missing
+// and 40.
+fn asks_for_two(alloc: Global, leaves: &[Option<i32>]) -> Result<bool, AllocError> {
+    let link = link(alloc, &[4, 3], &[1, 0])?;
+    let inner = set(alloc, &[1, 2, 3, 4])?;
+    let asking = key(alloc, &[Some(10), Some(20), None, Some(40)])?;
+    let other = key(alloc, leaves)?;
+    Ok(asks_for(&link, &inner, &asking, &other))
+}
+
+#[test]
+fn asks_for_the_key_that_has_each_leaf(rt: HostRuntime) -> Result<(), Fail> {
+    assert!(rt; asks_for_two(rt.alloc(), &[None, Some(40)])?);
+    assert!(rt; !asks_for_two(rt.alloc(), &[None, Some(41)])?);
+    assert!(rt; !asks_for_two(rt.alloc(), &[Some(30), Some(40)])?);
+    assert!(rt; !asks_for_two(rt.alloc(), &[Some(40)])?);
     Ok(())
 }

@@ -49,9 +49,10 @@ pub fn combo(alloc: Global, op: Operation, places: &[u32]) -> Result<LPredicate,
 /// The table of a predicate without dimensions that is true, false or unknown.
 pub fn table(alloc: Global, truth: Truth) -> Result<PredTable, AllocError> {
     let mut table = PredTable::new(alloc, SPEC);
+    let key = DimKey::new(alloc);
     match truth {
-        Truth::True => table.apply(PredEvent::Start, DimKey::new(alloc))?,
-        Truth::False => table.apply(PredEvent::Stop, DimKey::new(alloc))?,
+        Truth::True => table.apply(PredEvent::Start, &key)?,
+        Truth::False => table.apply(PredEvent::Stop, &key)?,
         Truth::Unknown => {}
     }
     Ok(table)

@@ -12,6 +12,7 @@ ghost use Rattle.dim_table.specs.Lent.{lends_value};
 use crate::Admit;
 use indexmap::map::IntoIter;
 use indexmap::{Equivalent, IndexMap};
+use key_hash::KeyHashing;
 use sd_base::{Duplicate, Exact};
 use std::alloc::{AllocError, Global};
 use std::hash::Hash;
@@ -24,7 +25,7 @@ pub const MAX_KEYS: usize = 3000;
 /// Rows by key, in the order in which the keys first came. An arrival whose key finds no room is dropped and counted.
 #[derive(Drop)]
 pub struct Guarded<K: Exact + Hash, V> {
-    rows: IndexMap<K, V>,
+    rows: IndexMap<K, V, KeyHashing>,
     bound: usize,
     dropped: u64,
     alloc: Global,
@@ -59,7 +60,7 @@ impl<K: Exact + Hash + Drop, V: Drop> Guarded<K, V> {
         ensures { result ≡ record { rows = []; bound = bound; dropped = dropped } }
     {
         Guarded {
-            rows: IndexMap::new(alloc),
+            rows: IndexMap::with_hasher(alloc, KeyHashing::new()),
             bound,
             dropped,
             alloc,
@@ -165,7 +166,8 @@ impl<K: Exact + Hash + Drop, V: Drop> Guarded<K, V> {
         ensures rows { result ≡ self.old.rows }
         ensures left { self.new ≡ record self.old { rows = [] } }
     {
-        let rows = mem::replace(&mut self.rows, IndexMap::new(self.alloc));
+        let fresh = IndexMap::with_hasher(self.alloc, KeyHashing::new());
+        let rows = mem::replace(&mut self.rows, fresh);
         rows.into_iter()
     }
 

@@ -46,7 +46,6 @@ one_form one other e =
         spec = record { nesting = nesting i; unknown = at_first i; bound = (e i).0.1.0; leaves = (e i).0.1.1 };
         unknown = now i;
         table = (e i).1.1.1.1.0;
-        memory = tt;
       };
       books = record {
         start = (e i).1.1.0;

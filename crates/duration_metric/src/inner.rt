@@ -73,18 +73,17 @@ impl InnerTable {
     }
 
     /// Lets an event act on its key.
-    pub(crate) fn act(&mut self, ev: InnerEvent) -> Result<(), AllocError>
-        ensures calls { OnOk result (TakesEvent self.old self.new ev) }
+    pub(crate) fn act(&mut self, ev: &InnerEvent) -> Result<(), AllocError>
+        ensures calls { OnOk result (TakesEvent self.old self.new ev.now) }
         ensures counts { OnOk result (KeepsCounts self.old self.new) }
         ensures steady { OnOk result (KeepsSteady self.old self.new) }
     {
-        let InnerEvent { event, key } = ev;
-        self.apply(event, key)
+        self.apply(ev.event, &ev.key)
     }
 
     // Lets an event act on a key.
-    fn apply(&mut self, event: PredEvent, key: DimKey) -> Result<(), AllocError>
-        ensures { OnOk result (ActsOn self.old self.new event key) }
+    fn apply(&mut self, event: PredEvent, key: &DimKey) -> Result<(), AllocError>
+        ensures { OnOk result (ActsOn self.old self.new event key.now) }
     {
         match event {
             PredEvent::Start => self.start(key),
@@ -126,10 +125,10 @@ impl InnerTable {
     }
 
     // Counts a start of a key.
-    fn start(&mut self, key: DimKey) -> Result<(), AllocError>
-        ensures { OnOk result (ActsOn self.old self.new Start key) }
+    fn start(&mut self, key: &DimKey) -> Result<(), AllocError>
+        ensures { OnOk result (ActsOn self.old self.new Start key.now) }
     {
-        match self.row_of(&key) {
+        match self.row_of(key) {
             Some((place, count)) => {
                 let more = add_start(self.nesting, count);
                 // A key that stays as it was isn't looked at again.
@@ -143,14 +142,14 @@ impl InnerTable {
     }
 
     // Counts a stop of a key.
-    fn stop(&mut self, key: DimKey) -> Result<(), AllocError>
-        ensures { OnOk result (ActsOn self.old self.new Stop key) }
+    fn stop(&mut self, key: &DimKey) -> Result<(), AllocError>
+        ensures { OnOk result (ActsOn self.old self.new Stop key.now) }
     {
-        match self.row_of(&key) {
+        match self.row_of(key) {
             Some((place, count)) => {
                 let less = add_stop(self.nesting, count);
                 if less == 0 && !self.unknown {
-                    return self.remove(&key);
+                    return self.remove(key);
                 }
                 self.set_count(place, less)
             }
@@ -199,17 +198,17 @@ impl InnerTable {
         self.touched.push(place as u64)
     }
 
-    // Lists a new key, or counts that it finds no room.
-    fn append(&mut self, key: DimKey, count: u64) -> Result<(), AllocError>
-        requires absent { ¬ Contains (keys self.old.keys) key }
-        ensures { OnOk result (ListsKey self.old self.new key count) }
+    // Lists a copy of a new key, or counts that it finds no room.
+    fn append(&mut self, key: &DimKey, count: u64) -> Result<(), AllocError>
+        requires absent { ¬ Contains (keys self.old.keys) key.now }
+        ensures { OnOk result (ListsKey self.old self.new key.now count) }
     {
         let inner = Inner {
             count,
             known: None,
             tallied: false,
         };
-        self.keys.admit(key, inner)?;
+        self.keys.admit_copy(key, inner)?;
         Ok(())
     }
 

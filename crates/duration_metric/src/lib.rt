@@ -18,6 +18,6 @@ mod tally;
 
 pub use change::{InnerChange, InnerDelta, InnerEvent};
 pub use laws::crossings_join;
-pub use metric_producer::{Closed, Producer, Row};
+pub use metric_producer::{Closed, Producer, ReadsEvents, Row};
 pub use sparse::MaxProducer;
 pub use sum_producer::SumProducer;

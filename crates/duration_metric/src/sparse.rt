@@ -11,7 +11,7 @@ ghost use Rattle.duration_metric.specs.SparseStands.{SparseStandsFor, sparse_law
 use crate::inner::says;
 use crate::sparse_books::SparseBooks;
 use crate::sparse_keys::SparseKeys;
-use crate::{Closed, InnerDelta, InnerEvent, Producer};
+use crate::{Closed, InnerDelta, InnerEvent, Producer, ReadsEvents};
 use atom_record::{DimKey, MetricKey};
 use bucket_clock::Crossings;
 use config_types::PredSpec;
@@ -87,33 +87,30 @@ impl MaxProducer {
     }
 
     // Starts an inner key once more.
-    fn start(&mut self, at: u64, key: DimKey) -> Result<(), AllocError>
+    fn start(&mut self, at: u64, key: &DimKey) -> Result<(), AllocError>
         ensures { OnOk result (Moves sparse_law self.old self.new
-            (Got at (record { event = Start; key = key }))) }
+            (Got at (record { event = Start; key = key.now }))) }
     {
         let turn = self.keys.start(at, key)?;
-        self.books
-            .note(&self.keys.table, turn, self.keys.memory.alloc())
+        self.books.note(&self.keys.table, turn)
     }
 
     // Stops an inner key once.
-    fn stop(&mut self, at: u64, key: DimKey) -> Result<(), AllocError>
+    fn stop(&mut self, at: u64, key: &DimKey) -> Result<(), AllocError>
         ensures { OnOk result (Moves sparse_law self.old self.new
-            (Got at (record { event = Stop; key = key }))) }
+            (Got at (record { event = Stop; key = key.now }))) }
     {
         let turn = self.keys.stop(at, key)?;
-        self.books
-            .note(&self.keys.table, turn, self.keys.memory.alloc())
+        self.books.note(&self.keys.table, turn)
     }
 
     // Stops every inner key for good.
-    fn stop_all(&mut self, at: u64, key: DimKey) -> Result<(), AllocError>
+    fn stop_all(&mut self, at: u64, key: &DimKey) -> Result<(), AllocError>
         ensures { OnOk result (Moves sparse_law self.old self.new
-            (Got at (record { event = StopAll; key = key }))) }
+            (Got at (record { event = StopAll; key = key.now }))) }
     {
         let gone = self.keys.stop_all(at, key);
-        self.books
-            .note_all(&self.keys.table, gone, at, self.keys.memory.alloc())
+        self.books.note_all(&self.keys.table, gone, at)
     }
 }
 
@@ -140,11 +137,7 @@ impl Producer for MaxProducer {
     ghost law = { sparse_law };
 
     fn event(&mut self, at: u64, ev: InnerEvent) -> Result<(), AllocError> {
-        match ev.event {
-            PredEvent::Start => self.start(at, ev.key),
-            PredEvent::Stop => self.stop(at, ev.key),
-            PredEvent::StopAll => self.stop_all(at, ev.key),
-        }
+        self.event_of(at, &ev)
     }
 
     fn condition(&mut self, at: u64, now: InnerDelta) -> Result<(), AllocError> {
@@ -165,5 +158,15 @@ impl Producer for MaxProducer {
 
     fn take(&mut self) -> Closed<u64> {
         self.books.take()
+    }
+}
+
+impl ReadsEvents for MaxProducer {
+    fn event_of(&mut self, at: u64, ev: &InnerEvent) -> Result<(), AllocError> {
+        match ev.event {
+            PredEvent::Start => self.start(at, &ev.key),
+            PredEvent::Stop => self.stop(at, &ev.key),
+            PredEvent::StopAll => self.stop_all(at, &ev.key),
+        }
     }
 }

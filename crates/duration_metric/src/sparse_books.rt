@@ -50,7 +50,6 @@ impl SparseBooks {
         &mut self,
         keys: &Guarded<DimKey, SparseEntry>,
         turn: Turn,
-        alloc: Global,
     ) -> Result<(), AllocError>
         ensures { OnOk result (TakesLongestMarks self.old self.new (turn_marks keys.now.rows turn)) }
     {
@@ -61,7 +60,7 @@ impl SparseBooks {
                 Ok(())
             }
             Turn::Off(key, time) => admit(&mut self.table, key, time),
-            Turn::OffAt(place, time) => self.note_at(keys, place, time, alloc),
+            Turn::OffAt(place, time) => self.note_at(keys, place, time),
         }
     }
 
@@ -71,13 +70,12 @@ impl SparseBooks {
         keys: &Guarded<DimKey, SparseEntry>,
         place: usize,
         time: u64,
-        alloc: Global,
     ) -> Result<(), AllocError>
         ensures { OnOk result
             (TakesLongestMarks self.old self.new (turn_marks keys.now.rows (OffAt place time))) }
     {
         match told_at(keys, place) {
-            Some(out) => admit_copy(&mut self.table, out, time, alloc),
+            Some(out) => admit_copy(&mut self.table, out, time),
             None => Ok(()),
         }
     }
@@ -88,12 +86,11 @@ impl SparseBooks {
         keys: &Guarded<DimKey, SparseEntry>,
         gone: IntoIter<DimKey, SparseEntry>,
         at: u64,
-        alloc: Global,
     ) -> Result<(), AllocError>
         ensures { OnOk result (TakesLongestMarks self.old self.new (flat_map (row_marks at) gone)) }
     {
         for (_key, entry) in gone {
-            self.note(keys, leave(entry, at), alloc)?;
+            self.note(keys, leave(entry, at))?;
         }
         Ok(())
     }
@@ -140,14 +137,13 @@ fn admit_copy(
     table: &mut Guarded<MetricKey, u64>,
     key: &MetricKey,
     time: u64,
-    alloc: Global,
 ) -> Result<(), AllocError>
     ensures { OnOk result (TakesTime table.old table.new key.now time) }
 {
-    let Some(place) = table.place_of(key) else {
-        return admit(table, key.clone_key(alloc)?, time);
-    };
-    lengthen(table, place, time);
+    match table.admit_copy(key, 0)? {
+        Admit::At(place) => lengthen(table, place, time),
+        Admit::Full => (),
+    }
     Ok(())
 }
 

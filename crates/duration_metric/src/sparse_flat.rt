@@ -5,7 +5,6 @@ ghost use Rattle.flat_form.specs.Bounded.{short_head};
 ghost use Rattle.duration_metric.specs.SparseForm.{RestoresLongest};
 
 use crate::flat::{decode_flag, encode_flag};
-use crate::memory::Memory;
 use crate::sparse_books::SparseBooks;
 use crate::sparse_keys::{SparseEntry, SparseKeys};
 use crate::{MaxProducer, Row};
@@ -29,7 +28,7 @@ type Tables = (
 type Parts = (SpecParts, (u64, (u64, (u64, Tables))));
 
 // The producer that has these parts, or none where no producer has them.
-fn restore(alloc: Global, parts: Parts) -> Option<MaxProducer>
+fn restore(parts: Parts) -> Option<MaxProducer>
     ensures { RestoresLongest parts result }
 {
     let (((nesting, at_first), (bound, leaves)), (now, (start, (lost, tables)))) = parts;
@@ -50,7 +49,6 @@ fn restore(alloc: Global, parts: Parts) -> Option<MaxProducer>
             },
             unknown,
             table: keys,
-            memory: Memory::new(alloc),
         },
         books: SparseBooks {
             start,
@@ -108,7 +106,7 @@ impl Flat for MaxProducer {
         place: usize,
     ) -> Result<(MaxProducer, usize), FlatError> {
         let (parts, next) = Parts::build(alloc, items, place)?;
-        let Some(longest) = restore(alloc, parts) else {
+        let Some(longest) = restore(parts) else {
             return Err(FlatError::Bad);
         };
         Ok((longest, next))

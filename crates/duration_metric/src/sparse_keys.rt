@@ -15,7 +15,6 @@ ghost use Rattle.duration_metric.specs.Tallies.{known_key};
 ghost use Rattle.duration_metric.specs.declared.sparse_keys.SparseEntry.{SparseEntry};
 
 use crate::inner::{Known, add_start, add_stop};
-use crate::memory::Memory;
 use crate::{InnerChange, InnerDelta};
 use atom_record::{DimKey, MetricKey};
 use config_types::PredSpec;
@@ -55,7 +54,6 @@ pub struct SparseKeys {
     pub(crate) spec: PredSpec,
     pub(crate) unknown: bool,
     pub(crate) table: Guarded<DimKey, SparseEntry>,
-    pub(crate) memory: Memory,
 }
 
 impl SparseKeys {
@@ -69,16 +67,15 @@ impl SparseKeys {
             spec,
             unknown: spec.unknown,
             table: Guarded::new(alloc, spec.bound as usize),
-            memory: Memory::new(alloc),
         }
     }
 
     /// A key is started once more.
-    pub(crate) fn start(&mut self, at: u64, key: DimKey) -> Result<Turn, AllocError>
+    pub(crate) fn start(&mut self, at: u64, key: &DimKey) -> Result<Turn, AllocError>
         ensures { IfOk result (λ turn. TakesKeyEvent self.old self.new at
-            (record { event = events.Start; key = key }) (turn_marks self.new.table.rows turn)) }
+            (record { event = events.Start; key = key.now }) (turn_marks self.new.table.rows turn)) }
     {
-        let Some(place) = self.table.place_of(&key) else {
+        let Some(place) = self.table.place_of(key) else {
             return self.append(key, 1, at);
         };
         start_at(&mut self.table, self.spec.nesting, place, at);
@@ -86,11 +83,11 @@ impl SparseKeys {
     }
 
     /// A key is stopped once.
-    pub(crate) fn stop(&mut self, at: u64, key: DimKey) -> Result<Turn, AllocError>
+    pub(crate) fn stop(&mut self, at: u64, key: &DimKey) -> Result<Turn, AllocError>
         ensures { IfOk result (λ turn. TakesKeyEvent self.old self.new at
-            (record { event = events.Stop; key = key }) (turn_marks self.new.table.rows turn)) }
+            (record { event = events.Stop; key = key.now }) (turn_marks self.new.table.rows turn)) }
     {
-        let Some(place) = self.table.place_of(&key) else {
+        let Some(place) = self.table.place_of(key) else {
             return self.stop_absent(at, key);
         };
         let Some((_key, entry)) = self.table.pair(place) else {
@@ -106,15 +103,15 @@ impl SparseKeys {
             set_count(&mut self.table, place, 0);
             return Ok(turn);
         }
-        let Some(gone) = self.table.remove(&key) else {
+        let Some(gone) = self.table.remove(key) else {
             return Ok(Turn::Stays);
         };
         Ok(leave(gone, at))
     }
 
     /// Stops every key for good. The answer is all keys that were listed.
-    pub(crate) fn stop_all(&mut self, at: u64, key: DimKey) -> IntoIter<DimKey, SparseEntry>
-        ensures { TakesKeyEvent self.old self.new at (record { event = events.StopAll; key = key })
+    pub(crate) fn stop_all(&mut self, at: u64, key: &DimKey) -> IntoIter<DimKey, SparseEntry>
+        ensures { TakesKeyEvent self.old self.new at (record { event = events.StopAll; key = key.now })
             (flat_map (row_marks at) result) }
     {
         let _at = at;
@@ -133,10 +130,10 @@ impl SparseKeys {
     }
 
     // A stop of a key that isn't listed, which matters only where it might have been started before.
-    fn stop_absent(&mut self, at: u64, key: DimKey) -> Result<Turn, AllocError>
-        requires absent { position (same_leaves key) (keys self.old.table) ≡ None }
+    fn stop_absent(&mut self, at: u64, key: &DimKey) -> Result<Turn, AllocError>
+        requires absent { position (same_leaves key.now) (keys self.old.table) ≡ None }
         ensures { IfOk result (λ turn. TakesKeyEvent self.old self.new at
-            (record { event = events.Stop; key = key }) (turn_marks self.new.table.rows turn)) }
+            (record { event = events.Stop; key = key.now }) (turn_marks self.new.table.rows turn)) }
     {
         if !self.unknown {
             return Ok(Turn::Stays);
@@ -144,10 +141,11 @@ impl SparseKeys {
         self.append(key, 0, at)
     }
 
-    // Lists a new key, or says that it found no room.
-    fn append(&mut self, key: DimKey, count: u64, at: u64) -> Result<Turn, AllocError>
-        requires absent { position (same_leaves key) (keys self.old.table) ≡ None }
-        ensures { IfOk result (λ turn. ListsKey self.old self.new at key count (turn_marks self.new.table.rows turn)) }
+    // Lists a copy of a new key, or says that it found no room.
+    fn append(&mut self, key: &DimKey, count: u64, at: u64) -> Result<Turn, AllocError>
+        requires absent { position (same_leaves key.now) (keys self.old.table) ≡ None }
+        ensures { IfOk result
+            (λ turn. ListsKey self.old self.new at key.now count (turn_marks self.new.table.rows turn)) }
     {
         let entry = SparseEntry {
             count,
@@ -156,7 +154,7 @@ impl SparseKeys {
             since: at,
         };
         let before = self.table.dropped();
-        self.table.admit(key, entry)?;
+        self.table.admit_copy(key, entry)?;
         if self.table.dropped() > before {
             return Ok(Turn::Lost);
         }

@@ -73,8 +73,8 @@ impl Sums {
     }
 
     /// An event comes.
-    pub(crate) fn event(&mut self, at: u64, ev: InnerEvent) -> Result<(), AllocError>
-        ensures moves { OnOk result (Moves sum_law (seen self.old) (seen self.new) (Got at ev)) }
+    pub(crate) fn event(&mut self, at: u64, ev: &InnerEvent) -> Result<(), AllocError>
+        ensures moves { OnOk result (Moves sum_law (seen self.old) (seen self.new) (Got at ev.now)) }
         ensures tally { OnOk result (HasRightTally self.old → HasRightTally self.new) }
     {
         let _at = at;
@@ -111,7 +111,7 @@ impl Sums {
         step_outs(&mut self.table, &self.tally, keys, began.as_slice(), at);
         forget_all(&mut self.tally, &self.table, gone.as_slice());
         forget_tolds(&mut self.tally, &self.table, keys, places.as_slice());
-        begin_outs(&mut self.table, keys, began.as_slice(), at, alloc)
+        begin_outs(&mut self.table, keys, began.as_slice(), at)
     }
 
     /// Ends of buckets are crossed.
@@ -167,8 +167,7 @@ impl Sums {
         ensures opens { OnOk result (Opens (seen self.old) (seen self.new)) }
         ensures tally { OnOk result (HasRightTally self.old → HasRightTally self.new) }
     {
-        let alloc = self.memory.alloc();
-        begin_all(&mut self.table, &self.inner.keys, self.start, alloc)
+        begin_all(&mut self.table, &self.inner.keys, self.start)
     }
 }
 
@@ -274,23 +273,15 @@ fn step_outs(
     }
 }
 
-// Admits a key whose run begins. A key that is there isn't copied.
-fn begin(
-    table: &mut Guarded<MetricKey, Span>,
-    key: &MetricKey,
-    at: u64,
-    alloc: Global,
-) -> Result<(), AllocError>
+// Admits a key whose run begins. It is copied where it is new and finds room.
+fn begin(table: &mut Guarded<MetricKey, Span>, key: &MetricKey, at: u64) -> Result<(), AllocError>
     ensures { OnOk result (BeginsRun table.old table.new [] key.now at) }
 {
-    if let Some(_place) = table.place_of(key) {
-        return Ok(());
-    }
     let span = Span {
         sum: 0,
         since: Some(at),
     };
-    table.admit(key.clone_key(alloc)?, span)?;
+    table.admit_copy(key, span)?;
     Ok(())
 }
 
@@ -300,12 +291,11 @@ fn begin_out(
     keys: &Guarded<DimKey, Inner>,
     place: u64,
     at: u64,
-    alloc: Global,
 ) -> Result<(), AllocError>
     ensures { OnOk result (BeginsOut table.old table.new (found_out (slice_get keys.now.rows place)) at) }
 {
     match out_at(keys, place) {
-        Some(key) => begin(table, key, at, alloc),
+        Some(key) => begin(table, key, at),
         None => Ok(()),
     }
 }
@@ -316,14 +306,13 @@ fn begin_outs(
     keys: &Guarded<DimKey, Inner>,
     places: &[u64],
     at: u64,
-    alloc: Global,
 ) -> Result<(), AllocError>
     ensures begins { OnOk result
         (BeginsAll table.old table.new [] (outs_at keys.now.rows places.now) at) }
     ensures keys { OnOk result (KeepsKeys table.old table.new) }
 {
     for place in places {
-        begin_out(table, keys, *place, at, alloc)?;
+        begin_out(table, keys, *place, at)?;
     }
     Ok(())
 }
@@ -333,14 +322,13 @@ fn begin_all(
     table: &mut Guarded<MetricKey, Span>,
     keys: &Guarded<DimKey, Inner>,
     at: u64,
-    alloc: Global,
 ) -> Result<(), AllocError>
     ensures begins { OnOk result
         (BeginsAll table.old table.new [] (flat_map row_out keys.now.rows) at) }
     ensures keys { OnOk result (KeepsKeys table.old table.new) }
 {
     for place in 0..keys.len() {
-        begin_out(table, keys, place as u64, at, alloc)?;
+        begin_out(table, keys, place as u64, at)?;
     }
     Ok(())
 }

@@ -6,7 +6,7 @@ ghost use Rattle.duration_metric.specs.InnerKeys.{DurationParams, DurationCall, 
 ghost use Rattle.duration_metric.specs.SumStands.{SumStandsFor};
 
 use crate::sum::Sums;
-use crate::{Closed, InnerDelta, InnerEvent, Producer};
+use crate::{Closed, InnerDelta, InnerEvent, Producer, ReadsEvents};
 use atom_record::{DimKey, MetricKey};
 use bucket_clock::Crossings;
 use config_types::PredSpec;
@@ -107,8 +107,7 @@ impl Producer for SumProducer {
     ghost law = { sum_law };
 
     fn event(&mut self, at: u64, ev: InnerEvent) -> Result<(), AllocError> {
-        let answer = self.sums.event(at, ev);
-        self.sums.after(answer)
+        self.event_of(at, &ev)
     }
 
     fn condition(&mut self, at: u64, now: InnerDelta) -> Result<(), AllocError> {
@@ -137,5 +136,12 @@ impl Producer for SumProducer {
             dropped: self.sums.table.take_dropped().saturating_add(since),
             missing: 0,
         }
+    }
+}
+
+impl ReadsEvents for SumProducer {
+    fn event_of(&mut self, at: u64, ev: &InnerEvent) -> Result<(), AllocError> {
+        let answer = self.sums.event(at, ev);
+        self.sums.after(answer)
     }
 }

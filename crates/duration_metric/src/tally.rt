@@ -4,6 +4,7 @@ ghost use Rattle.duration_metric.specs.Tallies.{tally_at, is_counted, Raises, Lo
 
 use atom_record::MetricKey;
 use indexmap::IndexMap;
+use key_hash::KeyHashing;
 use std::alloc::{AllocError, Global};
 use std::marker::Model;
 
@@ -11,7 +12,7 @@ use std::marker::Model;
 /// where it begins again.
 #[derive(Drop)]
 pub struct Tally {
-    counts: IndexMap<MetricKey, u64>,
+    counts: IndexMap<MetricKey, u64, KeyHashing>,
 }
 
 impl Model for Tally {
@@ -29,7 +30,7 @@ impl Tally {
         ensures { result ≡ [] }
     {
         Tally {
-            counts: IndexMap::new(alloc),
+            counts: IndexMap::with_hasher(alloc, KeyHashing::new()),
         }
     }
 

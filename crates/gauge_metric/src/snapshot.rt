@@ -1,15 +1,15 @@
 //! Samples of a snapshot's atoms, which stays for later moments, so that its atoms are copied.
-ghost use Rattle.std.specs.Prelude.{◌≡◌, Some, [], List, slice_get, IfOk, OnOk};
+ghost use Rattle.std.specs.Prelude.{◌≡◌, Some, List, slice_get, OnOk};
 ghost use Rattle.std.specs.Map.{values_of};
 ghost use Rattle.atom_record.specs.declared.atom.Atom.{Atom};
-ghost use Rattle.dim_table.specs.Table.{Admits, with_value_at};
+ghost use Rattle.dim_table.specs.Table.{with_value_at};
 ghost use Rattle.gauge_metric.specs.GaugeStands.{with_sample, TakesSample};
 ghost use Rattle.gauge_metric.specs.PulledStands.{TakesSamples};
 
 use crate::KeyedAtom;
 use atom_record::{Atom, MetricKey};
 use dim_table::{Admit, Guarded};
-use sd_base::{Duplicate, Seq};
+use sd_base::Seq;
 use std::alloc::{AllocError, Global};
 
 /// What happens to a pulled gauge besides its condition.
@@ -45,26 +45,11 @@ fn sample_one(
 ) -> Result<(), AllocError>
     ensures { OnOk result (TakesSample samples table.old table.new sample.now) }
 {
-    match admit_copy(table, alloc, &sample.key)? {
+    match table.admit_copy(&sample.key, Seq::new(alloc))? {
         Admit::At(place) => sample_copy(table, alloc, place, samples, &sample.atom)?,
         Admit::Full => (),
     }
     Ok(())
-}
-
-// Gives a key a row, with room for one sample. A key that has one isn't copied.
-fn admit_copy(
-    table: &mut Guarded<MetricKey, Seq<Atom>>,
-    alloc: Global,
-    key: &MetricKey,
-) -> Result<Admit, AllocError>
-    ensures { IfOk result (Admits table.old table.new key.now []) }
-{
-    if let Some(place) = table.place_of(key) {
-        return Ok(Admit::At(place));
-    }
-    let own = key.duplicate(alloc)?;
-    table.admit(own, Seq::with_capacity(alloc, 1)?)
 }
 
 // Adds a copy of a sample to the row at a place.
@@ -98,5 +83,16 @@ fn copy_within(
     if atoms.len() as u64 >= samples {
         return Ok(());
     }
+    open_room(atoms, alloc)?;
     atoms.push(atom.clone_atom(alloc)?)
+}
+
+// Makes room for one atom where none is yet, since most keys have one sample in a part.
+fn open_room(atoms: &mut Seq<Atom>, alloc: Global) -> Result<(), AllocError>
+    ensures { OnOk result (atoms.new ≡ atoms.old) }
+{
+    if atoms.is_empty() {
+        *atoms = Seq::with_capacity(alloc, 1)?;
+    }
+    Ok(())
 }

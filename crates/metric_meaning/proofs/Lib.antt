@@ -24,6 +24,7 @@ pub mod PredicateStepsLemmas
 pub mod AlertStepsLemmas
 pub mod TouchedLemmas
 pub mod TouchedDurations
+pub mod ApartLemmas
 pub mod SnapshotStepsLemmas
 pub mod PulledIntervalsLemmas
 pub mod PulledStepsLemmas

@@ -5,3 +5,4 @@ pub mod FormLemmas
 mod Worked
 pub mod OneKeyLemmas
 pub mod BoundKeyLemmas
+pub mod ApartLemmas

@@ -1,5 +1,5 @@
 -- What a predicate knows after some events, from the first event on.
-use Rattle.std.specs.Prelude.{ℕ, ◌+◌, ◌-◌, ◌==◌, Bool, false, not, ◌&&◌, nat_lt, List, [], ◌∷◌, ◌++◌, length, filter, Option, Some, None, if◌then◌else◌}
+use Rattle.std.specs.Prelude.{ℕ, ◌+◌, ◌-◌, ◌==◌, Bool, true, false, not, ◌&&◌, nat_lt, List, [], ◌∷◌, ◌++◌, length, filter, Option, Some, None, if◌then◌else◌}
 use Rattle.std.specs.Map.{lookup, set_value}
 use Rattle.config_types.specs.declared.parameters.PredSpec.{PredSpec}
 use Rattle.bucket_meaning.specs.Kept.{count_in_u64}
@@ -25,6 +25,12 @@ count_after_start nesting count = if nesting then count_in_u64 (count + 1) else 
 -- a stop makes a count one less, and never below 0; without nesting it is 0
 abbrev pub count_after_stop : Bool → ℕ → ℕ
 count_after_stop nesting count = if nesting then count - 1 else 0
+
+-- an event acts on its key alone, and not on all
+abbrev pub is_of_one : PredEvent → Bool
+is_of_one Start = true
+is_of_one Stop = true
+is_of_one StopAll = false
 
 module _ {K : Type 0} where
   -- before the first event nothing is listed

@@ -65,14 +65,14 @@ impl PredTable {
     }
 
     /// Lets an event act on a key. A stop of all keys takes any key.
-    pub fn apply(&mut self, event: PredEvent, key: DimKey) -> Result<(), AllocError>
-        requires leaves { length key ≡ self.old.spec.leaves }
+    pub fn apply(&mut self, event: PredEvent, key: &DimKey) -> Result<(), AllocError>
+        requires leaves { length key.now ≡ self.old.spec.leaves }
         ensures state { OnOk result
-            (self.new ≡ with_state self.old (state_after same_leaves self.old.spec self.old.state event key)) }
-        ensures stands { OnOk result (AppliesEvent self.old self.new event key) }
+            (self.new ≡ with_state self.old (state_after same_leaves self.old.spec self.old.state event key.now)) }
+        ensures stands { OnOk result (AppliesEvent self.old self.new event key.now) }
 
         // Only a new key that finds room asks for memory.
-        ensures only_new { OnErr result (ListsNewKey self.old event key) }
+        ensures only_new { OnErr result (ListsNewKey self.old event key.now) }
         ensures err { OnErr result (self.new ≡ self.old) }
     {
         match event {
@@ -87,14 +87,14 @@ impl PredTable {
     }
 
     // Counts a start of a key.
-    fn start(&mut self, key: DimKey) -> Result<(), AllocError>
-        requires leaves { length key ≡ self.old.spec.leaves }
+    fn start(&mut self, key: &DimKey) -> Result<(), AllocError>
+        requires leaves { length key.now ≡ self.old.spec.leaves }
         ensures state { OnOk result
-            (self.new ≡ with_state self.old (state_after same_leaves self.old.spec self.old.state Start key)) }
-        ensures only_new { OnErr result (ListsNewKey self.old Start key) }
+            (self.new ≡ with_state self.old (state_after same_leaves self.old.spec self.old.state Start key.now)) }
+        ensures only_new { OnErr result (ListsNewKey self.old Start key.now) }
         ensures err { OnErr result (self.new ≡ self.old) }
     {
-        match self.row_of(&key) {
+        match self.row_of(key) {
             Some((place, count)) => {
                 let more = add_start(self.spec.nesting, count);
                 self.set_count(place, more);
@@ -105,18 +105,18 @@ impl PredTable {
     }
 
     // Counts a stop of a key.
-    fn stop(&mut self, key: DimKey) -> Result<(), AllocError>
-        requires leaves { length key ≡ self.old.spec.leaves }
+    fn stop(&mut self, key: &DimKey) -> Result<(), AllocError>
+        requires leaves { length key.now ≡ self.old.spec.leaves }
         ensures state { OnOk result
-            (self.new ≡ with_state self.old (state_after same_leaves self.old.spec self.old.state Stop key)) }
-        ensures only_new { OnErr result (ListsNewKey self.old Stop key) }
+            (self.new ≡ with_state self.old (state_after same_leaves self.old.spec self.old.state Stop key.now)) }
+        ensures only_new { OnErr result (ListsNewKey self.old Stop key.now) }
         ensures err { OnErr result (self.new ≡ self.old) }
     {
-        match self.row_of(&key) {
+        match self.row_of(key) {
             Some((place, count)) => {
                 let less = add_stop(self.spec.nesting, count);
                 if less == 0 && !self.unknown {
-                    self.remove(&key);
+                    self.remove(key);
                     return Ok(());
                 }
                 self.set_count(place, less);
@@ -163,16 +163,16 @@ impl PredTable {
         *there = count;
     }
 
-    // Lists a new key, or counts that it finds no room.
-    fn append(&mut self, key: DimKey, count: u64) -> Result<(), AllocError>
-        requires leaves { length key ≡ self.old.spec.leaves }
-        requires absent { ¬ Contains (keys_of self.old.state.counts) key }
+    // Lists a copy of a new key, or counts that it finds no room.
+    fn append(&mut self, key: &DimKey, count: u64) -> Result<(), AllocError>
+        requires leaves { length key.now ≡ self.old.spec.leaves }
+        requires absent { ¬ Contains (keys_of self.old.state.counts) key.now }
         ensures state { OnOk result
-            (self.new ≡ with_state self.old (with_new_key self.old.spec.bound self.old.state key count)) }
+            (self.new ≡ with_state self.old (with_new_key self.old.spec.bound self.old.state key.now count)) }
         ensures room { OnErr result (length self.old.state.counts ≢ self.old.spec.bound) }
         ensures err { OnErr result (self.new ≡ self.old) }
     {
-        self.counts.admit(key, count)?;
+        self.counts.admit_copy(key, count)?;
         Ok(())
     }
 

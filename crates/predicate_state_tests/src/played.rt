@@ -39,7 +39,7 @@ pub fn played(alloc: Global, spec: PredSpec, text: &str) -> Result<Option<PredTa
         if key.len() != spec.leaves as usize {
             return Ok(None);
         }
-        table.apply(event, key)?;
+        table.apply(event, &key)?;
     }
     Ok(Some(table))
 }

@@ -9,3 +9,4 @@ pub mod GroupGiven
 pub mod RestReading
 pub mod WrittenReading
 pub mod NextLaws
+pub mod FieldLemmas

@@ -26,6 +26,10 @@ varint_field number value = tag_bytes number wire.Varint ++ varint value
 abbrev pub bytes_field : ℕ → List ℕ → List ℕ
 bytes_field number bytes = tag_bytes number wire.Bytes ++ varint (length bytes) ++ bytes
 
+-- a field that holds bytes, as it is begun: its tag, and a byte where their count goes
+abbrev pub begun_field : ℕ → List ℕ
+begun_field number = tag_bytes number wire.Bytes ++ 0 ∷ []
+
 -- a field that holds four bytes, the low ones first
 abbrev pub fixed32_field : ℕ → ℕ → List ℕ
 fixed32_field number value = tag_bytes number wire.Fixed32 ++ to_le_bytes w32 value

@@ -1,10 +1,13 @@
 //! A writer of fields in their shortest spelling.
-ghost use Rattle.std.specs.Prelude.{◌≡◌, ◌+◌, ◌<◌, ◌≤◌, ◌^◌, [], ◌++◌, length, take, IfOk, OnOk, OnErr, vec_len};
-ghost use Rattle.proto_wire.specs.Spelling.{varint, tag_bytes, varint_field, bytes_field, fixed32_field};
+ghost use Rattle.std.specs.Prelude.{◌≡◌, ◌+◌, ◌-◌, ◌<◌, ◌≤◌, ◌^◌, [], ◌++◌, length, take, drop, IfOk, OnOk, OnErr, vec_len, vec_capacity};
+ghost use Rattle.proto_wire.specs.Spelling.{varint, tag_bytes, varint_field, bytes_field, begun_field, fixed32_field};
 
 use crate::tag::WireType;
 use std::alloc::{AllocError, Global};
 use std::marker::Model;
+
+// The room that a tag and a number may take.
+const FIELD_ROOM: usize = 20;
 
 /// The bytes of a message, field by field. Contracts see the bytes.
 #[derive(Drop)]
@@ -45,9 +48,10 @@ impl Writer {
         ensures field { OnOk result (self.new ≡ self.old ++ varint_field number v) }
         ensures err { OnErr result (self.new ≡ self.old) }
     {
-        let len = self.bytes.len();
-        let put = put_varint_field(&mut self.bytes, number, v);
-        self.keep_whole(len, put)
+        self.bytes.reserve(FIELD_ROOM)?;
+        put_tag(&mut self.bytes, number, WireType::Varint);
+        put_varint(&mut self.bytes, v);
+        Ok(())
     }
 
     /// Adds a field of wire type 2.
@@ -57,9 +61,10 @@ impl Writer {
         ensures field { OnOk result (self.new ≡ self.old ++ bytes_field number bytes.now) }
         ensures err { OnErr result (self.new ≡ self.old) }
     {
-        let len = self.bytes.len();
-        let put = put_bytes_field(&mut self.bytes, number, bytes);
-        self.keep_whole(len, put)
+        self.bytes.reserve(bytes.len().saturating_add(FIELD_ROOM))?;
+        put_tag(&mut self.bytes, number, WireType::Bytes);
+        put_varint(&mut self.bytes, bytes.len() as u64);
+        self.bytes.extend_from_slice(bytes)
     }
 
     /// Adds a field of wire type 5.
@@ -69,21 +74,36 @@ impl Writer {
         ensures field { OnOk result (self.new ≡ self.old ++ fixed32_field number v) }
         ensures err { OnErr result (self.new ≡ self.old) }
     {
-        let len = self.bytes.len();
-        let put = put_fixed32_field(&mut self.bytes, number, v);
-        self.keep_whole(len, put)
+        self.bytes.reserve(FIELD_ROOM)?;
+        put_tag(&mut self.bytes, number, WireType::Fixed32);
+        self.bytes.extend_from_slice(&v.to_le_bytes())
     }
 
-    // Takes back what was put of a field for which memory was short.
-    fn keep_whole(&mut self, len: usize, put: Result<(), AllocError>) -> Result<(), AllocError>
-        ensures same { result ≡ put }
-        ensures field { OnOk put (self.new ≡ self.old) }
-        ensures err { OnErr put (self.new ≡ take len self.old) }
+    /// Begins a field of wire type 2, which holds what is added until it is ended. The answer is the place where the
+    /// count of its bytes goes.
+    pub fn begin_field(&mut self, number: u32) -> Result<usize, AllocError>
+        requires named { 1 ≤ number }
+        requires fits { number < 2 ^ 29 }
+        ensures begun { OnOk result (self.new ≡ self.old ++ begun_field number) }
+        ensures place { IfOk result (λ place. place + 1 ≡ length self.new) }
+        ensures err { OnErr result (self.new ≡ self.old) }
     {
-        if put.is_err() {
-            self.bytes.truncate(len);
-        }
-        put
+        self.bytes.reserve(FIELD_ROOM)?;
+        put_tag(&mut self.bytes, number, WireType::Bytes);
+        let place = self.bytes.len();
+        self.bytes.push_reserved(0);
+        Ok(place)
+    }
+
+    /// Ends the field whose count goes to this place: it holds all that is after it. After want of memory a part of the
+    /// count may stand there.
+    pub fn end_field(&mut self, place: usize) -> Result<(), AllocError>
+        requires begun { place < length self.old }
+        ensures counted { OnOk result (self.new ≡ take place self.old
+            ++ (varint (length (drop (place + 1) self.old)) ++ drop (place + 1) self.old)) }
+    {
+        let count = self.bytes.len() - place - 1;
+        put_varint_at(&mut self.bytes, place, count as u64)
     }
 
     /// The bytes written.
@@ -94,52 +114,44 @@ impl Writer {
     }
 }
 
-// Adds a varint. Where memory is short, a part of it may stand after the old bytes.
-fn put_varint(out: &mut Vec<u8>, value: u64) -> Result<(), AllocError>
-    ensures spelled { OnOk result (out.new.items ≡ out.old.items ++ varint value) }
-    ensures err { OnErr result (take (vec_len out.old) out.new.items ≡ out.old.items) }
+// Adds a varint, for which there is room.
+fn put_varint(out: &mut Vec<u8>, value: u64)
+    requires room { vec_len out.old + 10 ≤ vec_capacity out.old }
+    ensures spelled { out.new.items ≡ out.old.items ++ varint value }
+    ensures len { vec_len out.new ≤ vec_len out.old + 10 }
+    ensures capacity { vec_capacity out.new ≡ vec_capacity out.old }
 {
     let mut rest = value;
     while rest >= 128 {
-        out.push((rest % 128 + 128) as u8)?;
+        out.push_reserved((rest % 128 + 128) as u8);
         rest /= 128;
     }
-    out.push(rest as u8)?;
+    out.push_reserved(rest as u8);
+}
+
+// Puts a varint in place of the byte that stands there.
+fn put_varint_at(bytes: &mut Vec<u8>, place: usize, value: u64) -> Result<(), AllocError>
+    requires { place < vec_len bytes.old }
+    ensures { OnOk result (bytes.new.items
+        ≡ take place bytes.old.items ++ (varint value ++ drop (place + 1) bytes.old.items)) }
+{
+    let mut at = place;
+    let mut rest = value;
+    while rest >= 128 {
+        bytes.insert(at, (rest % 128 + 128) as u8)?;
+        at += 1;
+        rest /= 128;
+    }
+    bytes[at] = rest as u8;
     Ok(())
 }
 
-fn put_tag(out: &mut Vec<u8>, number: u32, wire_type: WireType) -> Result<(), AllocError>
-    requires { number < 2 ^ 29 }
-    ensures spelled { OnOk result (out.new.items ≡ out.old.items ++ tag_bytes number wire_type) }
-    ensures err { OnErr result (take (vec_len out.old) out.new.items ≡ out.old.items) }
+fn put_tag(out: &mut Vec<u8>, number: u32, wire_type: WireType)
+    requires fits { number < 2 ^ 29 }
+    requires room { vec_len out.old + 10 ≤ vec_capacity out.old }
+    ensures spelled { out.new.items ≡ out.old.items ++ tag_bytes number wire_type }
+    ensures len { vec_len out.new ≤ vec_len out.old + 10 }
+    ensures capacity { vec_capacity out.new ≡ vec_capacity out.old }
 {
-    put_varint(out, u64::from(number) * 8 + u64::from(wire_type.code()))
-}
-
-fn put_varint_field(out: &mut Vec<u8>, number: u32, value: u64) -> Result<(), AllocError>
-    requires { number < 2 ^ 29 }
-    ensures field { OnOk result (out.new.items ≡ out.old.items ++ varint_field number value) }
-    ensures err { OnErr result (take (vec_len out.old) out.new.items ≡ out.old.items) }
-{
-    put_tag(out, number, WireType::Varint)?;
-    put_varint(out, value)
-}
-
-fn put_bytes_field(out: &mut Vec<u8>, number: u32, bytes: &[u8]) -> Result<(), AllocError>
-    requires { number < 2 ^ 29 }
-    ensures field { OnOk result (out.new.items ≡ out.old.items ++ bytes_field number bytes.now) }
-    ensures err { OnErr result (take (vec_len out.old) out.new.items ≡ out.old.items) }
-{
-    put_tag(out, number, WireType::Bytes)?;
-    put_varint(out, bytes.len() as u64)?;
-    out.extend_from_slice(bytes)
-}
-
-fn put_fixed32_field(out: &mut Vec<u8>, number: u32, value: u32) -> Result<(), AllocError>
-    requires { number < 2 ^ 29 }
-    ensures field { OnOk result (out.new.items ≡ out.old.items ++ fixed32_field number value) }
-    ensures err { OnErr result (take (vec_len out.old) out.new.items ≡ out.old.items) }
-{
-    put_tag(out, number, WireType::Fixed32)?;
-    out.extend_from_slice(&value.to_le_bytes())
+    put_varint(out, u64::from(number) * 8 + u64::from(wire_type.code()));
 }

@@ -8,7 +8,7 @@ use crate::numbers;
 use crate::tree::LeafTree;
 use atom_record::{Slice, Value};
 use proto_wire::Writer;
-use std::alloc::{AllocError, Global};
+use std::alloc::AllocError;
 
 // Adds the value of a leaf, but for raw bytes.
 fn put_value(out: &mut Writer, value: &Option<Value>) -> Result<(), AllocError>
@@ -40,7 +40,7 @@ impl Message for LeafTree {
     ghost spelled = { leaf_message };
 
     #[tactic(auto, unfolding(crate::specs::ReportSpelling::leaf_message))]
-    fn put_fields(&self, _alloc: Global, out: &mut Writer) -> Result<(), AllocError> {
+    fn put_fields(&self, out: &mut Writer) -> Result<(), AllocError> {
         put_value(out, &self.value)?;
         put_if_above(out, numbers::DIMENSION_PLACE, u64::from(self.place))?;
         put_raw(out, &self.value)
@@ -53,7 +53,7 @@ impl Message for Slice {
     ghost spelled = { slice_message };
 
     #[tactic(auto, unfolding(crate::specs::ReportSpelling::slice_message))]
-    fn put_fields(&self, _alloc: Global, out: &mut Writer) -> Result<(), AllocError> {
+    fn put_fields(&self, out: &mut Writer) -> Result<(), AllocError> {
         match self {
             Slice::Plain { atom_id, value } => {
                 out.varint_field(numbers::SLICE_ATOM_ID, u64::from(*atom_id))?;
@@ -68,14 +68,9 @@ impl Message for Slice {
 }
 
 /// Adds the values of a key, and its slices.
-pub fn put_key(
-    alloc: Global,
-    out: &mut Writer,
-    leaves: &[LeafTree],
-    slices: &[Slice],
-) -> Result<(), AllocError>
+pub fn put_key(out: &mut Writer, leaves: &[LeafTree], slices: &[Slice]) -> Result<(), AllocError>
     ensures { OnOk result (out.new ≡ out.old ++ key_fields leaves.now slices.now) }
 {
-    put_messages(alloc, out, numbers::DATA_LEAF, leaves)?;
-    put_messages(alloc, out, numbers::DATA_SLICE, slices)
+    put_messages(out, numbers::DATA_LEAF, leaves)?;
+    put_messages(out, numbers::DATA_SLICE, slices)
 }

@@ -1,17 +1,11 @@
-//! Messages: each is written into a buffer of its own, and then goes whole into the message around it.
+//! Messages: the fields of each are written where they stay, after a place for their count.
 ghost use Rattle.std.specs.Prelude.{◌≡◌, ℕ, ℤ, ◌≤◌, ◌<◌, ◌^◌, ◌++◌, List, All, OnOk};
 ghost use Rattle.proto_wire.specs.Spelling.{bytes_field};
 ghost use Rattle.report_writer.specs.ReportSpelling.{signed_field, field_if_above, repeated_field, wrapper_field};
 
 use crate::numbers::WRAPPER_DATA;
 use proto_wire::Writer;
-use std::alloc::{AllocError, Global};
-
-// The room with which a message begins, so that a short one grows no buffer.
-const MESSAGE_ROOM: usize = 64;
-
-// The room with which the rows of a metric begin.
-const ROWS_ROOM: usize = 512;
+use std::alloc::AllocError;
 
 /// What a report shows as a message of its own.
 pub trait Message {
@@ -22,7 +16,7 @@ pub trait Message {
     ghost is_writable: { Self → Type 0 } = { λ _. Unit {0} };
 
     /// Adds its fields.
-    fn put_fields(&self, alloc: Global, out: &mut Writer) -> Result<(), AllocError>
+    fn put_fields(&self, out: &mut Writer) -> Result<(), AllocError>
         requires { is_writable self.now }
         ensures { OnOk result (out.new ≡ out.old ++ spelled self.now) };
 }
@@ -50,25 +44,19 @@ pub fn put_if_above(out: &mut Writer, number: u32, value: u64) -> Result<(), All
 }
 
 /// Adds a field that holds a message.
-pub fn put_message<T: Message>(
-    alloc: Global,
-    out: &mut Writer,
-    number: u32,
-    item: &T,
-) -> Result<(), AllocError>
+pub fn put_message<T: Message>(out: &mut Writer, number: u32, item: &T) -> Result<(), AllocError>
     requires named { 1 ≤ number }
     requires fits { number < 2 ^ 29 }
     requires writable { T.is_writable item.now }
     ensures { OnOk result (out.new ≡ out.old ++ bytes_field number (T.spelled item.now)) }
 {
-    let mut message = Writer::with_capacity(alloc, MESSAGE_ROOM)?;
-    item.put_fields(alloc, &mut message)?;
-    out.bytes_field(number, &message.into_bytes())
+    let place = out.begin_field(number)?;
+    item.put_fields(out)?;
+    out.end_field(place)
 }
 
 /// Adds a field of one number for each of these messages.
 pub fn put_messages<T: Message>(
-    alloc: Global,
     out: &mut Writer,
     number: u32,
     items: &[T],
@@ -79,24 +67,19 @@ pub fn put_messages<T: Message>(
     ensures { OnOk result (out.new ≡ out.old ++ repeated_field number T.spelled items.now) }
 {
     for item in items {
-        put_message(alloc, out, number, item)?;
+        put_message(out, number, item)?;
     }
     Ok(())
 }
 
 /// Adds a field that holds the rows of a metric, also where there are none.
-pub fn put_wrapped<T: Message>(
-    alloc: Global,
-    out: &mut Writer,
-    number: u32,
-    rows: &[T],
-) -> Result<(), AllocError>
+pub fn put_wrapped<T: Message>(out: &mut Writer, number: u32, rows: &[T]) -> Result<(), AllocError>
     requires named { 1 ≤ number }
     requires fits { number < 2 ^ 29 }
     requires writable { All T.is_writable rows.now }
     ensures { OnOk result (out.new ≡ out.old ++ wrapper_field number T.spelled rows.now) }
 {
-    let mut wrapper = Writer::with_capacity(alloc, ROWS_ROOM)?;
-    put_messages(alloc, &mut wrapper, WRAPPER_DATA, rows)?;
-    out.bytes_field(number, &wrapper.into_bytes())
+    let place = out.begin_field(number)?;
+    put_messages(out, WRAPPER_DATA, rows)?;
+    out.end_field(place)
 }

@@ -7,21 +7,21 @@ use crate::message::{Message, put_if_above, put_signed, put_wrapped};
 use crate::numbers;
 use crate::tree::{MetricBody, MetricTree};
 use proto_wire::Writer;
-use std::alloc::{AllocError, Global};
+use std::alloc::AllocError;
 
 // Adds the rows of a metric, in a field by its kind.
-fn put_rows(alloc: Global, out: &mut Writer, body: &MetricBody) -> Result<(), AllocError>
+fn put_rows(out: &mut Writer, body: &MetricBody) -> Result<(), AllocError>
     requires { AreWritableRows body.now }
     ensures { OnOk result (out.new ≡ out.old ++ rows_field body.now) }
 {
     match body {
-        MetricBody::Events(rows) => put_wrapped(alloc, out, numbers::SHOWN_EVENTS, rows.as_slice()),
-        MetricBody::Counts(rows) => put_wrapped(alloc, out, numbers::SHOWN_COUNTS, rows.as_slice()),
+        MetricBody::Events(rows) => put_wrapped(out, numbers::SHOWN_EVENTS, rows.as_slice()),
+        MetricBody::Counts(rows) => put_wrapped(out, numbers::SHOWN_COUNTS, rows.as_slice()),
         MetricBody::Durations(rows) => {
-            put_wrapped(alloc, out, numbers::SHOWN_DURATIONS, rows.as_slice())
+            put_wrapped(out, numbers::SHOWN_DURATIONS, rows.as_slice())
         }
-        MetricBody::Values(rows) => put_wrapped(alloc, out, numbers::SHOWN_VALUES, rows.as_slice()),
-        MetricBody::Gauges(rows) => put_wrapped(alloc, out, numbers::SHOWN_GAUGES, rows.as_slice()),
+        MetricBody::Values(rows) => put_wrapped(out, numbers::SHOWN_VALUES, rows.as_slice()),
+        MetricBody::Gauges(rows) => put_wrapped(out, numbers::SHOWN_GAUGES, rows.as_slice()),
     }
 }
 
@@ -56,9 +56,9 @@ impl Message for MetricTree {
     ghost is_writable = { IsWritableMetric };
 
     #[tactic(auto, unfolding(crate::specs::ReportSpelling::metric_message))]
-    fn put_fields(&self, alloc: Global, out: &mut Writer) -> Result<(), AllocError> {
+    fn put_fields(&self, out: &mut Writer) -> Result<(), AllocError> {
         put_signed(out, numbers::SHOWN_ID, self.id)?;
-        put_rows(alloc, out, &self.body)?;
+        put_rows(out, &self.body)?;
         out.varint_field(numbers::SHOWN_BASE, self.base)?;
         put_size(out, &self.body, self.size)?;
         put_unshown(out, self)

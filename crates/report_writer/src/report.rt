@@ -2,6 +2,8 @@
 //!
 //! A tree has a field `now`, so an `ensures` writes `tree.entry.now` for what the reference `tree` points to.
 ghost use Rattle.std.specs.Prelude.{◌≡◌, ◌++◌, IfOk, OnOk};
+ghost use Rattle.proto_wire.specs.Spelling.{bytes_field};
+ghost use Rattle.report_writer.specs.ReportNumbers.{list_key, list_report};
 ghost use Rattle.report_writer.specs.ReportSpelling as spelled;
 ghost use Rattle.report_writer.specs.Writable.{IsWritableReport};
 
@@ -12,13 +14,16 @@ use crate::tree::{AlarmTree, Drop64, ReportTree};
 use proto_wire::Writer;
 use std::alloc::{AllocError, Global};
 
+// The room with which a report begins, so that a short one grows no buffer.
+const REPORT_ROOM: usize = 512;
+
 impl Message for Drop64 {
     ghost use Rattle.report_writer.specs.ReportSpelling.{drop_message};
 
     ghost spelled = { drop_message };
 
     #[tactic(auto, unfolding(crate::specs::ReportSpelling::drop_message))]
-    fn put_fields(&self, _alloc: Global, out: &mut Writer) -> Result<(), AllocError> {
+    fn put_fields(&self, out: &mut Writer) -> Result<(), AllocError> {
         put_signed(out, numbers::DROPS_ID, self.id)?;
         out.varint_field(numbers::DROPS_NUMBER, self.number)
     }
@@ -30,78 +35,94 @@ impl Message for AlarmTree {
     ghost spelled = { alarm_message };
 
     #[tactic(auto, unfolding(crate::specs::ReportSpelling::alarm_message))]
-    fn put_fields(&self, alloc: Global, out: &mut Writer) -> Result<(), AllocError> {
+    fn put_fields(&self, out: &mut Writer) -> Result<(), AllocError> {
         put_signed(out, numbers::ALARM_ALERT, self.id)?;
         out.varint_field(numbers::ALARM_TIME, self.at)?;
         out.varint_field(numbers::ALARM_SUM, self.sum)?;
-        put_key(alloc, out, self.leaves.as_slice(), self.slices.as_slice())
+        put_key(out, self.leaves.as_slice(), self.slices.as_slice())
     }
 }
 
-// The message that says whose report it is.
+// Adds the fields that say whose report it is.
 #[tactic(auto, unfolding(crate::specs::ReportSpelling::key_message))]
-fn write_key(alloc: Global, tree: &ReportTree) -> Result<Vec<u8>, AllocError>
-    ensures { IfOk result (λ bytes. bytes.items ≡ spelled.key_message tree.entry.now) }
+fn put_owner(out: &mut Writer, tree: &ReportTree) -> Result<(), AllocError>
+    ensures { OnOk result (out.new ≡ out.old ++ spelled.key_message tree.entry.now) }
 {
-    let mut message = Writer::new(alloc);
-    put_signed(&mut message, numbers::KEY_UID, i64::from(tree.uid))?;
-    put_signed(&mut message, numbers::KEY_ID, tree.id)?;
-    Ok(message.into_bytes())
+    put_signed(out, numbers::KEY_UID, i64::from(tree.uid))?;
+    put_signed(out, numbers::KEY_ID, tree.id)
 }
 
 // Adds what full tables dropped.
-fn put_drops(alloc: Global, out: &mut Writer, tree: &ReportTree) -> Result<(), AllocError>
+fn put_drops(out: &mut Writer, tree: &ReportTree) -> Result<(), AllocError>
     ensures { OnOk result (out.new ≡ out.old ++ spelled.drops_fields tree.entry.now) }
 {
     let predicate_drops = tree.predicate_drops.as_slice();
-    put_messages(alloc, out, numbers::REPORT_PREDICATE_DROPS, predicate_drops)?;
+    put_messages(out, numbers::REPORT_PREDICATE_DROPS, predicate_drops)?;
     let state_drops = tree.state_drops.as_slice();
-    put_messages(alloc, out, numbers::REPORT_STATE_DROPS, state_drops)?;
+    put_messages(out, numbers::REPORT_STATE_DROPS, state_drops)?;
     let atoms = tree.state_atoms_dropped;
     put_if_above(out, numbers::REPORT_DROPPED_STATE_ATOMS, atoms)
 }
 
 // Adds the alarms, and how many aren't listed.
-fn put_alarms(alloc: Global, out: &mut Writer, tree: &ReportTree) -> Result<(), AllocError>
+fn put_alarms(out: &mut Writer, tree: &ReportTree) -> Result<(), AllocError>
     ensures { OnOk result (out.new ≡ out.old ++ spelled.alarms_fields tree.entry.now) }
 {
-    put_messages(alloc, out, numbers::REPORT_ALARMS, tree.alarms.as_slice())?;
+    put_messages(out, numbers::REPORT_ALARMS, tree.alarms.as_slice())?;
     let not_kept = tree.alarms_not_kept.as_slice();
-    put_messages(alloc, out, numbers::REPORT_ALARMS_NOT_KEPT, not_kept)
+    put_messages(out, numbers::REPORT_ALARMS_NOT_KEPT, not_kept)
 }
 
 // Adds the fields of the part that speaks of the configuration.
 #[tactic(auto, unfolding(crate::specs::ReportSpelling::config_message))]
-fn put_config(alloc: Global, out: &mut Writer, tree: &ReportTree) -> Result<(), AllocError>
+fn put_config(out: &mut Writer, tree: &ReportTree) -> Result<(), AllocError>
     requires { IsWritableReport tree.now }
     ensures { OnOk result (out.new ≡ out.old ++ spelled.config_message tree.entry.now) }
 {
-    put_messages(alloc, out, numbers::REPORT_METRIC, tree.metrics.as_slice())?;
+    put_messages(out, numbers::REPORT_METRIC, tree.metrics.as_slice())?;
     out.varint_field(numbers::REPORT_LAST, tree.last)?;
     out.varint_field(numbers::REPORT_NOW, tree.now)?;
-    put_drops(alloc, out, tree)?;
-    put_alarms(alloc, out, tree)
+    put_drops(out, tree)?;
+    put_alarms(out, tree)
 }
 
-fn write_config(alloc: Global, tree: &ReportTree) -> Result<Vec<u8>, AllocError>
-    requires { IsWritableReport tree.now }
-    ensures { IfOk result (λ bytes. bytes.items ≡ spelled.config_message tree.entry.now) }
+// Adds the field that says whose report it is.
+fn put_key_part(out: &mut Writer, tree: &ReportTree) -> Result<(), AllocError>
+    ensures { OnOk result (out.new ≡ out.old
+        ++ bytes_field list_key (spelled.key_message tree.entry.now)) }
 {
-    let mut message = Writer::new(alloc);
-    put_config(alloc, &mut message, tree)?;
-    Ok(message.into_bytes())
+    let place = out.begin_field(numbers::LIST_KEY)?;
+    put_owner(out, tree)?;
+    out.end_field(place)
+}
+
+// Adds the field that speaks of the configuration.
+fn put_config_part(out: &mut Writer, tree: &ReportTree) -> Result<(), AllocError>
+    requires { IsWritableReport tree.now }
+    ensures { OnOk result (out.new ≡ out.old
+        ++ bytes_field list_report (spelled.config_message tree.entry.now)) }
+{
+    let place = out.begin_field(numbers::LIST_REPORT)?;
+    put_config(out, tree)?;
+    out.end_field(place)
+}
+
+// Adds the two parts of a report.
+#[tactic(auto, unfolding(crate::specs::ReportSpelling::report_message))]
+fn put_report(out: &mut Writer, tree: &ReportTree) -> Result<(), AllocError>
+    requires { IsWritableReport tree.now }
+    ensures { OnOk result (out.new ≡ out.old ++ spelled.report_message tree.entry.now) }
+{
+    put_key_part(out, tree)?;
+    put_config_part(out, tree)
 }
 
 /// The bytes of a report: the one spelling of its tree.
-#[tactic(auto, unfolding(crate::specs::ReportSpelling::report_message))]
 pub fn write(alloc: Global, tree: &ReportTree) -> Result<Vec<u8>, AllocError>
     requires { IsWritableReport tree.now }
     ensures { IfOk result (λ bytes. bytes.items ≡ spelled.report_message tree.entry.now) }
 {
-    let key = write_key(alloc, tree)?;
-    let config = write_config(alloc, tree)?;
-    let mut report = Writer::new(alloc);
-    report.bytes_field(numbers::LIST_KEY, &key)?;
-    report.bytes_field(numbers::LIST_REPORT, &config)?;
+    let mut report = Writer::with_capacity(alloc, REPORT_ROOM)?;
+    put_report(&mut report, tree)?;
     Ok(report.into_bytes())
 }

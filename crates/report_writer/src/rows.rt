@@ -9,7 +9,7 @@ use crate::message::{Message, put_if_above, put_message, put_messages, put_signe
 use crate::numbers;
 use crate::tree::{AtomBucket, AtomMsg, EventTree, GaugeTree, NumBucket, NumTree, Part, PartBody};
 use proto_wire::Writer;
-use std::alloc::{AllocError, Global};
+use std::alloc::AllocError;
 
 /// Adds a field of an atom, by what it holds.
 pub fn put_part(out: &mut Writer, number: u32, body: &PartBody) -> Result<(), AllocError>
@@ -44,10 +44,10 @@ impl Message for AtomMsg {
     ghost is_writable = { IsWritableAtom };
 
     #[tactic(auto, unfolding(crate::specs::ReportSpelling::atom_message))]
-    fn put_fields(&self, alloc: Global, out: &mut Writer) -> Result<(), AllocError> {
-        let mut fields = Writer::new(alloc);
-        put_parts(&mut fields, self.parts.as_slice())?;
-        out.bytes_field(self.id, &fields.into_bytes())
+    fn put_fields(&self, out: &mut Writer) -> Result<(), AllocError> {
+        let place = out.begin_field(self.id)?;
+        put_parts(out, self.parts.as_slice())?;
+        out.end_field(place)
     }
 }
 
@@ -57,7 +57,7 @@ impl Message for NumBucket {
     ghost spelled = { bucket_message };
 
     #[tactic(auto, unfolding(crate::specs::ReportSpelling::bucket_message))]
-    fn put_fields(&self, _alloc: Global, out: &mut Writer) -> Result<(), AllocError> {
+    fn put_fields(&self, out: &mut Writer) -> Result<(), AllocError> {
         out.varint_field(numbers::BUCKET_START, self.start)?;
         out.varint_field(numbers::BUCKET_END, self.end)?;
         put_signed(out, numbers::BUCKET_NUMBER, self.value)
@@ -70,9 +70,9 @@ impl Message for NumTree {
     ghost spelled = { row_message };
 
     #[tactic(auto, unfolding(crate::specs::ReportSpelling::row_message))]
-    fn put_fields(&self, alloc: Global, out: &mut Writer) -> Result<(), AllocError> {
-        put_messages(alloc, out, numbers::DATA_BUCKET, self.buckets.as_slice())?;
-        put_key(alloc, out, self.leaves.as_slice(), self.slices.as_slice())?;
+    fn put_fields(&self, out: &mut Writer) -> Result<(), AllocError> {
+        put_messages(out, numbers::DATA_BUCKET, self.buckets.as_slice())?;
+        put_key(out, self.leaves.as_slice(), self.slices.as_slice())?;
         put_if_above(out, numbers::DATA_OVERFLOW, u64::from(self.overflow))
     }
 }
@@ -86,10 +86,10 @@ impl Message for AtomBucket {
     ghost is_writable = { IsWritableBucket };
 
     #[tactic(auto, unfolding(crate::specs::ReportSpelling::samples_message))]
-    fn put_fields(&self, alloc: Global, out: &mut Writer) -> Result<(), AllocError> {
+    fn put_fields(&self, out: &mut Writer) -> Result<(), AllocError> {
         out.varint_field(numbers::BUCKET_START, self.start)?;
         out.varint_field(numbers::BUCKET_END, self.end)?;
-        put_messages(alloc, out, numbers::BUCKET_ATOM, self.atoms.as_slice())
+        put_messages(out, numbers::BUCKET_ATOM, self.atoms.as_slice())
     }
 }
 
@@ -102,9 +102,9 @@ impl Message for GaugeTree {
     ghost is_writable = { IsWritableRow };
 
     #[tactic(auto, unfolding(crate::specs::ReportSpelling::gauge_message))]
-    fn put_fields(&self, alloc: Global, out: &mut Writer) -> Result<(), AllocError> {
-        put_messages(alloc, out, numbers::DATA_BUCKET, self.buckets.as_slice())?;
-        put_key(alloc, out, self.leaves.as_slice(), self.slices.as_slice())
+    fn put_fields(&self, out: &mut Writer) -> Result<(), AllocError> {
+        put_messages(out, numbers::DATA_BUCKET, self.buckets.as_slice())?;
+        put_key(out, self.leaves.as_slice(), self.slices.as_slice())
     }
 }
 
@@ -117,8 +117,8 @@ impl Message for EventTree {
     ghost is_writable = { IsWritableEvent };
 
     #[tactic(auto, unfolding(crate::specs::ReportSpelling::event_message))]
-    fn put_fields(&self, alloc: Global, out: &mut Writer) -> Result<(), AllocError> {
+    fn put_fields(&self, out: &mut Writer) -> Result<(), AllocError> {
         out.varint_field(numbers::EVENT_TIME, self.at)?;
-        put_message(alloc, out, numbers::EVENT_ATOM, &self.atom)
+        put_message(out, numbers::EVENT_ATOM, &self.atom)
     }
 }

@@ -11,6 +11,7 @@ ghost use Rattle.value_metric.specs.SumsItems.{HaveOwnKeys, AddsOwnRow, IsSumsOf
 use crate::KeyedInt;
 use atom_record::MetricKey;
 use indexmap::IndexMap;
+use key_hash::KeyHashing;
 use sd_base::Seq;
 use std::alloc::{AllocError, Global};
 use std::marker::Model;
@@ -18,7 +19,7 @@ use std::marker::Model;
 /// Each key of a snapshot, where it first comes, with the sum of its integers.
 #[derive(Drop)]
 pub struct KeySums {
-    rows: IndexMap<MetricKey, i128>,
+    rows: IndexMap<MetricKey, i128, KeyHashing>,
 }
 
 impl Model for KeySums {
@@ -36,7 +37,7 @@ impl KeySums {
         ensures { IfOk result (λ sums. sums ≡ key_sums (keyed_ints integers)) }
     {
         let mut sums = KeySums {
-            rows: IndexMap::new(alloc),
+            rows: IndexMap::with_hasher(alloc, KeyHashing::new()),
         };
         for integer in integers.into_vec() {
             sums.add(integer.key, integer.value as i128)?;
@@ -52,7 +53,7 @@ impl KeySums {
         ensures { IfOk result (IsSumsOf rows) }
     {
         let mut sums = KeySums {
-            rows: IndexMap::new(alloc),
+            rows: IndexMap::with_hasher(alloc, KeyHashing::new()),
         };
         for (key, sum) in rows.into_vec() {
             if !sums.add_own(key, sum)? {
@@ -81,11 +82,8 @@ impl KeySums {
     fn add(&mut self, key: MetricKey, integer: i128) -> Result<(), AllocError>
         ensures { OnOk result (self.new ≡ with_sum self.old key integer) }
     {
-        let sum = match self.sum_of(&key) {
-            Some(sum) => sum.saturating_add(integer),
-            None => integer,
-        };
-        self.rows.insert(key, sum)?;
+        let sum = self.rows.entry(key)?.or_insert(0);
+        *sum = sum.saturating_add(integer);
         Ok(())
     }
 

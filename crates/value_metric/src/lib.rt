@@ -15,7 +15,7 @@ mod value_books;
 
 pub use keyed_int::{KeyedInt, SnapInts};
 pub use laws::crossings_join;
-pub use metric_producer::{Closed, Producer, Row};
+pub use metric_producer::{Closed, Producer, ReadsEvents, Row};
 pub use pulled_value::PulledValue;
 pub use pushed_value::PushedValue;
 pub use read_ahead::intervals_are_read_ahead;

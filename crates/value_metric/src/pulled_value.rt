@@ -18,7 +18,7 @@ use atom_record::MetricKey;
 use bucket_clock::Crossings;
 use config_types::{DiffSpec, Direction};
 use predicate_state::Truth;
-use sd_base::{Duplicate, Seq};
+use sd_base::Seq;
 use std::alloc::{AllocError, Global};
 use std::mem;
 
@@ -250,7 +250,6 @@ fn arrive(books: &mut ValueBooks, key: &MetricKey, diff: Option<i128>) -> Result
     let Some(diff) = diff else {
         return Ok(());
     };
-    let key = key.duplicate(books.alloc)?;
     books.arrive(key, diff)
 }
 

@@ -4,7 +4,7 @@ ghost use Rattle.bucket_meaning.specs.Limits.{longest_bucket, time_limit, most_k
 ghost use Rattle.value_metric.specs.PushedStands.{PushedStandsFor};
 
 use crate::value_books::ValueBooks;
-use crate::{Closed, KeyedInt, Producer};
+use crate::{Closed, KeyedInt, Producer, ReadsEvents};
 use bucket_clock::Crossings;
 use config_types::Aggregation;
 use std::alloc::{AllocError, Global};
@@ -62,8 +62,7 @@ impl Producer for PushedValue {
     ghost law = { pushed_law };
 
     fn event(&mut self, at: u64, ev: KeyedInt) -> Result<(), AllocError> {
-        let _at = at;
-        self.books.arrive(ev.key, ev.value as i128)
+        self.event_of(at, &ev)
     }
 
     fn condition(&mut self, at: u64, now: ()) -> Result<(), AllocError> {
@@ -86,5 +85,12 @@ impl Producer for PushedValue {
 
     fn take(&mut self) -> Closed<i64> {
         self.books.take()
+    }
+}
+
+impl ReadsEvents for PushedValue {
+    fn event_of(&mut self, at: u64, ev: &KeyedInt) -> Result<(), AllocError> {
+        let _at = at;
+        self.books.arrive(&ev.key, ev.value as i128)
     }
 }

@@ -66,8 +66,8 @@ impl ValueBooks {
     }
 
     /// An integer of a key arrives.
-    pub(crate) fn arrive(&mut self, key: MetricKey, integer: i128) -> Result<(), AllocError>
-        ensures { OnOk result (TakesMark self.old self.new (Came (key, integer))) }
+    pub(crate) fn arrive(&mut self, key: &MetricKey, integer: i128) -> Result<(), AllocError>
+        ensures { OnOk result (TakesMark self.old self.new (Came (key.now, integer))) }
     {
         admit(&mut self.table, self.aggregation, key, integer)
     }
@@ -240,17 +240,17 @@ fn as_often(before: u64, after: u64, number: u64) -> u64
     after.saturating_add((number - 1).saturating_mul(more))
 }
 
-// One more integer of a key.
+// One more integer of a key, which is copied where it is new.
 fn admit(
     table: &mut Guarded<MetricKey, Option<i128>>,
     aggregation: Aggregation,
-    key: MetricKey,
+    key: &MetricKey,
     integer: i128,
 ) -> Result<(), AllocError>
-    ensures taken { OnOk result (TakesInteger aggregation table.old table.new key integer) }
+    ensures taken { OnOk result (TakesInteger aggregation table.old table.new key.now integer) }
     ensures err { OnErr result (table.new ≡ table.old) }
 {
-    match table.admit(key, None)? {
+    match table.admit_copy(key, None)? {
         Admit::At(place) => add(table, aggregation, place, integer),
         Admit::Full => (),
     }

@@ -18,7 +18,8 @@ use crate::inner::{changes_of, changes_with, delta_of};
 use crate::kinds::durations::durations_tree;
 use crate::moments::comes_by_pull;
 use crate::request::ReportRequest;
-use crate::stays::stays_with;
+use crate::stays::{Before, stays_with};
+use crate::turn::turn_of;
 use crate::turns::{act, learn};
 use atom_record::LogFrame;
 use condition_links::Steps;
@@ -70,11 +71,15 @@ pub fn log<L: Ledger>(
     if !changes_with(metric, brought, atom, conditions) {
         return Ok(());
     }
+    let turn = turn_of(alloc, metric, conditions, atom, brought.matched)?;
     let listed = lane.producer().inner_len();
-    let stays = stays_with(metric, brought, atom, conditions, listed);
+    let turn = turn.as_ref();
+    let stays = stays_with(metric, brought, atom, conditions, Before { listed, turn });
     let event = conditions.inner_event(alloc, metric.what, atom, brought.matched)?;
     let acts = event.is_some();
-    act(lane, at, event)?;
+    let came = event.as_ref();
+    act(lane, at, came)?;
+    conditions.give_event(event);
     let changes = changes_of(
         alloc,
         lane.producer(),

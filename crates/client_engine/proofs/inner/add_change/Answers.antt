@@ -1,5 +1,5 @@
 -- What is so of the key at the place is told, unless it was told last.
-use Rattle.std.proofs.Common.{[], ◌∷◌, ◌++◌, ap, ◌∙◌}
+use Rattle.std.proofs.Common.{[], ◌∷◌, ◌++◌, sym, ap, ◌∙◌}
 use Rattle.std.proofs.lemmas.Result.{on_ok_weaker}
 use Rattle.atom_record.specs.declared.value.MetricKey.{MetricKey}
 use Rattle.duration_metric.specs.InnerKeys.{inner_keys, last_known}
@@ -8,7 +8,9 @@ use Rattle.std.specs.Prelude.{slice_get}
 use Rattle.metric_meaning.specs.DurationSteps.{inner_fields}
 use Rattle.client_engine.specs.Bringing.{handed_with}
 use Rattle.client_engine.specs.Known.{Known}
-use Rattle.client_engine.proofs.ChangesLemmas.{known_there, none_there, told_there, new_there}
+use Rattle.client_engine.specs.InnerTold.{fields_in}
+use Rattle.client_engine.specs.Staying.{is_kept}
+use Rattle.client_engine.proofs.ChangesLemmas.{known_there, none_there, kept_told, told_there, new_there}
 use Rattle.client_engine.proofs.inner.add_change.Goals as goal
 
 -- no key is there
@@ -17,6 +19,17 @@ returns-in_default-clause-adds g c = λ params calls scene stands found shared k
     none_there (last_known params.spec calls) (known_in scene c.args.asker.now.metric.now) c.args.changes.now
     c.args.place (slice_get (inner_keys params.spec calls) c.args.place)
     (rw (c.in_default.is) at (c.key.ensures params calls stands))
+
+-- all that is so of it stays
+pub returns-then-stays_at-clause-adds : goal.returns-then-stays_at-clause-adds
+returns-then-stays_at-clause-adds g c = λ params calls scene stands found shared keeps.
+    let asker = c.args.asker.now in
+    let there = rw (c.in-Some.is) at (c.key.ensures params calls stands) in
+    kept_told (last_known params.spec calls) (known_in scene asker.metric.now)
+    (fields_in scene asker.metric.now) asker.stays
+    (inner_keys params.spec calls) c.args.changes.now c.args.place c.in-Some.key.now keeps there
+    (ap (λ ps. is_kept asker.stays c.args.place (inner_fields (slice_get ps asker.metric.now.what)) c.in-Some.key.now)
+    (sym found.predicates) ∙ sym c.stays_at.ensures ∙ c.if-stays_at.true)
 
 -- this was told
 pub returns-then-was_told-clause-adds : goal.returns-then-was_told-clause-adds

@@ -6,7 +6,7 @@ use Rattle.metric_calls.specs.DurationCalls.{known_in, changes_from}
 use Rattle.client_engine.specs.Bringing.{handed_with}
 use Rattle.client_engine.specs.Handed.{IsOfScene}
 use Rattle.client_engine.specs.Known.{Known}
-use Rattle.client_engine.specs.InnerTold.{HasShared}
+use Rattle.client_engine.specs.InnerTold.{fields_in, HasShared}
 use Rattle.client_engine.proofs.ChangesLemmas.{first_skipped, all_skipped, places_on, places_all}
 use Rattle.client_engine.proofs.InnerAskedLemmas.{asks_first, asks_on, asks_all}
 use Rattle.client_engine.proofs.inner.changes_of.Goals as goal
@@ -26,7 +26,8 @@ returns-then-count-first-clause-changes g c = λ params calls scene stands found
     let len = c.len-count.ensures.value params calls stands in
     let first = c.first_asked-first.ensures in
     c.new-changes.ensures
-    ∙ all_skipped (last_known params.spec calls) (known_in scene c.args.metric.now) c.args.stays
+    ∙ all_skipped (last_known params.spec calls) (known_in scene c.args.metric.now)
+    (fields_in scene c.args.metric.now) c.args.stays
     (inner_keys params.spec calls) (omega (arith, few, len, first)) keeps
 
 -- nothing is told yet
@@ -39,7 +40,8 @@ loop-place-init g c = (
       ap (λ l. l ++ changes_from was now c.first_asked-first.result (drop c.first_asked-first.result keys))
       c.new-changes.ensures
       ∙ ap (λ n. changes_from was now n (drop n keys)) c.first_asked-first.ensures
-      ∙ sym (first_skipped was now c.args.stays keys keeps),
+      ∙ sym (first_skipped was now (fields_in scene c.args.metric.now) c.args.stays
+      keys keeps),
   c.take_room-room.ensures ∙ c.in_ok-shared.ensures.known,
   asks_first g.K.Inners.stands c.args.keys.now c.args.stays c.first_asked-first.result
       c.len-count.result c.args.asks.now

@@ -6,6 +6,7 @@ use Rattle.std.proofs.lemmas.Result.{IfOk-weaker}
 use Rattle.duration_metric.specs.InnerKeys.{inner_keys, last_known}
 use Rattle.metric_calls.specs.DurationCalls.{known_in}
 use Rattle.client_engine.specs.Bringing.{handed_with}
+use Rattle.client_engine.specs.InnerTold.{fields_in}
 use Rattle.client_engine.proofs.ChangesLemmas.{truth_there, kept_there}
 use Rattle.client_engine.proofs.inner.truth_at.Goals as goal
 
@@ -13,8 +14,9 @@ use Rattle.client_engine.proofs.inner.truth_at.Goals as goal
 pub returns-in-Some-clause-truth : goal.returns-in-Some-clause-truth
 returns-in-Some-clause-truth g c = λ params calls scene stands found shared keeps there.
     let asker = c.args.asker.now in
-    kept_there asker.stays (last_known params.spec calls) (known_in scene asker.metric.now)
-    (inner_keys params.spec calls) c.args.place c.args.key.now c.in-Some.truth keeps there
+    kept_there (fields_in scene asker.metric.now) asker.stays (last_known params.spec calls)
+    (known_in scene asker.metric.now) (inner_keys params.spec calls) c.args.place c.args.key.now c.in-Some.truth keeps
+    there
     (rw (c.in-Some.is) at (c.kept_truth.ensures params calls stands))
 
 -- it is asked

@@ -1,5 +1,5 @@
 use Rattle.client_engine.proofs.turns.act.Goals as goal
 
--- it is handed on
+-- it is shown
 pub returns-in-Some : goal.returns-in-Some
-returns-in-Some g c = rw c.in-Some.is c.event.ensures
+returns-in-Some g c = rw c.in-Some.is c.event_of.ensures

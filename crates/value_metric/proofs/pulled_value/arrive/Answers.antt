@@ -1,5 +1,5 @@
 -- A key's difference came.
-use Rattle.std.proofs.Common.{SFits, map, Some, rules, sym, subst}
+use Rattle.std.proofs.Common.{SFits, map, rules, sym, subst}
 use Rattle.std.specs.Int.{w128}
 use Rattle.std.specs.Prelude.{OnOk}
 use Rattle.std.proofs.lemmas.Int.{to_z-of_z}
@@ -13,8 +13,5 @@ returns c =
     let fits : SFits w128 c.in-Some.diff = search rules in
     subst (λ diff. OnOk c.arrive.result
     (TakesValueMarks c.args.books.now c.arrive.new.self (map Came (keyed_diff c.args.key.now diff)))) (sym c.in-Some.is)
-    (subst (λ key. OnOk c.arrive.result
-    (TakesValueMarks c.args.books.now c.arrive.new.self (map Came (keyed_diff key (Some c.in-Some.diff)))))
-    c.in_ok-key.ensures
-    (subst (λ n. OnOk c.arrive.result (TakesMark c.args.books.now c.arrive.new.self (Came (c.in_ok-key.key, n))))
-    (to_z-of_z w128 c.in-Some.diff fits) c.arrive.ensures))
+    (subst (λ n. OnOk c.arrive.result (TakesMark c.args.books.now c.arrive.new.self (Came (c.args.key.now, n))))
+    (to_z-of_z w128 c.in-Some.diff fits) c.arrive.ensures)

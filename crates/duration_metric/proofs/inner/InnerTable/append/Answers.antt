@@ -4,5 +4,5 @@ use Rattle.duration_metric.proofs.InnerLemmas.{lists_key}
 use Rattle.duration_metric.proofs.inner.InnerTable.append.Goals as goal
 
 pub returns : goal.returns
-returns c = lists_key c.args.self.now _ c.admit.new.self c.args.key c.args.count c.in_ok-admit.field-0
-    c.requires.absent c.in_ok-admit.ensures.answer refl
+returns c = lists_key c.args.self.now _ c.admit_copy.new.self c.args.key.now c.args.count c.in_ok-admit_copy.field-0
+    c.requires.absent c.in_ok-admit_copy.ensures.answer refl

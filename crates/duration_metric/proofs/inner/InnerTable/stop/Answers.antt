@@ -20,6 +20,6 @@ returns-else-less-eq0 c =
     ] in
     on_ok_weaker c.set_count.result (changes_by c.args.self.now c.set_count.new.self _ _
     (ap (λ (t : PredicateTable). t.state)
-    (stopped table c.args.key c.in-Some.place c.in-Some.count c.in-Some.ensures.count c.in-Some.ensures.place less
+    (stopped table c.args.key.now c.in-Some.place c.in-Some.count c.in-Some.ensures.count c.in-Some.ensures.place less
     c.add_stop-less.ensures stays)))
     c.set_count.ensures

@@ -7,5 +7,5 @@ use Rattle.duration_metric.proofs.sparse.MaxProducer.stop.Goals as goal
 pub returns : goal.returns
 returns c = on_ok_weaker c.note.result
     (came c.args.self.now (record { keys = c.stop.new.self; books = c.note.new.self }) c.args.at
-    (record { event = Stop; key = c.args.key }) _ c.in_ok-turn.ensures)
+    (record { event = Stop; key = c.args.key.now }) _ c.in_ok-turn.ensures)
     c.note.ensures

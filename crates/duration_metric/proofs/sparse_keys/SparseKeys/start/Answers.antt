@@ -7,9 +7,9 @@ use Rattle.duration_metric.proofs.sparse_keys.SparseKeys.start.Goals as goal
 
 pub returns-in_default : goal.returns-in_default
 returns-in_default c = IfOk-weaker c.append.result _ _
-    (λ turn lists. lists Start (start_lists c.args.self.now c.args.at c.args.key (sym c.in_default.ensures.value)))
+    (λ turn lists. lists Start (start_lists c.args.self.now c.args.at c.args.key.now (sym c.in_default.ensures.value)))
     c.append.ensures
 
 pub returns : goal.returns
-returns c = started c.args.self.now c.args.at c.args.key c.in-Some.place c.start_at.new.table
+returns c = started c.args.self.now c.args.at c.args.key.now c.in-Some.place c.start_at.new.table
     (sym c.in-Some.ensures.value) c.in-Some.ensures.there c.start_at.ensures

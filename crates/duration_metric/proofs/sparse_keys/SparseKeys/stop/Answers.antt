@@ -11,7 +11,7 @@ returns-in_default c = c.stop_absent.ensures
 -- where a key stands, a row stands
 pub returns-in_default-pair : goal.returns-in_default-pair
 returns-in_default-pair c =
-    absurd (no_key c.args.self.now.table.rows c.in-Some.place c.args.key (sym c.in_default-pair.ensures)
+    absurd (no_key c.args.self.now.table.rows c.in-Some.place c.args.key.now (sym c.in_default-pair.ensures)
     c.in-Some.ensures.there)
 
 -- the key stays on
@@ -19,7 +19,7 @@ pub returns-then-less-gt0 : goal.returns-then-less-gt0
 returns-then-less-gt0 c =
     let rows = c.args.self.now.table.rows in
     let place = c.in-Some.place in
-    let key = c.args.key in
+    let key = c.args.key.now in
     let entry = c.in-Some-pair.entry.now in
     let there = own_row rows place key (c.in-Some-pair._key.now, entry) c.in-Some-pair.ensures
     c.in-Some.ensures.there in
@@ -32,7 +32,7 @@ pub returns-then-self : goal.returns-then-self
 returns-then-self c =
     let rows = c.args.self.now.table.rows in
     let place = c.in-Some.place in
-    let key = c.args.key in
+    let key = c.args.key.now in
     let entry = c.in-Some-pair.entry.now in
     let there = own_row rows place key (c.in-Some-pair._key.now, entry) c.in-Some-pair.ensures
     c.in-Some.ensures.there in
@@ -48,7 +48,7 @@ pub returns-in_default-remove : goal.returns-in_default-remove
 returns-in_default-remove c =
     let rows = c.args.self.now.table.rows in
     let place = c.in-Some.place in
-    let key = c.args.key in
+    let key = c.args.key.now in
     let entry = c.in-Some-pair.entry.now in
     let there = own_row rows place key (c.in-Some-pair._key.now, entry) c.in-Some-pair.ensures
     c.in-Some.ensures.there in
@@ -59,7 +59,7 @@ pub returns : goal.returns
 returns c =
     let rows = c.args.self.now.table.rows in
     let place = c.in-Some.place in
-    let key = c.args.key in
+    let key = c.args.key.now in
     let entry = c.in-Some-pair.entry.now in
     let there = own_row rows place key (c.in-Some-pair._key.now, entry) c.in-Some-pair.ensures
     c.in-Some.ensures.there in

@@ -5,5 +5,5 @@ use Rattle.duration_metric.proofs.sparse_keys.SparseKeys.stop_all.Goals as goal
 
 pub returns : goal.returns
 returns c = rw c.move_out.ensures.rows
-    (stops_all c.args.self.now c.args.at c.args.key c.move_out.new.self (omega (arith, c.ranges.at))
+    (stops_all c.args.self.now c.args.at c.args.key.now c.move_out.new.self (omega (arith, c.ranges.at))
     c.move_out.ensures.left)

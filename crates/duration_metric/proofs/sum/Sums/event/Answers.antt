@@ -7,7 +7,7 @@ use Rattle.duration_metric.proofs.sum.Sums.event.Goals as goal
 
 pub returns-clause-moves : goal.returns-clause-moves
 returns-clause-moves c = on_ok_three c.act.result
-    (got (seen c.args.self.now) c.act.new.self c.args.at c.args.ev) c.act.ensures.calls c.act.ensures.counts
+    (got (seen c.args.self.now) c.act.new.self c.args.at c.args.ev.now) c.act.ensures.calls c.act.ensures.counts
     c.act.ensures.steady
 
 pub returns-clause-tally : goal.returns-clause-tally

@@ -7,8 +7,8 @@ use Rattle.predicate_state.proofs.table.PredTable.append.Goals as goal
 
 pub returns-clause-state : goal.returns-clause-state
 returns-clause-state c =
-    let absent = subst (λ (t : PredicateTable). ¬ Contains (keys_of t.state.counts) c.args.key) (sym c.self.view_is)
+    let absent = subst (λ (t : PredicateTable). ¬ Contains (keys_of t.state.counts) c.args.key.now) (sym c.self.view_is)
     c.requires.absent in
     rw (← c.self.view_is)
-    (new_key c.self.inside.spec c.self.inside.unknown c.self.inside.counts c.admit.new.self c.args.key c.args.count
-    c.in_ok-admit.field-0 c.self.invariant.0 absent c.in_ok-admit.ensures.answer)
+    (new_key c.self.inside.spec c.self.inside.unknown c.self.inside.counts c.admit_copy.new.self c.args.key.now
+    c.args.count c.in_ok-admit_copy.field-0 c.self.invariant.0 absent c.in_ok-admit_copy.ensures.answer)

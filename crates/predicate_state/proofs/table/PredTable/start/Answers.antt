@@ -8,7 +8,7 @@ use Rattle.predicate_state.proofs.table.PredTable.start.Goals as goal
 pub returns-in-Some-clause-state : goal.returns-in-Some-clause-state
 returns-in-Some-clause-state c =
     c.set_count.ensures
-    ∙ started c.args.self.now c.args.key c.in-Some.place c.in-Some.count c.in-Some.ensures.count
+    ∙ started c.args.self.now c.args.key.now c.in-Some.place c.in-Some.count c.in-Some.ensures.count
     c.in-Some.ensures.place c.add_start-more.result
     (c.add_start-more.ensures
     ∙ ap (λ (t : PredicateTable). count_after_start t.spec.nesting c.in-Some.count) c.self.view_is)

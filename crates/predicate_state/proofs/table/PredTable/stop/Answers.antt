@@ -17,7 +17,7 @@ returns-else-less-eq0-clause-state c =
       | else-less-eq0-via-else-less-eq0 w ↦ stays_above less c.args.self.now.state.unknown w.if-less-eq0.false
     ] in
     c.set_count.ensures
-    ∙ stopped c.args.self.now c.args.key c.in-Some.place c.in-Some.count c.in-Some.ensures.count
+    ∙ stopped c.args.self.now c.args.key.now c.in-Some.place c.in-Some.count c.in-Some.ensures.count
     c.in-Some.ensures.place less
     (c.add_stop-less.ensures
     ∙ ap (λ (t : PredicateTable). count_after_stop t.spec.nesting c.in-Some.count) c.self.view_is) stays

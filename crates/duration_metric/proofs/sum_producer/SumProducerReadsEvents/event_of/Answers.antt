@@ -8,7 +8,7 @@ use Rattle.duration_metric.specs.InnerKeys.{DurationCall}
 use Rattle.duration_metric.specs.SumParts.{Summing, seen}
 use Rattle.duration_metric.specs.SumStands.{sum_law}
 use Rattle.duration_metric.proofs.SumTallyLemmas.{handed_on}
-use Rattle.duration_metric.proofs.sum_producer.SumProducerProducer.event.Goals as goal
+use Rattle.duration_metric.proofs.sum_producer.SumProducerReadsEvents.event_of.Goals as goal
 
 pub invariant_of-self : goal.invariant_of-self
 invariant_of-self c = c.after.ensures.tally
@@ -16,7 +16,7 @@ invariant_of-self c = c.after.ensures.tally
 
 pub returns : goal.returns
 returns c =
-    let call : DurationCall = Got c.args.at c.args.ev in
+    let call : DurationCall = Got c.args.at c.args.ev.now in
     let old = seen c.self.inside.sums in
     subst (λ (it : Summing). OnOk c.after.result (Moves sum_law it (seen c.after.new.self) call)) c.self.view_is
     (handed_on (λ (it : Sums). Moves sum_law old (seen it) call) c.event-answer.result c.after.result
