@@ -20,8 +20,8 @@ use Rattle.metric_meaning.specs.Scenes.{Scene}
 use Rattle.metric_calls.specs.DurationCalls.{told_as, known_in, change_at, changes_from}
 use Rattle.metric_calls.proofs.InnerChangesLemmas.{says-itself}
 use Rattle.client_engine.specs.declared.stays.Stays.{Stays}
-use Rattle.client_engine.specs.declared.stays.Stays.TheVariants.{Keys, Others, Truths, Nothing}
-use Rattle.client_engine.specs.Staying.{KeepsWhatStays, truth_kept, first_asked, is_kept}
+use Rattle.client_engine.specs.declared.stays.Stays.TheVariants.{Keys, Others, OtherStates, Truths, Nothing}
+use Rattle.client_engine.specs.Staying.{KeepsThose, KeepsTruths, KeepsWhatStays, truth_kept, first_asked, is_kept}
 use Rattle.client_engine.specs.Handed.{Handed, IsOfScene}
 use Rattle.client_engine.specs.InnerTold.{told_of_place, reading_in}
 use Rattle.client_engine.proofs.ArrivingLemmas.{condition_there}
@@ -38,6 +38,19 @@ truth_there given scene metric key truth found truth_is =
     ∙ ap (λ ps. told_as (holds_in scene metric (key_reading (inner_fields (slice_get ps metric.what)) key)))
     found.predicates
 
+-- a truth that was told, and stays, is the truth now
+told_stays : (was : LeafKey → Option Known) (now : LeafKey → Known) (keys : List LeafKey) (place : ℕ) (key : LeafKey)
+    (truth : Truth) → KeepsTruths was now keys → Some key ≡ slice_get keys place
+    → Some truth ≡ option_and_then (λ key. option_map (λ (known : Known). known.truth) (was key)) (slice_get keys place)
+    → truth ≡ (now key).truth
+told_stays was now keys place key truth keeps is kept =
+    by (was key) refl (kept ∙ ap (λ found. option_and_then
+    (λ key. option_map (λ (known : Known). known.truth) (was key)) found) (sym is)) where
+      by : (told : Option Known) → was key ≡ told → Some truth ≡ option_map (λ (known : Known). known.truth) told
+          → truth ≡ (now key).truth
+      by None told kept = absurd (none-some truth (sym kept))
+      by (Some known) told kept = same_Some truth known.truth kept ∙ keeps place key known (sym is) told
+
 -- a truth that stays is the truth now
 pub kept_there : (fields : FieldSet) (stays : Stays) (was : LeafKey → Option Known) (now : LeafKey → Known)
     (keys : List LeafKey) (place : ℕ) (key : LeafKey) (truth : Truth) → KeepsWhatStays fields stays was now keys
@@ -50,12 +63,9 @@ kept_there fields (Others turn listed) was now keys place key truth keeps is kep
     absurd (none-some truth (sym kept))
 kept_there fields Nothing was now keys place key truth keeps is kept = absurd (none-some truth (sym kept))
 kept_there fields Truths was now keys place key truth keeps is kept =
-    by (was key) refl (kept ∙ ap (λ found. option_and_then
-    (λ key. option_map (λ (known : Known). known.truth) (was key)) found) (sym is)) where
-      by : (told : Option Known) → was key ≡ told → Some truth ≡ option_map (λ (known : Known). known.truth) told
-          → truth ≡ (now key).truth
-      by None told kept = absurd (none-some truth (sym kept))
-      by (Some known) told kept = same_Some truth known.truth kept ∙ keeps place key known (sym is) told
+    told_stays was now keys place key truth keeps is kept
+kept_there fields (OtherStates told listed) was now keys place key truth keeps is kept =
+    told_stays was now keys place key truth keeps.1 is kept
 
 -- what is handed has what is so of an inner key
 pub known_there : (given : Handed) (scene : Scene) (metric : LMetric) (fields : FieldSet)
@@ -95,6 +105,15 @@ module _ (was : LeafKey → Option Known) (now : LeafKey → Known) where
       else record { place = place; truth = (now key).truth; out = (now key).out } ∷ []) ++ [])) said)
       ∙ ap (λ o. changes ++ told_of_place was now place o) is
 
+  -- nor of one that is kept
+  kept_unsaid : (fields : FieldSet) (stays : Stays) (keys : List LeafKey) (changes : List InnerChange) (place : ℕ)
+      (key : LeafKey) → KeepsThose fields stays was now keys → Some key ≡ slice_get keys place
+      → is_kept stays place fields key ≡ true → changes ≡ changes ++ told_of_place was now place (slice_get keys place)
+  kept_unsaid fields stays keys changes place key keeps there kept =
+      told_there changes place (slice_get keys place) key (now key) true there refl
+      (sym (sym (ap (λ o. option_map_or (λ k. says (was k) (now key)) o false) there)
+      ∙ ap (λ o. says o (now key)) (keeps place key kept (sym there)) ∙ says-itself (now key))) refl
+
   -- nor of one of which all stays
   pub kept_told : (fields : FieldSet) (stays : Stays) (keys : List LeafKey) (changes : List InnerChange) (place : ℕ)
       (key : LeafKey) → KeepsWhatStays fields stays was now keys → Some key ≡ slice_get keys place
@@ -103,9 +122,9 @@ module _ (was : LeafKey → Option Known) (now : LeafKey → Known) where
   kept_told fields Truths keys changes place key keeps there kept = absurd (false≢true kept)
   kept_told fields Nothing keys changes place key keeps there kept = absurd (false≢true kept)
   kept_told fields (Others turn listed) keys changes place key keeps there kept =
-      told_there changes place (slice_get keys place) key (now key) true there refl
-      (sym (sym (ap (λ o. option_map_or (λ k. says (was k) (now key)) o false) there)
-      ∙ ap (λ o. says o (now key)) (keeps place key kept (sym there)) ∙ says-itself (now key))) refl
+      kept_unsaid fields (Others turn listed) keys changes place key keeps there kept
+  kept_told fields (OtherStates told listed) keys changes place key keeps there kept =
+      kept_unsaid fields (OtherStates told listed) keys changes place key keeps.0 there kept
 
   -- of any other, what is so of it
   pub new_there : (changes more : List InnerChange) (place : ℕ) (found : Option LeafKey) (key : LeafKey) (known : Known)
@@ -145,6 +164,7 @@ module _ (was : LeafKey → Option Known) (now : LeafKey → Known) where
   first_skipped fields Nothing keys keeps = refl
   first_skipped fields Truths keys keeps = refl
   first_skipped fields (Others turn listed) keys keeps = refl
+  first_skipped fields (OtherStates told listed) keys keeps = refl
   first_skipped fields (Keys listed) keys keeps =
       let all : 0 + listed ≡ listed = omega arith in
       skipped listed 0 keys keeps ∙ ap (λ n. changes_from was now n (drop listed keys)) all

@@ -5,13 +5,14 @@ use Rattle.duration_metric.specs.InnerKeys.{DurationParams, DurationCall, inner_
 use Rattle.client_engine.specs.AskedFew.{StaysAt, AsksOfPlace, AsksOfAll}
 use Rattle.client_engine.specs.Staying.{is_nothing}
 use Rattle.client_engine.specs.declared.stays.Stays.{Stays}
-use Rattle.client_engine.specs.declared.stays.Stays.TheVariants.{Keys, Others, Truths, Nothing}
+use Rattle.client_engine.specs.declared.stays.Stays.TheVariants.{Keys, Others, OtherStates, Truths, Nothing}
 
 -- where a truth stays, not all are asked
 pub stays_some : (stays : Stays) (params : DurationParams) (calls : List DurationCall) (place : ℕ)
     → StaysAt stays params calls place → is_nothing stays ≡ false
 stays_some (Keys listed) params calls place kept = refl
 stays_some (Others turn listed) params calls place kept = refl
+stays_some (OtherStates told listed) params calls place kept = refl
 stays_some Truths params calls place kept = refl
 stays_some Nothing params calls place kept = absurd (false≢true kept)
 

@@ -50,6 +50,7 @@ use Rattle.client_engine.specs.KeptPredicates.{HasItsLeaves, KeepsItsLeaves}
 use Rattle.client_engine.specs.NextSteps.{logged_step, with_logged, ComeInTime, MayLog}
 use Rattle.client_engine.specs.SoundMetrics.{IsSoundIn}
 use Rattle.client_engine.specs.Touchers.{tells_one}
+use Rattle.client_engine.specs.Telling.{IsKeyTold}
 use Rattle.client_engine.specs.Turning.{IsTurn}
 use Rattle.client_engine.specs.Staying.{stays_by, KeepsWhatStays}
 use Rattle.client_engine.specs.InnerTold.{StaysInScene}
@@ -143,6 +144,7 @@ pub record IsFoundAt {P X K C V : Type 0} (law : Law P DurationParams InnerEvent
   pub listed_there : (params : DurationParams) (calls : List DurationCall) → law.stands crossed params calls
       → was.listed ≡ length (inner_keys params.spec calls)
   pub turn_there : IsTurn given.known.predicates metric truths atom (option_copied was.turn)
+  pub told_there : IsKeyTold given.states metric.slices atom (option_copied was.told)
   pub stays_there : stays ≡ stays_by (acts_below given.known.predicates truths metric.condition)
       (tells_one given.states atom.id metric.slices) was
   pub changes_there : (params : DurationParams) (calls : List DurationCall) (scene : Scene)
@@ -292,7 +294,9 @@ module _ {P X K C V : Type 0} (law : Law P DurationParams InnerEvent InnerDelta 
             (sym (ap (λ states. tells_one states atom.id metric.slices) may.found.states))
             (there.listed_there params calls before)
             (subst (λ ps. IsTurn ps metric truths atom (option_copied was.turn)) may.found.predicates
-            there.turn_there))) in
+            there.turn_there)
+            (subst (λ states. IsKeyTold states metric.slices atom (option_copied was.told)) may.found.states
+            there.told_there))) in
             ap (delta_with (is_some event))
             (there.changes_there params acted
             (scene_after installed (with_logged steps frame truths)) stands may.found keeps

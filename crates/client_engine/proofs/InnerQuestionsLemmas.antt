@@ -1,6 +1,7 @@
 -- How many questions a duration asks at an atom.
 use Rattle.std.proofs.Common.{◌≡◌, ℕ, zero, suc, ◌+◌, ◌≤◌, ◌<◌, Bool, true, false, ◌||◌, List, [], ◌∷◌, ◌++◌, length, slice_get, Option, Some, None, if◌then◌else◌, refl, sym, ap, subst, ◌∙◌, arith}
 use Rattle.std.specs.Prelude.{is_some}
+use Rattle.std.specs.Borrow.{Bor}
 use Rattle.std.specs.Map.{keys_of}
 use Rattle.std.specs.Option.{option_map, option_and_then}
 use Rattle.std.proofs.lemmas.Option.{none-some}
@@ -18,6 +19,7 @@ use Rattle.metric_producer.specs.LaneCalls.{coming, told_by}
 use Rattle.metric_producer.specs.Collecting.{Law}
 use Rattle.metric_producer.specs.declared.row.Row.{Row}
 use Rattle.metric_producer.proofs.RuleLemmas.{admits-front}
+use Rattle.predicate_state.specs.declared.truth.Truth.{Truth}
 use Rattle.predicate_state.specs.PredicateStates.{PredicateState}
 use Rattle.predicate_state.specs.PredicateTable.{LeafKey, same_leaves}
 use Rattle.session_frames.specs.FrameReading.{log_time}
@@ -41,11 +43,11 @@ use Rattle.client_engine.specs.AskedFew.{AsksOfAll}
 use Rattle.client_engine.specs.Handed.{Handed}
 use Rattle.client_engine.specs.NextSteps.{logged_step, with_logged, ComeInTime, MayLog}
 use Rattle.client_engine.specs.Questions.{duration_questions}
-use Rattle.client_engine.specs.Staying.{stays_by, truth_kept}
+use Rattle.client_engine.specs.Staying.{stays_by, stays_untold, truth_kept}
 use Rattle.client_engine.specs.Touchers.{tells_one}
 use Rattle.client_engine.specs.declared.stays.Before.{Before}
 use Rattle.client_engine.specs.declared.stays.Stays.{Stays}
-use Rattle.client_engine.specs.declared.stays.Stays.TheVariants.{Truths}
+use Rattle.client_engine.specs.declared.told.Told.{Told}
 use Rattle.client_engine.proofs.AlongLemmas.{along_crosses}
 use Rattle.client_engine.proofs.InnerLemmas.{event_is, shown_event}
 use Rattle.client_engine.proofs.OldKeysLemmas.{among_there}
@@ -75,6 +77,12 @@ told_at was keys told place within = by (slice_get keys place) refl where
   by None is = absurd (not_none keys place within is)
   by (Some key) is = of_known (was key) (told place key is)
 
+-- a truth that was told stays where a state alone is told
+kept_untold : (told : Option (Bor Told)) (listed : ℕ) (truth : Option Truth)
+    → truth_kept (stays_untold told listed) truth ≡ truth
+kept_untold None listed truth = refl
+kept_untold (Some told) listed truth = refl
+
 -- one of two, where the first isn't
 second_of : (one other : Bool) → one ≡ false → (one || other) ≡ true → other ≡ true
 second_of one other off both = subst (λ (b : Bool). (b || other) ≡ true) off both
@@ -97,7 +105,7 @@ module _ {P X K C V : Type 0} (law : Law P DurationParams InnerEvent InnerDelta 
       → law.stands middle (duration_params installed.base metric spec) (calls ++ coming at event)
       → AsksOfAll law.stands middle stays before after
       → (touched : Bool) → is_touched installed.linked.predicates metric step.truths ≡ touched
-      → (touched ≡ false → stays ≡ Truths)
+      → (touched ≡ false → (told : Option Truth) → truth_kept stays told ≡ told)
       → after ≤ before + (if touched then duration_questions installed steps metric spec else 0)
   known_few steps step calls at event middle stays before after event_there told stands asks true touch staying =
       let few = (asks (duration_params installed.base metric spec) (calls ++ coming at event) stands).0 in
@@ -110,10 +118,10 @@ module _ {P X K C V : Type 0} (law : Law P DurationParams InnerEvent InnerDelta 
       acted installed metric spec steps step calls at event (sym event_there) told in
       let now = listed_after installed metric spec (steps ++ step ∷ []) in
       let same = (asks (duration_params installed.base metric spec) acts stands).1
-      (λ place within. subst (λ (s : Stays). is_some (truth_kept s
+      (λ place within. ap is_some (staying refl
       (option_and_then (λ key. option_map (λ (known : Known). known.truth) (last_known spec acts key))
-      (slice_get (inner_keys spec acts) place))) ≡ true) (sym (staying refl))
-      (told_at (last_known spec acts) (inner_keys spec acts)
+      (slice_get (inner_keys spec acts) place)))
+      ∙ told_at (last_known spec acts) (inner_keys spec acts)
       (λ place key is.
       let listed : is_among same_leaves key now ≡ true =
       subst (λ (s : PredicateState LeafKey). is_among same_leaves key (keys_of s.counts) ≡ true) knows.state
@@ -122,7 +130,7 @@ module _ {P X K C V : Type 0} (law : Law P DurationParams InnerEvent InnerDelta 
       ∙ listed_told installed metric spec steps key
       (subst (λ (s : PredicateState LeafKey). is_among same_leaves key (keys_of s.counts) ≡ true)
       (untouched_inner installed metric spec steps step times touch) listed)))
-      place within)) in
+      place within) in
       omega (arith, same)
 
   -- an atom that touches the metric or tells a state by which it is sliced costs no more than its questions
@@ -171,7 +179,7 @@ module _ {P X K C V : Type 0} (law : Law P DurationParams InnerEvent InnerDelta 
       ap (λ (ps : List LPredicate). is_touched ps metric truths) may.found.predicates in
       known_few steps step calls when event middle.producer stays before after event_is_there (tells steps frame when)
       has.producer asks (is_touched installed.linked.predicates metric truths) refl
-      (λ off.
+      (λ off told.
       let given_off = given_same ∙ off in
       let predicates = given.known.predicates in
       let calm = (neither (acts_below predicates truths metric.condition)
@@ -179,5 +187,7 @@ module _ {P X K C V : Type 0} (law : Law P DurationParams InnerEvent InnerDelta 
       (neither (names_atom_itself metric truths) _ given_off).1).0 in
       let tells_it = second_of (is_touched predicates metric truths) (tells_one given.states atom.id metric.slices)
       given_off changes in
-      stays_are ∙ ap (λ b. stays_by b (tells_one given.states atom.id metric.slices) was) calm
+      ap (λ (s : Stays). truth_kept s told)
+      (stays_are ∙ ap (λ b. stays_by b (tells_one given.states atom.id metric.slices) was) calm
       ∙ ap (λ b. stays_by false b was) tells_it)
+      ∙ kept_untold was.told was.listed told)

@@ -23,13 +23,15 @@ use Rattle.metric_meaning.specs.Touched.{acts_below}
 use Rattle.metric_calls.specs.DurationCalls.{listed_after, known_after, told_after}
 use Rattle.metric_calls.proofs.InnerToldLemmas.{TellsInner, KnowsActed, listed_told, unlisted_told}
 use Rattle.client_engine.specs.NextSteps.{logged_step}
-use Rattle.client_engine.specs.Staying.{stays_apart, stays_by, KeepsWhatStays}
+use Rattle.client_engine.specs.Staying.{stays_apart, stays_untold, stays_by, KeepsTruths, KeepsWhatStays}
+use Rattle.client_engine.specs.Telling.{decides_inner, IsKeyTold}
 use Rattle.client_engine.specs.Touchers.{tells_one}
 use Rattle.client_engine.specs.Turning.{asks_for_turn, IsTurn}
 use Rattle.client_engine.specs.declared.stays.Before.{Before}
+use Rattle.client_engine.specs.declared.told.Told.{Told}
 use Rattle.client_engine.specs.declared.turn.Turn.{Turn}
 use Rattle.client_engine.proofs.OldKeysLemmas.{among_there, are_old}
-use Rattle.client_engine.proofs.UntouchedLemmas.{truth_left, known_stays, known_apart}
+use Rattle.client_engine.proofs.UntouchedLemmas.{truth_left, known_stays, known_apart, known_untold}
 
 module _ (installed : Installation) (metric : LMetric) (spec : PredSpec) (steps : List Step) (truths : List Bool)
     (at : ℕ) (atom : Atom) (calls : List DurationCall) (time : ℕ) (event : Option InnerEvent)
@@ -88,21 +90,46 @@ module _ (installed : Installation) (metric : LMetric) (spec : PredSpec) (steps 
       ∙ ap (λ (k : Known). Some k)
       (sym (known_apart installed metric spec steps truths at at atom turn.now turns untold key apart))
 
+  -- where the condition isn't touched, truths stay
+  truths_so : acts_below installed.linked.predicates truths metric.condition ≡ false
+      → KeepsTruths (last_known spec acted) now (inner_keys spec acted)
+  truths_so off =
+      λ place key known there was.
+      ap (λ (k : Known). k.truth) (told_is key known (sym (told_before place key there) ∙ was))
+      ∙ sym (truth_left installed metric spec steps truths at at atom off key)
+
+  -- and all that is so of the inner keys that aren't sliced by the state that is told
+  untold_so : (told : Option (Bor Told)) (listed : ℕ)
+      → acts_below installed.linked.predicates truths metric.condition ≡ false → listed ≡ length (inner_keys spec calls)
+      → IsKeyTold installed.linked.states metric.slices atom (option_copied told)
+      → KeepsWhatStays (inner_fields (measured installed metric)) (stays_untold told listed) (last_known spec acted) now
+      (inner_keys spec acted)
+  untold_so None listed off many tells_state = truths_so off
+  untold_so (Some told) listed off many tells_state = (
+    λ place key kept there.
+        let decides = decides_inner (inner_fields (measured installed metric)) key told.now in
+        let here : nat_lt place listed ≡ true = grind (arith, kept) in
+        let apart : decides ≡ false = grind (arith, kept) in
+        let within : place < listed = (Decides-ltb place listed).0 here in
+        told_old place key (omega (arith, within, many)) there
+        ∙ ap (λ (k : Known). Some k)
+        (sym (known_untold installed metric spec steps truths at at atom told.now tells_state off key apart)),
+    truths_so off,
+  )
+
   -- what stays by the two tests is so of inner keys after the atom
   pub stays_so : (touched is_told : Bool) (before : Before)
       → acts_below installed.linked.predicates truths metric.condition ≡ touched
       → tells_one installed.linked.states atom.id metric.slices ≡ is_told
       → before.listed ≡ length (inner_keys spec calls)
       → IsTurn installed.linked.predicates metric truths atom (option_copied before.turn)
+      → IsKeyTold installed.linked.states metric.slices atom (option_copied before.told)
       → KeepsWhatStays (inner_fields (measured installed metric)) (stays_by touched is_told before)
       (last_known spec acted) now (inner_keys spec acted)
-  stays_so true true before touches tells_state many turns = tt
-  stays_so true false before touches untold many turns = apart_so before.turn before.listed untold many turns
-  stays_so false true before off tells_state many turns =
-      λ place key known there was.
-      ap (λ (k : Known). k.truth) (told_is key known (sym (told_before place key there) ∙ was))
-      ∙ sym (truth_left installed metric spec steps truths at at atom off key)
-  stays_so false false before off untold many turns =
+  stays_so true true before touches tells_state many turns told = tt
+  stays_so true false before touches untold many turns told = apart_so before.turn before.listed untold many turns
+  stays_so false true before off tells_state many turns told = untold_so before.told before.listed off many told
+  stays_so false false before off untold many turns told =
       λ place key within there.
       told_old place key (omega (arith, within, many)) there
       ∙ ap (λ (k : Known). Some k) (sym (known_stays installed metric spec steps truths at at atom off untold key))

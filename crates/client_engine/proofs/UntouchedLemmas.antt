@@ -33,10 +33,12 @@ use Rattle.metric_meaning.proofs.ApartLemmas.{condition_stays_apart}
 use Rattle.metric_calls.specs.DurationCalls.{event_in, told_as, listed_after, known_after, told_after, inner_changes}
 use Rattle.metric_calls.proofs.InnerChangesLemmas.{nothing_told}
 use Rattle.metric_calls.proofs.InnerToldLemmas.{events_of, one_event, listed_told}
+use Rattle.client_engine.specs.Telling.{decides_inner, TellsKey}
 use Rattle.client_engine.specs.Touchers.{tells_one}
 use Rattle.client_engine.specs.Turning.{asks_for_turn, TurnsKey}
+use Rattle.client_engine.specs.declared.told.Told.{Told}
 use Rattle.client_engine.specs.declared.turn.Turn.{Turn}
-use Rattle.client_engine.proofs.StatesStayLemmas.{slices_stay}
+use Rattle.client_engine.proofs.StatesStayLemmas.{slices_stay, slices_untold}
 use Rattle.client_engine.proofs.TouchersLemmas.{past_below}
 
 -- a frame that is shown as an atom is that atom
@@ -88,30 +90,54 @@ module _ (installed : Installation) (metric : LMetric) (spec : PredSpec) (steps 
       condition_truth installed.linked.predicates (tables_after installed.linked.predicates these) metric
       (inner_reading installed metric key)
 
-  -- and all that is so of it stays, where its condition's truth does, and the atom tells no state by which the metric
-  -- is sliced
-  known_alike : tells_one installed.linked.states atom.id metric.slices ≡ false → (key : LeafKey)
+  -- the slices of an inner key by what a log gave
+  abbrev slices_by : List LogFrame → LeafKey → List Slice
+  slices_by log key =
+      named_slices installed.linked.states log (inner_reading installed metric key) metric.slices
+
+  -- the slices of an inner key stay
+  abbrev SlicesStay : LeafKey → Type 0
+  SlicesStay key =
+      slices_by (log_after installed steps ++ AtomAt at atom ∷ []) key ≡ slices_by (log_after installed steps) key
+
+  -- an atom that tells no state by which the metric is sliced leaves them
+  none_told : tells_one installed.linked.states atom.id metric.slices ≡ false → (key : LeafKey) → SlicesStay key
+  none_told untold key =
+      slices_stay installed.linked.states (log_after installed steps) at atom (inner_reading installed metric key)
+      metric.slices untold
+
+  -- and all that is so of it stays, where its condition's truth does, and its slices
+  known_alike : (key : LeafKey) → SlicesStay key
       → truth_after (steps ++ step ∷ []) key ≡ truth_after steps key
       → known_after installed metric (steps ++ step ∷ []) key ≡ known_after installed metric steps key
-  known_alike untold key alike =
+  known_alike key sliced alike =
       let reading = inner_reading installed metric key in
       let predicates = installed.linked.predicates in
-      let states = installed.linked.states in
       let now : Truth → List Slice → Known = λ truth slices. record {
         truth = told_as (is_true truth);
         out = record { dims = reading metric.dims; slices = slices };
       } in
-      ap (λ truth. now truth (named_slices states (log_after installed (steps ++ step ∷ [])) reading metric.slices))
-      alike
+      ap (λ truth. now truth (slices_by (log_after installed (steps ++ step ∷ [])) key)) alike
       ∙ ap (now (condition_truth predicates (tables_after predicates steps) metric reading))
-      (ap (λ log. named_slices states log reading metric.slices) (log_on installed steps time (AtomAt at atom) truths)
-      ∙ slices_stay states (log_after installed steps) at atom reading metric.slices untold)
+      (ap (λ log. slices_by log key) (log_on installed steps time (AtomAt at atom) truths) ∙ sliced)
 
   -- so it does where the atom doesn't touch the condition
   pub known_stays : acts_below installed.linked.predicates truths metric.condition ≡ false
       → tells_one installed.linked.states atom.id metric.slices ≡ false → (key : LeafKey)
       → known_after installed metric (steps ++ step ∷ []) key ≡ known_after installed metric steps key
-  known_stays off untold key = known_alike untold key (condition_left off (inner_reading installed metric key))
+  known_stays off untold key =
+      known_alike key (none_told untold key) (condition_left off (inner_reading installed metric key))
+
+  -- where it tells the state of a key by which the inner key isn't sliced
+  pub known_untold : (told : Told) → TellsKey installed.linked.states metric.slices atom told
+      → acts_below installed.linked.predicates truths metric.condition ≡ false → (key : LeafKey)
+      → decides_inner (inner_fields (measured installed metric)) key told ≡ false
+      → known_after installed metric (steps ++ step ∷ []) key ≡ known_after installed metric steps key
+  known_untold told tells off key apart =
+      let reading = inner_reading installed metric key in
+      known_alike key
+      (slices_untold installed.linked.states (log_after installed steps) at atom reading metric.slices told tells apart)
+      (condition_left off reading)
 
   -- and where it turns one key of the condition for which the inner key doesn't ask
   pub known_apart : (turn : Turn) → TurnsKey installed.linked.predicates metric truths atom turn
@@ -119,7 +145,8 @@ module _ (installed : Installation) (metric : LMetric) (spec : PredSpec) (steps 
       → asks_for_turn (inner_fields (measured installed metric)) key turn ≡ false
       → known_after installed metric (steps ++ step ∷ []) key ≡ known_after installed metric steps key
   known_apart turn turns untold key apart =
-      known_alike untold key (by (slice_get installed.linked.predicates turns.root) refl turns.acts) where
+      known_alike key (none_told untold key)
+      (by (slice_get installed.linked.predicates turns.root) refl turns.acts) where
         event : KeyEvent LeafKey
         event = record { event = turns.event; key = turn.key }
 

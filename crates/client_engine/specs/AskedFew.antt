@@ -1,5 +1,5 @@
 -- How many questions a part of an instance asks: for private clauses.
-use Rattle.std.specs.Prelude.{◌≡◌, ℕ, ◌+◌, ◌≤◌, ◌<◌, Bool, true, List, length, is_some, if◌then◌else◌}
+use Rattle.std.specs.Prelude.{◌≡◌, ℕ, ◌+◌, ◌≤◌, ◌<◌, Bool, true, List, [], ◌∷◌, length, map, is_some, if◌then◌else◌}
 use Rattle.atom_record.specs.declared.log.LogFrame.{LogFrame}
 use Rattle.atom_record.specs.declared.log.LogFrame.TheVariants.{AtomAt}
 use Rattle.config_links.specs.declared.linked.LMetric.{LMetric}
@@ -10,8 +10,10 @@ use Rattle.client_engine.specs.Known.{Known}
 use Rattle.client_engine.specs.NextSteps.{MayLog}
 use Rattle.client_engine.specs.Questions.{questions_of}
 use Rattle.client_engine.specs.Staying.{truth_kept}
+use Rattle.client_engine.specs.Tracks.{metric_in, AllStandFor}
 use Rattle.client_engine.specs.declared.brought.Brought.{Brought}
 use Rattle.client_engine.specs.declared.stays.Stays.{Stays}
+use Rattle.client_engine.specs.declared.track.Track.{Track}
 
 -- whatever steps it stood for, if the frame that is brought may come next, a counter rises by no more than the
 -- questions of these metrics at it
@@ -21,6 +23,15 @@ AsksFew stands metrics known brought it old new =
     (installed : Installation) (steps : List Step) (frame : LogFrame) → stands installed steps it
     → MayLog installed steps (handed_with known brought) brought.frame.now frame brought.matched.now
     → new ≤ old + questions_of metrics installed steps brought.frame.now brought.matched.now
+
+-- the same of a metric, by what its lane stands for
+abbrev pub LaneAsksFew : {A : Type 0} → (LMetric → Installation → List Step → A → Type 0) → LMetric → Known → Brought
+    → A → ℕ → ℕ → Type 0
+LaneAsksFew along metric known brought lane old new = AsksFew (along metric) (metric ∷ []) known brought lane old new
+
+-- the same of all metrics, by what their tracks stand for
+abbrev pub AllAskFew : Known → Brought → List Track → ℕ → ℕ → Type 0
+AllAskFew known brought tracks old new = AsksFew AllStandFor (map metric_in tracks) known brought tracks old new
 
 -- what an atom may cost that a metric counts: one question
 abbrev pub arrival_questions : LogFrame → List Bool → LMetric → ℕ

@@ -1,8 +1,11 @@
 -- What a frame of the log brings to each metric, and a metric that takes it.
-use Rattle.std.specs.Prelude.{Bool, List}
+use Rattle.std.specs.Prelude.{◌≡◌, Bool, List}
 use Rattle.config_links.specs.declared.linked.LMetric.{LMetric}
 use Rattle.metric_meaning.specs.Histories.{Step, Installation}
-use Rattle.client_engine.specs.Handed.{Handed, handed}
+use Rattle.metric_meaning.specs.Arrivals.{is_active_in}
+use Rattle.metric_meaning.specs.Scenes.{Scene}
+use Rattle.session_frames.specs.FrameReading.{log_time}
+use Rattle.client_engine.specs.Handed.{Handed, IsOfScene, handed}
 use Rattle.client_engine.specs.Known.{Known}
 use Rattle.client_engine.specs.NextSteps.{logged_step, TakesFrame, TakesWhile}
 use Rattle.client_engine.specs.declared.brought.Brought.{Brought}
@@ -14,6 +17,13 @@ handed_with known brought = handed known brought.matchers.now brought.states.now
 -- the step of what is brought
 abbrev pub brought_step : Brought → Step
 brought_step brought = logged_step brought.frame.now brought.matched.now
+
+-- this is so in the scene in which the frame is brought, whatever it is, where predicates know this and the metric is
+-- active or isn't, as is said
+abbrev pub WhereActive : Bool → LMetric → Known → Brought → (Scene → Type 0) → Type 0
+WhereActive active metric known brought next =
+    (scene : Scene) → IsOfScene (handed_with known brought) scene
+    → active ≡ is_active_in scene metric (log_time brought.frame.now) → next scene
 
 -- whatever steps the old one stood for, the new one stands for those and the frame that is brought, where predicates
 -- know this

@@ -1,5 +1,6 @@
 -- What a metric is handed with a frame of the log, and what it stands for.
 use Rattle.std.specs.Prelude.{◌≡◌, ℕ, ℤ, List}
+use Rattle.atom_record.specs.declared.log.LogFrame.{LogFrame}
 use Rattle.atom_record.specs.declared.value.Leaf.{Leaf}
 use Rattle.dim_table.specs.Table.{Table}
 use Rattle.config_links.specs.declared.linked.LMatcher.{LMatcher}
@@ -11,6 +12,10 @@ use Rattle.client_engine.specs.Known.{Known}
 -- a book of states, as a contract sees it
 abbrev pub BookOfStates : Type 0
 BookOfStates = Table ℕ (Table (List Leaf) ℤ)
+
+-- this is so of the log that the book stands for, whatever it is
+abbrev pub OnLog : BookOfStates → (List LogFrame → Type 0) → Type 0
+OnLog book next = (log : List LogFrame) → StateBookStandsFor book log → next log
 
 -- Predicates with what they know, the matchers and the states of the configuration, and the book of states, each after
 -- the frame.

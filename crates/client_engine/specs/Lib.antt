@@ -9,6 +9,7 @@ pub mod KeptPredicates
 pub mod Waking
 pub mod NextSteps
 pub mod Bringing
+pub mod Keying
 pub mod Opens
 pub mod Finding
 pub mod Along
@@ -22,10 +23,12 @@ pub mod GaugesAlong
 pub mod PulledGaugesAlong
 pub mod EventsAlong
 pub mod Turning
+pub mod Telling
 pub mod Staying
 pub mod Questions
 pub mod AskedFew
 pub mod InnerTold
+pub mod Inners
 pub mod DurationsShown
 pub mod SumsAlong
 pub mod LongestAlong

@@ -1,10 +1,12 @@
 -- What metrics find when their configuration is installed.
-use Rattle.std.specs.Prelude.{◌≡◌, ◌<◌, [], All}
+use Rattle.std.specs.Prelude.{◌≡◌, ℕ, ◌<◌, List, [], All}
 use Rattle.bucket_meaning.specs.Limits.{time_limit}
+use Rattle.config_links.specs.declared.linked.LMetric.{LMetric}
 use Rattle.pull_book.specs.PullBooks.{PullBookStandsFor}
-use Rattle.metric_meaning.specs.Histories.{Installation}
+use Rattle.metric_meaning.specs.Histories.{Step, Installation}
 use Rattle.client_engine.specs.Finding.{MayAsk}
 use Rattle.client_engine.specs.Known.{Known, KnowsAfter}
+use Rattle.client_engine.specs.SoundMetrics.{IsInstalledAt}
 use Rattle.client_engine.specs.Watches.{CanBeWatched}
 use Rattle.client_engine.specs.declared.opening.Opening.{Opening}
 
@@ -17,6 +19,13 @@ pub record IsOpeningOf (installed : Installation) (opening : Opening) (known : K
   pub predicates : known.predicates ≡ installed.linked.predicates
   pub knows : KnowsAfter [] known
   pub pulls : PullBookStandsFor opening.pulls.now installed.opening
+
+-- this stands for the metric at a place before any step, whatever was installed where this is found
+abbrev pub StandsAtFirst : {A : Type 0} → (Installation → List Step → A → Type 0) → Opening → Known → ℕ → LMetric → A
+    → Type 0
+StandsAtFirst stands opening known place metric it =
+    (installed : Installation) → IsOpeningOf installed opening known → IsInstalledAt installed.linked place metric
+    → stands installed [] it
 
 -- metrics can begin there: before the end of time, where each matcher may be asked and each alert can be watched
 pub record CanOpen (opening : Opening) : Type 0 where

@@ -6,12 +6,16 @@ use Rattle.bucket_clock.specs.Sound.{Times}
 use Rattle.config_links.specs.declared.linked.LMetric.{LMetric}
 use Rattle.metric_lane.specs.LaneClock.{NoEndBefore}
 use Rattle.metric_meaning.specs.Histories.{Step, Installation}
+use Rattle.client_engine.specs.Bringing.{handed_with}
 use Rattle.client_engine.specs.Handed.{Handed}
+use Rattle.client_engine.specs.Known.{Known}
 use Rattle.client_engine.specs.NextSteps.{MayLog, TakesFrame}
 use Rattle.client_engine.specs.Questions.{questions_of}
 use Rattle.client_engine.specs.Tracks.{metric_in, AllStandFor}
 use Rattle.client_engine.specs.TrackStands.{TrackStandsFor}
 use Rattle.client_engine.specs.Marks.{AreAllMarked, IsMarked}
+use Rattle.client_engine.specs.Waking.{OthersSleep}
+use Rattle.client_engine.specs.declared.brought.Brought.{Brought}
 use Rattle.client_engine.specs.declared.lanes.MetricLane.{MetricLane}
 use Rattle.client_engine.specs.declared.lanes.MetricLane.TheVariants.{Counts, Values, PulledValues, Gauges, PulledGauges, Events, Sums, Longest}
 use Rattle.client_engine.specs.declared.track.Track.{Track}
@@ -84,3 +88,32 @@ module _ (given : Handed) (shown : LogFrame) (truths : List Bool) (old : List Tr
         → (installed : Installation) (steps : List Step) (frame : LogFrame) → AllStandFor installed steps first
         → MayLog installed steps given shown frame truths
         → after ≤ before + questions_of (map metric_in first) installed steps shown truths
+
+-- The same of a frame that is brought, where predicates know this.
+module _ (known : Known) (brought : Brought) where
+  -- it came to the metrics that are marked
+  abbrev pub CameToMarked : List Track → ℕ → List Track → List Bool → ℕ → ℕ → Type 0
+  CameToMarked first before now marks after due =
+      AreWoken (handed_with known brought) brought.frame.now brought.matched.now first before now marks after due
+
+  -- it came to metrics that are marked somehow, those at these places among them
+  abbrev pub CameToThese : List ℕ → List Track → ℕ → List Track → ℕ → ℕ → Type 0
+  CameToThese places first before now after due =
+      WakesThese places (handed_with known brought) brought.frame.now brought.matched.now first before now after due
+
+  -- wherever it came to those that were marked, what comes next is so of those that are marked then
+  abbrev pub OnMoreMarked : List Track → List Bool → ℕ → ℕ → ((List Track → List Bool → ℕ → ℕ → Type 0) → Type 0)
+      → Type 0
+  OnMoreMarked old marks here due next =
+      OnMoreWoken (handed_with known brought) brought.frame.now brought.matched.now old marks here due next
+
+  -- wherever it did, the counter is no higher now than the questions of all allow
+  abbrev pub FewOfMarked : List Track → List Bool → ℕ → ℕ → ℕ → Type 0
+  FewOfMarked old marks here due after =
+      FewAsked (handed_with known brought) brought.frame.now brought.matched.now old marks here due after
+
+  -- all metrics sleep through it but those at these places
+  abbrev pub OthersSleepOn : List ℕ → List Track → Type 0
+  OthersSleepOn places tracks =
+      OthersSleep places known.predicates brought.states.now brought.frame.now brought.matched.now
+      (map metric_in tracks)

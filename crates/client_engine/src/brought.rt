@@ -3,11 +3,14 @@
 use atom_record::LogFrame;
 use config_links::{LMatcher, LState};
 use state_slicer::StateBook;
+use std::alloc::Global;
 
 /// A frame of the log, once predicates and the book of states know of it, with the matchers and the states of the
 /// configuration.
 #[derive(Clone, Copy)]
 pub struct Brought<'a> {
+    /// The memory that is taken for what is made of it.
+    pub alloc: Global,
     pub frame: &'a LogFrame,
     /// For an atom the truth of each matcher, in config order, and else nothing.
     pub matched: &'a [bool],

@@ -3,12 +3,11 @@ ghost use Rattle.std.specs.Prelude.{◌≡◌, ◌≤◌, ◌+◌, [], Some, len
 ghost use Rattle.config_links.specs.SoundConfig.{MayBeWithin};
 ghost use Rattle.condition_links.specs.ThreeValues.{is_true};
 ghost use Rattle.metric_meaning.specs.DurationSteps.{inner_fields};
-ghost use Rattle.metric_meaning.specs.Readings.{key_reading};
-ghost use Rattle.metric_meaning.specs.MetricConditions.{condition_truth, is_condition_true};
 ghost use Rattle.metric_meaning.specs.Touched.{acts_below, is_touched};
 ghost use Rattle.metric_calls.specs.DurationCalls.{event_in};
 ghost use Rattle.client_engine.specs.NextSteps.{logged_step};
-ghost use Rattle.client_engine.specs.Known.{KnowsAfter, KnowsStep, drops_in};
+ghost use Rattle.client_engine.specs.Known.{KnowsAfter, KnowsStep, truth_by, holds_by, drops_in};
+ghost use Rattle.client_engine.specs.InnerTold.{reading_in};
 ghost use Rattle.client_engine.specs.KeptPredicates.{CanBeKept, AreKept};
 ghost use Rattle.client_engine.specs.Waking.{touchers_named};
 
@@ -156,12 +155,15 @@ impl Conditions {
                 find_matched(self.actors.as_slice(), matched, &mut self.acting)?;
                 self.marks.fill(false);
                 act_on_each(
-                    alloc,
                     self.tree.nodes.as_slice(),
                     self.tables.as_mut_slice(),
                     self.marks.as_mut_slice(),
                     self.acting.as_slice(),
-                    &Act { atom, matched },
+                    &Act {
+                        alloc,
+                        atom,
+                        matched,
+                    },
                 )?;
                 Ok(())
             }
@@ -225,7 +227,7 @@ impl Conditions {
     ) -> Result<bool, AllocError>
         requires within { MayBeWithin (length self.old.predicates) metric.now.condition }
         ensures truth { IfOk result (λ truth. truth
-            ≡ is_condition_true self.old.predicates self.old.tables metric.now (A.reading asked.now)) }
+            ≡ holds_by self.old metric.now (A.reading asked.now)) }
         ensures known { self.new ≡ self.old }
         ensures asks { asks.new ≤ asks.old + 1 }
     {
@@ -243,7 +245,7 @@ impl Conditions {
     ) -> Result<Truth, AllocError>
         requires within { MayBeWithin (length self.old.predicates) metric.now.condition }
         ensures truth { IfOk result (λ truth. truth
-            ≡ condition_truth self.old.predicates self.old.tables metric.now (A.reading asked.now)) }
+            ≡ truth_by self.old metric.now (A.reading asked.now)) }
         ensures known { self.new ≡ self.old }
         ensures asks { asks.new ≤ asks.old + 1 }
     {
@@ -271,8 +273,7 @@ impl Conditions {
     ) -> Result<bool, AllocError>
         requires within { MayBeWithin (length self.old.predicates) metric.now.condition }
         ensures truth { IfOk result (λ truth. truth
-            ≡ is_condition_true self.old.predicates self.old.tables metric.now
-            (key_reading (inner_fields (slice_get self.old.predicates metric.now.what)) key.now)) }
+            ≡ holds_by self.old metric.now (reading_in self.old metric.now key.now)) }
         ensures known { self.new ≡ self.old }
         ensures asks { asks.new ≤ asks.old + 1 }
     {

@@ -1,8 +1,8 @@
 //! What a pulled metric asks where it is installed.
 ghost use Rattle.std.specs.Prelude.{◌≡◌, ◌<◌, length, IfOk};
 ghost use Rattle.config_links.specs.SoundConfig.{MayBeWithin};
-ghost use Rattle.metric_meaning.specs.MetricConditions.{condition_truth};
 ghost use Rattle.metric_meaning.specs.SnapshotSteps.{nothing_read};
+ghost use Rattle.client_engine.specs.Known.{truth_by};
 
 use crate::asked::Nothing;
 use crate::conditions::Conditions;
@@ -21,7 +21,7 @@ pub fn first_truth(
 ) -> Result<Truth, AllocError>
     requires within { MayBeWithin (length conditions.old.predicates) metric.now.condition }
     ensures truth { IfOk result (λ truth. truth
-        ≡ condition_truth conditions.old.predicates conditions.old.tables metric.now nothing_read) }
+        ≡ truth_by conditions.old metric.now nothing_read) }
     ensures known { conditions.new ≡ conditions.old }
 {
     counted_truth::<Brand>(Blank::new(1), alloc, metric, conditions)
@@ -39,7 +39,7 @@ fn counted_truth<L: Ledger>(
     requires some { 0 < blank.parts }
     requires within { MayBeWithin (length conditions.old.predicates) metric.now.condition }
     ensures truth { IfOk result (λ truth. truth
-        ≡ condition_truth conditions.old.predicates conditions.old.tables metric.now nothing_read) }
+        ≡ truth_by conditions.old metric.now nothing_read) }
     ensures known { conditions.new ≡ conditions.old }
 {
     let mut asks: Steps<L> = Steps::new(blank);

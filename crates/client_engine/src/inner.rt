@@ -4,16 +4,14 @@ ghost use Rattle.std.specs.Prelude.{◌≡◌, ◌<◌, ◌≤◌, ◌+◌, ◌|
 ghost use Rattle.std.specs.Option.{option_copied};
 ghost use Rattle.bucket_meaning.specs.Limits.{most_keys};
 ghost use Rattle.config_links.specs.SoundConfig.{MayBeWithin};
-ghost use Rattle.duration_metric.specs.InnerKeys.{DurationParams, DurationCall, inner_keys, last_known, told_truth, was_told};
+ghost use Rattle.duration_metric.specs.InnerKeys.{DurationParams, DurationCall, inner_keys, told_truth, was_told};
 ghost use Rattle.duration_metric.specs.SumStands.{SumStandsFor};
 ghost use Rattle.duration_metric.specs.SparseStands.{SparseStandsFor};
 ghost use Rattle.metric_meaning.specs.PredicateSteps.{atom_events};
-ghost use Rattle.metric_meaning.specs.Scenes.{Scene};
 ghost use Rattle.metric_meaning.specs.Touched.{is_touched};
-ghost use Rattle.metric_calls.specs.DurationCalls.{first_event_of, delta_with, told_as, known_in, changes_from};
-ghost use Rattle.client_engine.specs.Bringing.{handed_with};
-ghost use Rattle.client_engine.specs.Handed.{IsOfScene};
-ghost use Rattle.client_engine.specs.InnerTold.{HasShared, IsStanding, StaysInScene, HasTruth, AddsChange};
+ghost use Rattle.metric_calls.specs.DurationCalls.{first_event_of, delta_with, told_as};
+ghost use Rattle.client_engine.specs.InnerTold.{HasShared, IsStanding, HasTruth, AddsChange};
+ghost use Rattle.client_engine.specs.Inners.{OnCalls, OnChanges};
 ghost use Rattle.client_engine.specs.Staying.{truth_kept, is_nothing, is_kept};
 ghost use Rattle.metric_meaning.specs.DurationSteps.{inner_fields};
 ghost use Rattle.client_engine.specs.AskedFew.{AsksOfPlace, AsksOfAll};
@@ -44,24 +42,24 @@ pub trait Inners {
 
     /// The number of inner keys.
     fn len(&self) -> usize
-        ensures value { (params : DurationParams) (calls : List DurationCall) → stands self.now params calls
-            → result ≡ length (inner_keys params.spec calls) }
+        ensures value { OnCalls stands self.now (λ params calls.
+            result ≡ length (inner_keys params.spec calls)) }
         ensures few { result ≤ most_keys };
 
     /// The inner key at a place.
     fn key(&self, place: usize) -> Option<&DimKey>
-        ensures { (params : DurationParams) (calls : List DurationCall) → stands self.now params calls
-            → option_copied result ≡ slice_get (inner_keys params.spec calls) place };
+        ensures { OnCalls stands self.now (λ params calls.
+            option_copied result ≡ slice_get (inner_keys params.spec calls) place) };
 
     /// The truth that was told last of the inner key at a place, if something was told of it.
     fn truth(&self, place: usize) -> Option<Truth>
-        ensures { (params : DurationParams) (calls : List DurationCall) → stands self.now params calls
-            → result ≡ told_truth params.spec calls place };
+        ensures { OnCalls stands self.now (λ params calls.
+            result ≡ told_truth params.spec calls place) };
 
     /// Whether this was told last of the inner key at a place.
     fn was_told(&self, place: usize, truth: Truth, out: &MetricKey) -> bool
-        ensures { (params : DurationParams) (calls : List DurationCall) → stands self.now params calls
-            → result ≡ was_told params.spec calls place (record { truth = truth; out = out.now }) };
+        ensures { OnCalls stands self.now (λ params calls.
+            result ≡ was_told params.spec calls place (record { truth = truth; out = out.now })) };
 }
 
 impl Inners for SumProducer {
@@ -156,30 +154,27 @@ pub fn changes_with(
 struct Asker<'a> {
     metric: &'a LMetric,
     brought: &'a Brought<'a>,
-    stays: Stays<'a>,
+    stays: Stays<'a, 'a>,
     shared: Option<bool>,
 }
 
 /// What is told of inner keys once a frame has come: of each whose truth or output key isn't what was told of it last.
 /// What stays isn't asked.
 pub fn changes_of<K: Inners, L: Ledger>(
-    alloc: Global,
     keys: &K,
     metric: &LMetric,
     brought: &Brought<'_>,
-    stays: Stays<'_>,
+    stays: Stays<'_, '_>,
     conditions: &mut Conditions,
     asks: &mut Steps<L>,
 ) -> Result<Seq<InnerChange>, AllocError>
     requires within { MayBeWithin (length conditions.old.predicates) metric.now.condition }
-    ensures changes { (params : DurationParams) (calls : List DurationCall) (scene : Scene)
-        → K.stands keys.now params calls → IsOfScene (handed_with conditions.old brought.now) scene
-        → StaysInScene stays.entry params calls scene metric.now
-        → IfOk result (λ changes. changes ≡ changes_from (last_known params.spec calls)
-        (known_in scene metric.now) 0 (inner_keys params.spec calls)) }
+    ensures changes { OnChanges K.stands keys.now metric.now brought.now stays.entry conditions.old
+        (λ told. IfOk result (λ changes. changes ≡ told)) }
     ensures known { conditions.new ≡ conditions.old }
     ensures asks { AsksOfAll K.stands keys.now stays.entry asks.old asks.new }
 {
+    let alloc = brought.alloc;
     let mut changes = Seq::new(alloc);
     let first = stays.first_asked();
     let count = keys.len();
@@ -196,7 +191,6 @@ pub fn changes_of<K: Inners, L: Ledger>(
     let mut room = conditions.take_room(alloc);
     for place in first..count {
         add_change(
-            alloc,
             &mut changes,
             keys,
             place,
@@ -215,7 +209,7 @@ pub fn changes_of<K: Inners, L: Ledger>(
 fn shared_truth<L: Ledger>(
     alloc: Global,
     metric: &LMetric,
-    stays: Stays<'_>,
+    stays: Stays<'_, '_>,
     conditions: &mut Conditions,
     asks: &mut Steps<L>,
 ) -> Result<Option<bool>, AllocError>
@@ -232,7 +226,6 @@ fn shared_truth<L: Ledger>(
 
 // Adds what is told of the inner key at a place, unless it was told last. The key is copied only where it is told.
 fn add_change<K: Inners, L: Ledger>(
-    alloc: Global,
     changes: &mut Seq<InnerChange>,
     keys: &K,
     place: usize,
@@ -254,16 +247,16 @@ fn add_change<K: Inners, L: Ledger>(
     if stays_at(place, key, asker, conditions) {
         return Ok(());
     }
-    let truth = truth_at(alloc, keys, place, key, asker, conditions, asks)?;
+    let truth = truth_at(keys, place, key, asker, conditions, asks)?;
     let inner = InnerKey {
         fields: conditions.fields_of(asker.metric.what),
         key,
     };
-    key_into(alloc, asker.metric, asker.brought, &inner, room)?;
+    key_into(asker.metric, asker.brought, &inner, room)?;
     if keys.was_told(place, truth, &room.key) {
         return Ok(());
     }
-    let out = room.key.duplicate(alloc)?;
+    let out = room.key.duplicate(asker.brought.alloc)?;
     changes.push(InnerChange {
         place: place as u32,
         truth,
@@ -286,7 +279,6 @@ fn stays_at(place: usize, key: &DimKey, asker: &Asker<'_>, conditions: &Conditio
 // The truth that is told of the inner key at a place: the one that was told last where that stays, or else the one that
 // its condition has.
 fn truth_at<K: Inners, L: Ledger>(
-    alloc: Global,
     keys: &K,
     place: usize,
     key: &DimKey,
@@ -301,24 +293,23 @@ fn truth_at<K: Inners, L: Ledger>(
 {
     match kept_truth(keys, place, asker.stays) {
         Some(truth) => Ok(truth),
-        None => truth_of(alloc, asker, key, conditions, asks),
+        None => truth_of(asker, key, conditions, asks),
     }
 }
 
 // The truth that was told last of the inner key at a place, where truths stay.
-fn kept_truth<K: Inners>(keys: &K, place: usize, stays: Stays<'_>) -> Option<Truth>
+fn kept_truth<K: Inners>(keys: &K, place: usize, stays: Stays<'_, '_>) -> Option<Truth>
     ensures { (params : DurationParams) (calls : List DurationCall) → K.stands keys.now params calls
         → result ≡ truth_kept stays.entry (told_truth params.spec calls place) }
 {
     match stays {
-        Stays::Truths => keys.truth(place),
+        Stays::Truths | Stays::OtherStates(..) => keys.truth(place),
         Stays::Keys(_) | Stays::Others(..) | Stays::Nothing => None,
     }
 }
 
 // The truth of an inner key's condition.
 fn truth_of<L: Ledger>(
-    alloc: Global,
     asker: &Asker<'_>,
     key: &DimKey,
     conditions: &mut Conditions,
@@ -329,6 +320,7 @@ fn truth_of<L: Ledger>(
     ensures known { conditions.new ≡ conditions.old }
     ensures asks { asks.new ≤ asks.old + 1 }
 {
+    let alloc = asker.brought.alloc;
     match asker.shared {
         Some(holds) => Ok(truth_as(holds)),
         None => Ok(truth_as(conditions.holds_for_key(alloc, asker.metric, key, asks)?)),

@@ -117,12 +117,13 @@ impl Instance {
         } = linked;
         let mut conditions = Conditions::new(alloc, predicates)?;
         let opening = Opening {
+            alloc,
             base,
             matchers: matchers.as_slice(),
             alerts: alerts.as_slice(),
             pulls,
         };
-        let tracks = Tracks::new(alloc, metrics, &opening, &mut conditions)?;
+        let tracks = Tracks::new(metrics, &opening, &mut conditions)?;
         let parts = Parts {
             matchers,
             conditions,
@@ -162,6 +163,7 @@ impl Instance {
     {
         self.conditions.log(self.alloc, frame, view.matched)?;
         let brought = Brought {
+            alloc: self.alloc,
             frame,
             matched: view.matched,
             matchers: self.matchers.as_slice(),
@@ -169,13 +171,7 @@ impl Instance {
             book: view.states,
         };
         self.listeners.find(&brought)?;
-        self.tracks.log(
-            self.alloc,
-            self.listeners.woken(),
-            &brought,
-            &mut self.conditions,
-            asks,
-        )
+        self.tracks.log(self.listeners.woken(), &brought, &mut self.conditions, asks)
     }
 
     /// A run of frames went by that touch nothing of the configuration: one frame that stands for all catches it up.

@@ -4,14 +4,12 @@ ghost use Rattle.bucket_clock.specs.Clock.{frame_at};
 ghost use Rattle.config_links.specs.SoundConfig.{MayBeWithin};
 ghost use Rattle.config_links.specs.declared.linked.LMetric.{LMetric};
 ghost use Rattle.metric_lane.specs.LaneClock.{NoEndBefore};
-ghost use Rattle.metric_meaning.specs.Histories.{Installation};
 ghost use Rattle.report_writer.specs.Writable.{IsWritableMetric};
 ghost use Rattle.client_engine.specs.NextSteps.{TakesReport};
-ghost use Rattle.client_engine.specs.SoundMetrics.{IsInstalledAt};
-ghost use Rattle.client_engine.specs.AskedFew.{AsksFew};
+ghost use Rattle.client_engine.specs.AskedFew.{LaneAsksFew};
 ghost use Rattle.client_engine.specs.Bringing.{TakesBroughtWhile};
 ghost use Rattle.client_engine.specs.CaughtUp.{TakesRun};
-ghost use Rattle.client_engine.specs.Opens.{IsOpeningOf, CanOpen};
+ghost use Rattle.client_engine.specs.Opens.{CanOpen, StandsAtFirst};
 ghost use Rattle.client_engine.specs.Finding.{CanBeBrought};
 ghost use Rattle.client_engine.specs.TrackStands.{LaneAlong};
 ghost use Rattle.client_engine.specs.Tracks.{CanBeTracked};
@@ -59,7 +57,6 @@ impl MetricLane {
     /// A frame of the log comes, at which the metric is active or isn't.
     pub fn log<L: Ledger>(
         &mut self,
-        alloc: Global,
         metric: &LMetric,
         is_active: bool,
         brought: &Brought<'_>,
@@ -71,32 +68,29 @@ impl MetricLane {
         ensures logs { OnOk result (TakesBroughtWhile (LaneAlong metric.now) is_active metric.now
             conditions.old brought.now self.old self.new) }
         ensures known { conditions.new ≡ conditions.old }
-        ensures asks { AsksFew (LaneAlong metric.now) (metric.now ∷ [])
-            conditions.old brought.now self.old asks.old asks.new }
+        ensures asks { LaneAsksFew LaneAlong metric.now conditions.old brought.now self.old asks.old asks.new }
     {
         match self {
             MetricLane::Counts(lane) => counts::log(
-                lane, alloc, metric, is_active, brought, conditions, asks,
+                lane, metric, is_active, brought, conditions, asks,
             ),
             MetricLane::Values(lane) => values::log(
-                lane, alloc, metric, is_active, brought, conditions, asks,
+                lane, metric, is_active, brought, conditions, asks,
             ),
             MetricLane::PulledValues(lane) => {
-                pulled_values::log(lane, alloc, metric, brought, conditions, asks)
+                pulled_values::log(lane, metric, brought, conditions, asks)
             }
             MetricLane::Gauges(lane) => gauges::log(
-                lane, alloc, metric, is_active, brought, conditions, asks,
+                lane, metric, is_active, brought, conditions, asks,
             ),
             MetricLane::PulledGauges(lane) => {
-                pulled_gauges::log(lane, alloc, metric, brought, conditions, asks)
+                pulled_gauges::log(lane, metric, brought, conditions, asks)
             }
             MetricLane::Events(lane) => events::log(
-                lane, alloc, metric, is_active, brought, conditions, asks,
+                lane, metric, is_active, brought, conditions, asks,
             ),
-            MetricLane::Sums(lane) => sums::log(lane, alloc, metric, brought, conditions, asks),
-            MetricLane::Longest(lane) => longest::log(
-                lane, alloc, metric, brought, conditions, asks,
-            ),
+            MetricLane::Sums(lane) => sums::log(lane, metric, brought, conditions, asks),
+            MetricLane::Longest(lane) => longest::log(lane, metric, brought, conditions, asks),
         }
     }
 
@@ -164,7 +158,6 @@ impl MetricLane {
 
 /// The lane of the metric at a place of a configuration, by its kind, which begins where it is installed.
 pub fn lane_of(
-    alloc: Global,
     metric: &LMetric,
     place: usize,
     opening: &Opening<'_>,
@@ -173,11 +166,11 @@ pub fn lane_of(
     requires opens { CanOpen opening.now }
     requires tracked { CanBeTracked metric.now }
     requires within { MayBeWithin (length conditions.old.predicates) metric.now.condition }
-    ensures stands { IfOk result (λ lane. (installed : Installation)
-        → IsOpeningOf installed opening.now conditions.old → IsInstalledAt installed.linked place metric.now
-        → LaneAlong metric.now installed [] lane) }
+    ensures stands { IfOk result
+        (StandsAtFirst (LaneAlong metric.now) opening.now conditions.old place metric.now) }
     ensures known { conditions.new ≡ conditions.old }
 {
+    let alloc = opening.alloc;
     let base = opening.base;
     match &metric.kind {
         LKind::Count { overflow } => {
@@ -188,14 +181,14 @@ pub fn lane_of(
             Ok(MetricLane::Values(values::begin(alloc, base, metric, *agg)))
         }
         LKind::PulledValue { spec, .. } => {
-            let lane = pulled_values::begin(alloc, metric, *spec, opening, conditions)?;
+            let lane = pulled_values::begin(metric, *spec, opening, conditions)?;
             Ok(MetricLane::PulledValues(lane))
         }
         LKind::PushedGauge { samples, .. } => {
             Ok(MetricLane::Gauges(gauges::begin(alloc, base, metric, *samples)))
         }
         LKind::PulledGauge { samples, mode, .. } => {
-            let lane = pulled_gauges::begin(alloc, metric, *samples, *mode, opening, conditions)?;
+            let lane = pulled_gauges::begin(metric, *samples, *mode, opening, conditions)?;
             Ok(MetricLane::PulledGauges(lane))
         }
         LKind::Event => Ok(MetricLane::Events(events::begin(alloc, base, metric))),

@@ -33,6 +33,7 @@ mod snapshots;
 mod state_drops;
 mod stays;
 mod tables;
+mod told;
 mod touchers;
 mod track;
 mod tracks;

@@ -2,7 +2,7 @@
 ghost use Rattle.std.specs.Prelude.{◌≡◌, [], ◌∷◌, ◌++◌, length, map, if◌then◌else◌, OnOk, IfOk};
 ghost use Rattle.std.specs.List.{All};
 ghost use Rattle.bucket_clock.specs.Clock.{frame_at};
-ghost use Rattle.client_engine.specs.AskedFew.{AsksFew};
+ghost use Rattle.client_engine.specs.AskedFew.{AllAskFew};
 ghost use Rattle.client_engine.specs.Bringing.{TakesBrought};
 ghost use Rattle.client_engine.specs.CaughtUp.{AllTakeRun};
 ghost use Rattle.client_engine.specs.Finding.{CanBeBrought};
@@ -33,7 +33,6 @@ pub struct Drops {
 
 /// The tracks of metrics, which begin where they are installed.
 pub fn tracks_of(
-    alloc: Global,
     metrics: Seq<LMetric>,
     opening: &Opening<'_>,
     conditions: &mut Conditions,
@@ -44,17 +43,16 @@ pub fn tracks_of(
     ensures new { IfOk result (λ tracks. AreNew opening.now conditions.old metrics tracks.items) }
     ensures known { conditions.new ≡ conditions.old }
 {
-    let mut tracks = Vec::new(alloc);
+    let mut tracks = Vec::new(opening.alloc);
     for metric in metrics.into_vec() {
         let place = tracks.len();
-        tracks.push(Track::new(alloc, metric, place, opening, conditions)?)?;
+        tracks.push(Track::new(metric, place, opening, conditions)?)?;
     }
     Ok(tracks)
 }
 
 /// A frame of the log comes to each of these.
 pub fn log_all<L: Ledger>(
-    alloc: Global,
     conditions: &mut Conditions,
     tracks: &mut Vec<Track>,
     brought: &Brought<'_>,
@@ -66,11 +64,10 @@ pub fn log_all<L: Ledger>(
         conditions.old brought.now tracks.old.items tracks.new.items) }
     ensures metrics { map metric_in tracks.new.items ≡ map metric_in tracks.old.items }
     ensures known { conditions.new ≡ conditions.old }
-    ensures asks { AsksFew AllStandFor (map metric_in tracks.old.items)
-        conditions.old brought.now tracks.old.items asks.old asks.new }
+    ensures asks { AllAskFew conditions.old brought.now tracks.old.items asks.old asks.new }
 {
     for track in tracks.iter_mut() {
-        track.log(alloc, brought, conditions, asks)?;
+        track.log(brought, conditions, asks)?;
     }
     Ok(())
 }

@@ -1,72 +1,66 @@
 //! The slices by states of what is read.
-ghost use Rattle.std.specs.Prelude.{◌≡◌, ◌++◌, List, slice_get, OnOk, IfOk};
-ghost use Rattle.atom_record.specs.declared.log.LogFrame.{LogFrame};
-ghost use Rattle.state_slicer.specs.StateBooks.{StateBookStandsFor};
-ghost use Rattle.metric_meaning.specs.StateSlices.{state_key, named_slice, named_slices};
+ghost use Rattle.std.specs.Prelude.{◌≡◌, ◌++◌, slice_get, OnOk, IfOk};
+ghost use Rattle.metric_meaning.specs.StateSlices.{state_key};
+ghost use Rattle.client_engine.specs.Keying.{OnSlice, OnSlices};
 ghost use Rattle.client_engine.specs.Touchers.{is_told_by, tells_one};
 
 use crate::asked::Asked;
+use crate::brought::Brought;
 use atom_record::{DimKey, Slice};
 use config_links::{LSlice, LState};
 use field_select::FieldSet;
 use sd_base::Seq;
-use state_slicer::{StateBook, slice};
+use state_slicer::slice;
 use std::alloc::{AllocError, Global};
 
-/// The slices by these of the states, in order, as the book has the states now, of what is read.
+/// The slices by these of the states, in order, as the book that is brought has them, of what is read.
 pub fn slices_of<A: Asked>(
-    alloc: Global,
-    states: &[LState],
+    brought: &Brought<'_>,
     slices: &[LSlice],
     asked: &A,
-    book: &StateBook,
 ) -> Result<Seq<Slice>, AllocError>
-    ensures { (log : List LogFrame) → StateBookStandsFor book.now log
-        → IfOk result (λ shown. shown ≡ named_slices states.now log (A.reading asked.now) slices.now) }
+    ensures { OnSlices brought.now (A.reading asked.now) slices.now
+        (λ slices. IfOk result (λ shown. shown ≡ slices)) }
 {
-    let mut shown = Seq::with_capacity(alloc, slices.len())?;
-    let mut key = DimKey::new(alloc);
-    slices_into(alloc, states, slices, asked, book, &mut key, &mut shown)?;
+    let mut shown = Seq::with_capacity(brought.alloc, slices.len())?;
+    let mut key = DimKey::new(brought.alloc);
+    slices_into(brought, slices, asked, &mut key, &mut shown)?;
     Ok(shown)
 }
 
 /// The same, in the room of other slices, of which nothing is left, by keys in the room of another key.
 pub fn slices_into<A: Asked>(
-    alloc: Global,
-    states: &[LState],
+    brought: &Brought<'_>,
     slices: &[LSlice],
     asked: &A,
-    book: &StateBook,
     key: &mut DimKey,
     shown: &mut Seq<Slice>,
 ) -> Result<(), AllocError>
-    ensures { (log : List LogFrame) → StateBookStandsFor book.now log
-        → OnOk result (shown.new ≡ named_slices states.now log (A.reading asked.now) slices.now) }
+    ensures { OnSlices brought.now (A.reading asked.now) slices.now
+        (λ slices. OnOk result (shown.new ≡ slices)) }
 {
     shown.clear();
     for by in slices {
-        add_slice(alloc, shown, states, by, asked, book, key)?;
+        add_slice(shown, brought, by, asked, key)?;
     }
     Ok(())
 }
 
 // Adds the slice by one of the states.
 fn add_slice<A: Asked>(
-    alloc: Global,
     shown: &mut Seq<Slice>,
-    states: &[LState],
+    brought: &Brought<'_>,
     by: &LSlice,
     asked: &A,
-    book: &StateBook,
     key: &mut DimKey,
 ) -> Result<(), AllocError>
-    ensures { (log : List LogFrame) → StateBookStandsFor book.now log
-        → OnOk result (shown.new ≡ shown.old ++ named_slice states.now log (A.reading asked.now) by.now) }
+    ensures { OnSlice brought.now (A.reading asked.now) by.now
+        (λ slice. OnOk result (shown.new ≡ shown.old ++ slice)) }
 {
-    match states.get(by.state as usize) {
+    match brought.states.get(by.state as usize) {
         Some(state) => {
-            state_key_into(alloc, &by.in_what, asked, key)?;
-            shown.push(slice(state, book.value(state.atom_id, key)))
+            state_key_into(brought.alloc, &by.in_what, asked, key)?;
+            shown.push(slice(state, brought.book.value(state.atom_id, key)))
         }
         None => Ok(()),
     }

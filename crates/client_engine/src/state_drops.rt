@@ -1,11 +1,10 @@
 //! What a report shows of states that found no room.
-ghost use Rattle.std.specs.Prelude.{◌≡◌, ◌++◌, ◌∷◌, [], ℕ, List, map, OnOk, IfOk, IsTrue};
+ghost use Rattle.std.specs.Prelude.{◌≡◌, ◌++◌, ◌∷◌, [], ℕ, map, OnOk, IfOk, IsTrue};
 ghost use Rattle.std.specs.List.{flat_map};
-ghost use Rattle.atom_record.specs.declared.log.LogFrame.{LogFrame};
 ghost use Rattle.bucket_meaning.specs.Guard.{is_among, with_key};
 ghost use Rattle.book_meaning.specs.Snapshots.{same_atom_id};
-ghost use Rattle.state_slicer.specs.StateBooks.{StateBookStandsFor};
 ghost use Rattle.metric_meaning.specs.StateDrops.{told_ids, drop_of_id, drops_of_states, dropped_for};
+ghost use Rattle.client_engine.specs.Handed.{OnLog};
 
 use crate::tables::add_if_any;
 use config_links::LState;
@@ -20,8 +19,7 @@ pub fn state_drops(
     states: &[LState],
     book: &StateBook,
 ) -> Result<Seq<Drop64>, AllocError>
-    ensures { (log : List LogFrame) → StateBookStandsFor book.now log
-        → IfOk result (λ drops. drops ≡ drops_of_states states.now log) }
+    ensures { OnLog book.now (λ log. IfOk result (λ drops. drops ≡ drops_of_states states.now log)) }
 {
     let ids = ids_of(alloc, states)?;
     drops_of_ids(alloc, ids.as_slice(), book)
@@ -29,8 +27,7 @@ pub fn state_drops(
 
 // The same for each of these atoms.
 fn drops_of_ids(alloc: Global, ids: &[u32], book: &StateBook) -> Result<Seq<Drop64>, AllocError>
-    ensures { (log : List LogFrame) → StateBookStandsFor book.now log
-        → IfOk result (λ drops. drops ≡ flat_map (drop_of_id log) ids.now) }
+    ensures { OnLog book.now (λ log. IfOk result (λ drops. drops ≡ flat_map (drop_of_id log) ids.now)) }
 {
     let mut drops = Seq::new(alloc);
     for id in ids {
@@ -74,8 +71,7 @@ fn has_id(ids: &[u32], id: u32) -> bool
 
 /// How many state atoms found no room for their id. Without states nothing is shown.
 pub fn dropped_atoms(states: &[LState], book: &StateBook) -> u64
-    ensures { (log : List LogFrame) → StateBookStandsFor book.now log
-        → result ≡ dropped_for states.now log }
+    ensures { OnLog book.now (λ log. result ≡ dropped_for states.now log) }
 {
     if states.is_empty() {
         return 0;

@@ -50,13 +50,14 @@ pub fn spec_of(body: &LPredBody) -> PredSpec
 /// What acts on predicates: an atom, with the truth of each matcher.
 #[derive(Clone, Copy)]
 pub struct Act<'a> {
+    /// The memory that is taken for keys.
+    pub alloc: Global,
     pub atom: &'a Atom,
     pub matched: &'a [bool],
 }
 
 /// An atom acts on the predicates at these places, on each once.
 pub fn act_on_each(
-    alloc: Global,
     predicates: &[LPredicate],
     tables: &mut [PredTable],
     marks: &mut [bool],
@@ -77,7 +78,7 @@ pub fn act_on_each(
         if !is_marked(marks, place) {
             marks[place] = true;
             let body = &predicates[place].body;
-            act_on(alloc, body, &mut tables[place], act.atom, act.matched)?;
+            act_on(act.alloc, body, &mut tables[place], act.atom, act.matched)?;
         }
     }
     Ok(())

@@ -3,15 +3,13 @@ ghost use Rattle.std.specs.Prelude.{◌≡◌, [], ◌∷◌, length, slice_get,
 ghost use Rattle.std.specs.Option.{option_copied};
 ghost use Rattle.bucket_clock.specs.Clock.{frame_at};
 ghost use Rattle.config_links.specs.SoundConfig.{MayBeWithin};
-ghost use Rattle.metric_meaning.specs.Histories.{Installation};
 ghost use Rattle.report_writer.specs.Writable.{IsWritableMetric};
 ghost use Rattle.client_engine.specs.Alarms.{watches_in};
 ghost use Rattle.client_engine.specs.NextSteps.{TakesReport};
-ghost use Rattle.client_engine.specs.SoundMetrics.{IsInstalledAt};
 ghost use Rattle.client_engine.specs.AskedFew.{AsksFew};
 ghost use Rattle.client_engine.specs.Bringing.{TakesBrought};
 ghost use Rattle.client_engine.specs.CaughtUp.{TrackTakesRun};
-ghost use Rattle.client_engine.specs.Opens.{IsOpeningOf, CanOpen};
+ghost use Rattle.client_engine.specs.Opens.{CanOpen, StandsAtFirst};
 ghost use Rattle.client_engine.specs.Finding.{CanBeBrought};
 ghost use Rattle.client_engine.specs.TrackStands.{TrackStandsFor};
 ghost use Rattle.client_engine.specs.Tracks.{CanBeTracked};
@@ -42,7 +40,6 @@ pub struct Track {
 impl Track {
     /// The track of the metric at a place of a configuration, with a lane that begins where it is installed.
     pub fn new(
-        alloc: Global,
         metric: LMetric,
         place: usize,
         opening: &Opening<'_>,
@@ -52,20 +49,18 @@ impl Track {
         requires tracked { CanBeTracked metric }
         requires within { MayBeWithin (length conditions.old.predicates) metric.condition }
         ensures metric { IfOk result (λ track. track.metric ≡ metric) }
-        ensures stands { IfOk result (λ track. (installed : Installation)
-            → IsOpeningOf installed opening.now conditions.old → IsInstalledAt installed.linked place metric
-            → TrackStandsFor installed [] track) }
+        ensures stands { IfOk result
+            (StandsAtFirst TrackStandsFor opening.now conditions.old place metric) }
         ensures known { conditions.new ≡ conditions.old }
     {
-        let lane = lane_of(alloc, &metric, place, opening, conditions)?;
-        let acts = book_of(alloc, &metric)?;
+        let lane = lane_of(&metric, place, opening, conditions)?;
+        let acts = book_of(opening.alloc, &metric)?;
         Ok(Track { metric, lane, acts })
     }
 
     /// A frame of the log comes. The book of activations hears it before it is asked whether the metric is active.
     pub fn log<L: Ledger>(
         &mut self,
-        alloc: Global,
         brought: &Brought<'_>,
         conditions: &mut Conditions,
         asks: &mut Steps<L>,
@@ -81,7 +76,7 @@ impl Track {
     {
         let Track { metric, lane, acts } = self;
         let is_active = hear(acts, metric, brought);
-        lane.log(alloc, metric, is_active, brought, conditions, asks)
+        lane.log(metric, is_active, brought, conditions, asks)
     }
 
     /// The one frame comes that stands for a run which leaves the metric alone: the lane crosses what that crosses.

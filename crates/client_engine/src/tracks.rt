@@ -2,15 +2,14 @@
 ghost use Rattle.std.specs.Prelude.{◌≡◌, length, map, replicate, false, OnOk, IfOk};
 ghost use Rattle.std.specs.List.{All};
 ghost use Rattle.bucket_clock.specs.Clock.{frame_at};
-ghost use Rattle.client_engine.specs.AskedFew.{AsksFew};
-ghost use Rattle.client_engine.specs.Bringing.{TakesBrought, handed_with};
+ghost use Rattle.client_engine.specs.AskedFew.{AllAskFew};
+ghost use Rattle.client_engine.specs.Bringing.{TakesBrought};
 ghost use Rattle.client_engine.specs.CaughtUp.{AllTakeRun};
 ghost use Rattle.client_engine.specs.Finding.{CanBeBrought};
 ghost use Rattle.client_engine.specs.Opens.{CanOpen};
 ghost use Rattle.client_engine.specs.Tracks.{CanBeTracked, metric_in, AsksWithin, AllAskWithin, AreNew, AllStandFor, AllReport};
-ghost use Rattle.client_engine.specs.Waking.{OthersSleep};
 ghost use Rattle.client_engine.specs.Marks.{IsMarked, AreAllMarked, KeepsMarks};
-ghost use Rattle.client_engine.specs.Woken.{AllDue, AreWoken, OnMoreWoken, FewAsked, WakesThese};
+ghost use Rattle.client_engine.specs.Woken.{AllDue, CameToMarked, CameToThese, OnMoreMarked, FewOfMarked, OthersSleepOn};
 
 use crate::brought::Brought;
 use crate::conditions::Conditions;
@@ -42,7 +41,6 @@ pub struct Tracks {
 impl Tracks {
     /// The tracks of metrics, which begin where they are installed.
     pub fn new(
-        alloc: Global,
         metrics: Seq<LMetric>,
         opening: &Opening<'_>,
         conditions: &mut Conditions,
@@ -55,8 +53,8 @@ impl Tracks {
         ensures due { IfOk result (λ it. AllDue it.due it.list.items) }
         ensures marks { IfOk result (λ it. length it.marks.items ≡ length it.list.items) }
     {
-        let list = tracks_of(alloc, metrics, opening, conditions)?;
-        Tracks::of(alloc, list)
+        let list = tracks_of(metrics, opening, conditions)?;
+        Tracks::of(opening.alloc, list)
     }
 
     /// These tracks. What is made of them alone is made here.
@@ -74,7 +72,6 @@ impl Tracks {
     /// with which a bucket may end; another one to those that it wakes.
     pub fn log<L: Ledger>(
         &mut self,
-        alloc: Global,
         woken: &[usize],
         brought: &Brought<'_>,
         conditions: &mut Conditions,
@@ -82,31 +79,29 @@ impl Tracks {
     ) -> Result<(), AllocError>
         requires within { AllAskWithin conditions.old self.old.list.items }
         requires matched { CanBeBrought brought.now }
-        requires others { OthersSleep woken.now conditions.old.predicates brought.now.states.now
-            brought.now.frame.now brought.now.matched.now (map metric_in self.old.list.items) }
+        requires others { OthersSleepOn conditions.old brought.now woken.now self.old.list.items }
         requires due { AllDue self.old.due self.old.list.items }
         requires marks { length self.old.marks.items ≡ length self.old.list.items }
         ensures logs { OnOk result (TakesBrought AllStandFor
             conditions.old brought.now self.old.list.items self.new.list.items) }
         ensures metrics { map metric_in self.new.list.items ≡ map metric_in self.old.list.items }
         ensures known { conditions.new ≡ conditions.old }
-        ensures asks { AsksFew AllStandFor (map metric_in self.old.list.items)
-            conditions.old brought.now self.old.list.items asks.old asks.new }
+        ensures asks { AllAskFew conditions.old brought.now self.old.list.items asks.old asks.new }
         ensures due { AllDue self.new.due self.new.list.items }
         ensures marks { length self.new.marks.items ≡ length self.new.list.items }
     {
         let due = mem::replace(&mut self.due, 0);
         if time_of(brought.frame) >= due || comes_by_pull(brought.frame) {
-            log_all(alloc, conditions, &mut self.list, brought, asks)?;
+            log_all(conditions, &mut self.list, brought, asks)?;
             self.due = least_end(self.list.as_slice());
             return Ok(());
         }
         if woken.len() == 1 {
-            self.due = self.wake_only(alloc, woken, due, brought, conditions, asks)?;
+            self.due = self.wake_only(woken, due, brought, conditions, asks)?;
             return Ok(());
         }
         self.marks.fill(false);
-        self.due = self.wake_all(alloc, woken, due, brought, conditions, asks)?;
+        self.due = self.wake_all(woken, due, brought, conditions, asks)?;
         Ok(())
     }
 
@@ -114,7 +109,6 @@ impl Tracks {
     // The answer is a time before which no bucket ends.
     fn wake_only<L: Ledger>(
         &mut self,
-        alloc: Global,
         woken: &[usize],
         due: u64,
         brought: &Brought<'_>,
@@ -125,12 +119,11 @@ impl Tracks {
         requires within { AllAskWithin conditions.old self.old.list.items }
         requires matched { CanBeBrought brought.now }
         requires due { AllDue due self.old.list.items }
-        ensures woken { IfOk result (WakesThese woken.now (handed_with conditions.old brought.now) brought.now.frame.now
-            brought.now.matched.now self.old.list.items asks.old self.new.list.items asks.new) }
+        ensures woken { IfOk result (CameToThese conditions.old brought.now woken.now
+            self.old.list.items asks.old self.new.list.items asks.new) }
         ensures metrics { map metric_in self.new.list.items ≡ map metric_in self.old.list.items }
         ensures known { conditions.new ≡ conditions.old }
-        ensures asks { AsksFew AllStandFor (map metric_in self.old.list.items)
-            conditions.old brought.now self.old.list.items asks.old asks.new }
+        ensures asks { AllAskFew conditions.old brought.now self.old.list.items asks.old asks.new }
         ensures due { self.new.due ≡ self.old.due }
         ensures marks { self.new.marks ≡ self.old.marks }
     {
@@ -139,14 +132,13 @@ impl Tracks {
             return Ok(due);
         }
         let track = &mut self.list[place];
-        track.log(alloc, brought, conditions, asks)?;
+        track.log(brought, conditions, asks)?;
         Ok(due.min(track.next_end()))
     }
 
     // A frame comes to the metrics at these places. The answer is a time before which no bucket ends.
     fn wake_all<L: Ledger>(
         &mut self,
-        alloc: Global,
         woken: &[usize],
         due: u64,
         brought: &Brought<'_>,
@@ -157,19 +149,18 @@ impl Tracks {
         requires matched { CanBeBrought brought.now }
         requires due { AllDue due self.old.list.items }
         requires marks { self.old.marks.items ≡ replicate (length self.old.list.items) false }
-        ensures woken { IfOk result (AreWoken (handed_with conditions.old brought.now) brought.now.frame.now
-            brought.now.matched.now self.old.list.items asks.old self.new.list.items self.new.marks.items asks.new) }
+        ensures woken { IfOk result (CameToMarked conditions.old brought.now
+            self.old.list.items asks.old self.new.list.items self.new.marks.items asks.new) }
         ensures all { OnOk result (AreAllMarked woken.now self.new.marks.items) }
         ensures metrics { map metric_in self.new.list.items ≡ map metric_in self.old.list.items }
         ensures known { conditions.new ≡ conditions.old }
-        ensures asks { AsksFew AllStandFor (map metric_in self.old.list.items)
-            conditions.old brought.now self.old.list.items asks.old asks.new }
+        ensures asks { AllAskFew conditions.old brought.now self.old.list.items asks.old asks.new }
         ensures due { self.new.due ≡ self.old.due }
         ensures marks { length self.new.marks.items ≡ length self.new.list.items }
     {
         let mut next = due;
         for turn in 0..woken.len() {
-            next = self.wake(alloc, woken[turn], next, brought, conditions, asks)?;
+            next = self.wake(woken[turn], next, brought, conditions, asks)?;
         }
         Ok(next)
     }
@@ -178,7 +169,6 @@ impl Tracks {
     // ended; the answer is one before which none ends now.
     fn wake<L: Ledger>(
         &mut self,
-        alloc: Global,
         place: usize,
         due: u64,
         brought: &Brought<'_>,
@@ -188,14 +178,14 @@ impl Tracks {
         requires within { AllAskWithin conditions.old self.old.list.items }
         requires matched { CanBeBrought brought.now }
         requires marks { length self.old.marks.items ≡ length self.old.list.items }
-        ensures woken { OnMoreWoken (handed_with conditions.old brought.now) brought.now.frame.now
-            brought.now.matched.now self.old.list.items self.old.marks.items asks.old due
+        ensures woken { OnMoreMarked conditions.old brought.now
+            self.old.list.items self.old.marks.items asks.old due
             (λ woken. IfOk result (woken self.new.list.items self.new.marks.items asks.new)) }
         ensures here { OnOk result (IsMarked self.new.marks.items place) }
         ensures stay { KeepsMarks self.old.marks.items self.new.marks.items }
         ensures metrics { map metric_in self.new.list.items ≡ map metric_in self.old.list.items }
         ensures known { conditions.new ≡ conditions.old }
-        ensures asks { FewAsked (handed_with conditions.old brought.now) brought.now.frame.now brought.now.matched.now
+        ensures asks { FewOfMarked conditions.old brought.now
             self.old.list.items self.old.marks.items asks.old due asks.new }
         ensures due { self.new.due ≡ self.old.due }
         ensures marks { length self.new.marks.items ≡ length self.new.list.items }
@@ -205,7 +195,7 @@ impl Tracks {
         }
         self.marks[place] = true;
         let track = &mut self.list[place];
-        track.log(alloc, brought, conditions, asks)?;
+        track.log(brought, conditions, asks)?;
         Ok(due.min(track.next_end()))
     }
 

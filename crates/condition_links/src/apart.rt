@@ -3,6 +3,7 @@ ghost use Rattle.std.specs.Prelude.{◌≡◌, Some, map, slice_get};
 ghost use Rattle.std.specs.Option.{option_copied};
 ghost use Rattle.atom_record.specs.Sparse.{not_missing};
 ghost use Rattle.atom_record.specs.declared.value.Leaf.{Leaf};
+ghost use Rattle.predicate_state.specs.PredicateTable.{same_leaves};
 ghost use Rattle.predicate_state.specs.PredicateTruths.{agrees, is_leaf};
 ghost use Rattle.condition_links.specs.LinkBinds.{binds_of, value_at_leaf, key_values_at};
 
@@ -20,6 +21,32 @@ pub fn asks_for(link: &LLink, inner: &FieldSet, key: &DimKey, other: &DimKey) ->
     let places = link.places.as_slice();
     let leaves = link.in_what.leaves.as_slice();
     have_values(inner.leaves.as_slice(), key, leaves, other, places)
+}
+
+/// Whether a key with the values of the leaves of `inner` reads as another key at the leaves of a set.
+pub fn reads_as(inner: &FieldSet, key: &DimKey, set: &FieldSet, read: &DimKey) -> bool
+    ensures { result ≡ same_leaves read.now (key_values_at inner.now key.now set.now) }
+{
+    are_values(inner.leaves.as_slice(), key, set.leaves.as_slice(), read)
+}
+
+// Whether these are the values that a key of some leaves has at others.
+fn are_values(inner: &[LeafPath], key: &DimKey, leaves: &[LeafPath], read: &DimKey) -> bool
+    ensures { result
+        ≡ same_leaves read.now (map (λ leaf. value_at_leaf inner.now key.now leaf) leaves.now) }
+{
+    if read.len() != leaves.len() {
+        return false;
+    }
+    for turn in 0..leaves.len() {
+        let Some(leaf) = leaves.get(turn) else {
+            return true;
+        };
+        if !is_value(read, turn, value_of(inner, key, leaf)) {
+            return false;
+        }
+    }
+    true
 }
 
 // Whether a key has at each of these places the value that has its turn: those that a key of some leaves has at others.

@@ -8,7 +8,7 @@ mod links;
 mod search;
 mod steps;
 
-pub use apart::asks_for;
+pub use apart::{asks_for, reads_as};
 pub use joined::combine3;
 pub use laws::each_truth_is_made_of_others;
 pub use links::{bind_atom, bind_atom_into, bind_key, bind_key_into, read_key, read_key_into};

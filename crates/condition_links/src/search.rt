@@ -1,8 +1,9 @@
 //! The truth of a condition.
-ghost use Rattle.std.specs.Prelude.{◌≡◌, ℕ, ◌<◌, ◌≤◌, ◌+◌, length, map, slice_index_or, slice_get, Some, None};
+ghost use Rattle.std.specs.Prelude.{◌≡◌, ℕ, ◌<◌, ◌≤◌, ◌+◌, length, map, slice_index_or, slice_get, true, Some, None};
 ghost use Rattle.link_graph.specs.Links.{AreInRange, HasNoCycle};
 ghost use Rattle.link_graph.specs.Depth.{EndsWithin};
-ghost use Rattle.condition_links.specs.Conditions.{predicate_names, condition_of, predicate_truth, table_truth_at, IsSoundTree, AreTables};
+ghost use Rattle.predicate_state.specs.declared.truth.Truth.{Truth};
+ghost use Rattle.condition_links.specs.Conditions.{predicate_names, condition_of, predicate_truth, table_truth_at, truth_of_body, IsSoundTree, AreTables};
 ghost use Rattle.condition_links.specs.FoundTruths.{AreFound};
 
 use crate::joined::Seen;
@@ -12,7 +13,7 @@ use predicate_state::{BindList, PredTable, Truth};
 use std::sync::ledger::Ledger;
 
 /// The truth of the condition. Each predicate is asked or joined at most once, and no memory is taken. It is one
-/// question, whatever the condition is.
+/// question, whatever the condition is. A predicate that is no combination is asked at once.
 pub fn query<L: Ledger>(
     tree: &CondTree,
     tables: &[PredTable],
@@ -29,8 +30,28 @@ pub fn query<L: Ledger>(
         return Truth::True;
     };
     let nodes = tree.nodes.as_slice();
+    if is_simple(&nodes[root as usize]) {
+        return ask(tables, binds, root as usize);
+    }
     let mut found = [None; MOST_PREDICATES];
     find(nodes, tables, binds, root as usize, nodes.len(), &mut found)
+}
+
+// Whether a predicate is no combination.
+fn is_simple(predicate: &LPredicate) -> bool
+    ensures { result ≡ true → (own : Truth) (truth : ℕ → Truth)
+        → truth_of_body own truth predicate.now.body ≡ own }
+{
+    match &predicate.body {
+        LPredBody::Simple {
+            start: _,
+            stop: _,
+            stop_all: _,
+            dims: _,
+            spec: _,
+        } => true,
+        LPredBody::Combo { op: _, children: _ } => false,
+    }
 }
 
 // The truth at a place from which fewer references lead down than `depth`. What is found is kept in `found`.

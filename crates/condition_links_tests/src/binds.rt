@@ -1,6 +1,6 @@
 //! What a link asks for.
 use atom_record::{Atom, AtomField, DimKey, Leaf, Value};
-use condition_links::{asks_for, bind_atom, bind_key};
+use condition_links::{asks_for, bind_atom, bind_key, reads_as};
 use config_links::LLink;
 use field_select::{FieldSet, LeafPath};
 use predicate_state::Bind;
@@ -115,5 +115,23 @@ fn asks_for_the_key_that_has_each_leaf(rt: HostRuntime) -> Result<(), Fail> {
     assert!(rt; !asks_for_two(rt.alloc(), &[None, Some(41)])?);
     assert!(rt; !asks_for_two(rt.alloc(), &[Some(30), Some(40)])?);
     assert!(rt; !asks_for_two(rt.alloc(), &[Some(40)])?);
+    Ok(())
+}
+
+// Whether a key whose leaves 3 and 4 are missing and 40 reads as this one at the leaves 4 and 3.
+fn reads_as_two(alloc: Global, leaves: &[Option<i32>]) -> Result<bool, AllocError> {
+    let inner = set(alloc, &[1, 2, 3, 4])?;
+    let reading = key(alloc, &[Some(10), Some(20), None, Some(40)])?;
+    let at = set(alloc, &[4, 3])?;
+    let read = key(alloc, leaves)?;
+    Ok(reads_as(&inner, &reading, &at, &read))
+}
+
+#[test]
+fn reads_as_the_key_of_its_leaves(rt: HostRuntime) -> Result<(), Fail> {
+    assert!(rt; reads_as_two(rt.alloc(), &[Some(40), None])?);
+    assert!(rt; !reads_as_two(rt.alloc(), &[Some(41), None])?);
+    assert!(rt; !reads_as_two(rt.alloc(), &[Some(40), Some(30)])?);
+    assert!(rt; !reads_as_two(rt.alloc(), &[Some(40)])?);
     Ok(())
 }

@@ -46,6 +46,7 @@ use Rattle.hub_core.specs.declared.lives.Lives.{Lives}
 use Rattle.hub_core.proofs.TableLemmas.{table_held}
 use Rattle.hub_core.specs.declared.hub.Hub.{Hub}
 use Rattle.hub_core.specs.FrameTruths.{LogsBy}
+use Rattle.hub_core.specs.LoggedFrames.{shown_frame}
 use Rattle.hub_core.specs.SlotLogs.{FoundLogs, AllLog}
 use Rattle.hub_core.specs.declared.log_clock.LogClock.{LogClock}
 use Rattle.hub_core.specs.Sleeping.{moment_of_clock, hears, StandsAsleep}
@@ -75,7 +76,7 @@ module _ (says : SimpleMatcher → Atom → Bool) where
       → ((c : LiveConfig) → config ≡ Some c → c.place < length frames) → before.at ≡ clock_of frames
       → clock_of frames ≤ log_time frame → log_time frame < time_limit
       → shown ≡ shown_as (log_frames frames) frame → StateBookStandsFor book (log_frames frames ++ frame ∷ [])
-      → FoundLogs says before shown book old new → bytes_in new ≡ bytes_in old
+      → FoundLogs says (shown_frame before shown book) old new → bytes_in new ≡ bytes_in old
       → SlotStandsFor says before uid frames old config
       → SlotStandsFor says (with_frame before (moment_of frame (log_time frame))) uid (frames ++ Log frame ∷ []) new
       config
@@ -165,7 +166,7 @@ module _ (says : SimpleMatcher → Atom → Bool) where
   pub stands_log : (before : Moment) (old new : Lives) (frames : List Frame) (shown : LogFrame) (book : BookOfStates)
       (frame : LogFrame) → before.at ≡ clock_of frames → clock_of frames ≤ log_time frame → log_time frame < time_limit
       → shown ≡ shown_as (log_frames frames) frame → StateBookStandsFor book (log_frames frames ++ frame ∷ [])
-      → AllLog says before shown book old.slots.entries new.slots.entries → new.counts ≡ old.counts
+      → AllLog says (shown_frame before shown book) old.slots.entries new.slots.entries → new.counts ≡ old.counts
       → KeepConfigs old.slots.entries new.slots.entries → LivesStandFor says before old frames
       → LivesStandFor says (with_frame before (moment_of frame (log_time frame))) new (frames ++ Log frame ∷ [])
   stands_log before old new frames shown book frame now in_time fits shown_is book_is all counts configs h =
@@ -631,7 +632,7 @@ module _ (says : SimpleMatcher → Atom → Bool) where
     pub hub_log : (frame shown : LogFrame) → clock_of frames ≤ log_time frame → log_time frame < time_limit
         → moment_of_clock new.clock ≡ with_frame (moment_of_clock hub.clock) (moment_of frame (log_time frame))
         → shown ≡ shown_as (log_frames frames) frame → BooksStandFor new.books (log_frames frames ++ frame ∷ [])
-        → AllLog says (moment_of_clock hub.clock) shown new.books.states hub.lives.slots.entries
+        → AllLog says (shown_frame (moment_of_clock hub.clock) shown new.books.states) hub.lives.slots.entries
         new.lives.slots.entries → new.lives.counts ≡ hub.lives.counts
         → KeepConfigs hub.lives.slots.entries new.lives.slots.entries
         → HubStandsFor says new (frames ++ Log frame ∷ [])

@@ -29,6 +29,7 @@ use Rattle.hub_core.specs.declared.live_instance.LiveInstance.{LiveInstance}
 use Rattle.hub_core.specs.FrameTruths.{truths_by}
 use Rattle.hub_core.specs.HubStands.{SlotStandsFor, LivesStandFor, HubStandsFor}
 use Rattle.hub_core.specs.LiveQuestions.{config_questions, name_questions, questions_in, AllAskBy}
+use Rattle.hub_core.specs.LoggedFrames.{shown_frame}
 use Rattle.hub_core.specs.Slots.{slot_at}
 use Rattle.hub_core.proofs.EvaluationLemmas.{truths_are, is_view, truths_shown}
 use Rattle.hub_meaning.proofs.LiveConfigLaws.{history_of-log}
@@ -99,7 +100,8 @@ module _ (says : SimpleMatcher → Atom → Bool) where
   pub hub_asks : {J : Type 0} (hub : Hub J) (frames : List Frame) (shown : LogFrame) (book : BookOfStates)
       (frame : LogFrame) (before after : ℕ) → clock_of frames ≤ log_time frame
       → shown ≡ shown_as (log_frames frames) frame → StateBookStandsFor book (log_frames frames ++ frame ∷ [])
-      → HubStandsFor says hub frames → AllAskBy says (last_moment hub) shown book hub.lives.slots.entries before after
+      → HubStandsFor says hub frames
+      → AllAskBy says (shown_frame (last_moment hub) shown book) hub.lives.slots.entries before after
       → after ≤ before + questions_in says hub frames (Log frame)
   hub_asks hub frames shown book (AtomAt at atom) before after in_time shown_is book_is h asks =
       asks (name_questions says frames (AtomAt at atom))

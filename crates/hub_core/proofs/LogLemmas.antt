@@ -9,23 +9,22 @@ use Rattle.std.proofs.lemmas.Option.{none-some, same_Some}
 use Rattle.atom_record.specs.declared.atom.Atom.{Atom}
 use Rattle.atom_record.specs.declared.log.LogFrame.{LogFrame}
 use Rattle.atom_record.specs.declared.log.LogFrame.TheVariants.{Tick, AtomAt, Pull}
-use Rattle.bucket_meaning.specs.Ends.{Moment}
 use Rattle.config_types.specs.declared.matcher.SimpleMatcher.{SimpleMatcher}
 use Rattle.heard_ids.specs.Hearing.{hears_all}
 use Rattle.id_notes.specs.declared.notes.Notes.{Notes}
 use Rattle.id_notes.specs.Noted.{wants_id, is_named, names_under, names_for_all}
 use Rattle.matcher_table.specs.Tables.{SlotTable}
 use Rattle.matcher_table.specs.TableFacts.{IsSoundTable}
-use Rattle.client_engine.specs.Handed.{BookOfStates}
 use Rattle.client_engine.specs.Running.{linked_of}
 use Rattle.client_engine.specs.declared.live_id.LiveId.{LiveId}
 use Rattle.hub_core.specs.declared.live_instance.LiveInstance.{LiveInstance}
 use Rattle.hub_core.specs.FrameTruths.{LogsBy}
 use Rattle.hub_core.specs.LiveQuestions.{NamesAsk, AllAskBy}
+use Rattle.hub_core.specs.LoggedFrames.{ShownFrame, LoggedFrame}
 use Rattle.hub_core.specs.NotedLives.{AreNoted, noted_for}
 use Rattle.hub_core.specs.SharedTable.{IsHeldIn, AllHeld}
 use Rattle.hub_core.specs.Sleeping.{heard_id_of, hears_id, hears, IsHearing, AsksAwake}
-use Rattle.hub_core.specs.SlotLogs.{EvaluatesFor, results_for, IsShown, FoundShown, NamedShown, FoundLogs, AllLog}
+use Rattle.hub_core.specs.SlotLogs.{EvaluatesFor, results_for, IsShown, FoundShown, NotedShown, FoundLogs, AllLog}
 use Rattle.hub_core.specs.Slots.{same_id, slot_at}
 use Rattle.hub_core.proofs.EvaluationLemmas.{logs_by, results_are}
 use Rattle.hub_core.proofs.NamesLemmas.{named-append, sum_all}
@@ -96,62 +95,69 @@ module _ (table : SlotTable) (notes : Notes LiveId) (rows : List (LiveId × Live
   named_hears (AtomAt at atom) = noted_hears atom.id (slot_at name rows) refl
   named_hears (Pull at id outcome) = noted_hears id (slot_at name rows) refl
 
-module _ (says : SimpleMatcher → Atom → Bool) (before table : SlotTable) (moment : Moment) (shown : LogFrame)
-    (book : BookOfStates) (sound : IsSoundTable table) (evaluates : EvaluatesFor says shown before table)
-    (olds : List (LiveId × LiveInstance)) (held : AllHeld table olds) where
+module _ (says : SimpleMatcher → Atom → Bool) (before : SlotTable) (logged : LoggedFrame)
+    (sound : IsSoundTable logged.table) (evaluates : EvaluatesFor says logged.shown.frame before logged.table)
+    (olds : List (LiveId × LiveInstance)) (held : AllHeld logged.table olds) where
   -- what took the frame, or not, took it as the judge says
   found_logs : (name : LiveId) (old new : Option LiveInstance) → slot_at name olds ≡ old
-      → MatchBool (hears_at shown old) (FoundShown table moment shown book old new) (new ≡ old)
-      → FoundLogs says moment shown book old new
+      → MatchBool (hears_at logged.shown.frame old) (FoundShown logged old new) (new ≡ old)
+      → FoundLogs says logged.shown old new
   found_logs name None None is became = tt
   found_logs name None (Some new) is became = absurd (none-some new (sym became))
-  found_logs name (Some old) None is became = gone (hears (linked_of old.carried.instance) shown) became where
-    gone : (heard : Bool) → MatchBool heard ⊥ (None ≡ Some old) → ⊥
-    gone true became = became
-    gone false became = none-some old became
+  found_logs name (Some old) None is became =
+      gone (hears (linked_of old.carried.instance) logged.shown.frame) became where
+        gone : (heard : Bool) → MatchBool heard ⊥ (None ≡ Some old) → ⊥
+        gone true became = became
+        gone false became = none-some old became
   found_logs name (Some old) (Some new) is became =
-      took (hears (linked_of old.carried.instance) shown) became where
-        took : (heard : Bool) → MatchBool heard (IsShown table moment shown book old new) (Some new ≡ Some old)
-            → MatchBool heard (LogsBy says moment shown book old.carried.instance new.carried.instance) (new ≡ old)
+      took (hears (linked_of old.carried.instance) logged.shown.frame) became where
+        took : (heard : Bool) → MatchBool heard (IsShown logged old new) (Some new ≡ Some old)
+            → MatchBool heard (LogsBy says logged.shown.before logged.shown.frame logged.shown.book old.carried.instance
+            new.carried.instance) (new ≡ old)
         took true became =
-            logs_by says moment shown book old.carried.instance new.carried.instance (results_for table shown old.slots)
-            (results_are says before table old shown sound evaluates (found_held table name old olds held is))
+            logs_by says logged.shown.before logged.shown.frame logged.shown.book old.carried.instance
+            new.carried.instance (results_for logged.table logged.shown.frame old.slots)
+            (results_are says before logged.table old logged.shown.frame sound evaluates
+            (found_held logged.table name old olds held is))
             became.logs
         took false became = same_Some new old became
 
   -- what is noted took the frame, so what hears it did
   pub all_logs : (notes : Notes LiveId) (news : List (LiveId × LiveInstance)) → AreNoted notes olds
-      → NamedShown table moment shown book (noted_for notes shown) olds news
-      → AllLog says moment shown book olds news
+      → NotedShown logged notes olds news → AllLog says logged.shown olds news
   all_logs notes news noted shows name =
       found_logs name (slot_at name olds) (slot_at name news) refl
-      (subst (λ b. MatchBool b (FoundShown table moment shown book (slot_at name olds) (slot_at name news))
-      (slot_at name news ≡ slot_at name olds)) (named_hears table notes olds held noted name shown) (shows name))
+      (subst (λ b. MatchBool b (FoundShown logged (slot_at name olds) (slot_at name news))
+      (slot_at name news ≡ slot_at name olds)) (named_hears logged.table notes olds held noted name logged.shown.frame)
+      (shows name))
 
   -- those that are noted ask no more than all, by what the judge says
-  pub ask_by : (names : List LiveId) (from to : ℕ) → NamesAsk table moment shown book names olds from to
-      → AllAskBy says moment shown book olds from to
+  pub ask_by : (names : List LiveId) (from to : ℕ) → NamesAsk logged names olds from to
+      → AllAskBy says logged.shown olds from to
   ask_by names from to asks most each =
       let few = asks most (λ name it named found start end here. each name it found start end
-      (subst (λ truths. AsksAwake moment it.carried.instance shown truths book start end)
-      (results_are says before table it shown sound evaluates (found_held table name it olds held found)) here)) in
+      (subst (λ truths. AsksAwake logged.shown.before it.carried.instance logged.shown.frame truths logged.shown.book
+      start end)
+      (results_are says before logged.table it logged.shown.frame sound evaluates
+      (found_held logged.table name it olds held found)) here)) in
       let total = sum_all most names (keys_of olds) in
       omega (arith, few, total)
 
 -- what doesn't hear a frame is as it was
-pub unheard_stay : (says : SimpleMatcher → Atom → Bool) (moment : Moment) (shown : LogFrame) (book : BookOfStates)
-    (frame : LogFrame) (olds news : List (LiveId × LiveInstance)) → heard_id_of shown ≡ heard_id_of frame
-    → AllLog says moment shown book olds news → (name : LiveId) (live : LiveInstance) → slot_at name olds ≡ Some live
+pub unheard_stay : (says : SimpleMatcher → Atom → Bool) (shown : ShownFrame) (frame : LogFrame)
+    (olds news : List (LiveId × LiveInstance)) → heard_id_of shown.frame ≡ heard_id_of frame
+    → AllLog says shown olds news → (name : LiveId) (live : LiveInstance) → slot_at name olds ≡ Some live
     → hears (linked_of live.carried.instance) frame ≡ false → slot_at name news ≡ Some live
-unheard_stay says moment shown book frame olds news same all name live is off =
+unheard_stay says shown frame olds news same all name live is off =
     by_new (slot_at name news)
-    (subst (λ (o : Option LiveInstance). FoundLogs says moment shown book o (slot_at name news)) is (all name)) where
-      unheard : hears (linked_of live.carried.instance) shown ≡ false
+    (subst (λ (o : Option LiveInstance). FoundLogs says shown o (slot_at name news)) is (all name)) where
+      unheard : hears (linked_of live.carried.instance) shown.frame ≡ false
       unheard = ap (λ (id : Option ℕ). option_map_or (hears_id (linked_of live.carried.instance)) id false) same ∙ off
 
-      by_new : (new : Option LiveInstance) → FoundLogs says moment shown book (Some live) new → new ≡ Some live
+      by_new : (new : Option LiveInstance) → FoundLogs says shown (Some live) new → new ≡ Some live
       by_new None logs = absurd logs
       by_new (Some new) logs =
           ap (λ (it : LiveInstance). Some it)
-          (subst (λ b. MatchBool b (LogsBy says moment shown book live.carried.instance new.carried.instance)
-          (new ≡ live)) unheard logs)
+          (subst (λ b. MatchBool b
+          (LogsBy says shown.before shown.frame shown.book live.carried.instance new.carried.instance) (new ≡ live))
+          unheard logs)

@@ -4,40 +4,37 @@ use Rattle.std.specs.Prelude.{if◌then◌else◌}
 use Rattle.std.specs.Bool.{MatchBool}
 use Rattle.std.specs.List.{sum_by}
 use Rattle.std.specs.Map.{keys_of}
-use Rattle.atom_record.specs.declared.log.LogFrame.{LogFrame}
-use Rattle.bucket_meaning.specs.Ends.{Moment}
 use Rattle.id_notes.specs.Noted.{is_named}
-use Rattle.matcher_table.specs.Tables.{SlotTable}
-use Rattle.client_engine.specs.Handed.{BookOfStates}
 use Rattle.client_engine.specs.declared.live_id.LiveId.{LiveId}
 use Rattle.hub_core.specs.declared.live_instance.LiveInstance.{LiveInstance}
 use Rattle.hub_core.specs.LiveQuestions.{LiveAsks, counted_for, NamesAsk}
+use Rattle.hub_core.specs.LoggedFrames.{LoggedFrame}
 use Rattle.hub_core.specs.SlotLogs.{IsShown, FoundShown, NamedShown}
 use Rattle.hub_core.specs.Slots.{same_id, slot_at}
 use Rattle.hub_core.proofs.NamesLemmas.{same_equiv, same_is, named-append, named-push, named_first, named_second, named_last, sum_more, sum_both, sum_on}
 
-module _ (table : SlotTable) (before : Moment) (shown : LogFrame) (book : BookOfStates) where
+module _ (logged : LoggedFrame) where
   -- what became of a slot, whether it was named or not
   abbrev Became : Bool → Option LiveInstance → Option LiveInstance → Type 0
-  Became named old new = MatchBool named (FoundShown table before shown book old new) (new ≡ old)
+  Became named old new = MatchBool named (FoundShown logged old new) (new ≡ old)
 
   -- where nothing was named all is as it was
-  pub none_shown : (rows : List (LiveId × LiveInstance)) → NamedShown table before shown book [] rows rows
+  pub none_shown : (rows : List (LiveId × LiveInstance)) → NamedShown logged [] rows rows
   none_shown rows name = refl
 
   -- a name whose turn hasn't come has what stood there
   pub still_old : (names : List LiveId) (olds news : List (LiveId × LiveInstance))
-      → NamedShown table before shown book names olds news → (name : LiveId) → is_named same_id name names ≡ false
+      → NamedShown logged names olds news → (name : LiveId) → is_named same_id name names ≡ false
       → slot_at name news ≡ slot_at name olds
   still_old names olds news part name fresh =
       subst (λ b. Became b (slot_at name olds) (slot_at name news)) fresh (part name)
 
   module _ (names : List LiveId) (name : LiveId) (olds news next : List (LiveId × LiveInstance))
-      (fresh : is_named same_id name names ≡ false) (part : NamedShown table before shown book names olds news) where
+      (fresh : is_named same_id name names ≡ false) (part : NamedShown logged names olds news) where
     -- one more name, under which this stood and that stands
-    shown_next : FoundShown table before shown book (slot_at name news) (slot_at name next)
+    shown_next : FoundShown logged (slot_at name news) (slot_at name next)
         → ((other : LiveId) → same_id name other ≡ false → slot_at other next ≡ slot_at other news)
-        → NamedShown table before shown book (names ++ name ∷ []) olds next
+        → NamedShown logged (names ++ name ∷ []) olds next
     shown_next here others other = by_case (same_id name other) refl where
       by_case : (b : Bool) → same_id name other ≡ b
           → Became (is_named same_id other (names ++ name ∷ [])) (slot_at other olds) (slot_at other next)
@@ -45,7 +42,7 @@ module _ (table : SlotTable) (before : Moment) (shown : LogFrame) (book : BookOf
           subst (λ (n : LiveId). Became (is_named same_id n (names ++ name ∷ [])) (slot_at n olds) (slot_at n next))
           (same_is name other is)
           (subst (λ b. Became b (slot_at name olds) (slot_at name next)) (sym (named_last name names))
-          (subst (λ (o : Option LiveInstance). FoundShown table before shown book o (slot_at name next))
+          (subst (λ (o : Option LiveInstance). FoundShown logged o (slot_at name next))
           (still_old names olds news part name fresh) here))
       by_case false is =
           let named : is_named same_id other (names ++ name ∷ []) ≡ is_named same_id other names =
@@ -60,32 +57,32 @@ module _ (table : SlotTable) (before : Moment) (shown : LogFrame) (book : BookOf
             off false = refl
 
     -- what stands there took the frame
-    pub shown_on : (old new : LiveInstance) → slot_at name news ≡ Some old → IsShown table before shown book old new
+    pub shown_on : (old new : LiveInstance) → slot_at name news ≡ Some old → IsShown logged old new
         → ((other : LiveId) → slot_at other next ≡ (if same_id name other then Some new else slot_at other news))
-        → NamedShown table before shown book (names ++ name ∷ []) olds next
+        → NamedShown logged (names ++ name ∷ []) olds next
     shown_on old new there shows slots =
         let now : slot_at name next ≡ Some new =
         slots name ∙ ap (λ b. if b then Some new else slot_at name news) (same_equiv.refl name) in
         shown_next
-        (subst (λ (o : Option LiveInstance). FoundShown table before shown book o (slot_at name next)) (sym there)
-        (subst (λ (o : Option LiveInstance). FoundShown table before shown book (Some old) o) (sym now) shows))
+        (subst (λ (o : Option LiveInstance). FoundShown logged o (slot_at name next)) (sym there)
+        (subst (λ (o : Option LiveInstance). FoundShown logged (Some old) o) (sym now) shows))
         (λ other off. slots other ∙ ap (λ b. if b then Some new else slot_at other news) off)
 
     -- nothing stands there
     pub shown_past : slot_at name news ≡ None → next ≡ news
-        → NamedShown table before shown book (names ++ name ∷ []) olds next
+        → NamedShown logged (names ++ name ∷ []) olds next
     shown_past none is =
         shown_next
-        (subst (λ (o : Option LiveInstance). FoundShown table before shown book o (slot_at name next)) (sym none)
-        (subst (λ (o : Option LiveInstance). FoundShown table before shown book None o)
+        (subst (λ (o : Option LiveInstance). FoundShown logged o (slot_at name next)) (sym none)
+        (subst (λ (o : Option LiveInstance). FoundShown logged None o)
         (sym (ap (slot_at name) is ∙ none)) tt))
         (λ other off. ap (slot_at other) is)
 
     -- a name more may ask what stands there
     pub asks_on : (it : LiveInstance) (from middle to : ℕ) → slot_at name news ≡ Some it
-        → NamesAsk table before shown book names olds from middle
-        → LiveAsks table before shown book it middle to
-        → NamesAsk table before shown book (names ++ name ∷ []) olds from to
+        → NamesAsk logged names olds from middle
+        → LiveAsks logged it middle to
+        → NamesAsk logged (names ++ name ∷ []) olds from to
     asks_on it from middle to there so_far asks most each =
         let old_there : slot_at name olds ≡ Some it = sym (still_old names olds news part name fresh) ∙ there in
         let few = so_far most (λ other live named found start end here.
@@ -96,8 +93,8 @@ module _ (table : SlotTable) (before : Moment) (shown : LogFrame) (book : BookOf
 
   -- names that ask no more than they may, ask no more with others
   pub asks_more : (names more : List LiveId) (olds : List (LiveId × LiveInstance)) (from to : ℕ)
-      → NamesAsk table before shown book names olds from to
-      → NamesAsk table before shown book (names ++ more) olds from to
+      → NamesAsk logged names olds from to
+      → NamesAsk logged (names ++ more) olds from to
   asks_more names more olds from to asks most each =
       let few = asks most (λ other live named found start end here.
       each other live (named_first other names more named) found start end here) in
@@ -106,15 +103,15 @@ module _ (table : SlotTable) (before : Moment) (shown : LogFrame) (book : BookOf
 
   -- where nothing was asked
   pub asks_none : (names : List LiveId) (rows : List (LiveId × LiveInstance)) (from : ℕ)
-      → NamesAsk table before shown book names rows from from
+      → NamesAsk logged names rows from from
   asks_none names rows from most each = omega arith
 
   -- A frame comes to names, and then to others.
   module _ (names more : List LiveId) (first second : List (LiveId × LiveInstance))
       (apart : (name : LiveId) → (is_named same_id name names && is_named same_id name more) ≡ false)
-      (one : NamedShown table before shown book names first second) where
-    pub shown_both : (third : List (LiveId × LiveInstance)) → NamedShown table before shown book more second third
-        → NamedShown table before shown book (names ++ more) first third
+      (one : NamedShown logged names first second) where
+    pub shown_both : (third : List (LiveId × LiveInstance)) → NamedShown logged more second third
+        → NamedShown logged (names ++ more) first third
     shown_both third other name =
         subst (λ b. Became b (slot_at name first) (slot_at name third)) (sym (named-append name names more))
         (by_case (is_named same_id name names) (is_named same_id name more) (apart name) (slot_at name first)
@@ -123,15 +120,15 @@ module _ (table : SlotTable) (before : Moment) (shown : LogFrame) (book : BookOf
               → Became there b c → Became (here || there) a c
           by_case true true off a b c x y = absurd (true≢false off)
           by_case true false off a b c x y =
-              subst (λ (o : Option LiveInstance). FoundShown table before shown book a o) (sym y) x
+              subst (λ (o : Option LiveInstance). FoundShown logged a o) (sym y) x
           by_case false true off a b c x y =
-              subst (λ (o : Option LiveInstance). FoundShown table before shown book o c) x y
+              subst (λ (o : Option LiveInstance). FoundShown logged o c) x y
           by_case false false off a b c x y = y ∙ x
 
     pub asks_both : (from middle to : ℕ) → keys_of second ≡ keys_of first
-        → NamesAsk table before shown book names first from middle
-        → NamesAsk table before shown book more second middle to
-        → NamesAsk table before shown book (names ++ more) first from to
+        → NamesAsk logged names first from middle
+        → NamesAsk logged more second middle to
+        → NamesAsk logged (names ++ more) first from to
     asks_both from middle to keys asks others most each =
         let few = asks most (λ name live named found start end here.
         each name live (named_first name names more named) found start end here) in

@@ -31,6 +31,7 @@ use Rattle.hub_core.specs.declared.live_instance.LiveInstance.{LiveInstance}
 use Rattle.hub_core.specs.DifferentMatchers.{asked_matcher, asked_matchers, different}
 use Rattle.hub_core.specs.FrameTruths.{LogsBy}
 use Rattle.hub_core.specs.LiveQuestions.{AllAskBy}
+use Rattle.hub_core.specs.LoggedFrames.{ShownFrame, shown_frame}
 use Rattle.hub_core.specs.NotedLives.{AreNoted, noted_for}
 use Rattle.hub_core.specs.SharedTable.{AllHeld}
 use Rattle.hub_core.specs.Sleeping.{hears}
@@ -61,9 +62,10 @@ none_hear table notes (first ∷ rest) held noted frame distinct none =
 module _ (frame : LogFrame) (rows : List (LiveId × LiveInstance)) (unheard : NoneHears frame rows) where
   -- all is as it was
   pub none_logs : (says : SimpleMatcher → Atom → Bool) (before : Moment) (book : BookOfStates)
-      → AllLog says before frame book rows rows
+      → AllLog says (shown_frame before frame book) rows rows
   none_logs says before book name = by_slot (slot_at name rows) refl where
-    by_slot : (slot : Option LiveInstance) → slot_at name rows ≡ slot → FoundLogs says before frame book slot slot
+    by_slot : (slot : Option LiveInstance) → slot_at name rows ≡ slot
+        → FoundLogs says (shown_frame before frame book) slot slot
     by_slot None is = tt
     by_slot (Some live) is =
         let it = live.carried.instance in
@@ -116,6 +118,6 @@ none_risen frame rows unheard ticks =
     subst (λ asked. HaveRisen asked ticks ticks) (sym (none_asked frame rows unheard)) (rises_by_none ticks)
 
 -- and no predicate
-pub none_ask : (says : SimpleMatcher → Atom → Bool) (before : Moment) (frame : LogFrame) (book : BookOfStates)
-    (rows : List (LiveId × LiveInstance)) (asks : ℕ) → AllAskBy says before frame book rows asks asks
-none_ask says before frame book rows asks most each = omega arith
+pub none_ask : (says : SimpleMatcher → Atom → Bool) (shown : ShownFrame) (rows : List (LiveId × LiveInstance))
+    (asks : ℕ) → AllAskBy says shown rows asks asks
+none_ask says shown rows asks most each = omega arith

@@ -23,7 +23,7 @@ use Rattle.hub_core.specs.declared.live_instance.LiveInstance.{LiveInstance}
 use Rattle.hub_core.specs.declared.lives.Lives.{Lives}
 use Rattle.report_writer.specs.declared.tree.ReportTree.{ReportTree}
 use Rattle.report_writer.specs.ReportSpelling.{report_message}
-use Rattle.hub_core.specs.Slots.{last_asked, same_id, slot_at, count_at, others_at, ReportsAt}
+use Rattle.hub_core.specs.Slots.{last_asked, slot_at, SetsSlot, count_at, others_at, ReportsAt}
 
 -- What a command makes of the live configurations: what they were, what they are, and its answer.
 pub record Change : Type 0 where
@@ -37,8 +37,7 @@ change old new body = record { old = old; new = new; body = body }
 
 -- One slot changes, and its client's count; all other slots and counts stay.
 pub record Changes (name : LiveId) (slot : Option LiveInstance) (count : ℕ) (old new : Lives) : Type 0 where
-  pub slots : (other : LiveId) → slot_at other new.slots.entries
-      ≡ (if same_id name other then slot else slot_at other old.slots.entries)
+  pub slots : SetsSlot name slot old.slots.entries new.slots.entries
   pub counts : (client : ℤ) → count_at client new.counts.entries
       ≡ (if int_eq name.uid client then count else count_at client old.counts.entries)
 

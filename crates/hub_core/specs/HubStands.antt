@@ -1,18 +1,21 @@
 -- What the hub of all clients stands for.
-use Rattle.std.specs.Prelude.{◌≡◌, ℕ, ℤ, Bool, false, List, [], ◌∷◌, ◌++◌, length, Option, Some, None}
+use Rattle.std.specs.Prelude.{◌≡◌, ℕ, ℤ, Bool, false, List, [], ◌∷◌, ◌++◌, length, Option, Some, None, Result, IfOk}
 use Rattle.atom_record.specs.declared.atom.Atom.{Atom}
 use Rattle.config_types.specs.declared.matcher.SimpleMatcher.{SimpleMatcher}
 use Rattle.session_frames.specs.declared.frame.Frame.{Frame}
 use Rattle.session_frames.specs.declared.frame.Frame.TheVariants.{Log}
 use Rattle.session_frames.specs.declared.reply.Reply.{Reply}
+use Rattle.session_frames.specs.Faultless.{IsInTime}
+use Rattle.session_frames.specs.declared.reply.ReplyBody.{ReplyBody}
 use Rattle.hub_meaning.specs.SessionLog.{own, log_frames, clock_of}
 use Rattle.hub_meaning.specs.Acceptance.{LiveConfig}
 use Rattle.hub_meaning.specs.LiveConfigs.{config_at, live, install_bytes, history_of}
-use Rattle.hub_meaning.specs.ClientAnswers.{reply_to}
+use Rattle.hub_meaning.specs.ClientAnswers.{reply_of, reply_to}
 use Rattle.bucket_meaning.specs.Ends.{Moment}
 use Rattle.client_engine.specs.InstanceStands.{linked_of, last_step_time}
 use Rattle.client_engine.specs.declared.live_id.LiveId.{LiveId}
 use Rattle.matcher_table.specs.Contents.{contents_of}
+use Rattle.matcher_table.specs.Truths.{HaveRisen}
 use Rattle.hub_core.specs.declared.live_instance.LiveInstance.{LiveInstance}
 use Rattle.hub_core.specs.declared.lives.Lives.{Lives}
 use Rattle.hub_core.specs.declared.hub.Hub.{Hub}
@@ -31,6 +34,10 @@ judge_of hub = hub.judge
 abbrev pub asked_in : {J : Type 0} → Frame → Hub J → ℕ
 asked_in (Log frame) hub = asked_by_all frame hub.lives.slots.entries
 asked_in _ hub = 0
+
+-- the count of the judge's questions rises by those that a frame takes
+abbrev pub AsksJudge : {J : Type 0} → (J → ℕ) → Frame → Hub J → Hub J → Type 0
+AsksJudge ticks frame old new = HaveRisen (asked_in frame old) (ticks (judge_of old)) (ticks (judge_of new))
 
 -- what is live and doesn't hear a frame is as it was, and a command is heard by none
 abbrev pub UnheardStay : {J : Type 0} → Frame → Hub J → Hub J → Type 0
@@ -73,3 +80,18 @@ module _ (says : SimpleMatcher → Atom → Bool) where
       (reply : Option Reply) : Type 0 where
     pub stands : HubStandsFor hub (frames ++ frame ∷ [])
     pub answer : reply ≡ reply_to says frames frame
+
+  -- a hub stands for these frames with one more, and this is the answer to it
+  abbrev pub IsAnswered : {J : Type 0} → Hub J → List Frame → Frame → Option Reply → Type 0
+  IsAnswered hub frames frame reply = HubStandsFor hub (frames ++ frame ∷ []) × (reply ≡ reply_to says frames frame)
+
+  -- a claim of all frames that a hub stands for, after which this one may come next
+  abbrev pub InTime : {J : Type 0} → Hub J → Frame → (List Frame → Type 0) → Type 0
+  InTime hub frame Claim =
+      (frames : List Frame) → HubStandsFor hub frames → IsInTime (clock_of frames) frame → Claim frames
+
+  -- whatever frames the old hub stands for, the new one serves this command about a name after them, if its body comes
+  abbrev pub ServesCommand : {J E : Type 0} → Hub J → LiveId → Frame → Hub J → Result ReplyBody E → Type 0
+  ServesCommand old name frame new result =
+      (frames : List Frame) → HubStandsFor old frames
+      → IfOk result (λ body. Serves new frames frame (reply_of name.uid name.id body))

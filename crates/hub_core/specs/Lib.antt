@@ -6,6 +6,7 @@ pub mod NamedLives
 pub mod FrameTruths
 pub mod SharedTable
 pub mod DifferentMatchers
+pub mod LoggedFrames
 pub mod SlotLogs
 pub mod Slots
 pub mod Commands

@@ -22,7 +22,12 @@ pub record AreNoted (notes : Notes LiveId) (rows : List (LiveId × LiveInstance)
   pub ids : (id : ℕ) (name : LiveId) → is_named same_id name (names_under notes id) ≡ wants_at id name rows
   pub all : (name : LiveId) → is_named same_id name (names_for_all notes) ≡ wants_all_at name rows
 
--- the same but for one name, which is noted nowhere
+-- where these rows were noted by those notes, others are by theirs
+abbrev pub StayNoted : Notes LiveId → List (LiveId × LiveInstance) → Notes LiveId → List (LiveId × LiveInstance)
+    → Type 0
+StayNoted notes olds next news = AreNoted notes olds → AreNoted next news
+
+-- a name is noted just where what stands under it wants to be, but for one, which is noted nowhere
 pub record AreNotedBut (but : LiveId) (notes : Notes LiveId) (rows : List (LiveId × LiveInstance)) : Type 0 where
   pub ids : (id : ℕ) (name : LiveId) → is_named same_id name (names_under notes id)
       ≡ (not (same_id but name) && wants_at id name rows)

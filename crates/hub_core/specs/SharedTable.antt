@@ -9,6 +9,7 @@ use Rattle.matcher_truths.specs.MatcherTruths.{named_places}
 use Rattle.matcher_table.specs.Slots.{times_among}
 use Rattle.matcher_table.specs.Tables.{SlotTable, outside_uses}
 use Rattle.held_slots.specs.Holdings.{HoldMatchers}
+use Rattle.held_slots.specs.HoldingSteps.{KeepsLive, AddsUses}
 use Rattle.client_engine.specs.declared.live_id.LiveId.{LiveId}
 use Rattle.client_engine.specs.Running.{linked_of}
 use Rattle.hub_core.specs.declared.live_instance.LiveInstance.{LiveInstance}
@@ -24,6 +25,13 @@ pub record IsHeldIn (table : SlotTable) (live : LiveInstance) : Type 0 where
   pub in_range : AreInRange (named_places live.carried.instance.matchers)
   pub no_cycle : HasNoCycle (named_places live.carried.instance.matchers)
   pub hears : IsHearing live.hearing (linked_of live.carried.instance)
+
+-- The matchers of a configuration came into a table: it holds them there, each place that holds a slot is one outside
+-- use more, and what was live stays.
+pub record IsInterned (old : SlotTable) (live : LiveInstance) (new : SlotTable) : Type 0 where
+  pub holds : IsHeldIn new live
+  pub uses : AddsUses old live.slots new
+  pub others : KeepsLive old new
 
 -- each of these configurations holds its matchers
 abbrev pub AllHeld : SlotTable → List (LiveId × LiveInstance) → Type 0

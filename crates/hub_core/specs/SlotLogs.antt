@@ -6,15 +6,16 @@ use Rattle.atom_record.specs.declared.atom.Atom.{Atom}
 use Rattle.atom_record.specs.declared.log.LogFrame.{LogFrame}
 use Rattle.atom_record.specs.declared.log.LogFrame.TheVariants.{AtomAt}
 use Rattle.config_types.specs.declared.matcher.SimpleMatcher.{SimpleMatcher}
-use Rattle.bucket_meaning.specs.Ends.{Moment}
+use Rattle.id_notes.specs.declared.notes.Notes.{Notes}
 use Rattle.id_notes.specs.Noted.{is_named}
 use Rattle.matcher_table.specs.Tables.{SlotTable, result_at}
 use Rattle.matcher_table.specs.Truths.{Evaluates, questions}
-use Rattle.client_engine.specs.Handed.{BookOfStates}
 use Rattle.client_engine.specs.InstanceStands.{Logs, linked_of}
 use Rattle.client_engine.specs.declared.live_id.LiveId.{LiveId}
 use Rattle.hub_core.specs.declared.live_instance.LiveInstance.{LiveInstance}
 use Rattle.hub_core.specs.FrameTruths.{LogsBy}
+use Rattle.hub_core.specs.LoggedFrames.{ShownFrame, LoggedFrame}
+use Rattle.hub_core.specs.NotedLives.{noted_for}
 use Rattle.hub_core.specs.SharedTable.{HasSameSlots}
 use Rattle.hub_core.specs.DifferentMatchers.{count_different}
 use Rattle.hub_core.specs.Sleeping.{hears, LogsAwake}
@@ -41,23 +42,23 @@ questions_for (AtomAt at atom) table = questions atom table.slots
 questions_for _ table = 0
 
 -- A configuration that was awake took the frame that is shown so, with the results of its slots, and keeps its slots.
-pub record IsTaken (table : SlotTable) (shown : LogFrame) (book : BookOfStates) (old new : LiveInstance) : Type 0 where
-  pub logs : Logs old.carried.instance shown (results_for table shown old.slots) book new.carried.instance
+pub record IsTaken (logged : LoggedFrame) (old new : LiveInstance) : Type 0 where
+  pub logs : Logs old.carried.instance logged.shown.frame (results_for logged.table logged.shown.frame old.slots)
+      logged.shown.book new.carried.instance
   pub same : HasSameSlots old new
 
 -- A configuration woke up by the frame before, took the frame that is shown so, with the results of its slots, and
 -- keeps its slots.
-pub record IsShown (table : SlotTable) (before : Moment) (shown : LogFrame) (book : BookOfStates)
-    (old new : LiveInstance) : Type 0 where
-  pub logs : LogsAwake before old.carried.instance shown (results_for table shown old.slots) book
-      new.carried.instance
+pub record IsShown (logged : LoggedFrame) (old new : LiveInstance) : Type 0 where
+  pub logs : LogsAwake logged.shown.before old.carried.instance logged.shown.frame
+      (results_for logged.table logged.shown.frame old.slots) logged.shown.book new.carried.instance
   pub same : HasSameSlots old new
 
-module _ (table : SlotTable) (before : Moment) (shown : LogFrame) (book : BookOfStates) where
+module _ (logged : LoggedFrame) where
   -- what stood under a name took the frame so
   abbrev pub FoundShown : Option LiveInstance → Option LiveInstance → Type 0
   FoundShown None None = Unit {0}
-  FoundShown (Some old) (Some new) = IsShown table before shown book old new
+  FoundShown (Some old) (Some new) = IsShown logged old new
   FoundShown None (Some new) = ⊥
   FoundShown (Some old) None = ⊥
 
@@ -67,20 +68,24 @@ module _ (table : SlotTable) (before : Moment) (shown : LogFrame) (book : BookOf
       (name : LiveId) → MatchBool (is_named same_id name names) (FoundShown (slot_at name olds) (slot_at name news))
       (slot_at name news ≡ slot_at name olds)
 
+  -- what stands under the names that are noted for the frame took it so, and all else is as it was
+  abbrev pub NotedShown : Notes LiveId → List (LiveId × LiveInstance) → List (LiveId × LiveInstance) → Type 0
+  NotedShown notes olds news = NamedShown (noted_for notes logged.shown.frame) olds news
+
 module _ (says : SimpleMatcher → Atom → Bool) where
   -- a table is evaluated for an atom, and for no other frame
   abbrev pub EvaluatesFor : LogFrame → SlotTable → SlotTable → Type 0
   EvaluatesFor (AtomAt at atom) old new = Evaluates says atom old new
   EvaluatesFor _ old new = new ≡ old
 
-  module _ (before : Moment) (shown : LogFrame) (book : BookOfStates) where
+  module _ (shown : ShownFrame) where
     -- what stood under a name woke up by the frame before and took the frame that is shown so, if it hears it, and else
     -- is as it was
     abbrev pub FoundLogs : Option LiveInstance → Option LiveInstance → Type 0
     FoundLogs None None = Unit {0}
     FoundLogs (Some old) (Some new) =
-        MatchBool (hears (linked_of old.carried.instance) shown)
-        (LogsBy says before shown book old.carried.instance new.carried.instance) (new ≡ old)
+        MatchBool (hears (linked_of old.carried.instance) shown.frame)
+        (LogsBy says shown.before shown.frame shown.book old.carried.instance new.carried.instance) (new ≡ old)
     FoundLogs None (Some new) = ⊥
     FoundLogs (Some old) None = ⊥
 

@@ -1,5 +1,5 @@
 -- Slots under names, and counts of them. Nothing here names what holds them.
-use Rattle.std.specs.Prelude.{◌≡◌, ℕ, ◌-◌, ◌==◌, ℤ, Bool, true, List, Option, Some, None, unwrap_or, count_by, slice_get, if◌then◌else◌}
+use Rattle.std.specs.Prelude.{◌≡◌, ℕ, ◌+◌, ◌-◌, ◌==◌, ℤ, Bool, true, not, ◌&&◌, List, Option, Some, None, is_some, unwrap_or, count_by, slice_get, if◌then◌else◌}
 use Rattle.std.specs.Option.{MatchOption}
 use Rattle.std.specs.Map.{lookup, set_value, values_of}
 use Rattle.indexmap.specs.IndexMap.{set_value_at}
@@ -43,6 +43,12 @@ pub record IsAtPlace (name : LiveId) (place : ℕ) (slots : List (LiveId × Live
   pub there : slot_at name slots ≡ slice_get (values_of slots) place
   pub written : (live : LiveInstance) → set_value_at slots place live ≡ set_value (same_id name) slots live
 
+-- what is held at a name is this now, and at each other one what was held there
+abbrev pub SetsSlot : LiveId → Option LiveInstance → List (LiveId × LiveInstance) → List (LiveId × LiveInstance)
+    → Type 0
+SetsSlot name slot olds news =
+    (other : LiveId) → slot_at other news ≡ (if same_id name other then slot else slot_at other olds)
+
 -- the number that is listed for a client, if one is
 abbrev pub listed_at : ℤ → List (ℤ × ℕ) → Option ℕ
 listed_at uid counts = lookup (int_eq uid) counts
@@ -63,6 +69,37 @@ others_at uid there counts = count_at uid counts - (if there then 1 else 0)
 abbrev pub held_by : ℤ → List (LiveId × LiveInstance) → ℕ
 held_by uid slots = count_by (λ (row : LiveId × LiveInstance). int_eq row.0.uid uid) slots
 
+-- how many of other ids the client of a name has
+abbrev pub others_in : LiveId → List (LiveId × LiveInstance) → List (ℤ × ℕ) → ℕ
+others_in name slots counts = others_at name.uid (is_some (slot_at name slots)) counts
+
+-- a client is listed with this number now, and each other one as it was
+abbrev pub ListsCount : ℤ → ℕ → List (ℤ × ℕ) → List (ℤ × ℕ) → Type 0
+ListsCount uid count olds news =
+    (client : ℤ) → listed_at client news ≡ (if int_eq uid client then listed count else listed_at client olds)
+
+-- the client of a name is listed with one more than it has of other ids, and each other one as it was
+abbrev pub ListsName : LiveId → List (LiveId × LiveInstance) → List (ℤ × ℕ) → List (ℤ × ℕ) → Type 0
+ListsName name slots olds news = ListsCount name.uid (others_in name slots olds + 1) olds news
+
+-- the client of a name has one more than it had of other ids, and each other one as many as it had
+abbrev pub CountsName : LiveId → List (LiveId × LiveInstance) → List (ℤ × ℕ) → List (ℤ × ℕ) → Type 0
+CountsName name slots olds news =
+    (client : ℤ) → count_at client news
+    ≡ (if int_eq name.uid client then others_in name slots olds + 1 else count_at client olds)
+
+-- each client has as many slots as before, and that of a name one more where the name had none
+abbrev pub HoldsMore : LiveId → List (LiveId × LiveInstance) → List (LiveId × LiveInstance) → Type 0
+HoldsMore name olds news =
+    (uid : ℤ) → held_by uid news
+    ≡ held_by uid olds + (if int_eq name.uid uid && not (is_some (slot_at name olds)) then 1 else 0)
+
+-- each client has as many slots as before, and that of a name one less where the name had one
+abbrev pub HoldsLess : LiveId → List (LiveId × LiveInstance) → List (LiveId × LiveInstance) → Type 0
+HoldsLess name olds news =
+    (uid : ℤ) → held_by uid news + (if int_eq name.uid uid && is_some (slot_at name olds) then 1 else 0)
+    ≡ held_by uid olds
+
 -- A report of what stands under a name, which is caught up by the last frame, as the bytes of its message.
 pub record ShowsAt (moment : Moment) (request : ReportRequest) (book : BookOfStates) (live : LiveInstance)
     (old new : List (LiveId × LiveInstance)) (report : Option (List ℕ)) : Type 0 where
@@ -70,8 +107,7 @@ pub record ShowsAt (moment : Moment) (request : ReportRequest) (book : BookOfSta
   pub tree : ReportTree
   pub steps : ReportsAwake moment live.carried.instance request book next.carried.instance tree
   pub config : next.carried.config ≡ live.carried.config
-  pub slots : (other : LiveId) → slot_at other new
-      ≡ (if same_id request.name other then Some next else slot_at other old)
+  pub slots : SetsSlot request.name (Some next) old new
   pub told : report ≡ Some (report_message tree)
 
 -- a report of what stands under a name, if something does

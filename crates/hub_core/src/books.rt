@@ -1,11 +1,11 @@
 //! The two books of the log: the states that it gave, and what pulls gave.
-ghost use Rattle.std.specs.Prelude.{◌≡◌, ◌∷◌, ◌++◌, [], List, OnOk};
+ghost use Rattle.std.specs.Prelude.{◌≡◌, [], List, OnOk};
 ghost use Rattle.atom_record.specs.declared.log.LogFrame.{LogFrame};
 ghost use Rattle.session_frames.specs.Faultless.{IsFaultlessLog};
 ghost use Rattle.state_slicer.specs.StateBooks.{StateBookStandsFor};
 ghost use Rattle.pull_book.specs.PullBooks.{PullBookStandsFor};
 ghost use Rattle.metric_meaning.specs.ShownFrames.{shown_as};
-ghost use Rattle.hub_core.specs.BookStands.{IsAsFailed, frame_left};
+ghost use Rattle.hub_core.specs.BookStands.{GrowsBy, IsAsFailed, frame_left};
 
 use atom_record::{LogFrame, PullOutcome};
 use pull_book::PullBook;
@@ -57,8 +57,8 @@ impl Books {
 
     /// Takes the state that a frame tells, if it tells one.
     pub fn tell(&mut self, frame: &LogFrame) -> Result<(), AllocError>
-        ensures states { OnOk result ((log : List LogFrame) → StateBookStandsFor self.old.states log
-            → StateBookStandsFor self.new.states (log ++ frame.now ∷ [])) }
+        ensures states { OnOk result (GrowsBy StateBookStandsFor self.old.states frame.now
+            self.new.states) }
         ensures pulls { self.new.pulls ≡ self.old.pulls }
     {
         match frame {
@@ -71,8 +71,8 @@ impl Books {
     /// Takes what a frame pulled out of it, if it is a pull, which is left as one that failed. An atom and a tick stay.
     pub fn record(&mut self, frame: &mut LogFrame) -> Result<(), AllocError>
         requires faultless { IsFaultlessLog frame.old }
-        ensures pulls { OnOk result ((log : List LogFrame) → PullBookStandsFor self.old.pulls log
-            → PullBookStandsFor self.new.pulls (log ++ frame.old ∷ [])) }
+        ensures pulls { OnOk result (GrowsBy PullBookStandsFor self.old.pulls frame.old
+            self.new.pulls) }
         ensures states { self.new.states ≡ self.old.states }
         ensures lent { frame.new ≡ frame_left frame.old }
     {

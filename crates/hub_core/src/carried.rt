@@ -1,9 +1,8 @@
 //! A live configuration as it is saved: whose it is, its bytes, and its instance.
-ghost use Rattle.std.specs.Prelude.{◌≡◌, ◌<◌, ◌^◌, List, OnOk, IfOk};
-ghost use Rattle.atom_record.specs.declared.log.LogFrame.{LogFrame};
+ghost use Rattle.std.specs.Prelude.{◌≡◌, ◌<◌, ◌^◌, OnOk, IfOk};
 ghost use Rattle.session_frames.specs.Faultless.{IsFaultlessLog};
 ghost use Rattle.report_writer.specs.Writable.{IsWritableReport};
-ghost use Rattle.hub_core.specs.BookStands.{BooksStandFor};
+ghost use Rattle.hub_core.specs.BookStands.{StartsFresh};
 
 mod saved;
 
@@ -44,7 +43,7 @@ impl Model for Carried {
 }
 
 impl Carried {
-    ghost use Rattle.client_engine.specs.InstanceStands.{IsFresh, Logs, AsksAtMost, Reports};
+    ghost use Rattle.client_engine.specs.InstanceStands.{Logs, AsksAtMost, Reports};
     ghost use Rattle.hub_core.specs.CarriedConfigs.{IsAccepted, Carries, IsCarriedOn};
     ghost use Rattle.hub_core.specs.Sleeping.{moment_of_clock, WakesUp};
 
@@ -57,8 +56,7 @@ impl Carried {
     ) -> Result<Carried, AllocError>
         requires accepted { IsAccepted accepted }
         requires timely { base < 2 ^ 63 }
-        ensures fresh { (opening : List LogFrame) → BooksStandFor books.now opening
-            → IfOk result (λ new. IsFresh accepted.linked base opening new.instance) }
+        ensures fresh { StartsFresh accepted.linked base books.now result (λ new. new.instance) }
         ensures carries { IfOk result (Carries accepted) }
     {
         let Accepted {

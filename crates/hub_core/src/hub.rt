@@ -1,12 +1,10 @@
 //! The hub of all clients, one frame at a time.
-ghost use Rattle.std.specs.Prelude.{◌≡◌, ◌≤◌, ◌+◌, ℤ, List, [], ◌++◌, ◌∷◌, IfOk, OnOk};
+ghost use Rattle.std.specs.Prelude.{◌≡◌, ℤ, List, [], ◌++◌, ◌∷◌, IfOk, OnOk};
 ghost use Rattle.session_frames.specs.declared.frame.Frame.TheVariants.{Log, Install, Remove, Report};
 ghost use Rattle.session_frames.specs.Faultless.{IsFaultlessLog};
 ghost use Rattle.session_frames.specs.declared.frame.Frame.{Frame};
-ghost use Rattle.session_frames.specs.Frames.{log_time, IsFaultless, IsInTime};
-ghost use Rattle.matcher_table.specs.Truths.{HaveRisen};
-ghost use Rattle.hub_meaning.specs.SessionLog.{own, clock_of};
-ghost use Rattle.hub_meaning.specs.ClientAnswers.{reply_of, reply_to};
+ghost use Rattle.session_frames.specs.Frames.{IsFaultless};
+ghost use Rattle.hub_meaning.specs.SessionLog.{own};
 ghost use Rattle.hub_meaning.specs.ClientIsolation.{EqualOwnFramesEqualReplies};
 
 mod saved;
@@ -40,10 +38,10 @@ pub struct Hub<J: Judge> {
 }
 
 impl<J: Judge> Hub<J> {
-    ghost use Rattle.hub_core.specs.HubStands.{judge_of, asked_in, HubStandsFor, Serves, UnheardStay};
+    ghost use Rattle.hub_core.specs.HubStands.{judge_of, AsksJudge, HubStandsFor, InTime, IsAnswered, ServesCommand, UnheardStay};
     ghost use Rattle.hub_core.specs.Alone.{RunsAsAlone};
     ghost use Rattle.hub_core.specs.BookStands.{frame_left};
-    ghost use Rattle.hub_core.specs.LiveQuestions.{questions_in};
+    ghost use Rattle.hub_core.specs.LiveQuestions.{AsksInTime};
 
     /// A hub that has seen no frame. It takes no memory yet.
     pub fn new(alloc: Global, judge: J) -> Hub<J>
@@ -84,20 +82,16 @@ impl<J: Judge> Hub<J> {
         requires faultless { IsFaultless frame }
 
         // The answer is what the frames so far mean, whatever they are, and the hub stands for them with this one.
-        ensures serves { (frames : List Frame) → HubStandsFor J.says self frames
-            → IsInTime (clock_of frames) frame → IfOk result (λ r. HubStandsFor J.says r.0 (frames ++ frame ∷ [])
-            × (r.1 ≡ reply_to J.says frames frame)) }
+        ensures serves { InTime J.says self frame (λ frames.
+            IfOk result (λ r. IsAnswered J.says r.0 frames frame r.1)) }
 
         // The judge is asked at atoms alone, once for each different simple matcher of the atom's id in all live ones.
-        ensures asked { IfOk result (λ r. HaveRisen (asked_in frame self)
-            (J.ticks (judge_of self)) (J.ticks (judge_of r.0))) }
+        ensures asked { IfOk result (λ r. AsksJudge J.ticks frame self r.0) }
 
         // Conditions are asked at atoms alone, and only what the atom touches is asked again: once for each metric of
         // all live ones that it touches, and of a duration at most twice and once for each inner key that was there
         // before.
-        ensures questions { (frames : List Frame) → HubStandsFor J.says self frames
-            → IsInTime (clock_of frames) frame
-            → asks.new ≤ asks.old + questions_in J.says self frames frame }
+        ensures questions { AsksInTime J.says self frame asks.old asks.new }
 
         // A configuration that doesn't hear a frame of the log is left as it was.
         ensures asleep { IfOk result (λ r. UnheardStay frame self r.0) }
@@ -126,14 +120,10 @@ impl<J: Judge> Hub<J> {
         asks: &mut Steps<L>,
     ) -> Result<(), AllocError>
         requires faultless { IsFaultlessLog frame.old }
-        ensures stands { (frames : List Frame) → HubStandsFor J.says self.old frames
-            → clock_of frames ≤ log_time frame.old
-            → OnOk result (HubStandsFor J.says self.new (frames ++ Log frame.old ∷ [])) }
-        ensures asked { OnOk result (HaveRisen (asked_in (Log frame.old) self.old)
-            (J.ticks (judge_of self.old)) (J.ticks (judge_of self.new))) }
-        ensures questions { (frames : List Frame) → HubStandsFor J.says self.old frames
-            → clock_of frames ≤ log_time frame.old
-            → asks.new ≤ asks.old + questions_in J.says self.old frames (Log frame.old) }
+        ensures stands { InTime J.says self.old (Log frame.old) (λ frames.
+            OnOk result (HubStandsFor J.says self.new (frames ++ Log frame.old ∷ []))) }
+        ensures asked { OnOk result (AsksJudge J.ticks (Log frame.old) self.old self.new) }
+        ensures questions { AsksInTime J.says self.old (Log frame.old) asks.old asks.new }
         ensures asleep { OnOk result (UnheardStay (Log frame.old) self.old self.new) }
         ensures lent { OnOk result (frame.new ≡ frame_left frame.old) }
     {
@@ -159,15 +149,10 @@ impl<J: Judge> Hub<J> {
         asks: &mut Steps<L>,
     ) -> Result<Option<Reply>, AllocError>
         requires faultless { IsFaultless frame }
-        ensures serves { (frames : List Frame) → HubStandsFor J.says self.old frames
-            → IsInTime (clock_of frames) frame
-            → IfOk result (λ reply. HubStandsFor J.says self.new (frames ++ frame ∷ [])
-            × (reply ≡ reply_to J.says frames frame)) }
-        ensures asked { OnOk result (HaveRisen (asked_in frame self.old)
-            (J.ticks (judge_of self.old)) (J.ticks (judge_of self.new))) }
-        ensures questions { (frames : List Frame) → HubStandsFor J.says self.old frames
-            → IsInTime (clock_of frames) frame
-            → asks.new ≤ asks.old + questions_in J.says self.old frames frame }
+        ensures serves { InTime J.says self.old frame (λ frames.
+            IfOk result (IsAnswered J.says self.new frames frame)) }
+        ensures asked { OnOk result (AsksJudge J.ticks frame self.old self.new) }
+        ensures questions { AsksInTime J.says self.old frame asks.old asks.new }
 
         // A configuration that doesn't hear a frame is left as it was.
         ensures asleep { OnOk result (UnheardStay frame self.old self.new) }
@@ -198,9 +183,8 @@ impl<J: Judge> Hub<J> {
 
     // Installs what the bytes of a configuration say. The bytes stay with what is live.
     fn install(&mut self, name: LiveId, config: Bytes) -> Result<ReplyBody, AllocError>
-        ensures serves { (frames : List Frame) → HubStandsFor J.says self.old frames
-            → IfOk result (λ body. Serves J.says self.new frames
-            (Install name.uid name.id config) (reply_of name.uid name.id body)) }
+        ensures serves { ServesCommand J.says self.old name (Install name.uid name.id config)
+            self.new result }
         ensures judge { OnOk result (judge_of self.new ≡ judge_of self.old) }
     {
         let read = read_config(self.alloc, config.as_slice())?;
@@ -214,9 +198,8 @@ impl<J: Judge> Hub<J> {
 
     // Removes a configuration.
     fn remove(&mut self, name: LiveId) -> Result<ReplyBody, AllocError>
-        ensures serves { (frames : List Frame) → HubStandsFor J.says self.old frames
-            → IfOk result (λ body. Serves J.says self.new frames
-            (Remove name.uid name.id) (reply_of name.uid name.id body)) }
+        ensures serves { ServesCommand J.says self.old name (Remove name.uid name.id)
+            self.new result }
         ensures judge { OnOk result (judge_of self.new ≡ judge_of self.old) }
     {
         let now = self.clock;
@@ -228,9 +211,8 @@ impl<J: Judge> Hub<J> {
 
     // Reports a configuration.
     fn report(&mut self, name: LiveId, include_current: bool) -> Result<ReplyBody, AllocError>
-        ensures serves { (frames : List Frame) → HubStandsFor J.says self.old frames
-            → IfOk result (λ body. Serves J.says self.new frames
-            (Report name.uid name.id include_current) (reply_of name.uid name.id body)) }
+        ensures serves { ServesCommand J.says self.old name
+            (Report name.uid name.id include_current) self.new result }
         ensures judge { OnOk result (judge_of self.new ≡ judge_of self.old) }
     {
         let request = ReportRequest {

@@ -1,7 +1,6 @@
 //! A live configuration, with the slots of its matchers in the table that all share, and what it hears. It sleeps
 //! between the frames that it hears.
-ghost use Rattle.std.specs.Prelude.{◌≡◌, ℕ, ◌<◌, ◌≤◌, ◌^◌, List, IfOk, OnOk};
-ghost use Rattle.atom_record.specs.declared.log.LogFrame.{LogFrame};
+ghost use Rattle.std.specs.Prelude.{◌≡◌, ℕ, ◌<◌, ◌≤◌, ◌^◌, IfOk, OnOk};
 ghost use Rattle.session_frames.specs.Faultless.{IsFaultlessLog};
 ghost use Rattle.report_writer.specs.Writable.{IsWritableReport};
 ghost use Rattle.config_links.specs.SoundConfig.{IsSoundConfig};
@@ -10,14 +9,14 @@ ghost use Rattle.matcher_table.specs.Slots.{times_among};
 ghost use Rattle.matcher_table.specs.Tables.{outside_uses};
 ghost use Rattle.matcher_table.specs.Contents.{contents_of};
 ghost use Rattle.held_slots.specs.Holdings.{AreLive};
-ghost use Rattle.held_slots.specs.HoldingSteps.{KeepsLive, AddsUses, ReleasesAll};
-ghost use Rattle.hub_core.specs.BookStands.{BooksStandFor};
+ghost use Rattle.held_slots.specs.HoldingSteps.{ReleasesAll};
+ghost use Rattle.hub_core.specs.BookStands.{StartsFresh};
 
 use crate::books::Books;
 use crate::carried::Carried;
 use crate::configs::Accepted;
 use crate::log_clock::LogClock;
-use crate::logging::Coming;
+use crate::logging::Logged;
 use atom_record::LogFrame;
 use client_engine::{LogView, ReportRequest};
 use condition_links::Steps;
@@ -40,10 +39,11 @@ pub struct LiveInstance {
 }
 
 impl LiveInstance {
-    ghost use Rattle.client_engine.specs.InstanceStands.{IsFresh, Reports};
+    ghost use Rattle.client_engine.specs.InstanceStands.{Reports};
     ghost use Rattle.hub_core.specs.CarriedConfigs.{IsAccepted, Carries};
     ghost use Rattle.hub_core.specs.Sleeping.{moment_of_clock, WakesUp, ReportsAwake};
-    ghost use Rattle.hub_core.specs.SharedTable.{IsHeldIn, HasSameSlots};
+    ghost use Rattle.hub_core.specs.SharedTable.{IsInterned, HasSameSlots};
+    ghost use Rattle.hub_core.specs.LoggedFrames.{logged_of};
     ghost use Rattle.hub_core.specs.SlotLogs.{IsTaken, IsShown, results_for};
     ghost use Rattle.hub_core.specs.LiveQuestions.{AwakeAsks, LiveAsks};
 
@@ -57,13 +57,11 @@ impl LiveInstance {
     ) -> Result<LiveInstance, AllocError>
         requires accepted { IsAccepted accepted }
         requires timely { base < 2 ^ 63 }
-        ensures fresh { (opening : List LogFrame) → BooksStandFor books.now opening
-            → IfOk result (λ live. IsFresh accepted.linked base opening live.carried.instance) }
+        ensures fresh { StartsFresh accepted.linked base books.now result
+            (λ live. live.carried.instance) }
         ensures carries { IfOk result (λ live. Carries accepted live.carried) }
-        ensures holds { IfOk result (IsHeldIn (contents_of table.new)) }
-        ensures uses { IfOk result (λ live. AddsUses (contents_of table.old) live.slots
+        ensures interned { IfOk result (λ live. IsInterned (contents_of table.old) live
             (contents_of table.new)) }
-        ensures others { OnOk result (KeepsLive (contents_of table.old) (contents_of table.new)) }
     {
         let hearing = Hearing::of(alloc, &accepted.linked)?;
         let slots = HeldSlots::hold(alloc, table, &accepted.linked)?;
@@ -82,10 +80,8 @@ impl LiveInstance {
         table: &mut MatcherTable,
     ) -> Result<LiveInstance, AllocError>
         ensures carried { IfOk result (λ live. live.carried ≡ carried) }
-        ensures holds { IfOk result (IsHeldIn (contents_of table.new)) }
-        ensures uses { IfOk result (λ live. AddsUses (contents_of table.old) live.slots
+        ensures interned { IfOk result (λ live. IsInterned (contents_of table.old) live
             (contents_of table.new)) }
-        ensures others { OnOk result (KeepsLive (contents_of table.old) (contents_of table.new)) }
     {
         let linked = carried.linked(alloc)?;
         LiveInstance::of(alloc, carried, &linked, table)
@@ -101,10 +97,8 @@ impl LiveInstance {
         requires sound { IsSoundConfig linked.now }
         requires linked { linked_of carried.instance ≡ linked.now }
         ensures carried { IfOk result (λ live. live.carried ≡ carried) }
-        ensures holds { IfOk result (IsHeldIn (contents_of table.new)) }
-        ensures uses { IfOk result (λ live. AddsUses (contents_of table.old) live.slots
+        ensures interned { IfOk result (λ live. IsInterned (contents_of table.old) live
             (contents_of table.new)) }
-        ensures others { OnOk result (KeepsLive (contents_of table.old) (contents_of table.new)) }
     {
         let hearing = Hearing::of(alloc, linked)?;
         let slots = HeldSlots::hold(alloc, table, linked)?;
@@ -118,22 +112,18 @@ impl LiveInstance {
     /// Wakes up for a frame of the log that it hears: it is caught up, and then takes the frame in.
     pub fn log<L: Ledger>(
         &mut self,
-        table: &MatcherTable,
-        coming: &Coming<'_>,
+        logged: &Logged<'_>,
         truths: &mut Vec<bool>,
         asks: &mut Steps<L>,
     ) -> Result<(), AllocError>
-        requires sound { IsFaultlessLog coming.now.frame.now }
-        requires live { AreLive (contents_of table.now) self.old.slots }
-        ensures shown { OnOk result (IsShown (contents_of table.now)
-            (moment_of_clock coming.now.before)
-            coming.now.frame.now coming.now.states.now self.old self.new) }
+        requires sound { IsFaultlessLog logged.now.coming.frame.now }
+        requires live { AreLive (contents_of logged.now.table.now) self.old.slots }
+        ensures shown { OnOk result (IsShown (logged_of logged.now) self.old self.new) }
         ensures same { HasSameSlots self.old self.new }
-        ensures asks { LiveAsks (contents_of table.now) (moment_of_clock coming.now.before)
-            coming.now.frame.now coming.now.states.now self.old asks.old asks.new }
+        ensures asks { LiveAsks (logged_of logged.now) self.old asks.old asks.new }
     {
-        self.wake(coming.before)?;
-        self.take(table, coming.frame, coming.states, truths, asks)
+        self.wake(logged.coming.before)?;
+        self.take(logged, truths, asks)
     }
 
     /// Crosses what ended while it slept, by the last frame that came.
@@ -149,26 +139,22 @@ impl LiveInstance {
     // Takes in a frame of the log as it is shown, an atom with the results of its slots. The buffer's room is kept.
     fn take<L: Ledger>(
         &mut self,
-        table: &MatcherTable,
-        frame: &LogFrame,
-        states: &StateBook,
+        logged: &Logged<'_>,
         truths: &mut Vec<bool>,
         asks: &mut Steps<L>,
     ) -> Result<(), AllocError>
-        requires sound { IsFaultlessLog frame.now }
-        requires live { AreLive (contents_of table.now) self.old.slots }
-        ensures taken { OnOk result (IsTaken
-            (contents_of table.now) frame.now states.now self.old self.new) }
+        requires sound { IsFaultlessLog logged.now.coming.frame.now }
+        requires live { AreLive (contents_of logged.now.table.now) self.old.slots }
+        ensures taken { OnOk result (IsTaken (logged_of logged.now) self.old self.new) }
         ensures same { HasSameSlots self.old self.new }
-        ensures asks { AwakeAsks (contents_of table.now) frame.now states.now self.old asks.old
-            asks.new }
+        ensures asks { AwakeAsks (logged_of logged.now) self.old asks.old asks.new }
     {
-        self.results(table, frame, truths)?;
+        self.results(logged.table, logged.coming.frame, truths)?;
         let view = LogView {
             matched: truths.as_slice(),
-            states,
+            states: logged.coming.states,
         };
-        self.carried.apply(frame, &view, asks)
+        self.carried.apply(logged.coming.frame, &view, asks)
     }
 
     // The results of its slots for an atom, and none for another frame.

@@ -1,7 +1,5 @@
 //! The live configurations of all clients, found by client and id, and how many each client has.
-ghost use Rattle.std.specs.Prelude.{◌≡◌, ◌≢◌, ◌+◌, ◌≤◌, ◌<◌, ◌∷◌, ℤ, List, [], true, Some, None, is_some, OnOk, IfOk, if◌then◌else◌};
-ghost use Rattle.std.specs.Ordering.{int_eq};
-ghost use Rattle.atom_record.specs.declared.log.LogFrame.{LogFrame};
+ghost use Rattle.std.specs.Prelude.{◌≡◌, ◌≢◌, ◌≤◌, ◌<◌, ◌∷◌, ℤ, [], true, Some, None, is_some, OnOk, IfOk};
 ghost use Rattle.matcher_table.specs.Contents.{contents_of};
 ghost use Rattle.hub_core.specs.Slots.{held_by, listed_at, count_at};
 ghost use Rattle.hub_core.specs.NotedLives.{AreNoted};
@@ -14,7 +12,7 @@ use crate::books::Books;
 use crate::configs::{Accepted, Offer, link_config};
 use crate::live_instance::LiveInstance;
 use crate::log_clock::LogClock;
-use crate::logging::{Coming, Rooms, comes_to_none, evaluate, log_heard};
+use crate::logging::{Coming, Logged, Rooms, comes_to_none, evaluate, log_heard};
 use crate::slots::{
     Rows, install_answer, last_request, others_of, put_counted, release_old, remove_answer,
     report_answer, report_at, set_count, take_out,
@@ -53,14 +51,14 @@ pub struct Lives {
 }
 
 impl Lives {
-    ghost use Rattle.client_engine.specs.InstanceStands.{IsFresh};
-    ghost use Rattle.hub_core.specs.BookStands.{BooksStandFor};
+    ghost use Rattle.hub_core.specs.BookStands.{StartsFresh};
     ghost use Rattle.session_frames.specs.Faultless.{IsFaultlessLog};
     ghost use Rattle.matcher_table.specs.Truths.{HaveRisen};
     ghost use Rattle.config_decode.specs.Config.{config_of};
     ghost use Rattle.hub_meaning.specs.Acceptance.{config_read};
     ghost use Rattle.hub_core.specs.CarriedConfigs.{IsAccepted, Carries};
     ghost use Rattle.hub_core.specs.Sleeping.{moment_of_clock};
+    ghost use Rattle.hub_core.specs.LoggedFrames.{shown_of};
     ghost use Rattle.hub_core.specs.SlotLogs.{AllLog, NoneHears, asked_by_all};
     ghost use Rattle.hub_core.specs.Slots.{ReportsAt};
     ghost use Rattle.hub_core.specs.LiveQuestions.{AllAskBy};
@@ -92,29 +90,25 @@ impl Lives {
         asks: &mut Steps<L>,
     ) -> Result<(), AllocError>
         requires sound { IsFaultlessLog coming.now.frame.now }
-        ensures slots { OnOk result (AllLog J.says
-            (moment_of_clock coming.now.before) coming.now.frame.now
-            coming.now.states.now self.old.slots.entries self.new.slots.entries) }
+        ensures slots { OnOk result (AllLog J.says (shown_of coming.now)
+            self.old.slots.entries self.new.slots.entries) }
         ensures counts { self.new.counts ≡ self.old.counts }
         ensures ticks { OnOk result (HaveRisen
             (asked_by_all coming.now.frame.now self.old.slots.entries)
             (J.ticks judge.old) (J.ticks judge.new)) }
-        ensures asks { AllAskBy J.says (moment_of_clock coming.now.before) coming.now.frame.now
-            coming.now.states.now self.old.slots.entries asks.old asks.new }
+        ensures asks { AllAskBy J.says (shown_of coming.now) self.old.slots.entries asks.old
+            asks.new }
         ensures configs { KeepConfigs self.old.slots.entries self.new.slots.entries }
     {
         if self.is_unheard(coming.frame) {
             return Ok(());
         }
         evaluate(&mut self.table, judge, coming.frame);
-        log_heard(
-            &mut self.slots,
-            &self.notes,
-            &self.table,
-            coming,
-            rooms,
-            asks,
-        )
+        let logged = Logged {
+            table: &self.table,
+            coming: *coming,
+        };
+        log_heard(&mut self.slots, &self.notes, &logged, rooms, asks)
     }
 
     // Whether all sleep on at a frame.
@@ -205,9 +199,8 @@ impl Lives {
         accepted: Accepted,
     ) -> Result<Incoming, AllocError>
         requires accepted { IsAccepted accepted }
-        ensures fresh { (opening : List LogFrame) → BooksStandFor books.now opening
-            → IfOk result (λ incoming. IsFresh accepted.linked clock.time opening
-            incoming.live.carried.instance) }
+        ensures fresh { StartsFresh accepted.linked clock.time books.now result
+            (λ incoming. incoming.live.carried.instance) }
         ensures carries { IfOk result (λ incoming. Carries accepted incoming.live.carried) }
         ensures name { IfOk result (λ incoming. incoming.name ≡ accepted.name) }
         ensures slots { IfOk result (λ incoming. incoming.rows.slots ≡ self.slots) }
@@ -339,22 +332,18 @@ struct Incoming {
 
 impl Incoming {
     ghost use Rattle.indexmap.specs.IndexMap.{insert_entry};
-    ghost use Rattle.hub_core.specs.Slots.{same_id, slot_at, others_at};
+    ghost use Rattle.hub_core.specs.Slots.{same_id, SetsSlot, others_in, CountsName};
 
     // Puts it in, with its count and with notes of what it hears. What stood under its name is let go, with its slots
     // of the table.
     fn with_live(self, alloc: Global) -> Result<Lives, AllocError>
-        requires { others_at self.name.uid (is_some (slot_at self.name self.rows.slots.entries))
-            self.rows.counts.entries < 10 }
-        ensures entries { IfOk result (λ lives. lives.slots.entries
+        requires { others_in self.name self.rows.slots.entries self.rows.counts.entries < 10 }
+        ensures entries { IfOk result (λ r. r.slots.entries
             ≡ insert_entry same_id self.rows.slots.entries self.name self.live) }
-        ensures slots { IfOk result (λ lives. (other : LiveId) → slot_at other lives.slots.entries
-            ≡ (if same_id self.name other then Some self.live
-            else slot_at other self.rows.slots.entries)) }
-        ensures counts { IfOk result (λ lives. (client : ℤ) → count_at client lives.counts.entries
-            ≡ (if int_eq self.name.uid client then others_at self.name.uid
-            (is_some (slot_at self.name self.rows.slots.entries)) self.rows.counts.entries + 1
-            else count_at client self.rows.counts.entries)) }
+        ensures slots { IfOk result (λ r. SetsSlot self.name (Some self.live)
+            self.rows.slots.entries r.slots.entries) }
+        ensures counts { IfOk result (λ r. CountsName self.name
+            self.rows.slots.entries self.rows.counts.entries r.counts.entries) }
     {
         let Incoming {
             name,

@@ -1,16 +1,16 @@
 //! A frame of the log comes to the table of matchers and to the live configurations that hear it.
-ghost use Rattle.std.specs.Prelude.{◌≡◌, ◌++◌, ◌∷◌, [], true, ℕ, OnOk};
+ghost use Rattle.std.specs.Prelude.{◌≡◌, ◌∷◌, [], true, ℕ, OnOk};
 ghost use Rattle.std.specs.List.{IsDistinct};
 ghost use Rattle.session_frames.specs.Faultless.{IsFaultlessLog};
 ghost use Rattle.matcher_table.specs.Truths.{HaveRisen};
 ghost use Rattle.matcher_table.specs.Contents.{contents_of};
-ghost use Rattle.id_notes.specs.Noted.{names_under, names_for_all};
 ghost use Rattle.hub_core.specs.SharedTable.{AllHeld, KeepsSlots};
-ghost use Rattle.hub_core.specs.Sleeping.{moment_of_clock, heard_id_of};
-ghost use Rattle.hub_core.specs.Slots.{same_id, IsAtPlace};
+ghost use Rattle.hub_core.specs.Sleeping.{heard_id_of};
+ghost use Rattle.hub_core.specs.Slots.{same_id};
 ghost use Rattle.hub_core.specs.NotedLives.{AreNotedApart, noted_for};
-ghost use Rattle.hub_core.specs.SlotLogs.{EvaluatesFor, questions_for, NamedShown};
-ghost use Rattle.hub_core.specs.LiveQuestions.{NamesAsk};
+ghost use Rattle.hub_core.specs.LoggedFrames.{logged_of};
+ghost use Rattle.hub_core.specs.SlotLogs.{EvaluatesFor, questions_for, NamedShown, NotedShown};
+ghost use Rattle.hub_core.specs.LiveQuestions.{NamesAsk, NotedAsk};
 
 use crate::live_instance::LiveInstance;
 use crate::log_clock::LogClock;
@@ -32,6 +32,13 @@ pub struct Coming<'a> {
     pub frame: &'a LogFrame,
     pub states: &'a StateBook,
     pub before: LogClock,
+}
+
+/// A frame of the log that comes to live configurations, with the table that has the truths of all matchers for it.
+#[derive(Clone, Copy)]
+pub struct Logged<'a> {
+    pub table: &'a MatcherTable,
+    pub coming: Coming<'a>,
 }
 
 /// Room that is kept from frame to frame.
@@ -70,25 +77,23 @@ pub fn comes_to_none(notes: &Notes<LiveId>, frame: &LogFrame) -> bool
 pub fn log_heard<L: Ledger>(
     slots: &mut IndexMap<LiveId, LiveInstance>,
     notes: &Notes<LiveId>,
-    table: &MatcherTable,
-    coming: &Coming<'_>,
+    logged: &Logged<'_>,
     rooms: &mut Rooms,
     asks: &mut Steps<L>,
 ) -> Result<(), AllocError>
-    requires sound { IsFaultlessLog coming.now.frame.now }
-    requires held { AllHeld (contents_of table.now) slots.old.entries }
+    requires sound { IsFaultlessLog logged.now.coming.frame.now }
+    requires held { AllHeld (contents_of logged.now.table.now) slots.old.entries }
     requires apart { (id : ℕ) → AreNotedApart notes.now id }
-    ensures shown { OnOk result (NamedShown (contents_of table.now)
-        (moment_of_clock coming.now.before)
-        coming.now.frame.now coming.now.states.now (noted_for notes.now coming.now.frame.now)
+    ensures shown { OnOk result (NotedShown (logged_of logged.now) notes.now
         slots.old.entries slots.new.entries) }
     ensures kept { KeepsSlots slots.old.entries slots.new.entries }
-    ensures asks { NamesAsk (contents_of table.now) (moment_of_clock coming.now.before)
-        coming.now.frame.now coming.now.states.now (noted_for notes.now coming.now.frame.now)
-        slots.old.entries asks.old asks.new }
+    ensures asks { NotedAsk (logged_of logged.now) notes.now slots.old.entries asks.old asks.new }
 {
-    match heard_id(coming.frame) {
-        Some(id) => log_under(slots, notes, id, table, coming, rooms, asks),
+    match heard_id(logged.coming.frame) {
+        Some(id) => {
+            log_named(slots, notes.under(id), logged, rooms, asks)?;
+            log_named(slots, notes.for_all(), logged, rooms, asks)
+        }
         None => Ok(()),
     }
 }
@@ -104,53 +109,24 @@ fn heard_id(frame: &LogFrame) -> Option<u32>
     }
 }
 
-// A frame comes to those that are noted for an id, and to those that hear every id.
-fn log_under<L: Ledger>(
-    slots: &mut IndexMap<LiveId, LiveInstance>,
-    notes: &Notes<LiveId>,
-    id: u32,
-    table: &MatcherTable,
-    coming: &Coming<'_>,
-    rooms: &mut Rooms,
-    asks: &mut Steps<L>,
-) -> Result<(), AllocError>
-    requires sound { IsFaultlessLog coming.now.frame.now }
-    requires held { AllHeld (contents_of table.now) slots.old.entries }
-    requires apart { AreNotedApart notes.now id }
-    ensures shown { OnOk result (NamedShown (contents_of table.now)
-        (moment_of_clock coming.now.before)
-        coming.now.frame.now coming.now.states.now (names_under notes.now id ++ names_for_all notes.now)
-        slots.old.entries slots.new.entries) }
-    ensures kept { KeepsSlots slots.old.entries slots.new.entries }
-    ensures asks { NamesAsk (contents_of table.now) (moment_of_clock coming.now.before)
-        coming.now.frame.now coming.now.states.now (names_under notes.now id ++ names_for_all notes.now)
-        slots.old.entries asks.old asks.new }
-{
-    log_named(slots, notes.under(id), table, coming, rooms, asks)?;
-    log_named(slots, notes.for_all(), table, coming, rooms, asks)
-}
-
 // A frame comes to the configurations of these names.
 fn log_named<L: Ledger>(
     slots: &mut IndexMap<LiveId, LiveInstance>,
     names: &[LiveId],
-    table: &MatcherTable,
-    coming: &Coming<'_>,
+    logged: &Logged<'_>,
     rooms: &mut Rooms,
     asks: &mut Steps<L>,
 ) -> Result<(), AllocError>
-    requires sound { IsFaultlessLog coming.now.frame.now }
-    requires held { AllHeld (contents_of table.now) slots.old.entries }
+    requires sound { IsFaultlessLog logged.now.coming.frame.now }
+    requires held { AllHeld (contents_of logged.now.table.now) slots.old.entries }
     requires distinct { IsDistinct same_id names.now }
-    ensures shown { OnOk result (NamedShown (contents_of table.now)
-        (moment_of_clock coming.now.before)
-        coming.now.frame.now coming.now.states.now names.now slots.old.entries slots.new.entries) }
+    ensures shown { OnOk result (NamedShown (logged_of logged.now) names.now
+        slots.old.entries slots.new.entries) }
     ensures kept { KeepsSlots slots.old.entries slots.new.entries }
-    ensures asks { NamesAsk (contents_of table.now) (moment_of_clock coming.now.before)
-        coming.now.frame.now coming.now.states.now names.now slots.old.entries asks.old asks.new }
+    ensures asks { NamesAsk (logged_of logged.now) names.now slots.old.entries asks.old asks.new }
 {
     for name in names {
-        log_one(slots, *name, table, coming, rooms, asks)?;
+        log_one(slots, *name, logged, rooms, asks)?;
     }
     Ok(())
 }
@@ -160,50 +136,24 @@ fn log_named<L: Ledger>(
 fn log_one<L: Ledger>(
     slots: &mut IndexMap<LiveId, LiveInstance>,
     name: LiveId,
-    table: &MatcherTable,
-    coming: &Coming<'_>,
+    logged: &Logged<'_>,
     rooms: &mut Rooms,
     asks: &mut Steps<L>,
 ) -> Result<(), AllocError>
-    requires sound { IsFaultlessLog coming.now.frame.now }
-    requires held { AllHeld (contents_of table.now) slots.old.entries }
-    ensures shown { OnOk result (NamedShown (contents_of table.now)
-        (moment_of_clock coming.now.before)
-        coming.now.frame.now coming.now.states.now (name ∷ []) slots.old.entries slots.new.entries) }
+    requires sound { IsFaultlessLog logged.now.coming.frame.now }
+    requires held { AllHeld (contents_of logged.now.table.now) slots.old.entries }
+    ensures shown { OnOk result (NamedShown (logged_of logged.now) (name ∷ [])
+        slots.old.entries slots.new.entries) }
     ensures kept { KeepsSlots slots.old.entries slots.new.entries }
-    ensures asks { NamesAsk (contents_of table.now) (moment_of_clock coming.now.before)
-        coming.now.frame.now coming.now.states.now (name ∷ []) slots.old.entries asks.old asks.new }
+    ensures asks { NamesAsk (logged_of logged.now) (name ∷ []) slots.old.entries asks.old
+        asks.new }
 {
     match rooms.places.of(slots, name) {
-        Some(place) => log_at(slots, name, place, table, coming, &mut rooms.truths, asks),
-        None => log_found(slots, name, table, coming, rooms, asks),
-    }
-}
-
-// A frame comes to the configuration of a name that stands at this place.
-#[inline(always)]
-fn log_at<L: Ledger>(
-    slots: &mut IndexMap<LiveId, LiveInstance>,
-    name: LiveId,
-    place: usize,
-    table: &MatcherTable,
-    coming: &Coming<'_>,
-    truths: &mut Vec<bool>,
-    asks: &mut Steps<L>,
-) -> Result<(), AllocError>
-    requires sound { IsFaultlessLog coming.now.frame.now }
-    requires held { AllHeld (contents_of table.now) slots.old.entries }
-    requires there { IsAtPlace name place slots.old.entries }
-    ensures shown { OnOk result (NamedShown (contents_of table.now)
-        (moment_of_clock coming.now.before)
-        coming.now.frame.now coming.now.states.now (name ∷ []) slots.old.entries slots.new.entries) }
-    ensures kept { KeepsSlots slots.old.entries slots.new.entries }
-    ensures asks { NamesAsk (contents_of table.now) (moment_of_clock coming.now.before)
-        coming.now.frame.now coming.now.states.now (name ∷ []) slots.old.entries asks.old asks.new }
-{
-    match slots.get_index_mut(place) {
-        Some(live) => live.log(table, coming, truths, asks),
-        None => Ok(()),
+        Some(place) => match slots.get_index_mut(place) {
+            Some(live) => live.log(logged, &mut rooms.truths, asks),
+            None => Ok(()),
+        },
+        None => log_found(slots, name, logged, rooms, asks),
     }
 }
 
@@ -212,23 +162,21 @@ fn log_at<L: Ledger>(
 fn log_found<L: Ledger>(
     slots: &mut IndexMap<LiveId, LiveInstance>,
     name: LiveId,
-    table: &MatcherTable,
-    coming: &Coming<'_>,
+    logged: &Logged<'_>,
     rooms: &mut Rooms,
     asks: &mut Steps<L>,
 ) -> Result<(), AllocError>
-    requires sound { IsFaultlessLog coming.now.frame.now }
-    requires held { AllHeld (contents_of table.now) slots.old.entries }
-    ensures shown { OnOk result (NamedShown (contents_of table.now)
-        (moment_of_clock coming.now.before)
-        coming.now.frame.now coming.now.states.now (name ∷ []) slots.old.entries slots.new.entries) }
+    requires sound { IsFaultlessLog logged.now.coming.frame.now }
+    requires held { AllHeld (contents_of logged.now.table.now) slots.old.entries }
+    ensures shown { OnOk result (NamedShown (logged_of logged.now) (name ∷ [])
+        slots.old.entries slots.new.entries) }
     ensures kept { KeepsSlots slots.old.entries slots.new.entries }
-    ensures asks { NamesAsk (contents_of table.now) (moment_of_clock coming.now.before)
-        coming.now.frame.now coming.now.states.now (name ∷ []) slots.old.entries asks.old asks.new }
+    ensures asks { NamesAsk (logged_of logged.now) (name ∷ []) slots.old.entries asks.old
+        asks.new }
 {
     rooms.places.keep(slots, name);
     match slots.get_mut(&name) {
-        Some(live) => live.log(table, coming, &mut rooms.truths, asks),
+        Some(live) => live.log(logged, &mut rooms.truths, asks),
         None => Ok(()),
     }
 }

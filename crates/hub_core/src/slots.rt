@@ -1,7 +1,5 @@
 //! Slots under names, and counts of them.
-ghost use Rattle.std.specs.Prelude.{◌≡◌, ◌+◌, ◌≤◌, ◌<◌, ℕ, ℤ, not, ◌&&◌, Some, None, is_some, OnOk, IfOk, if◌then◌else◌};
-ghost use Rattle.std.specs.Ordering.{int_eq};
-ghost use Rattle.client_engine.specs.declared.live_id.LiveId.{LiveId};
+ghost use Rattle.std.specs.Prelude.{◌≡◌, ◌≤◌, ◌<◌, ℕ, Some, None, OnOk, IfOk};
 ghost use Rattle.indexmap.specs.IndexMap.{insert_entry, swap_remove_entry};
 ghost use Rattle.matcher_table.specs.Slots.{times_among};
 ghost use Rattle.matcher_table.specs.Tables.{outside_uses};
@@ -9,8 +7,8 @@ ghost use Rattle.matcher_table.specs.Contents.{contents_of};
 ghost use Rattle.held_slots.specs.HoldingSteps.{ReleasesAll};
 ghost use Rattle.hub_core.specs.SharedTable.{slots_of, KeepsSlots};
 ghost use Rattle.hub_core.specs.Sleeping.{moment_of_clock};
-ghost use Rattle.hub_core.specs.NotedLives.{AreNoted, AreNotedBut};
-ghost use Rattle.hub_core.specs.Slots.{last_asked, same_id, slot_at, listed_at, listed, others_at, held_by, ReportsAt};
+ghost use Rattle.hub_core.specs.NotedLives.{AreNoted, AreNotedBut, StayNoted};
+ghost use Rattle.hub_core.specs.Slots.{last_asked, same_id, slot_at, SetsSlot, others_at, others_in, ListsCount, ListsName, HoldsMore, HoldsLess, ReportsAt};
 ghost use Rattle.hub_core.specs.Commands.{body_of_install, body_of_remove, body_of_report};
 
 use crate::live_instance::LiveInstance;
@@ -47,13 +45,10 @@ fn put(
     ensures old { IfOk result (λ old. old ≡ slot_at name slots.old.entries) }
     ensures entries { OnOk result (slots.new.entries
         ≡ insert_entry same_id slots.old.entries name live) }
-    ensures slots { OnOk result ((other : LiveId) → slot_at other slots.new.entries
-        ≡ (if same_id name other then Some live else slot_at other slots.old.entries)) }
-    ensures held { OnOk result ((uid : ℤ) → held_by uid slots.new.entries
-        ≡ held_by uid slots.old.entries
-        + (if int_eq name.uid uid && not (is_some (slot_at name slots.old.entries)) then 1 else 0)) }
-    ensures noted { OnOk result (AreNoted notes.old slots.old.entries
-        → AreNoted notes.new slots.new.entries) }
+    ensures slots { OnOk result (SetsSlot name (Some live) slots.old.entries slots.new.entries) }
+    ensures held { OnOk result (HoldsMore name slots.old.entries slots.new.entries) }
+    ensures noted { OnOk result (StayNoted notes.old slots.old.entries
+        notes.new slots.new.entries) }
 {
     forget(slots, notes, name);
     notes.add(alloc, name, &live.hearing)?;
@@ -68,23 +63,17 @@ pub fn put_counted(
     name: LiveId,
     live: LiveInstance,
 ) -> Result<Option<LiveInstance>, AllocError>
-    requires room { others_at name.uid
-        (is_some (slot_at name rows.old.slots.entries)) rows.old.counts.entries < 10 }
+    requires room { others_in name rows.old.slots.entries rows.old.counts.entries < 10 }
     ensures old { IfOk result (λ old. old ≡ slot_at name rows.old.slots.entries) }
     ensures entries { OnOk result (rows.new.slots.entries
         ≡ insert_entry same_id rows.old.slots.entries name live) }
-    ensures slots { OnOk result ((other : LiveId) → slot_at other rows.new.slots.entries
-        ≡ (if same_id name other then Some live else slot_at other rows.old.slots.entries)) }
-    ensures counts { OnOk result ((client : ℤ) → listed_at client rows.new.counts.entries
-        ≡ (if int_eq name.uid client then listed (others_at name.uid
-        (is_some (slot_at name rows.old.slots.entries)) rows.old.counts.entries + 1)
-        else listed_at client rows.old.counts.entries)) }
-    ensures held { OnOk result ((uid : ℤ) → held_by uid rows.new.slots.entries
-        ≡ held_by uid rows.old.slots.entries
-        + (if int_eq name.uid uid && not (is_some (slot_at name rows.old.slots.entries))
-        then 1 else 0)) }
-    ensures noted { OnOk result (AreNoted rows.old.notes rows.old.slots.entries
-        → AreNoted rows.new.notes rows.new.slots.entries) }
+    ensures slots { OnOk result (SetsSlot name (Some live)
+        rows.old.slots.entries rows.new.slots.entries) }
+    ensures counts { OnOk result (ListsName name rows.old.slots.entries
+        rows.old.counts.entries rows.new.counts.entries) }
+    ensures held { OnOk result (HoldsMore name rows.old.slots.entries rows.new.slots.entries) }
+    ensures noted { OnOk result (StayNoted rows.old.notes rows.old.slots.entries
+        rows.new.notes rows.new.slots.entries) }
 {
     let there = rows.slots.contains_key(&name);
     let others = others_of(&rows.counts, name.uid, there);
@@ -100,12 +89,9 @@ pub fn take_out(
 ) -> Option<LiveInstance>
     ensures old { result ≡ slot_at name slots.old.entries }
     ensures entries { slots.new.entries ≡ swap_remove_entry (same_id name) slots.old.entries }
-    ensures slots { (other : LiveId) → slot_at other slots.new.entries
-        ≡ (if same_id name other then None else slot_at other slots.old.entries) }
-    ensures held { (uid : ℤ) → held_by uid slots.new.entries
-        + (if int_eq name.uid uid && is_some (slot_at name slots.old.entries) then 1 else 0)
-        ≡ held_by uid slots.old.entries }
-    ensures noted { AreNoted notes.old slots.old.entries → AreNoted notes.new slots.new.entries }
+    ensures slots { SetsSlot name None slots.old.entries slots.new.entries }
+    ensures held { HoldsLess name slots.old.entries slots.new.entries }
+    ensures noted { StayNoted notes.old slots.old.entries notes.new slots.new.entries }
 {
     forget(slots, notes, name);
     slots.swap_remove(&name)
@@ -178,8 +164,7 @@ pub fn set_count(
     uid: i32,
     count: usize,
 ) -> Result<(), AllocError>
-    ensures { OnOk result ((client : ℤ) → listed_at client counts.new.entries
-        ≡ (if int_eq uid client then listed count else listed_at client counts.old.entries)) }
+    ensures { OnOk result (ListsCount uid count counts.old.entries counts.new.entries) }
 {
     if count == 0 {
         counts.swap_remove(&uid);

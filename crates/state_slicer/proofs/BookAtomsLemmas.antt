@@ -53,7 +53,8 @@ module _ (atoms : List Atom) (atom : Atom) where
       (other_id atoms atom) place there ∙ ended
 
 -- an id that no atom has names no key
-never_named : (id : ℕ) (atoms : List Atom) → is_among same_atom_id id (map id_of atoms) ≡ false → named_in atoms id ≡ []
+pub never_named : (id : ℕ) (atoms : List Atom) → is_among same_atom_id id (map id_of atoms) ≡ false
+    → named_in atoms id ≡ []
 never_named id [] absent = refl
 never_named id (atom ∷ atoms) absent =
     let first : same_atom_id atom.id id ≡ false = grind arith in

@@ -34,10 +34,10 @@ last-push first (y ∷ xs) x = last-push (Some y) xs x
 
 module _ {A : Type 0} (p : A → Bool) (xs : List A) (x : A) where
   -- one more element that passes, and one that doesn't
-  filter-one : p x ≡ true → filter p (xs ++ x ∷ []) ≡ filter p xs ++ x ∷ []
+  pub filter-one : p x ≡ true → filter p (xs ++ x ∷ []) ≡ filter p xs ++ x ∷ []
   filter-one passes = filter-append p xs (x ∷ []) ∙ ap (λ b. filter p xs ++ cond b (x ∷ []) []) passes
 
-  filter-none : p x ≡ false → filter p (xs ++ x ∷ []) ≡ filter p xs
+  pub filter-none : p x ≡ false → filter p (xs ++ x ∷ []) ≡ filter p xs
   filter-none fails = filter-append p xs (x ∷ []) ∙ ap (λ b. filter p xs ++ cond b (x ∷ []) []) fails
       ∙ append-nil (filter p xs)
 

@@ -7,3 +7,4 @@ pub mod StateBookLemmas
 pub mod BookAnswersLemmas
 pub mod BookRowsLemmas
 pub mod StateItemsLemmas
+pub mod StayLemmas

@@ -10,3 +10,4 @@ mod told;
 pub use book::{MAX_IDS, StateBook};
 pub use slices::slice;
 pub use states::MAX_STATE_KEYS;
+pub use told::{resets_states, told_key};

@@ -6,7 +6,7 @@ ghost use Rattle.book_meaning.specs.BookLimits.{most_state_keys};
 ghost use Rattle.book_meaning.specs.States.{no_state_known, puts_back};
 ghost use Rattle.state_slicer.specs.StateTables.{current, with_blanks};
 
-use crate::told::{UNKNOWN, key_of, read_state, resets_states};
+use crate::told::{UNKNOWN, read_state, resets_states, told_key};
 use atom_record::{Atom, DimKey};
 use dim_table::Guarded;
 use std::alloc::{AllocError, Global};
@@ -100,7 +100,7 @@ impl IdStates {
             self.reset();
             return Ok(());
         }
-        let key = key_of(alloc, atom)?;
+        let key = told_key(alloc, atom)?;
         self.tell(key, read_state(atom))
     }
 

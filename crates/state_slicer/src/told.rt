@@ -77,7 +77,7 @@ fn primary_values(alloc: Global, entries: &[AtomField], room: usize) -> Result<D
 }
 
 /// The key of a state atom: the values of its primary entries. It takes no more room than these.
-pub fn key_of(alloc: Global, atom: &Atom) -> Result<DimKey, AllocError>
+pub fn told_key(alloc: Global, atom: &Atom) -> Result<DimKey, AllocError>
     ensures { IfOk result (λ key. key ≡ primary_key atom.now) }
 {
     let entries = atom.fields.as_slice();

@@ -6,18 +6,14 @@ ghost use Rattle.bucket_meaning.specs.Limits.{time_limit};
 ghost use Rattle.config_links.specs.declared.linked.LKind.TheVariants.{Count};
 ghost use Rattle.config_links.specs.SoundConfig.{IsSize, IsBound, MayBeWithin};
 ghost use Rattle.metric_meaning.specs.Histories.{Installation};
-ghost use Rattle.metric_meaning.specs.Scenes.{Scene};
 ghost use Rattle.metric_meaning.specs.CountSteps.{arrival_by};
 ghost use Rattle.metric_meaning.specs.CountTrees.{count_tree};
 ghost use Rattle.count_metric.specs.CountStands.{count_law};
 ghost use Rattle.metric_lane.specs.LaneClock.{NoEndBefore};
 ghost use Rattle.report_writer.specs.Writable.{IsWritableMetric};
-ghost use Rattle.client_engine.specs.Handed.{IsOfScene};
 ghost use Rattle.client_engine.specs.NextSteps.{TakesReport};
-ghost use Rattle.client_engine.specs.AskedFew.{AsksFew, arrival_questions};
-ghost use Rattle.client_engine.specs.Bringing.{handed_with, brought_step, TakesBroughtWhile};
-ghost use Rattle.metric_meaning.specs.Arrivals.{is_active_in};
-ghost use Rattle.session_frames.specs.FrameReading.{log_time};
+ghost use Rattle.client_engine.specs.AskedFew.{LaneAsksFew, arrival_questions};
+ghost use Rattle.client_engine.specs.Bringing.{brought_step, WhereActive, TakesBroughtWhile};
 ghost use Rattle.client_engine.specs.CountsAlong.{CountsAlong, CrossesWatched, counts_shown_by, shown_count, shown_group};
 ghost use Rattle.client_engine.specs.Finding.{CanBeBrought};
 ghost use Rattle.client_engine.specs.Watches.{WatchesAlong};
@@ -176,7 +172,6 @@ pub fn begin(
 /// A frame of the log comes.
 pub fn log<L: Ledger>(
     lane: &mut CountLane,
-    alloc: Global,
     metric: &LMetric,
     is_active: bool,
     brought: &Brought<'_>,
@@ -188,15 +183,14 @@ pub fn log<L: Ledger>(
     ensures logs { OnOk result (TakesBroughtWhile (CountsAlong metric.now) is_active metric.now
         conditions.old brought.now lane.old lane.new) }
     ensures known { conditions.new ≡ conditions.old }
-    ensures asks { AsksFew (CountsAlong metric.now) (metric.now ∷ [])
-        conditions.old brought.now lane.old asks.old asks.new }
+    ensures asks { LaneAsksFew CountsAlong metric.now conditions.old brought.now lane.old asks.old asks.new }
 {
     let CountLane {
         lane,
         watches,
         room,
     } = lane;
-    let key = arrival(alloc, metric, is_active, brought, conditions, asks, room)?;
+    let key = arrival(metric, is_active, brought, conditions, asks, room)?;
     let at = time_of(brought.frame);
     let is_pull = comes_by_pull(brought.frame);
     tell_ends(watches, lane, at, is_pull);
@@ -244,7 +238,6 @@ fn counts_tree(
 
 // The key that arrives with a frame, if an atom does. It is made in the room of another.
 fn arrival<'k, L: Ledger>(
-    alloc: Global,
     metric: &LMetric,
     is_active: bool,
     brought: &Brought<'_>,
@@ -253,17 +246,16 @@ fn arrival<'k, L: Ledger>(
     room: &'k mut KeyRoom,
 ) -> Result<Option<&'k MetricKey>, AllocError>
     requires within { MayBeWithin (length conditions.old.predicates) metric.now.condition }
-    ensures key { (scene : Scene) → IsOfScene (handed_with conditions.old brought.now) scene
-        → is_active ≡ is_active_in scene metric.now (log_time brought.now.frame.now)
-        → IfOk result (λ key. option_copied key
-        ≡ arrival_by scene metric.now (brought_step brought.now)) }
+    ensures key { WhereActive is_active metric.now conditions.old brought.now (λ scene.
+        IfOk result (λ key. option_copied key
+        ≡ arrival_by scene metric.now (brought_step brought.now))) }
     ensures known { conditions.new ≡ conditions.old }
     ensures asks { asks.new ≤ asks.old
         + arrival_questions brought.now.frame.now brought.now.matched.now metric.now }
 {
-    let Some(atom) = arriving(alloc, metric, is_active, brought, conditions, asks)? else {
+    let Some(atom) = arriving(metric, is_active, brought, conditions, asks)? else {
         return Ok(None);
     };
-    metric_key_into(alloc, metric, brought, atom, room)?;
+    metric_key_into(metric, brought, atom, room)?;
     Ok(Some(&room.key))
 }

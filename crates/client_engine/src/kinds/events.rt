@@ -4,16 +4,13 @@ ghost use Rattle.std.specs.List.{flat_map};
 ghost use Rattle.bucket_meaning.specs.Limits.{time_limit};
 ghost use Rattle.config_links.specs.SoundConfig.{MayBeWithin};
 ghost use Rattle.config_links.specs.declared.linked.LKind.TheVariants.{Event};
-ghost use Rattle.session_frames.specs.FrameReading.{log_time};
 ghost use Rattle.metric_meaning.specs.Histories.{Installation};
-ghost use Rattle.metric_meaning.specs.Scenes.{Scene};
-ghost use Rattle.metric_meaning.specs.Arrivals.{arriving_by, is_active_in};
+ghost use Rattle.metric_meaning.specs.Arrivals.{arriving_by};
 ghost use Rattle.metric_meaning.specs.EventTrees.{event_trees, events_body};
 ghost use Rattle.report_writer.specs.Writable.{IsWritableEvent, AreWritableRows, IsWritableMetric};
-ghost use Rattle.client_engine.specs.Handed.{IsOfScene};
 ghost use Rattle.client_engine.specs.NextSteps.{TakesReport};
-ghost use Rattle.client_engine.specs.AskedFew.{AsksFew, arrival_questions};
-ghost use Rattle.client_engine.specs.Bringing.{handed_with, brought_step, TakesBroughtWhile};
+ghost use Rattle.client_engine.specs.AskedFew.{LaneAsksFew, arrival_questions};
+ghost use Rattle.client_engine.specs.Bringing.{brought_step, WhereActive, TakesBroughtWhile};
 ghost use Rattle.client_engine.specs.EventsAlong.{EventsAlong, event_at, events_shown_by};
 
 use crate::arriving::arriving;
@@ -49,7 +46,6 @@ pub fn begin(alloc: Global, base: u64, metric: &LMetric) -> Lane<EventProducer>
 /// A frame of the log comes.
 pub fn log<L: Ledger>(
     lane: &mut Lane<EventProducer>,
-    alloc: Global,
     metric: &LMetric,
     is_active: bool,
     brought: &Brought<'_>,
@@ -60,10 +56,9 @@ pub fn log<L: Ledger>(
     ensures logs { OnOk result (TakesBroughtWhile (EventsAlong metric.now) is_active metric.now
         conditions.old brought.now lane.old lane.new) }
     ensures known { conditions.new ≡ conditions.old }
-    ensures asks { AsksFew (EventsAlong metric.now) (metric.now ∷ [])
-        conditions.old brought.now lane.old asks.old asks.new }
+    ensures asks { LaneAsksFew EventsAlong metric.now conditions.old brought.now lane.old asks.old asks.new }
 {
-    let atom = arrival(alloc, metric, is_active, brought, conditions, asks)?;
+    let atom = arrival(metric, is_active, brought, conditions, asks)?;
     lane.log(time_of(brought.frame), comes_by_pull(brought.frame), atom)
 }
 
@@ -147,7 +142,6 @@ fn add_events(
 
 // A copy of the atom that arrives with a frame, if one does.
 fn arrival<L: Ledger>(
-    alloc: Global,
     metric: &LMetric,
     is_active: bool,
     brought: &Brought<'_>,
@@ -155,15 +149,14 @@ fn arrival<L: Ledger>(
     asks: &mut Steps<L>,
 ) -> Result<Option<Atom>, AllocError>
     requires within { MayBeWithin (length conditions.old.predicates) metric.now.condition }
-    ensures atom { (scene : Scene) → IsOfScene (handed_with conditions.old brought.now) scene
-        → is_active ≡ is_active_in scene metric.now (log_time brought.now.frame.now)
-        → IfOk result (λ atom. atom ≡ arriving_by scene metric.now (brought_step brought.now)) }
+    ensures atom { WhereActive is_active metric.now conditions.old brought.now (λ scene.
+        IfOk result (λ atom. atom ≡ arriving_by scene metric.now (brought_step brought.now))) }
     ensures known { conditions.new ≡ conditions.old }
     ensures asks { asks.new ≤ asks.old
         + arrival_questions brought.now.frame.now brought.now.matched.now metric.now }
 {
-    let Some(atom) = arriving(alloc, metric, is_active, brought, conditions, asks)? else {
+    let Some(atom) = arriving(metric, is_active, brought, conditions, asks)? else {
         return Ok(None);
     };
-    Ok(Some(atom.clone_atom(alloc)?))
+    Ok(Some(atom.clone_atom(brought.alloc)?))
 }

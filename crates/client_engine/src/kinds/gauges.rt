@@ -9,7 +9,7 @@ ghost use Rattle.metric_meaning.specs.GaugeTrees.{gauge_body};
 ghost use Rattle.metric_meaning.specs.KeyTrees.{key_tree};
 ghost use Rattle.report_writer.specs.Writable.{AreWritableRows, IsWritableMetric};
 ghost use Rattle.client_engine.specs.NextSteps.{TakesReport};
-ghost use Rattle.client_engine.specs.AskedFew.{AsksFew};
+ghost use Rattle.client_engine.specs.AskedFew.{LaneAsksFew};
 ghost use Rattle.client_engine.specs.Bringing.{TakesBroughtWhile};
 ghost use Rattle.client_engine.specs.GaugesAlong.{GaugesAlong, GetsSampleOf, sample_bucket, gauge_entry, gauges_shown_by};
 
@@ -108,7 +108,6 @@ pub fn begin(alloc: Global, base: u64, metric: &LMetric, samples: u32) -> Lane<P
 /// A frame of the log comes.
 pub fn log<L: Ledger>(
     lane: &mut Lane<PushedGauge>,
-    alloc: Global,
     metric: &LMetric,
     is_active: bool,
     brought: &Brought<'_>,
@@ -119,13 +118,12 @@ pub fn log<L: Ledger>(
     ensures logs { OnOk result (TakesBroughtWhile (GaugesAlong metric.now) is_active metric.now
         conditions.old brought.now lane.old lane.new) }
     ensures known { conditions.new ≡ conditions.old }
-    ensures asks { AsksFew (GaugesAlong metric.now) (metric.now ∷ [])
-        conditions.old brought.now lane.old asks.old asks.new }
+    ensures asks { LaneAsksFew GaugesAlong metric.now conditions.old brought.now lane.old asks.old asks.new }
 {
     // The ends come first, since a key that has all its samples in the part before has none in the next.
     lane.cross(time_of(brought.frame), comes_by_pull(brought.frame))?;
-    match arriving(alloc, metric, is_active, brought, conditions, asks)? {
-        Some(atom) => sample(lane, alloc, metric, brought, atom),
+    match arriving(metric, is_active, brought, conditions, asks)? {
+        Some(atom) => sample(lane, metric, brought, atom),
         None => Ok(()),
     }
 }
@@ -133,7 +131,6 @@ pub fn log<L: Ledger>(
 // The atom that arrives is sampled. It isn't copied where its key has all samples.
 fn sample(
     lane: &mut Lane<PushedGauge>,
-    alloc: Global,
     metric: &LMetric,
     brought: &Brought<'_>,
     atom: &Atom,
@@ -144,11 +141,11 @@ fn sample(
     let LKind::PushedGauge { fields, .. } = &metric.kind else {
         return Ok(());
     };
-    let key = key_in(alloc, metric, brought, atom)?;
+    let key = key_in(metric, brought, atom)?;
     if lane.producer().lets_go(&key) {
         return Ok(());
     }
-    let atom = sample_of(alloc, fields, atom)?;
+    let atom = sample_of(brought.alloc, fields, atom)?;
     lane.event(time_of(brought.frame), KeyedAtom { key, atom })
 }
 

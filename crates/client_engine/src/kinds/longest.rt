@@ -19,6 +19,7 @@ use crate::kinds::durations::durations_tree;
 use crate::moments::comes_by_pull;
 use crate::request::ReportRequest;
 use crate::stays::{Before, stays_with};
+use crate::told::told_of;
 use crate::turn::turn_of;
 use crate::turns::{act, learn};
 use atom_record::LogFrame;
@@ -48,11 +49,10 @@ pub fn begin(alloc: Global, base: u64, metric: &LMetric, spec: PredSpec) -> Lane
 /// neither touches the metric nor tells a state by which it is sliced does nothing. What stays is found before it
 /// acts.
 #[inline(never)]
-pub fn log<L: Ledger>(
+pub fn log<'a, L: Ledger>(
     lane: &mut Lane<MaxProducer>,
-    alloc: Global,
-    metric: &LMetric,
-    brought: &Brought<'_>,
+    metric: &'a LMetric,
+    brought: &'a Brought<'a>,
     conditions: &mut Conditions,
     asks: &mut Steps<L>,
 ) -> Result<(), AllocError>
@@ -63,6 +63,7 @@ pub fn log<L: Ledger>(
     ensures asks { AsksFew (LongestAlong metric.now) (metric.now ∷ [])
         conditions.old brought.now lane.old asks.old asks.new }
 {
+    let alloc = brought.alloc;
     let at = time_of(brought.frame);
     lane.cross(at, comes_by_pull(brought.frame))?;
     let LogFrame::AtomAt { atom, .. } = brought.frame else {
@@ -72,23 +73,18 @@ pub fn log<L: Ledger>(
         return Ok(());
     }
     let turn = turn_of(alloc, metric, conditions, atom, brought.matched)?;
+    let told = told_of(metric, conditions, brought, atom)?;
     let listed = lane.producer().inner_len();
     let turn = turn.as_ref();
-    let stays = stays_with(metric, brought, atom, conditions, Before { listed, turn });
+    let told = told.as_ref();
+    let before = Before { listed, turn, told };
+    let stays = stays_with(metric, brought, atom, conditions, before);
     let event = conditions.inner_event(alloc, metric.what, atom, brought.matched)?;
     let acts = event.is_some();
     let came = event.as_ref();
     act(lane, at, came)?;
     conditions.give_event(event);
-    let changes = changes_of(
-        alloc,
-        lane.producer(),
-        metric,
-        brought,
-        stays,
-        conditions,
-        asks,
-    )?;
+    let changes = changes_of(lane.producer(), metric, brought, stays, conditions, asks)?;
     learn(lane, at, delta_of(acts, changes))
 }
 

@@ -15,7 +15,7 @@ ghost use Rattle.metric_calls.specs.PushedGaugeCalls.{handed_sample};
 ghost use Rattle.metric_calls.specs.PulledGaugeCalls.{gauge_telling};
 ghost use Rattle.report_writer.specs.Writable.{IsWritableMetric};
 ghost use Rattle.client_engine.specs.NextSteps.{TakesReport};
-ghost use Rattle.client_engine.specs.AskedFew.{AsksFew};
+ghost use Rattle.client_engine.specs.AskedFew.{LaneAsksFew};
 ghost use Rattle.client_engine.specs.Bringing.{TakesBrought};
 ghost use Rattle.client_engine.specs.Opens.{IsOpeningOf, CanOpen};
 ghost use Rattle.client_engine.specs.Finding.{MayAsk, CanBeBrought, CanBeMeant, meant_in};
@@ -50,7 +50,6 @@ use std::sync::ledger::Ledger;
 /// The lane of a pulled gauge that keeps so many samples of a key in a part, at these moments. It is told the last
 /// snapshot and the condition, as they stand at the installation.
 pub fn begin(
-    alloc: Global,
     metric: &LMetric,
     samples: u32,
     mode: Sampling,
@@ -73,10 +72,10 @@ pub fn begin(
         samples: samples as usize,
         mode,
     };
-    let mut producer = PulledGauge::new(alloc, opening.base, metric.size, bound, spec);
-    let snapshot = snapshot_of(alloc, metric, &found_at_first(opening, metric))?;
+    let mut producer = PulledGauge::new(opening.alloc, opening.base, metric.size, bound, spec);
+    let snapshot = snapshot_of(opening.alloc, metric, &found_at_first(opening, metric))?;
     producer.event(opening.base, snapshot)?;
-    let now = first_truth(alloc, metric, conditions)?;
+    let now = first_truth(opening.alloc, metric, conditions)?;
     producer.condition(opening.base, now)?;
     Ok(Lane::new(opening.base, metric.size, producer))
 }
@@ -84,7 +83,6 @@ pub fn begin(
 /// A frame of the log comes.
 pub fn log<L: Ledger>(
     lane: &mut Lane<PulledGauge>,
-    alloc: Global,
     metric: &LMetric,
     brought: &Brought<'_>,
     conditions: &mut Conditions,
@@ -95,8 +93,7 @@ pub fn log<L: Ledger>(
     ensures logs { OnOk result (TakesBrought (PulledGaugesAlong metric.now)
         conditions.old brought.now lane.old lane.new) }
     ensures known { conditions.new ≡ conditions.old }
-    ensures asks { AsksFew (PulledGaugesAlong metric.now) (metric.now ∷ [])
-        conditions.old brought.now lane.old asks.old asks.new }
+    ensures asks { LaneAsksFew PulledGaugesAlong metric.now conditions.old brought.now lane.old asks.old asks.new }
 {
     // A frame crosses ends before it tells anything; a pull at the very end of a part belongs to it.
     lane.cross(time_of(brought.frame), comes_by_pull(brought.frame))?;
@@ -107,7 +104,7 @@ pub fn log<L: Ledger>(
             if !conditions.touches(metric, brought.matched) {
                 return Ok(());
             }
-            let now = conditions.truth(alloc, metric, &Nothing, asks)?;
+            let now = conditions.truth(brought.alloc, metric, &Nothing, asks)?;
             lane.condition(*at, now)?;
             trigger(lane, metric, brought, *at)
         }
@@ -115,7 +112,7 @@ pub fn log<L: Ledger>(
             if !is_told(brought.matchers, metric, *id) {
                 return Ok(());
             }
-            pull(lane, alloc, metric, brought, *at, outcome)
+            pull(lane, metric, brought, *at, outcome)
         }
     }
 }
@@ -142,7 +139,6 @@ fn trigger(
 // A pull of the gauge's id comes.
 fn pull(
     lane: &mut Lane<PulledGauge>,
-    alloc: Global,
     metric: &LMetric,
     brought: &Brought<'_>,
     at: u64,
@@ -154,7 +150,7 @@ fn pull(
         at (atoms_in outcome.now)) }
 {
     let found = found_in(brought.matchers, metric, outcome);
-    let snapshot = snapshot_of(alloc, metric, &found)?;
+    let snapshot = snapshot_of(brought.alloc, metric, &found)?;
     lane.event(at, snapshot)
 }
 

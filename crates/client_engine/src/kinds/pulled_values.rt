@@ -12,7 +12,7 @@ ghost use Rattle.metric_calls.specs.ValueCalls.{keyed_int};
 ghost use Rattle.metric_calls.specs.PulledValueCalls.{snap_ints};
 ghost use Rattle.report_writer.specs.Writable.{IsWritableMetric};
 ghost use Rattle.client_engine.specs.NextSteps.{TakesReport};
-ghost use Rattle.client_engine.specs.AskedFew.{AsksFew};
+ghost use Rattle.client_engine.specs.AskedFew.{LaneAsksFew};
 ghost use Rattle.client_engine.specs.Bringing.{TakesBrought};
 ghost use Rattle.client_engine.specs.Opens.{IsOpeningOf, CanOpen};
 ghost use Rattle.client_engine.specs.Finding.{MayAsk, CanBeBrought, CanBeMeant, meant_in, found_among};
@@ -46,7 +46,6 @@ use value_metric::{KeyedInt, PulledValue, SnapInts};
 /// The lane of a metric of pulled values with such differences. It is told the last snapshot and the condition, as they
 /// stand at the installation.
 pub fn begin(
-    alloc: Global,
     metric: &LMetric,
     spec: DiffSpec,
     opening: &Opening<'_>,
@@ -63,10 +62,10 @@ pub fn begin(
     ensures known { conditions.new ≡ conditions.old }
 {
     let bound = metric.bound as usize;
-    let mut producer = PulledValue::new(alloc, opening.base, metric.size, bound, spec);
-    let snapshot = snapshot_of(alloc, metric, &found_at_first(opening, metric))?;
+    let mut producer = PulledValue::new(opening.alloc, opening.base, metric.size, bound, spec);
+    let snapshot = snapshot_of(opening.alloc, metric, &found_at_first(opening, metric))?;
     producer.event(opening.base, snapshot)?;
-    let now = first_truth(alloc, metric, conditions)?;
+    let now = first_truth(opening.alloc, metric, conditions)?;
     producer.condition(opening.base, now)?;
     Ok(Lane::new(opening.base, metric.size, producer))
 }
@@ -74,7 +73,6 @@ pub fn begin(
 /// A frame of the log comes.
 pub fn log<L: Ledger>(
     lane: &mut Lane<PulledValue>,
-    alloc: Global,
     metric: &LMetric,
     brought: &Brought<'_>,
     conditions: &mut Conditions,
@@ -85,8 +83,7 @@ pub fn log<L: Ledger>(
     ensures logs { OnOk result (TakesBrought (PulledValuesAlong metric.now)
         conditions.old brought.now lane.old lane.new) }
     ensures known { conditions.new ≡ conditions.old }
-    ensures asks { AsksFew (PulledValuesAlong metric.now) (metric.now ∷ [])
-        conditions.old brought.now lane.old asks.old asks.new }
+    ensures asks { LaneAsksFew PulledValuesAlong metric.now conditions.old brought.now lane.old asks.old asks.new }
 {
     // A frame crosses ends before it tells anything; a pull at the very end of a part belongs to it.
     lane.cross(time_of(brought.frame), comes_by_pull(brought.frame))?;
@@ -97,14 +94,14 @@ pub fn log<L: Ledger>(
             if !conditions.touches(metric, brought.matched) {
                 return Ok(());
             }
-            let now = conditions.truth(alloc, metric, &Nothing, asks)?;
+            let now = conditions.truth(brought.alloc, metric, &Nothing, asks)?;
             lane.condition(*at, now)
         }
         LogFrame::Pull { at, id, outcome } => {
             if !is_told(brought.matchers, metric, *id) {
                 return Ok(());
             }
-            pull(lane, alloc, metric, brought, *at, outcome)
+            pull(lane, metric, brought, *at, outcome)
         }
     }
 }
@@ -112,7 +109,6 @@ pub fn log<L: Ledger>(
 // A pull of the metric's id comes.
 fn pull(
     lane: &mut Lane<PulledValue>,
-    alloc: Global,
     metric: &LMetric,
     brought: &Brought<'_>,
     at: u64,
@@ -124,7 +120,7 @@ fn pull(
         at (atoms_in outcome.now)) }
 {
     let found = found_in(brought.matchers, metric, outcome);
-    let snapshot = snapshot_of(alloc, metric, &found)?;
+    let snapshot = snapshot_of(brought.alloc, metric, &found)?;
     lane.event(at, snapshot)
 }
 

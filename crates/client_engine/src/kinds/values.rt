@@ -3,19 +3,15 @@ ghost use Rattle.std.specs.Prelude.{◌≡◌, ◌+◌, ◌≤◌, ◌∷◌, �
 ghost use Rattle.std.specs.Option.{option_map};
 ghost use Rattle.bucket_meaning.specs.Limits.{time_limit};
 ghost use Rattle.config_links.specs.SoundConfig.{IsSize, IsBound, MayBeWithin};
-ghost use Rattle.metric_meaning.specs.Arrivals.{is_active_in};
-ghost use Rattle.session_frames.specs.FrameReading.{log_time};
 ghost use Rattle.metric_meaning.specs.Histories.{Installation};
-ghost use Rattle.metric_meaning.specs.Scenes.{Scene};
 ghost use Rattle.metric_meaning.specs.KeyTrees.{key_tree};
 ghost use Rattle.metric_meaning.specs.ValueLeaves.{ValueLeaf};
 ghost use Rattle.metric_meaning.specs.PushedValueSteps.{value_arrival_by};
 ghost use Rattle.metric_calls.specs.ValueCalls.{keyed_int};
 ghost use Rattle.report_writer.specs.Writable.{IsWritableMetric};
-ghost use Rattle.client_engine.specs.Handed.{IsOfScene};
 ghost use Rattle.client_engine.specs.NextSteps.{TakesReport};
-ghost use Rattle.client_engine.specs.AskedFew.{AsksFew, arrival_questions};
-ghost use Rattle.client_engine.specs.Bringing.{handed_with, brought_step, TakesBroughtWhile};
+ghost use Rattle.client_engine.specs.AskedFew.{LaneAsksFew, arrival_questions};
+ghost use Rattle.client_engine.specs.Bringing.{brought_step, WhereActive, TakesBroughtWhile};
 ghost use Rattle.client_engine.specs.ValuesAlong.{value_kind_at, ValuesAlong, values_shown_by, shown_value, value_entry};
 
 use crate::arriving::{arriving, key_in};
@@ -105,7 +101,6 @@ pub fn begin(
 /// A frame of the log comes.
 pub fn log<L: Ledger>(
     lane: &mut Lane<PushedValue>,
-    alloc: Global,
     metric: &LMetric,
     is_active: bool,
     brought: &Brought<'_>,
@@ -116,10 +111,9 @@ pub fn log<L: Ledger>(
     ensures logs { OnOk result (TakesBroughtWhile (ValuesAlong metric.now) is_active metric.now
         conditions.old brought.now lane.old lane.new) }
     ensures known { conditions.new ≡ conditions.old }
-    ensures asks { AsksFew (ValuesAlong metric.now) (metric.now ∷ [])
-        conditions.old brought.now lane.old asks.old asks.new }
+    ensures asks { LaneAsksFew ValuesAlong metric.now conditions.old brought.now lane.old asks.old asks.new }
 {
-    let keyed = arrival(alloc, metric, is_active, brought, conditions, asks)?;
+    let keyed = arrival(metric, is_active, brought, conditions, asks)?;
     lane.log(time_of(brought.frame), comes_by_pull(brought.frame), keyed)
 }
 
@@ -162,7 +156,6 @@ pub fn values_tree(
 
 // The key and the integer that arrive with a frame, if an atom does that has one. The key is made last.
 fn arrival<L: Ledger>(
-    alloc: Global,
     metric: &LMetric,
     is_active: bool,
     brought: &Brought<'_>,
@@ -170,12 +163,11 @@ fn arrival<L: Ledger>(
     asks: &mut Steps<L>,
 ) -> Result<Option<KeyedInt>, AllocError>
     requires within { MayBeWithin (length conditions.old.predicates) metric.now.condition }
-    ensures keyed { (scene : Scene) → IsOfScene (handed_with conditions.old brought.now) scene
-        → is_active ≡ is_active_in scene metric.now (log_time brought.now.frame.now)
-        → (source : ValueLeaf) (aggregation : Aggregation)
+    ensures keyed { WhereActive is_active metric.now conditions.old brought.now (λ scene.
+        (source : ValueLeaf) (aggregation : Aggregation)
         → metric.now.kind ≡ value_kind_at source aggregation
         → IfOk result (λ keyed. keyed
-        ≡ option_map keyed_int (value_arrival_by scene metric.now source (brought_step brought.now))) }
+        ≡ option_map keyed_int (value_arrival_by scene metric.now source (brought_step brought.now)))) }
     ensures known { conditions.new ≡ conditions.old }
     ensures asks { asks.new ≤ asks.old
         + arrival_questions brought.now.frame.now brought.now.matched.now metric.now }
@@ -183,12 +175,12 @@ fn arrival<L: Ledger>(
     let LKind::PushedValue { atom_id, leaf, .. } = &metric.kind else {
         return Ok(None);
     };
-    let Some(atom) = arriving(alloc, metric, is_active, brought, conditions, asks)? else {
+    let Some(atom) = arriving(metric, is_active, brought, conditions, asks)? else {
         return Ok(None);
     };
     let Some(value) = read_integer(*atom_id, *leaf, atom) else {
         return Ok(None);
     };
-    let key = key_in(alloc, metric, brought, atom)?;
+    let key = key_in(metric, brought, atom)?;
     Ok(Some(KeyedInt { key, value }))
 }

@@ -11,7 +11,7 @@ use Rattle.client_engine.proofs.slices.add_slice.Goals as goal
 -- the state's slice
 pub returns-in_ok-state_key_into-in-Some : goal.returns-in_ok-state_key_into-in-Some
 returns-in_ok-state_key_into-in-Some g c = λ log stands.
-    let states = c.args.states.now in
+    let states = c.args.brought.now.states.now in
     let by = c.args.by.now in
     let reading = g.A.Asked.reading c.args.asked.now in
     let state = c.in-Some.state.now in
@@ -32,5 +32,5 @@ pub returns-in-None : goal.returns-in-None
 returns-in-None g c = λ log stands.
     sym (append-nil c.args.shown.now)
     ∙ ap (λ l. c.args.shown.now ++ l)
-    (slice_past c.args.states.now log (g.A.Asked.reading c.args.asked.now) c.args.by.now
-    (slice_get_past c.args.states.now c.args.by.now.state c.in-None.ensures.lookup.3))
+    (slice_past c.args.brought.now.states.now log (g.A.Asked.reading c.args.asked.now) c.args.by.now
+    (slice_get_past c.args.brought.now.states.now c.args.by.now.state c.in-None.ensures.lookup.3))

@@ -6,6 +6,6 @@ use Rattle.metric_meaning.specs.StateSlices.{named_slices}
 use Rattle.client_engine.proofs.slices.slices_into.Given as goal
 
 abbrev pub invariant-loop-by : goal.invariant-loop-by
-invariant-loop-by g l = (log : List LogFrame) → StateBookStandsFor l.book log
-    → l.shown ++ named_slices l.states log (g.A.Asked.reading l.asked) (drop l.by-index l.slices)
-    ≡ named_slices l.states log (g.A.Asked.reading l.asked) l.slices
+invariant-loop-by g l = (log : List LogFrame) → StateBookStandsFor l.brought.book.now log
+    → l.shown ++ named_slices l.brought.states.now log (g.A.Asked.reading l.asked) (drop l.by-index l.slices)
+    ≡ named_slices l.brought.states.now log (g.A.Asked.reading l.asked) l.slices

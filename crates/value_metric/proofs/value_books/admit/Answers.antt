@@ -12,7 +12,8 @@ pub returns-in-At : goal.returns-in-At
 returns-in-At c = record {
   taken = takes_at c.args.aggregation c.args.table.now c.admit_copy.new.self c.args.key.now c.args.integer
       c.in-At.place c.add.new.table
-      (subst (Admits c.args.table.now c.admit_copy.new.self c.args.key.now None) c.in-At.is c.in_ok-place.ensures.answer)
+      (subst (Admits c.args.table.now c.admit_copy.new.self c.args.key.now None) c.in-At.is
+      c.in_ok-place.ensures.answer)
       c.add.ensures.bound
       (subst (λ n. (total : Option ℤ) → slice_get (values_of c.admit_copy.new.self.rows) c.in-At.place ≡ Some total
       → c.add.new.table

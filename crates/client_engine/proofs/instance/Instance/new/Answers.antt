@@ -54,6 +54,7 @@ returns-clause-fresh c = λ log pulls states.
     let same = c.new-2.ensures.known in
     let tracks = c.in_ok-tracks.tracks.list.items in
     let opening : Opening = record {
+      alloc = c.args.alloc;
       base = c.args.base;
       matchers = c.as_slice.result;
       alerts = c.as_slice-2.result;

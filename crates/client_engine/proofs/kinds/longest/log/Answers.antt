@@ -3,6 +3,7 @@ use Rattle.std.proofs.Common.{refl, sym, subst, ◌∙◌, arith}
 use Rattle.std.proofs.lemmas.Result.{on_ok_weaker}
 use Rattle.metric_meaning.proofs.TouchedLemmas.{neither}
 use Rattle.client_engine.specs.Bringing.{handed_with}
+use Rattle.client_engine.specs.Telling.{IsKeyTold}
 use Rattle.client_engine.specs.Turning.{IsTurn}
 use Rattle.client_engine.specs.declared.stays.Before.{Before}
 use Rattle.client_engine.proofs.InnerLemmas.{is_other}
@@ -47,7 +48,11 @@ returns-clause-logs g c =
     let turned = c.in_ok-turn.ensures.known in
     let given = c.give_event.ensures ∙ c.in_ok-event.ensures.known ∙ turned in
     let acts = rw (c.time_of-at.ensures, c.as_ref-came.ensures.value) at c.in_ok-act.ensures in
-    let was : Before = record { listed = c.inner_len-listed.result; turn = c.as_ref-turn.result } in
+    let was : Before = record {
+      listed = c.inner_len-listed.result;
+      turn = c.as_ref-turn.result;
+      told = c.as_ref-told.result;
+    } in
     on_ok_weaker c.learn.result
     (λ learns. longest_turn (handed_with c.args.conditions.now brought) c.args.metric.now brought.frame.now
     brought.matched.now c.args.lane.now c.cross.new.self crosses c.in-AtomAt.at c.in-AtomAt.atom c.in-AtomAt.is
@@ -60,6 +65,9 @@ returns-clause-logs g c =
       turn_there = subst
           (IsTurn c.args.conditions.now.predicates c.args.metric.now brought.matched.now c.in-AtomAt.atom)
           (sym c.as_ref-turn.ensures.value) c.in_ok-turn.ensures.turn;
+      told_there = subst
+          (IsKeyTold c.args.brought.now.states.now c.args.metric.now.slices c.in-AtomAt.atom)
+          (sym c.as_ref-told.ensures.value) c.in_ok-told.ensures;
       stays_there = rw turned at c.stays_with-stays.ensures;
       changes_there = λ params calls scene stands found keeps.
           (rw given at c.in_ok-changes.ensures.changes) params calls scene (rw (c.producer-2.ensures) stands) found
@@ -73,7 +81,11 @@ returns-clause-asks g c =
     let crosses = rw (c.comes_by_pull.ensures, c.time_of-at.ensures) at c.in_ok-cross.ensures in
     let turned = c.in_ok-turn.ensures.known in
     let acts = rw (c.time_of-at.ensures, c.as_ref-came.ensures.value) at c.in_ok-act.ensures in
-    let was : Before = record { listed = c.inner_len-listed.result; turn = c.as_ref-turn.result } in
+    let was : Before = record {
+      listed = c.inner_len-listed.result;
+      turn = c.as_ref-turn.result;
+      told = c.as_ref-told.result;
+    } in
     let on = c.if-not-changes_with.false in
     let says = c.changes_with.ensures in
     longest_few c.args.metric.now c.args.conditions.now c.args.brought.now c.args.lane.now c.cross.new.self
@@ -89,7 +101,11 @@ returns-in_err-changes-clause-asks g c =
     let crosses = rw (c.comes_by_pull.ensures, c.time_of-at.ensures) at c.in_ok-cross.ensures in
     let turned = c.in_ok-turn.ensures.known in
     let acts = rw (c.time_of-at.ensures, c.as_ref-came.ensures.value) at c.in_ok-act.ensures in
-    let was : Before = record { listed = c.inner_len-listed.result; turn = c.as_ref-turn.result } in
+    let was : Before = record {
+      listed = c.inner_len-listed.result;
+      turn = c.as_ref-turn.result;
+      told = c.as_ref-told.result;
+    } in
     let on = c.if-not-changes_with.false in
     let says = c.changes_with.ensures in
     longest_few c.args.metric.now c.args.conditions.now c.args.brought.now c.args.lane.now c.cross.new.self

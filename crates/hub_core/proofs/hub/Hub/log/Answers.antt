@@ -7,6 +7,7 @@ use Rattle.matcher_table.specs.Truths.{HaveRisen}
 use Rattle.metric_meaning.specs.ShownFrames.{shown_as}
 use Rattle.hub_meaning.specs.SessionLog.{log_frames}
 use Rattle.hub_core.specs.HubStands.{judge_of}
+use Rattle.hub_core.specs.LoggedFrames.{shown_frame}
 use Rattle.hub_core.specs.Sleeping.{moment_of_clock}
 use Rattle.hub_core.specs.SlotLogs.{AllLog}
 use Rattle.hub_core.proofs.HubStandsLemmas.{hub_log}
@@ -33,7 +34,7 @@ returns-clause-stands g c = λ frames h in_time.
       states = subst (λ book. StateBookStandsFor book (log ++ frame ∷ [])) (sym c.record.ensures.states) told;
       pulls = records log pulls;
     })
-    (subst (λ book. AllLog g.J.Judge.says (moment_of_clock c.args.self.now.clock) shown book
+    (subst (λ book. AllLog g.J.Judge.says (shown_frame (moment_of_clock c.args.self.now.clock) shown book)
     c.args.self.now.lives.slots.entries c.log.new.self.slots.entries)
     (sym c.record.ensures.states) c.in_ok-log.ensures.slots)
     c.log.ensures.counts c.log.ensures.configs)
@@ -75,9 +76,9 @@ returns-in_err-log-clause-questions g c = λ frames h in_time.
 pub returns-clause-asleep : goal.returns-clause-asleep
 returns-clause-asleep g c =
     on_ok_weaker c.record.result
-    (λ records. unheard_stay g.J.Judge.says (moment_of_clock c.args.self.now.clock) c.shown.result.now
-    c.tell.new.self.states c.args.frame.now c.args.self.now.lives.slots.entries c.log.new.self.slots.entries
-    c.shown.ensures.heard c.in_ok-log.ensures.slots)
+    (λ records. unheard_stay g.J.Judge.says
+    (shown_frame (moment_of_clock c.args.self.now.clock) c.shown.result.now c.tell.new.self.states) c.args.frame.now
+    c.args.self.now.lives.slots.entries c.log.new.self.slots.entries c.shown.ensures.heard c.in_ok-log.ensures.slots)
     c.record.ensures.pulls
 
 -- the frame is lent, and comes back as the book of pulls leaves it

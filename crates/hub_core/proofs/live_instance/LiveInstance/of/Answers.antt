@@ -3,7 +3,10 @@ use Rattle.matcher_table.specs.Contents.{contents_of}
 use Rattle.hub_core.proofs.EvaluationLemmas.{new_held}
 use Rattle.hub_core.proofs.live_instance.LiveInstance.of.Goals as goal
 
-pub returns-clause-holds : goal.returns-clause-holds
-returns-clause-holds c =
-    new_held (contents_of c.hold.new.table) c.args.linked.now _ c.requires.sound c.requires.linked
-    c.in_ok-slots.ensures.holds c.in_ok-hearing.ensures.ids c.in_ok-hearing.ensures.all
+pub returns-clause-interned : goal.returns-clause-interned
+returns-clause-interned c = record {
+  holds = new_held (contents_of c.hold.new.table) c.args.linked.now _ c.requires.sound c.requires.linked
+      c.in_ok-slots.ensures.holds c.in_ok-hearing.ensures.ids c.in_ok-hearing.ensures.all;
+  uses = c.in_ok-slots.ensures.uses;
+  others = c.in_ok-slots.ensures.others;
+}

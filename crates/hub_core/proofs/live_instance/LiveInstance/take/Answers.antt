@@ -11,8 +11,9 @@ pub returns-clause-taken : goal.returns-clause-taken
 returns-clause-taken g c =
     on_ok_weaker c.apply.result
     (λ logs. record {
-      logs = subst (λ (truths : List Bool). Logs c.args.self.now.carried.instance c.args.frame.now truths
-          c.args.states.now c.apply.new.self.instance) (c.as_slice.ensures.value ∙ c.in_ok-results.ensures) logs;
+      logs = subst (λ (truths : List Bool). Logs c.args.self.now.carried.instance c.args.logged.now.coming.frame.now
+          truths c.args.logged.now.coming.states.now c.apply.new.self.instance)
+          (c.as_slice.ensures.value ∙ c.in_ok-results.ensures) logs;
       same = record { slots = refl; carried = c.apply.ensures.same; hearing = refl };
     })
     c.apply.ensures.logs
@@ -20,8 +21,9 @@ returns-clause-taken g c =
 -- it asks no more than its metrics may, with the same results
 pub returns-clause-asks : goal.returns-clause-asks
 returns-clause-asks g c =
-    subst (λ (truths : List Bool). AsksAtMost c.args.self.now.carried.instance c.args.frame.now truths c.args.states.now
-    c.args.asks.now c.apply.new.asks) (c.as_slice.ensures.value ∙ c.in_ok-results.ensures) c.apply.ensures.asks
+    subst (λ (truths : List Bool). AsksAtMost c.args.self.now.carried.instance c.args.logged.now.coming.frame.now truths
+    c.args.logged.now.coming.states.now c.args.asks.now c.apply.new.asks)
+    (c.as_slice.ensures.value ∙ c.in_ok-results.ensures) c.apply.ensures.asks
 
 -- where memory is wanting for the results, nothing is asked
 pub returns-in_err-results-clause-asks : goal.returns-in_err-results-clause-asks

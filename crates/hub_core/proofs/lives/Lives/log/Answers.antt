@@ -6,6 +6,7 @@ use Rattle.std.proofs.lemmas.Result.{on_ok_weaker}
 use Rattle.matcher_table.specs.Truths.{HaveRisen}
 use Rattle.matcher_table.specs.Contents.{contents_of}
 use Rattle.held_slots.proofs.TruthLaws.{table_sound}
+use Rattle.hub_core.specs.LoggedFrames.{shown_of, logged_frame}
 use Rattle.hub_core.specs.NotedLives.{noted_for}
 use Rattle.hub_core.specs.Sleeping.{moment_of_clock}
 use Rattle.hub_core.proofs.HeldLemmas.{held-kept}
@@ -31,8 +32,7 @@ returns-then-is_unheard-clause-ticks g c =
 
 pub returns-then-is_unheard-clause-asks : goal.returns-then-is_unheard-clause-asks
 returns-then-is_unheard-clause-asks g c =
-    none_ask g.J.Judge.says (moment_of_clock c.args.coming.now.before) c.args.coming.now.frame.now
-    c.args.coming.now.states.now c.args.self.now.slots.entries c.args.asks.now
+    none_ask g.J.Judge.says (shown_of c.args.coming.now) c.args.self.now.slots.entries c.args.asks.now
 
 pub returns-then-is_unheard-clause-configs : goal.returns-then-is_unheard-clause-configs
 returns-then-is_unheard-clause-configs g c = λ name. refl
@@ -70,12 +70,11 @@ pub returns-clause-slots : goal.returns-clause-slots
 returns-clause-slots g c =
     let before = contents_of c.args.self.now.table in
     let table = contents_of c.evaluate.new.table in
-    let frame = c.args.coming.now.frame.now in
     let olds = c.args.self.now.slots.entries in
     on_ok_weaker c.log_heard.result
-    (all_logs g.J.Judge.says before table (moment_of_clock c.args.coming.now.before) frame c.args.coming.now.states.now
+    (all_logs g.J.Judge.says before (logged_frame table (shown_of c.args.coming.now))
     (table_sound c.evaluate.new.table) c.evaluate.ensures.evaluates olds
-    (evaluated_held g.J.Judge.says before table frame olds c.evaluate.ensures.evaluates
+    (evaluated_held g.J.Judge.says before table c.args.coming.now.frame.now olds c.evaluate.ensures.evaluates
     (table_held c.args.self.now)).all
     c.args.self.now.notes c.log_heard.new.slots.entries (lives_noted c.args.self.now))
     c.log_heard.ensures.shown
@@ -98,7 +97,7 @@ returns-clause-asks g c =
     let table = contents_of c.evaluate.new.table in
     let frame = c.args.coming.now.frame.now in
     let olds = c.args.self.now.slots.entries in
-    ask_by g.J.Judge.says before table (moment_of_clock c.args.coming.now.before) frame c.args.coming.now.states.now
+    ask_by g.J.Judge.says before (logged_frame table (shown_of c.args.coming.now))
     (table_sound c.evaluate.new.table) c.evaluate.ensures.evaluates olds
     (evaluated_held g.J.Judge.says before table frame olds c.evaluate.ensures.evaluates
     (table_held c.args.self.now)).all

@@ -16,6 +16,6 @@ invariant_of-result c = record {
       (sym c.in_ok-live.ensures.carries.name) c.args.self.named;
   held = merely (interned c.args.accepted.name c.in_ok-live.live c.args.self.slots.entries
       (contents_of c.args.self.table)
-      (contents_of c.new.new.table) (table_held c.args.self) c.in_ok-live.ensures.holds c.in_ok-live.ensures.uses
-      c.in_ok-live.ensures.others);
+      (contents_of c.new.new.table) (table_held c.args.self)
+      c.in_ok-live.ensures.interned.holds c.in_ok-live.ensures.interned.uses c.in_ok-live.ensures.interned.others);
 }
