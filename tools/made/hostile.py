@@ -3,7 +3,6 @@
 A shape writes the frames of its log up to a count; the client installs the configuration first, and asks for a report
 with a cut at the end.
 """
-import random
 import struct
 
 from session_text.layout import INT
@@ -202,8 +201,8 @@ def replaced():
 
 
 def colliding():
-    """A count by a text."""
-    return matchers(5) + metric("count_metric", 100, 1, fields("dimensions_in_what", 5, 1), f"bound: {KEYS}")
+    """A count by two texts."""
+    return matchers(5) + metric("count_metric", 100, 1, fields("dimensions_in_what", 5, 1, 2), f"bound: {KEYS}")
 
 
 def grouped(number, atom_id, values):
@@ -321,58 +320,30 @@ def cycle_after_references():
     return matchers(5) + chain + cycle + metric("count_metric", 100, 101)
 
 
-# The hasher of keys begins so, and takes each byte into its lowest eight bits before it is multiplied (FNV-1a).
-FIRST_HASH = 0xCBF29CE484222325
-PRIME = 0x100000001B3
-
-# Times the prime's powers, from the tenth down to the first, these sum to 0 modulo 2^64. So two texts of ten bytes whose
-# lowest eight bits differ by just these on the way lead from one hash to one hash.
-APART = (-40, 15, -7, 5, 18, -34, -10, -11, 41, -5)
+# The hasher of keys begins so, joins a word by an exclusive or, multiplies by this, and joins the halves of what comes out.
+FIRST_HASH = 0x243F6A8885A308D3
+MULTIPLIER = 0x9E3779B97F4A7C15
 
 
-def hashed(state, content):
-    """The state of the hasher of tables after these bytes more: it has no secret, so anybody can compute it."""
-    for byte in content:
-        state = (state ^ byte) * PRIME % 2**64
-    return state
+def with_word(state, word):
+    """The state of the hasher of tables after one word more: it has no secret, so anybody can compute it."""
+    product = (state ^ word) * MULTIPLIER
+    return product % 2**64 ^ product >> 64
 
 
-def tried_pair(state, chance):
-    """Two texts of ten bytes after which the hasher is in the same state, or none where a byte can't be had."""
-    one, other, pair = state, state, (bytearray(), bytearray())
-    for step in APART:
-        low, other_low = one % 256, other % 256
-        least, most = max(-low, -other_low - step), min(255 - low, 255 - other_low - step)
-        if least > most:
-            return None
-        moved = chance.randint(least, most)
-        pair[0].append(low ^ low + moved)
-        pair[1].append(other_low ^ other_low + moved + step)
-        one, other = hashed(one, pair[0][-1:]), hashed(other, pair[1][-1:])
-    return pair
-
-
-def colliding_pair(state):
-    """Two texts of ten bytes after which the hasher is in the same state."""
-    chance = random.Random(state)
-    while True:
-        if pair := tried_pair(state, chance):
-            return pair
-
-
-def colliding_texts(pieces):
-    """Two texts for each piece, in all ways: they have one hash as the only leaf of a key."""
-    state, texts = hashed(FIRST_HASH, struct.pack("<Q", 1)), [b""]
-    for _ in range(pieces):
-        pair = colliding_pair(state)
-        texts = [content + piece for content in texts for piece in pair]
-        state = hashed(state, pair[0])
-    return texts
+def colliding_texts(count):
+    """Pairs of texts of eight bytes, a word each. They have one hash as the two leaves of a key: after the first text the
+    second leads to the same state."""
+    state, target = with_word(FIRST_HASH, 2), 0x5EED
+    return [
+        (struct.pack("<Q", word), struct.pack("<Q", with_word(state, word) ^ target))
+        for word in range(0x4141414141414141, 0x4141414141414141 + count)
+    ]
 
 
 def keys_that_collide(out, count):
     """Atoms of 4,096 keys that have one hash."""
-    entries = [text(1, content) for content in colliding_texts(12)]
+    entries = [text(1, one) + text(2, other) for one, other in colliding_texts(4096)]
     for done in range(count):
         out.write(atom_of(done, 5, entries[done % len(entries)]))
 

@@ -25,8 +25,9 @@ use Rattle.metric_meaning.specs.ActivationSteps.{signal_of, is_active_after}
 use Rattle.metric_meaning.specs.Histories.{What, Logged, Reported, Step}
 use Rattle.metric_meaning.specs.ShownFrames.{shown_as}
 use Rattle.client_engine.specs.Activity.{starts_by, cancels_by, timers_of, said_by, ActsAlong, AreSaid, TellsFrame, SaysActive}
-use Rattle.client_engine.specs.NextSteps.{logged_step, with_logged, with_reported}
-use Rattle.client_engine.specs.Touchers.{one_holds}
+use Rattle.client_engine.specs.NextSteps.{with_logged, with_reported}
+use Rattle.known_conditions.specs.Known.{logged_step}
+use Rattle.known_conditions.specs.Touchers.{one_holds}
 use Rattle.client_engine.specs.Waking.{SleepsThrough}
 use Rattle.client_engine.specs.declared.request.ReportRequest.{ReportRequest}
 use Rattle.client_engine.proofs.WakersLemmas.{starting_off, neither}

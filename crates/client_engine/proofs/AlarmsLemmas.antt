@@ -23,7 +23,7 @@ use Rattle.client_engine.specs.declared.alarms.AlarmsShown.{AlarmsShown}
 use Rattle.client_engine.specs.declared.lanes.MetricLane.{MetricLane}
 use Rattle.client_engine.specs.declared.lanes.MetricLane.TheVariants.{Counts, Values, PulledValues, Gauges, PulledGauges, Events, Sums, Longest}
 use Rattle.client_engine.specs.declared.track.Track.{Track}
-use Rattle.client_engine.proofs.ListsLemmas.{same_number}
+use Rattle.known_conditions.proofs.ListsLemmas.{same_number}
 use Rattle.client_engine.proofs.UntouchingLemmas.{of_found}
 use Rattle.client_engine.proofs.WatchesLemmas.{no_watch}
 

@@ -78,7 +78,7 @@ use Rattle.client_engine.specs.PulledGaugesAlong.{PulledGaugeLane, PulledGaugesA
 use Rattle.client_engine.specs.EventsAlong.{EventLane, EventsAlong}
 use Rattle.client_engine.specs.SumsAlong.{SumLane, SumsAlong}
 use Rattle.client_engine.specs.LongestAlong.{LongestLane, LongestAlong}
-use Rattle.client_engine.specs.Touchers.{one_holds, tells_one}
+use Rattle.known_conditions.specs.Touchers.{one_holds, tells_one}
 use Rattle.client_engine.specs.Waking.{told_touchers, wakers, told_slices}
 use Rattle.client_engine.proofs.ActivityLemmas.{tick_stays, atom_stays, pull_stays}
 use Rattle.metric_meaning.proofs.AlertStepsLemmas.{IsFrame, BringNone}

@@ -24,7 +24,8 @@ use Rattle.metric_calls.specs.Askings.{Asking, own_demands, steps_seen, calls_cr
 use Rattle.metric_calls.proofs.StepLemmas.{lane_step_after}
 use Rattle.metric_calls.proofs.AskingsLemmas.{asks_well, calls_mean_steps}
 use Rattle.client_engine.specs.Along.{Along}
-use Rattle.client_engine.specs.NextSteps.{logged_step, reported_step, with_logged, with_reported, bare_step, ComeInTime}
+use Rattle.client_engine.specs.NextSteps.{reported_step, with_logged, with_reported, bare_step, ComeInTime}
+use Rattle.known_conditions.specs.Known.{logged_step}
 use Rattle.client_engine.specs.declared.request.ReportRequest.{ReportRequest}
 
 -- a step that comes in time is timely for a lane, before others that are

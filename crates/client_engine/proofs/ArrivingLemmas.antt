@@ -23,9 +23,10 @@ use Rattle.metric_meaning.specs.Arrivals.{metric_key, holds_in, is_active_in, ar
 use Rattle.metric_calls.specs.Askings.{Asking, own_demands, AsksWell}
 use Rattle.client_engine.specs.Handed.{Handed, IsOfScene}
 use Rattle.client_engine.specs.Along.{Along}
-use Rattle.client_engine.specs.NextSteps.{logged_step, with_logged, ComeInTime, MayLog}
+use Rattle.client_engine.specs.NextSteps.{with_logged, ComeInTime, MayLog}
+use Rattle.known_conditions.specs.Known.{logged_step}
 use Rattle.client_engine.proofs.AlongLemmas.{along_logs}
-use Rattle.client_engine.proofs.TouchersLemmas.{second_not}
+use Rattle.known_conditions.proofs.TouchersLemmas.{second_not}
 use Rattle.client_engine.proofs.ShownLemmas.{shown_moment, shown_arriving}
 
 -- what is handed has the truth of the condition there

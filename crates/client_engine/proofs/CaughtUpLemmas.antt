@@ -19,7 +19,7 @@ use Rattle.metric_meaning.specs.Histories.{Step, Installation}
 use Rattle.metric_meaning.specs.PredicateSteps.{tables_after}
 use Rattle.client_engine.specs.Asleep.{IsCaughtUp}
 use Rattle.client_engine.specs.CaughtUp.{AllLeaveAlone, MayCatchUp, TakesRun, TrackTakesRun, AllTakeRun}
-use Rattle.client_engine.specs.Known.{KnowsAfter}
+use Rattle.known_conditions.specs.Known.{KnowsAfter}
 use Rattle.client_engine.specs.Running.{Running, linked_of}
 use Rattle.client_engine.specs.Tracks.{metric_in, AllStandFor}
 use Rattle.client_engine.specs.TrackStands.{LaneAlong, TrackStandsFor}
@@ -28,7 +28,8 @@ use Rattle.client_engine.specs.declared.lanes.MetricLane.{MetricLane}
 use Rattle.client_engine.specs.declared.lanes.MetricLane.TheVariants.{Counts, Values, PulledValues, Gauges, PulledGauges, Events, Sums, Longest}
 use Rattle.client_engine.specs.declared.track.Track.{Track}
 use Rattle.client_engine.proofs.AloneLemmas.{counts_run, values_run, pulled_values_run, gauges_run, pulled_gauges_run, events_run, sums_run, longest_run, track_run}
-use Rattle.client_engine.proofs.TracksLemmas.{map-set_same, same_here}
+use Rattle.client_engine.proofs.TracksLemmas.{same_here}
+use Rattle.known_conditions.proofs.ListsLemmas.{map-set_same}
 use Rattle.client_engine.proofs.WatchesLemmas.{ends_none}
 use Rattle.client_engine.proofs.UntouchingLemmas.{run_leaves_alone, run_tables, run_reports_none}
 

@@ -23,7 +23,8 @@ use Rattle.client_engine.specs.declared.stays.Stays.{Stays}
 use Rattle.client_engine.specs.declared.stays.Stays.TheVariants.{Keys, Others, OtherStates, Truths, Nothing}
 use Rattle.client_engine.specs.Staying.{KeepsThose, KeepsTruths, KeepsWhatStays, truth_kept, first_asked, is_kept}
 use Rattle.client_engine.specs.Handed.{Handed, IsOfScene}
-use Rattle.client_engine.specs.InnerTold.{told_of_place, reading_in}
+use Rattle.client_engine.specs.InnerTold.{told_of_place}
+use Rattle.known_conditions.specs.Known.{reading_in}
 use Rattle.client_engine.proofs.ArrivingLemmas.{condition_there}
 
 -- the truth of the condition, by what is handed, is the truth in the scene

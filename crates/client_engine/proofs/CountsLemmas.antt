@@ -35,7 +35,8 @@ use Rattle.metric_calls.proofs.StepLemmas.{told_by-steps}
 use Rattle.client_engine.specs.Along.{Along}
 use Rattle.client_engine.specs.Handed.{Handed, IsOfScene}
 use Rattle.client_engine.specs.CaughtUp.{MayCatchUp}
-use Rattle.client_engine.specs.NextSteps.{logged_step, reported_step, with_logged, MayLog, TakesWhile, TakesReport}
+use Rattle.client_engine.specs.NextSteps.{reported_step, with_logged, MayLog, TakesWhile, TakesReport}
+use Rattle.known_conditions.specs.Known.{logged_step}
 use Rattle.client_engine.specs.CountsAlong.{CountLane, WatchedLane, CountsAlong, counts_shown_by}
 use Rattle.client_engine.specs.Watches.{AllTakeNotices, TakeEnds, WatchesAlong}
 use Rattle.client_engine.proofs.AlongLemmas.{along_begins, along_reports}

@@ -18,7 +18,8 @@ use Rattle.metric_meaning.specs.Reports.{metric_tree}
 use Rattle.metric_calls.specs.EventCalls.{event_asking}
 use Rattle.metric_calls.proofs.EventCallsLemmas.{events_agree, events_ask_well}
 use Rattle.client_engine.specs.Handed.{Handed, IsOfScene}
-use Rattle.client_engine.specs.NextSteps.{logged_step, TakesWhile, TakesReport}
+use Rattle.client_engine.specs.NextSteps.{TakesWhile, TakesReport}
+use Rattle.known_conditions.specs.Known.{logged_step}
 use Rattle.client_engine.specs.EventsAlong.{EventLane, EventsAlong, events_shown_by}
 use Rattle.client_engine.proofs.AlongLemmas.{along_begins, along_reports}
 use Rattle.client_engine.proofs.ArrivingLemmas.{IsOfArrivals, arrivals_log}

@@ -32,7 +32,8 @@ use Rattle.metric_meaning.specs.Reports.{metric_tree}
 use Rattle.metric_calls.specs.PushedGaugeCalls.{gauge_params, handed_sample, sample_by, pushed_gauge_asking}
 use Rattle.metric_calls.proofs.PushedGaugeCallsLemmas.{pushed_gauges_agree, pushed_gauges_ask_well}
 use Rattle.client_engine.specs.Handed.{Handed, IsOfScene}
-use Rattle.client_engine.specs.NextSteps.{logged_step, with_logged, TakesWhile, TakesReport}
+use Rattle.client_engine.specs.NextSteps.{with_logged, TakesWhile, TakesReport}
+use Rattle.known_conditions.specs.Known.{logged_step}
 use Rattle.client_engine.specs.GaugesAlong.{GaugeLane, GaugesAlong, GetsSample, gauges_shown_by}
 use Rattle.client_engine.proofs.AlongLemmas.{along_begins, along_logs, along_reports}
 use Rattle.client_engine.proofs.ShownLemmas.{shown_moment, shown_arriving}

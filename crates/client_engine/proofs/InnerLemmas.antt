@@ -46,10 +46,11 @@ use Rattle.metric_calls.proofs.InnerToldLemmas.{TellsInner, KnowsActed, acted, q
 use Rattle.metric_calls.proofs.QuietStepsLemmas.{IsQuiet, tick_quiet, pull_quiet}
 use Rattle.client_engine.specs.Along.{Along}
 use Rattle.client_engine.specs.Handed.{Handed, IsOfScene}
-use Rattle.client_engine.specs.KeptPredicates.{HasItsLeaves, KeepsItsLeaves}
-use Rattle.client_engine.specs.NextSteps.{logged_step, with_logged, ComeInTime, MayLog}
+use Rattle.known_conditions.specs.KeptPredicates.{HasItsLeaves, KeepsItsLeaves}
+use Rattle.client_engine.specs.NextSteps.{with_logged, ComeInTime, MayLog}
+use Rattle.known_conditions.specs.Known.{logged_step}
 use Rattle.client_engine.specs.SoundMetrics.{IsSoundIn}
-use Rattle.client_engine.specs.Touchers.{tells_one}
+use Rattle.known_conditions.specs.Touchers.{tells_one}
 use Rattle.client_engine.specs.Telling.{IsKeyTold}
 use Rattle.client_engine.specs.Turning.{IsTurn}
 use Rattle.client_engine.specs.Staying.{stays_by, KeepsWhatStays}

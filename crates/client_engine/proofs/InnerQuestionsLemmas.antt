@@ -41,10 +41,11 @@ use Rattle.metric_calls.proofs.InnerToldLemmas.{TellsInner, KnowsActed, acted, l
 use Rattle.client_engine.specs.Along.{Along}
 use Rattle.client_engine.specs.AskedFew.{AsksOfAll}
 use Rattle.client_engine.specs.Handed.{Handed}
-use Rattle.client_engine.specs.NextSteps.{logged_step, with_logged, ComeInTime, MayLog}
+use Rattle.client_engine.specs.NextSteps.{with_logged, ComeInTime, MayLog}
+use Rattle.known_conditions.specs.Known.{logged_step}
 use Rattle.client_engine.specs.Questions.{duration_questions}
 use Rattle.client_engine.specs.Staying.{stays_by, stays_untold, truth_kept}
-use Rattle.client_engine.specs.Touchers.{tells_one}
+use Rattle.known_conditions.specs.Touchers.{tells_one}
 use Rattle.client_engine.specs.declared.stays.Before.{Before}
 use Rattle.client_engine.specs.declared.stays.Stays.{Stays}
 use Rattle.client_engine.specs.declared.told.Told.{Told}

@@ -30,13 +30,14 @@ use Rattle.metric_meaning.specs.Reports.{report_of, last_report}
 use Rattle.metric_meaning.proofs.PredicateStepsLemmas.{tables_after-idle}
 use Rattle.report_writer.specs.declared.tree.MetricTree.{MetricTree}
 use Rattle.report_writer.specs.declared.tree.ReportTree.{ReportTree}
-use Rattle.client_engine.specs.NextSteps.{logged_step, reported_step, with_logged, MayLog, MayReport, TakesFrame, requested_tree}
-use Rattle.client_engine.specs.Known.{Known, KnowsAfter, KnowsStep, drops_in}
+use Rattle.client_engine.specs.NextSteps.{reported_step, with_logged, MayLog, MayReport, TakesFrame, requested_tree}
+use Rattle.known_conditions.specs.Known.{logged_step}
+use Rattle.known_conditions.specs.Known.{Known, KnowsAfter, KnowsStep, drops_in}
 use Rattle.client_engine.specs.Handed.{BookOfStates, Handed, handed}
 use Rattle.client_engine.specs.Questions.{questions_of}
 use Rattle.client_engine.proofs.QuestionsLemmas.{shown_questions}
 use Rattle.client_engine.proofs.ShownLemmas.{shown_time, shown_tables}
-use Rattle.client_engine.specs.KeptPredicates.{HasItsLeaves, KeepsItsLeaves, HasBound, CanBeKept}
+use Rattle.known_conditions.specs.KeptPredicates.{HasItsLeaves, KeepsItsLeaves, HasBound, CanBeKept}
 use Rattle.client_engine.specs.Tracks.{CanBeTracked, metric_in, AsksWithin, AllAskWithin, AreNew, AllStandFor, AllReport}
 use Rattle.client_engine.specs.SoundMetrics.{AreInstalled}
 use Rattle.client_engine.specs.Alarms.{AreAlarmsOf}

@@ -1,10 +1,5 @@
 pub mod GroupsLemmas
 pub mod LeavesLemmas
-pub mod MatchedLemmas
-pub mod ListsLemmas
-pub mod MarksLemmas
-pub mod KeptPredicatesLemmas
-pub mod TouchersLemmas
 pub mod WakersLemmas
 pub mod ShownLemmas
 pub mod ActivityLemmas
@@ -46,7 +41,5 @@ pub mod AloneLemmas
 pub mod UntouchingLemmas
 pub mod CaughtUpLemmas
 pub mod LastStepLemmas
-pub mod AskedLemmas
 pub mod SavedLanesLemmas
 pub mod SavedInstancesLemmas
-pub mod SavedListsLemmas

@@ -8,9 +8,9 @@ use Rattle.config_links.specs.declared.linked.LPredicate.{LPredicate}
 use Rattle.config_links.specs.declared.linked.LSlice.{LSlice}
 use Rattle.config_links.specs.declared.linked.LState.{LState}
 use Rattle.metric_meaning.specs.Histories.{truth_at}
-use Rattle.client_engine.specs.Lists.{is_in, places_under}
+use Rattle.known_conditions.specs.Lists.{is_in, places_under}
 use Rattle.client_engine.specs.Waking.{wakers, told_slices, told_states, Listens, is_told_at, places_woken, OthersSleep}
-use Rattle.client_engine.proofs.ListsLemmas.{is_in-append, neither_first, neither_second, none_hold}
+use Rattle.known_conditions.proofs.ListsLemmas.{is_in-append, neither_first, neither_second, none_hold}
 use Rattle.client_engine.specs.declared.listeners.Listeners.{Listeners}
 
 -- the states that slices name

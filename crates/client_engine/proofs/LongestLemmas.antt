@@ -31,10 +31,10 @@ use Rattle.client_engine.specs.AskedFew.{AsksOfAll, AsksFew}
 use Rattle.client_engine.specs.Bringing.{handed_with}
 use Rattle.client_engine.specs.DurationsShown.{durations_shown_by}
 use Rattle.client_engine.specs.Handed.{Handed}
-use Rattle.client_engine.specs.Known.{Known}
+use Rattle.known_conditions.specs.Known.{Known}
 use Rattle.client_engine.specs.Questions.{duration_questions, touched_questions, questions_of}
 use Rattle.client_engine.specs.Staying.{stays_by}
-use Rattle.client_engine.specs.Touchers.{tells_one}
+use Rattle.known_conditions.specs.Touchers.{tells_one}
 use Rattle.client_engine.specs.NextSteps.{TakesFrame, TakesReport}
 use Rattle.client_engine.specs.SoundMetrics.{IsSoundIn}
 use Rattle.client_engine.specs.LongestAlong.{LongestLane, LongestAlong}

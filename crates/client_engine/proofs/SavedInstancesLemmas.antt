@@ -13,7 +13,7 @@ use Rattle.flat_form.specs.declared.flat_error.FlatError.TheVariants.{Bad, Memor
 use Rattle.flat_form.specs.Flat.{StandsAt, Anything, IsValidPair, IsBuilt, Builds, number_items, pair_items, list_items}
 use Rattle.flat_form.proofs.FlatLaws as laws
 use Rattle.predicate_state.specs.PredicateItems.{predicate_items, IsPredicateTable}
-use Rattle.client_engine.proofs.SavedListsLemmas.{adds_two}
+use Rattle.known_conditions.proofs.SavedListsLemmas.{adds_two}
 use Rattle.client_engine.specs.Running.{Running, linked_of}
 use Rattle.client_engine.specs.SavedInstances.{held_in, held_items, IsHeldLane, track_items, IsSavedTrack, instance_items, IsSavedInstance, InstanceForm, instance_form, BuildsInstance}
 use Rattle.client_engine.specs.Tracks.{metric_in}

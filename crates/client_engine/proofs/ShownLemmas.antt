@@ -11,7 +11,8 @@ use Rattle.metric_meaning.specs.PredicateSteps.{tables_after}
 use Rattle.metric_meaning.specs.Scenes.{Scene}
 use Rattle.metric_meaning.specs.Arrivals.{arriving_by}
 use Rattle.metric_meaning.proofs.PredicateStepsLemmas.{tables_after-idle}
-use Rattle.client_engine.specs.NextSteps.{logged_step, with_logged}
+use Rattle.client_engine.specs.NextSteps.{with_logged}
+use Rattle.known_conditions.specs.Known.{logged_step}
 
 -- both have the same time
 pub shown_time : (log : List LogFrame) (frame : LogFrame) → log_time (shown_as log frame) ≡ log_time frame

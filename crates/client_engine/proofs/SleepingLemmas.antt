@@ -48,10 +48,12 @@ use Rattle.client_engine.specs.EventsAlong.{EventLane, EventsAlong}
 use Rattle.client_engine.specs.SumsAlong.{SumLane, SumsAlong}
 use Rattle.client_engine.specs.LongestAlong.{LongestLane, LongestAlong}
 use Rattle.client_engine.specs.Handed.{Handed}
-use Rattle.client_engine.specs.NextSteps.{logged_step, with_logged, TakesFrame}
-use Rattle.client_engine.specs.Touchers.{all_touchers, one_holds, tells_one}
+use Rattle.client_engine.specs.NextSteps.{with_logged, TakesFrame}
+use Rattle.known_conditions.specs.Known.{logged_step}
+use Rattle.known_conditions.specs.Touchers.{all_touchers, one_holds, tells_one}
 use Rattle.client_engine.specs.TrackStands.{LaneAlong, TrackStandsFor}
-use Rattle.client_engine.specs.Waking.{touchers_named, told_touchers, wakers, told_slices, SleepsThrough}
+use Rattle.client_engine.specs.Waking.{told_touchers, wakers, told_slices, SleepsThrough}
+use Rattle.known_conditions.specs.Touchers.{touchers_named}
 use Rattle.client_engine.specs.Woken.{clock_of_lane, IsDue}
 use Rattle.client_engine.specs.declared.lanes.MetricLane.{MetricLane}
 use Rattle.client_engine.specs.declared.lanes.MetricLane.TheVariants.{Counts, Values, PulledValues, Gauges, PulledGauges, Events, Sums, Longest}
@@ -66,9 +68,9 @@ use Rattle.client_engine.proofs.PulledGaugesLemmas.{pulled_gauges_log}
 use Rattle.client_engine.proofs.SnapshotsToldLemmas.{tick_told, atom_untold}
 use Rattle.client_engine.proofs.SumsLemmas.{sums_pass, sums_untouched}
 use Rattle.client_engine.proofs.LongestLemmas.{longest_pass, longest_untouched}
-use Rattle.client_engine.proofs.MarksLemmas.{get_or_any}
+use Rattle.known_conditions.proofs.MarksLemmas.{get_or_any}
 use Rattle.client_engine.proofs.ActivityLemmas.{acts_sleep}
-use Rattle.client_engine.proofs.TouchersLemmas.{found_hold, none_below, named_holds}
+use Rattle.known_conditions.proofs.TouchersLemmas.{found_hold, none_below, named_holds}
 use Rattle.client_engine.proofs.WakersLemmas.{told_off, kind_off}
 
 -- the matchers that touch what is named hold exactly where the atom acts below it

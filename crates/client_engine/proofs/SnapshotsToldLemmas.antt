@@ -42,10 +42,11 @@ use Rattle.metric_meaning.specs.Ways.{Way}
 use Rattle.metric_meaning.proofs.SnapshotStepsLemmas.{found-pulled}
 use Rattle.metric_calls.specs.Askings.{AsksWell}
 use Rattle.metric_calls.specs.SnapshotCalls.{means_pull, is_told_of, truth_in, Telling, pull_calls, atom_calls, calls_told, calls_brought, told_asking}
-use Rattle.client_engine.specs.Known.{Known}
+use Rattle.known_conditions.specs.Known.{Known}
 use Rattle.client_engine.specs.Handed.{Handed, IsOfScene}
 use Rattle.client_engine.specs.Along.{Along}
-use Rattle.client_engine.specs.NextSteps.{logged_step, with_logged, ComeInTime, MayLog}
+use Rattle.client_engine.specs.NextSteps.{with_logged, ComeInTime, MayLog}
+use Rattle.known_conditions.specs.Known.{logged_step}
 use Rattle.client_engine.specs.Opens.{IsOpeningOf}
 use Rattle.client_engine.specs.Finding.{found_among, calls_shown}
 use Rattle.client_engine.specs.declared.opening.Opening.{Opening}

@@ -16,7 +16,7 @@ use Rattle.metric_meaning.specs.Readings.{LeafReading}
 use Rattle.metric_meaning.specs.StateSlices.{state_key, slice_by, named_slice, named_slices}
 use Rattle.metric_meaning.proofs.TouchedLemmas.{neither}
 use Rattle.client_engine.specs.Telling.{decides_slice, decides_one, TellsKey}
-use Rattle.client_engine.specs.Touchers.{is_told_by, tells_one}
+use Rattle.known_conditions.specs.Touchers.{is_told_by, tells_one}
 use Rattle.client_engine.specs.declared.told.Told.{Told}
 
 module _ (log : List LogFrame) (at : ℕ) (atom : Atom) where

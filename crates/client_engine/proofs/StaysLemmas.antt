@@ -22,10 +22,10 @@ use Rattle.metric_meaning.specs.DurationSteps.{inner_fields, measured}
 use Rattle.metric_meaning.specs.Touched.{acts_below}
 use Rattle.metric_calls.specs.DurationCalls.{listed_after, known_after, told_after}
 use Rattle.metric_calls.proofs.InnerToldLemmas.{TellsInner, KnowsActed, listed_told, unlisted_told}
-use Rattle.client_engine.specs.NextSteps.{logged_step}
+use Rattle.known_conditions.specs.Known.{logged_step}
 use Rattle.client_engine.specs.Staying.{stays_apart, stays_untold, stays_by, KeepsTruths, KeepsWhatStays}
 use Rattle.client_engine.specs.Telling.{decides_inner, IsKeyTold}
-use Rattle.client_engine.specs.Touchers.{tells_one}
+use Rattle.known_conditions.specs.Touchers.{tells_one}
 use Rattle.client_engine.specs.Turning.{asks_for_turn, IsTurn}
 use Rattle.client_engine.specs.declared.stays.Before.{Before}
 use Rattle.client_engine.specs.declared.told.Told.{Told}

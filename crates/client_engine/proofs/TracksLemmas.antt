@@ -1,7 +1,7 @@
 -- The metrics of a configuration with their lanes, one by one.
-use Rattle.std.proofs.Common.{◌≡◌, ℕ, zero, suc, ◌+◌, ◌≤◌, ◌<◌, Bool, true, false, if◌then◌else◌, List, [], ◌∷◌, ◌++◌, length, set, get_or, take, drop, map, filter, All, refl, sym, ap, subst, ◌∙◌, arith}
+use Rattle.std.proofs.Common.{◌≡◌, ℕ, ◌+◌, ◌≤◌, ◌<◌, Bool, true, false, if◌then◌else◌, List, [], ◌∷◌, ◌++◌, length, set, get_or, take, drop, map, filter, All, refl, sym, ap, subst, ◌∙◌, arith}
 use Rattle.std.proofs.Math.Nat.{add-zero}
-use Rattle.std.proofs.lemmas.List.{append-nil, map-append, length-append, length-set, length-map, get_or_append_left, get_or-append-add, get_or-map, get_or-drop, take_more_set, take_more, drop-set-lt, drop-drop, take_all, drop_all}
+use Rattle.std.proofs.lemmas.List.{append-nil, map-append, length-append, length-set, length-map, get_or_append_left, get_or-append-add, get_or-map, get_or-drop, take_more_set, take_more, drop-set-lt, drop-drop, take_all}
 use Rattle.std.proofs.lemmas.List.Elements.{All-nil, All-push, All-get_or}
 use Rattle.atom_record.specs.declared.log.LogFrame.{LogFrame}
 use Rattle.config_links.specs.declared.linked.LMetric.{LMetric}
@@ -12,7 +12,7 @@ use Rattle.client_engine.specs.NextSteps.{MayLog, MayReport, with_logged, with_r
 use Rattle.client_engine.specs.SoundMetrics.{IsInstalledAt, AreInstalled}
 use Rattle.config_links.specs.declared.linked.Linked.{Linked}
 use Rattle.client_engine.specs.TrackStands.{TrackStandsFor}
-use Rattle.client_engine.specs.Known.{Known}
+use Rattle.known_conditions.specs.Known.{Known}
 use Rattle.client_engine.specs.Handed.{Handed}
 use Rattle.client_engine.specs.Tracks.{metric_in, AsksWithin, AreNew, AllStandFor, AllReport}
 use Rattle.client_engine.specs.Opens.{IsOpeningOf}
@@ -21,6 +21,7 @@ use Rattle.client_engine.specs.declared.opening.Opening.{Opening}
 use Rattle.client_engine.specs.declared.track.Track.{Track}
 use Rattle.client_engine.specs.declared.request.ReportRequest.{ReportRequest}
 use Rattle.client_engine.proofs.QuestionsLemmas.{more_questions, first_questions}
+use Rattle.known_conditions.proofs.ListsLemmas.{whole, map-set_same}
 
 -- no metric has a track yet
 pub none_new : (opening : Opening) (known : Known) → AreNew opening known [] []
@@ -64,14 +65,6 @@ one_new opening known metrics tracks metric track are is stands = record {
       (are.stand installed same (installed_before installed.linked metrics metric there))
       (stands installed same (installed_last installed.linked metrics metric there));
 }
-
--- an element is replaced by one with the same image
-pub map-set_same : {X Y : Type 0} (f : X → Y) (xs : List X) (i : ℕ) (x none : X) → i < length xs
-    → f x ≡ f (get_or xs i none) → map f (set xs i x) ≡ map f xs
-map-set_same f [] i x none within same = absurd (omega arith)
-map-set_same f (first ∷ xs) zero x none within same = ap (λ y. y ∷ map f xs) same
-map-set_same f (first ∷ xs) (suc i) x none within same =
-    ap (λ l. f first ∷ l) (map-set_same f xs i x none (omega arith) same)
 
 -- where two lists have the same rest, they have the same element before it
 pub same_here : {X : Type 0} (now old : List X) (i : ℕ) (none : X) → drop i now ≡ drop i old
@@ -194,13 +187,6 @@ asks_here now_known known old now index none same within metrics all =
     (subst (AsksWithin count) (get_or-map metric_in now index none (metric_in none) within)
     (All-get_or (AsksWithin count) (map metric_in now) index (metric_in none) (omega (arith, len, within))
     (subst (All (AsksWithin count)) (sym metrics) all)))
-
--- what a list of the same length as another leaves of it
-pub whole : {X : Type 0} (items old : List X) (len : ℕ) → length items ≡ length old → len ≡ length old
-    → take len (items ++ drop (length items) old) ≡ items
-whole items old len same is =
-    ap (λ l. take len (items ++ l)) (drop_all (length items) old (omega (arith, same)))
-    ∙ ap (take len) (append-nil items) ∙ take_all len items (omega (arith, same, is))
 
 -- where one of the tracks has changed and its metric hasn't, all metrics stay
 pub metrics_stay : (old given now : List Track) (len index : ℕ) (track none : Track) → given ≡ old

@@ -34,12 +34,12 @@ use Rattle.metric_calls.specs.DurationCalls.{event_in, told_as, listed_after, kn
 use Rattle.metric_calls.proofs.InnerChangesLemmas.{nothing_told}
 use Rattle.metric_calls.proofs.InnerToldLemmas.{events_of, one_event, listed_told}
 use Rattle.client_engine.specs.Telling.{decides_inner, TellsKey}
-use Rattle.client_engine.specs.Touchers.{tells_one}
+use Rattle.known_conditions.specs.Touchers.{tells_one}
 use Rattle.client_engine.specs.Turning.{asks_for_turn, TurnsKey}
 use Rattle.client_engine.specs.declared.told.Told.{Told}
 use Rattle.client_engine.specs.declared.turn.Turn.{Turn}
 use Rattle.client_engine.proofs.StatesStayLemmas.{slices_stay, slices_untold}
-use Rattle.client_engine.proofs.TouchersLemmas.{past_below}
+use Rattle.known_conditions.proofs.TouchersLemmas.{past_below}
 
 -- a frame that is shown as an atom is that atom
 pub shown_atom : (log : List LogFrame) (frame : LogFrame) (at : ℕ) (atom : Atom) → shown_as log frame ≡ AtomAt at atom

@@ -29,12 +29,13 @@ use Rattle.metric_meaning.proofs.PredicateStepsLemmas.{table_after-push}
 use Rattle.metric_calls.specs.SnapshotCalls.{means_pull, is_told_of}
 use Rattle.client_engine.specs.Asleep.{IsUntouching, AreUntouching}
 use Rattle.client_engine.specs.CaughtUp.{LeavesAlone, AllLeaveAlone}
-use Rattle.client_engine.specs.Touchers.{one_holds, is_told_by, tells_one}
-use Rattle.client_engine.specs.Waking.{touchers_named, told_touchers, wakers, told_slices}
+use Rattle.known_conditions.specs.Touchers.{one_holds, is_told_by, tells_one}
+use Rattle.client_engine.specs.Waking.{told_touchers, wakers, told_slices}
+use Rattle.known_conditions.specs.Touchers.{touchers_named}
 use Rattle.client_engine.proofs.InstanceLemmas.{reported_or, last_report-push}
-use Rattle.client_engine.proofs.KeptPredicatesLemmas.{no_events}
+use Rattle.known_conditions.proofs.KeptPredicatesLemmas.{no_events}
 use Rattle.client_engine.proofs.SleepingLemmas.{touchers_named_hold}
-use Rattle.client_engine.proofs.TouchersLemmas.{own_holds, none_any, second_not}
+use Rattle.known_conditions.proofs.TouchersLemmas.{own_holds, none_any, second_not}
 
 -- neither of two
 first_off : (first second : Bool) → (first || second) ≡ false → first ≡ false

@@ -9,9 +9,9 @@ use Rattle.config_links.specs.declared.linked.LMetric.{LMetric}
 use Rattle.config_links.specs.declared.linked.LPredicate.{LPredicate}
 use Rattle.metric_meaning.specs.Histories.{truth_at}
 use Rattle.metric_meaning.specs.PredicateSteps.{named_truth}
-use Rattle.client_engine.specs.Touchers.{one_holds}
+use Rattle.known_conditions.specs.Touchers.{one_holds}
 use Rattle.client_engine.specs.Waking.{told_touchers, wakers}
-use Rattle.client_engine.proofs.TouchersLemmas.{named_holds}
+use Rattle.known_conditions.proofs.TouchersLemmas.{named_holds}
 
 module _ (predicates : List LPredicate) (metric : LMetric) (truths : List Bool)
     (off : one_holds truths (wakers predicates metric) ≡ false) where

@@ -17,15 +17,15 @@ use Rattle.client_engine.specs.NextSteps.{MayLog, TakesFrame, with_logged}
 use Rattle.client_engine.specs.Questions.{metric_questions, questions_of}
 use Rattle.client_engine.specs.Tracks.{metric_in, AllStandFor}
 use Rattle.client_engine.specs.TrackStands.{TrackStandsFor}
-use Rattle.client_engine.specs.Lists.{is_in}
-use Rattle.client_engine.specs.Marks.{AreAllMarked}
+use Rattle.known_conditions.specs.Lists.{is_in}
+use Rattle.known_conditions.specs.Marks.{AreAllMarked}
 use Rattle.client_engine.specs.Waking.{SleepsThrough, OthersSleep}
 use Rattle.client_engine.specs.Woken.{clock_of_lane, IsDue, AllDue, sum_marked, marked_questions, AreWoken}
 use Rattle.client_engine.specs.declared.track.Track.{Track}
-use Rattle.client_engine.proofs.MarksLemmas.{get_or_any, marked_within}
+use Rattle.known_conditions.proofs.MarksLemmas.{get_or_any, marked_within}
 use Rattle.client_engine.proofs.QuestionsLemmas.{one_questions}
 use Rattle.client_engine.proofs.SleepingLemmas.{track_sleeps}
-use Rattle.client_engine.proofs.TracksLemmas.{map-set_same}
+use Rattle.known_conditions.proofs.ListsLemmas.{map-set_same}
 
 -- what no clock ends before a time, none ends before an earlier one
 no_end_sooner : (clock : Option Times) (time sooner : ℕ) → NoEndBefore time clock → sooner ≤ time

@@ -6,7 +6,7 @@ use Rattle.config_links.specs.declared.linked.LMetric.{LMetric}
 use Rattle.duration_metric.specs.InnerKeys.{DurationParams, DurationCall, inner_keys, told_truth}
 use Rattle.metric_meaning.specs.Histories.{Step, Installation, truth_at}
 use Rattle.client_engine.specs.Bringing.{handed_with}
-use Rattle.client_engine.specs.Known.{Known}
+use Rattle.known_conditions.specs.Known.{Known}
 use Rattle.client_engine.specs.NextSteps.{MayLog}
 use Rattle.client_engine.specs.Questions.{questions_of}
 use Rattle.client_engine.specs.Staying.{truth_kept}

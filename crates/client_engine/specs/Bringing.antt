@@ -6,9 +6,11 @@ use Rattle.metric_meaning.specs.Arrivals.{is_active_in}
 use Rattle.metric_meaning.specs.Scenes.{Scene}
 use Rattle.session_frames.specs.FrameReading.{log_time}
 use Rattle.client_engine.specs.Handed.{Handed, IsOfScene, handed}
-use Rattle.client_engine.specs.Known.{Known}
-use Rattle.client_engine.specs.NextSteps.{logged_step, TakesFrame, TakesWhile}
+use Rattle.known_conditions.specs.Known.{Known}
+use Rattle.client_engine.specs.NextSteps.{TakesFrame, TakesWhile}
+use Rattle.known_conditions.specs.Known.{logged_step}
 use Rattle.client_engine.specs.declared.brought.Brought.{Brought}
+use Rattle.client_engine.specs.declared.brought.Taker.{Taker}
 
 -- what is handed to a metric, where predicates know this
 abbrev pub handed_with : Known → Brought → Handed
@@ -36,3 +38,14 @@ abbrev pub TakesBroughtWhile : {A : Type 0} → (Installation → List Step → 
     → A → A → Type 0
 TakesBroughtWhile stands active metric known brought old new =
     TakesWhile stands active metric (handed_with known brought) brought.frame.now brought.matched.now old new
+
+-- the same of the lane of the metric that takes it, by what lanes stand for
+abbrev pub LaneTakes : {A : Type 0} → (LMetric → Installation → List Step → A → Type 0) → Taker → Known → Brought
+    → A → A → Type 0
+LaneTakes along taker known brought old new =
+    TakesBroughtWhile (along taker.metric.now) taker.is_active taker.metric.now known brought old new
+
+-- the same of a lane that takes frames whether or not its metric is active, by what lanes stand for
+abbrev pub LaneLogs : {A : Type 0} → (LMetric → Installation → List Step → A → Type 0) → LMetric → Known → Brought
+    → A → A → Type 0
+LaneLogs along metric known brought old new = TakesBrought (along metric) known brought old new

@@ -11,7 +11,7 @@ use Rattle.metric_meaning.specs.Histories.{What, Logged, Reported, Step, Install
 use Rattle.metric_meaning.specs.StepMarks.{moments}
 use Rattle.metric_calls.specs.SnapshotCalls.{is_told_of}
 use Rattle.client_engine.specs.NextSteps.{ComeInTime, last_from}
-use Rattle.client_engine.specs.Touchers.{one_holds, tells_one}
+use Rattle.known_conditions.specs.Touchers.{one_holds, tells_one}
 use Rattle.client_engine.specs.TrackStands.{TrackStandsFor}
 use Rattle.client_engine.specs.Tracks.{metric_in, AllStandFor}
 use Rattle.client_engine.specs.Waking.{wakers, told_slices}

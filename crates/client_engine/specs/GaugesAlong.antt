@@ -1,5 +1,5 @@
 -- The lane of a pushed gauge: what it stands for, and how a report shows what it hands out.
-use Rattle.std.specs.Prelude.{◌≡◌, ℕ, List, Option}
+use Rattle.std.specs.Prelude.{◌≡◌, ℕ, List, map, Option}
 use Rattle.atom_record.specs.declared.atom.Atom.{Atom}
 use Rattle.atom_record.specs.declared.value.MetricKey.{MetricKey}
 use Rattle.atom_record.specs.declared.value.Slice.{Slice}
@@ -20,12 +20,12 @@ use Rattle.metric_meaning.specs.Scenes.{Scene}
 use Rattle.metric_meaning.specs.PushedGaugeSteps.{keyed_sample}
 use Rattle.metric_meaning.specs.GaugeTrees.{gauge_body}
 use Rattle.metric_calls.specs.PushedGaugeCalls.{handed_sample, pushed_gauge_asking}
+use Rattle.report_writer.specs.AtomMessage.{message_of}
 use Rattle.report_writer.specs.declared.tree.LeafTree.{LeafTree}
-use Rattle.report_writer.specs.declared.tree.AtomMsg.{AtomMsg}
 use Rattle.report_writer.specs.declared.tree.AtomBucket.{AtomBucket}
 use Rattle.report_writer.specs.declared.tree.GaugeTree.{GaugeTree}
 use Rattle.report_writer.specs.declared.tree.MetricTree.{MetricTree}
-use Rattle.client_engine.specs.Known.{Known}
+use Rattle.known_conditions.specs.Known.{Known}
 use Rattle.client_engine.specs.Handed.{IsOfScene}
 use Rattle.client_engine.specs.Bringing.{handed_with}
 use Rattle.client_engine.specs.Along.{Along}
@@ -54,9 +54,9 @@ GetsSampleOf metric brought atom old new =
     → IsOfScene (handed_with known brought) scene → metric.kind ≡ kinds.PushedGauge fields samples
     → GetsSample old new (log_time brought.frame.now) (keyed_sample scene metric fields atom)
 
--- the messages of a part's samples
-abbrev pub sample_bucket : ℕ → ℕ → List AtomMsg → AtomBucket
-sample_bucket start end messages = record { start = start; end = end; atoms = messages }
+-- a part's samples, by their messages
+abbrev pub sample_bucket : ℕ → ℕ → List Atom → AtomBucket
+sample_bucket start end atoms = record { start = start; end = end; atoms = map message_of atoms }
 
 -- a key with its samples, as a report shows it
 abbrev pub gauge_entry : List LeafTree → List Slice → List AtomBucket → GaugeTree

@@ -7,7 +7,7 @@ use Rattle.config_links.specs.declared.linked.LMatcher.{LMatcher}
 use Rattle.config_links.specs.declared.linked.LState.{LState}
 use Rattle.state_slicer.specs.StateBooks.{StateBookStandsFor}
 use Rattle.metric_meaning.specs.Scenes.{Scene}
-use Rattle.client_engine.specs.Known.{Known}
+use Rattle.known_conditions.specs.Known.{Known}
 
 -- a book of states, as a contract sees it
 abbrev pub BookOfStates : Type 0

@@ -9,26 +9,23 @@ use Rattle.duration_metric.specs.declared.inner.Known.{Known}
 use Rattle.duration_metric.specs.InnerKeys.{DurationParams, DurationCall, inner_keys, last_known}
 use Rattle.metric_meaning.specs.DurationSteps.{inner_fields}
 use Rattle.metric_meaning.specs.MetricConditions.{is_condition_true}
-use Rattle.metric_meaning.specs.Readings.{LeafReading, key_reading}
+use Rattle.metric_meaning.specs.Readings.{LeafReading}
 use Rattle.metric_meaning.specs.Scenes.{Scene}
 use Rattle.metric_calls.specs.DurationCalls.{told_as, known_in, changes_from}
-use Rattle.client_engine.specs.Known as known
+use Rattle.known_conditions.specs.Known as known
 use Rattle.client_engine.specs.Handed.{IsOfScene}
 use Rattle.client_engine.specs.Bringing.{handed_with}
 use Rattle.client_engine.specs.Staying.{KeepsWhatStays}
 use Rattle.client_engine.specs.declared.brought.Brought.{Brought}
 use Rattle.client_engine.specs.declared.inner.Asker.{Asker}
 use Rattle.client_engine.specs.declared.stays.Stays.{Stays}
+use Rattle.known_conditions.specs.Known.{reading_in}
 
 -- the truth of the condition is this, for whatever is read, if there is a truth for all
 abbrev pub HasShared : known.Known → LMetric → Option Bool → Type 0
 HasShared known metric None = Unit {0}
 HasShared known metric (Some holds) =
     (reading : LeafReading) → holds ≡ is_condition_true known.predicates known.tables metric reading
-
--- what is read of a key of the predicate that a metric times
-abbrev pub reading_in : known.Known → LMetric → LeafKey → LeafReading
-reading_in known metric key = key_reading (inner_fields (slice_get known.predicates metric.what)) key
 
 -- the truth that is told of an inner key's condition, where those that ask know what all have alike
 abbrev pub IsStanding : Asker → LeafKey → known.Known → Truth → Type 0

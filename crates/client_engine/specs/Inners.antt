@@ -8,7 +8,7 @@ use Rattle.metric_calls.specs.DurationCalls.{known_in, changes_from}
 use Rattle.client_engine.specs.Bringing.{handed_with}
 use Rattle.client_engine.specs.Handed.{IsOfScene}
 use Rattle.client_engine.specs.InnerTold.{StaysInScene}
-use Rattle.client_engine.specs.Known.{Known}
+use Rattle.known_conditions.specs.Known.{Known}
 use Rattle.client_engine.specs.declared.brought.Brought.{Brought}
 use Rattle.client_engine.specs.declared.stays.Stays.{Stays}
 

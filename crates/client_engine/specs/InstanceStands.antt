@@ -9,10 +9,11 @@ use Rattle.report_writer.specs.declared.tree.ReportTree.{ReportTree}
 use Rattle.metric_meaning.specs.Histories.{History, with_step, log_of_history}
 use Rattle.metric_meaning.specs.ShownFrames.{shown_as}
 use Rattle.metric_meaning.specs.Reports.{last_report, report_of}
-pub use Rattle.client_engine.specs.NextSteps.{logged_step, reported_step, last_from}
+pub use Rattle.client_engine.specs.NextSteps.{reported_step, last_from}
+pub use Rattle.known_conditions.specs.Known.{logged_step}
 use Rattle.client_engine.specs.NextSteps.{ComeInTime}
 pub use Rattle.client_engine.specs.Running.{Running, linked_of}
-use Rattle.client_engine.specs.Known.{KnowsAfter}
+use Rattle.known_conditions.specs.Known.{KnowsAfter}
 use Rattle.client_engine.specs.Tracks.{AllStandFor}
 use Rattle.client_engine.specs.Handed.{BookOfStates}
 use Rattle.client_engine.specs.Questions.{questions_at}

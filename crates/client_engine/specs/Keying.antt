@@ -12,7 +12,7 @@ use Rattle.metric_meaning.specs.Scenes.{Scene}
 use Rattle.metric_meaning.specs.StateSlices.{named_slice, named_slices}
 use Rattle.client_engine.specs.Bringing.{handed_with}
 use Rattle.client_engine.specs.Handed.{IsOfScene}
-use Rattle.client_engine.specs.Known.{Known}
+use Rattle.known_conditions.specs.Known.{Known}
 use Rattle.client_engine.specs.declared.brought.Brought.{Brought}
 
 -- in whatever scene the frame is brought, this is so of the metric's key there of what is read

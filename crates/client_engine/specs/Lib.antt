@@ -1,11 +1,6 @@
 pub mod Leaves
 pub mod Groups
-pub mod Known
 pub mod Handed
-pub mod Touchers
-pub mod Lists
-pub mod Marks
-pub mod KeptPredicates
 pub mod Waking
 pub mod NextSteps
 pub mod Bringing
@@ -18,7 +13,6 @@ pub mod CountsAlong
 pub mod CountGroups
 pub mod ValuesAlong
 pub mod PulledValuesAlong
-pub mod Messages
 pub mod GaugesAlong
 pub mod PulledGaugesAlong
 pub mod EventsAlong

@@ -5,7 +5,7 @@ use Rattle.config_links.specs.declared.linked.LMetric.{LMetric}
 use Rattle.session_frames.specs.FrameReading.{log_time}
 use Rattle.metric_producer.specs.LaneCalls.{LaneStep, AreTimely, last_of}
 use Rattle.metric_calls.specs.LaneSteps.{lane_step}
-use Rattle.metric_meaning.specs.Histories.{Logged, Reported, Step, Installation, log_after}
+use Rattle.metric_meaning.specs.Histories.{Reported, Step, Installation, log_after}
 use Rattle.metric_meaning.specs.ActivationSteps.{is_active_after}
 use Rattle.metric_meaning.specs.ShownFrames.{shown_as}
 use Rattle.metric_meaning.specs.Scenes.{scene_after}
@@ -13,10 +13,7 @@ use Rattle.metric_meaning.specs.Reports.{metric_tree}
 use Rattle.report_writer.specs.declared.tree.MetricTree.{MetricTree}
 use Rattle.client_engine.specs.Handed.{Handed, IsOfScene}
 use Rattle.client_engine.specs.declared.request.ReportRequest.{ReportRequest}
-
--- the step of a frame of the log with these truths
-abbrev pub logged_step : LogFrame → List Bool → Step
-logged_step frame truths = record { at = log_time frame; what = Logged frame; truths = truths }
+use Rattle.known_conditions.specs.Known.{logged_step}
 
 -- the step of a report
 abbrev pub reported_step : ReportRequest → Step

@@ -5,7 +5,7 @@ use Rattle.config_links.specs.declared.linked.LMetric.{LMetric}
 use Rattle.pull_book.specs.PullBooks.{PullBookStandsFor}
 use Rattle.metric_meaning.specs.Histories.{Step, Installation}
 use Rattle.client_engine.specs.Finding.{MayAsk}
-use Rattle.client_engine.specs.Known.{Known, KnowsAfter}
+use Rattle.known_conditions.specs.Known.{Known, KnowsAfter}
 use Rattle.client_engine.specs.SoundMetrics.{IsInstalledAt}
 use Rattle.client_engine.specs.Watches.{CanBeWatched}
 use Rattle.client_engine.specs.declared.opening.Opening.{Opening}

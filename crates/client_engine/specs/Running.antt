@@ -4,7 +4,7 @@ use Rattle.config_links.specs.declared.linked.Linked.{Linked}
 use Rattle.config_links.specs.declared.linked.LAlert.{LAlert}
 use Rattle.config_links.specs.declared.linked.LMatcher.{LMatcher}
 use Rattle.config_links.specs.declared.linked.LState.{LState}
-use Rattle.client_engine.specs.Known.{Known}
+use Rattle.known_conditions.specs.Known.{Known}
 use Rattle.client_engine.specs.Tracks.{metric_in}
 use Rattle.client_engine.specs.declared.track.Track.{Track}
 

@@ -11,7 +11,7 @@ use Rattle.metric_activation.specs.Timers.{AreTimers}
 use Rattle.metric_activation.specs.declared.timer.Timer.{Timer}
 use Rattle.predicate_state.specs.PredicateItems.{predicate_items, IsPredicateTable}
 use Rattle.predicate_state.specs.PredicateTable.{PredicateTable}
-use Rattle.client_engine.specs.KeptPredicates.{HaveTheirSpecs}
+use Rattle.known_conditions.specs.KeptPredicates.{HaveTheirSpecs}
 use Rattle.client_engine.specs.Running.{Running, linked_of}
 use Rattle.client_engine.specs.SavedLanes.{metric_lane_items, IsMetricLane}
 use Rattle.client_engine.specs.declared.lanes.MetricLane.{MetricLane}

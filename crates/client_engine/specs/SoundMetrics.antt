@@ -3,7 +3,7 @@ use Rattle.std.specs.Prelude.{◌≡◌, ℕ, ◌<◌, List, length, get_or, sli
 use Rattle.config_links.specs.SoundConfig.{IsSoundMetric}
 use Rattle.config_links.specs.declared.linked.Linked.{Linked}
 use Rattle.config_links.specs.declared.linked.LMetric.{LMetric}
-use Rattle.client_engine.specs.KeptPredicates.{KeepsItsLeaves}
+use Rattle.known_conditions.specs.KeptPredicates.{KeepsItsLeaves}
 
 -- The metric is sound, and the tables of the predicates beside it have the leaves of their dimensions.
 pub record IsSoundIn (linked : Linked) (metric : LMetric) : Type 0 where

@@ -2,7 +2,6 @@
 use Rattle.std.specs.Prelude.{◌≡◌, ℕ, Bool, false, ◌&&◌, List, slice_get, Option, Some, None}
 use Rattle.std.specs.List.{list_any}
 use Rattle.atom_record.specs.declared.atom.Atom.{Atom}
-use Rattle.atom_record.specs.declared.value.Leaf.{Leaf}
 use Rattle.book_meaning.specs.Snapshots.{same_atom_id}
 use Rattle.book_meaning.specs.States.{same_dims, puts_back, primary_key}
 use Rattle.config_links.specs.declared.linked.LSlice.{LSlice}

@@ -1,6 +1,6 @@
 -- Which metrics an atom wakes: those of which it can change something. One that it doesn't wake, and none of whose
 -- buckets ends with it, is as it was. For private clauses.
-use Rattle.std.specs.Prelude.{◌≡◌, ℕ, ◌<◌, Bool, false, List, [], ◌++◌, length, map, get_or, slice_get, Option, Some, None}
+use Rattle.std.specs.Prelude.{◌≡◌, ℕ, ◌<◌, Bool, false, List, [], ◌++◌, length, map, get_or, slice_get, Some}
 use Rattle.atom_record.specs.declared.log.LogFrame.{LogFrame}
 use Rattle.atom_record.specs.declared.log.LogFrame.TheVariants.{AtomAt}
 use Rattle.config_links.specs.declared.linked.LKind.{LKind}
@@ -11,14 +11,9 @@ use Rattle.config_links.specs.declared.linked.LSlice.{LSlice}
 use Rattle.config_links.specs.declared.linked.LState.{LState}
 use Rattle.config_links.specs.OwnMatchers.{metric_matchers}
 use Rattle.metric_meaning.specs.Histories.{truth_at}
-use Rattle.client_engine.specs.Lists.{is_in, AreListed, places_under}
-use Rattle.client_engine.specs.Touchers.{all_touchers, one_holds, is_told_by, tells_one}
+use Rattle.known_conditions.specs.Lists.{is_in, AreListed, places_under}
+use Rattle.known_conditions.specs.Touchers.{touchers_named, one_holds, is_told_by, tells_one}
 use Rattle.client_engine.specs.declared.listeners.Listeners.{Listeners}
-
--- the matchers that touch the predicate that is named, if one is
-abbrev pub touchers_named : List LPredicate → Option ℕ → List ℕ
-touchers_named predicates None = []
-touchers_named predicates (Some root) = get_or (all_touchers predicates) root []
 
 -- The matchers that touch the predicates of which a metric is told each change: the condition of one that is pulled,
 -- and of a duration also the predicate that it times. One that gets atoms asks for its condition when one comes, so

@@ -8,12 +8,12 @@ use Rattle.metric_lane.specs.LaneClock.{NoEndBefore}
 use Rattle.metric_meaning.specs.Histories.{Step, Installation}
 use Rattle.client_engine.specs.Bringing.{handed_with}
 use Rattle.client_engine.specs.Handed.{Handed}
-use Rattle.client_engine.specs.Known.{Known}
+use Rattle.known_conditions.specs.Known.{Known}
 use Rattle.client_engine.specs.NextSteps.{MayLog, TakesFrame}
 use Rattle.client_engine.specs.Questions.{questions_of}
 use Rattle.client_engine.specs.Tracks.{metric_in, AllStandFor}
 use Rattle.client_engine.specs.TrackStands.{TrackStandsFor}
-use Rattle.client_engine.specs.Marks.{AreAllMarked, IsMarked}
+use Rattle.known_conditions.specs.Marks.{AreAllMarked, IsMarked}
 use Rattle.client_engine.specs.Waking.{OthersSleep}
 use Rattle.client_engine.specs.declared.brought.Brought.{Brought}
 use Rattle.client_engine.specs.declared.lanes.MetricLane.{MetricLane}

@@ -8,9 +8,9 @@ ghost use Rattle.client_engine.specs.Activity.{starts_by, cancels_by, timers_of,
 ghost use Rattle.client_engine.specs.Tracks.{CanBeTracked};
 
 use crate::brought::Brought;
-use crate::matched::{is_true_at, is_true_if_named};
 use atom_record::LogFrame;
 use config_links::{LActivation, LMetric};
+use known_conditions::{is_true_at, is_true_if_named};
 use metric_activation::{ActBook, MAX_ACTIVATIONS, Timer};
 use sd_base::Seq;
 use session_frames::time_of;

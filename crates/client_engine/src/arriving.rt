@@ -8,15 +8,12 @@ ghost use Rattle.client_engine.specs.AskedFew.{arrival_questions};
 ghost use Rattle.client_engine.specs.Bringing.{brought_step, WhereActive};
 ghost use Rattle.client_engine.specs.Keying.{OnKey, OnSlices};
 
-use crate::asked::Asked;
 use crate::brought::Brought;
-use crate::conditions::Conditions;
-use crate::key_room::{KeyRoom, atom_key_into};
-use crate::matched::is_true_at;
 use crate::slices::{slices_into, slices_of};
 use atom_record::{Atom, DimKey, LogFrame, MetricKey, Slice};
 use condition_links::Steps;
 use config_links::{LMetric, LSlice};
+use known_conditions::{Asked, Conditions, KeyRoom, atom_key_into, is_true_at};
 use sd_base::Seq;
 use std::alloc::AllocError;
 use std::sync::ledger::Ledger;

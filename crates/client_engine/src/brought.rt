@@ -1,7 +1,7 @@
 //! What a frame of the log brings to each metric.
 
 use atom_record::LogFrame;
-use config_links::{LMatcher, LState};
+use config_links::{LMatcher, LMetric, LState};
 use state_slicer::StateBook;
 use std::alloc::Global;
 
@@ -18,4 +18,11 @@ pub struct Brought<'a> {
     pub states: &'a [LState],
     /// The states that the log gave, with this frame.
     pub book: &'a StateBook,
+}
+
+/// A metric whose lane takes what is brought, and whether it is active there.
+#[derive(Clone, Copy)]
+pub struct Taker<'a> {
+    pub metric: &'a LMetric,
+    pub is_active: bool,
 }

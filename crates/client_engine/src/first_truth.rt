@@ -2,12 +2,11 @@
 ghost use Rattle.std.specs.Prelude.{◌≡◌, ◌<◌, length, IfOk};
 ghost use Rattle.config_links.specs.SoundConfig.{MayBeWithin};
 ghost use Rattle.metric_meaning.specs.SnapshotSteps.{nothing_read};
-ghost use Rattle.client_engine.specs.Known.{truth_by};
+ghost use Rattle.known_conditions.specs.Known.{truth_by};
 
-use crate::asked::Nothing;
-use crate::conditions::Conditions;
 use condition_links::Steps;
 use config_links::LMetric;
+use known_conditions::{Conditions, Nothing};
 use predicate_state::Truth;
 use std::alloc::{AllocError, Global};
 use std::marker::Brand;

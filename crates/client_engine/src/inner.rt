@@ -15,20 +15,17 @@ ghost use Rattle.client_engine.specs.Inners.{OnCalls, OnChanges};
 ghost use Rattle.client_engine.specs.Staying.{truth_kept, is_nothing, is_kept};
 ghost use Rattle.metric_meaning.specs.DurationSteps.{inner_fields};
 ghost use Rattle.client_engine.specs.AskedFew.{AsksOfPlace, AsksOfAll};
-ghost use Rattle.client_engine.specs.Touchers.{tells_one};
+ghost use Rattle.known_conditions.specs.Touchers.{tells_one};
 
 use crate::arriving::key_into;
-use crate::asked::{InnerKey, Nothing};
 use crate::brought::Brought;
-use crate::conditions::Conditions;
-use crate::key_room::{KeyRoom, atom_key_into};
 use crate::slices::tells_one;
 use crate::stays::Stays;
-use crate::tables::event_by;
 use atom_record::{Atom, DimKey, MetricKey};
 use condition_links::Steps;
 use config_links::{LMetric, LPredBody};
 use duration_metric::{InnerChange, InnerDelta, InnerEvent, MaxProducer, SumProducer};
+use known_conditions::{Conditions, InnerKey, KeyRoom, Nothing, atom_key_into, event_by};
 use predicate_state::Truth;
 use sd_base::{Duplicate, Seq};
 use std::alloc::{AllocError, Global};
@@ -99,37 +96,6 @@ impl Inners for MaxProducer {
 
     fn was_told(&self, place: usize, truth: Truth, out: &MetricKey) -> bool {
         MaxProducer::was_told(self, place, truth, out)
-    }
-}
-
-/// What an atom does to the keys of a predicate, if it does something. Its key is made in the room of another one,
-/// which it takes.
-pub fn key_event(
-    alloc: Global,
-    body: &LPredBody,
-    atom: &Atom,
-    matched: &[bool],
-    room: &mut DimKey,
-) -> Result<Option<InnerEvent>, AllocError>
-    ensures { IfOk result (λ event. event
-        ≡ first_event_of (atom_events body.now matched.now atom.now)) }
-{
-    match body {
-        LPredBody::Simple {
-            start,
-            stop,
-            stop_all,
-            dims,
-            spec: _,
-        } => match event_by(*start, *stop, *stop_all, matched) {
-            Some(event) => {
-                let mut key = mem::replace(room, DimKey::new(alloc));
-                atom_key_into(alloc, dims, atom, &mut key)?;
-                Ok(Some(InnerEvent { event, key }))
-            }
-            None => Ok(None),
-        },
-        LPredBody::Combo { .. } => Ok(None),
     }
 }
 

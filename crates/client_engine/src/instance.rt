@@ -10,7 +10,6 @@ mod saved;
 
 use crate::alarms::alarms_of;
 use crate::brought::Brought;
-use crate::conditions::Conditions;
 use crate::listeners::Listeners;
 use crate::opening::Opening;
 use crate::parts::{Drops, tree_of};
@@ -20,6 +19,7 @@ use crate::tracks::Tracks;
 use atom_record::LogFrame;
 use condition_links::Steps;
 use config_links::{LAlert, LMatcher, LState, Linked};
+use known_conditions::Conditions;
 use parts::Parts;
 use pull_book::PullBook;
 use report_writer::ReportTree;
@@ -89,7 +89,7 @@ impl Instance {
     ghost use Rattle.config_links.specs.SoundConfig.{IsSoundConfig};
     ghost use Rattle.report_writer.specs.Writable.{IsWritableReport};
     ghost use Rattle.session_frames.specs.Faultless.{IsFaultlessLog};
-    ghost use Rattle.client_engine.specs.Known.{drops_in};
+    ghost use Rattle.known_conditions.specs.Known.{drops_in};
     ghost use Rattle.client_engine.specs.Asleep.{IsCaughtUp};
     ghost use Rattle.client_engine.specs.InstanceParts.{AreStateDrops};
     ghost use Rattle.client_engine.specs.InstanceStands.{IsFresh, Logs, AsksAtMost, Reports};

@@ -7,16 +7,15 @@ ghost use Rattle.metric_lane.specs.LaneClock.{NoEndBefore};
 ghost use Rattle.report_writer.specs.Writable.{IsWritableMetric};
 ghost use Rattle.client_engine.specs.NextSteps.{TakesReport};
 ghost use Rattle.client_engine.specs.AskedFew.{LaneAsksFew};
-ghost use Rattle.client_engine.specs.Bringing.{TakesBroughtWhile};
+ghost use Rattle.client_engine.specs.Bringing.{LaneTakes};
 ghost use Rattle.client_engine.specs.CaughtUp.{TakesRun};
 ghost use Rattle.client_engine.specs.Opens.{CanOpen, StandsAtFirst};
 ghost use Rattle.client_engine.specs.Finding.{CanBeBrought};
 ghost use Rattle.client_engine.specs.TrackStands.{LaneAlong};
-ghost use Rattle.client_engine.specs.Tracks.{CanBeTracked};
+ghost use Rattle.client_engine.specs.Tracks.{CanBeTracked, AsksWithin};
 ghost use Rattle.client_engine.specs.Woken.{clock_of_lane};
 
-use crate::brought::Brought;
-use crate::conditions::Conditions;
+use crate::brought::{Brought, Taker};
 use crate::kinds::counts::CountLane;
 use crate::kinds::{counts, events, gauges, longest, pulled_gauges, pulled_values, sums, values};
 use crate::opening::Opening;
@@ -26,6 +25,7 @@ use condition_links::Steps;
 use config_links::{LKind, LMetric};
 use duration_metric::{MaxProducer, SumProducer};
 use gauge_metric::{EventProducer, PulledGauge, PushedGauge};
+use known_conditions::Conditions;
 use metric_lane::Lane;
 use report_writer::MetricTree;
 use std::alloc::{AllocError, Global};
@@ -57,40 +57,38 @@ impl MetricLane {
     /// A frame of the log comes, at which the metric is active or isn't.
     pub fn log<L: Ledger>(
         &mut self,
-        metric: &LMetric,
-        is_active: bool,
+        taker: &Taker<'_>,
         brought: &Brought<'_>,
         conditions: &mut Conditions,
         asks: &mut Steps<L>,
     ) -> Result<(), AllocError>
-        requires within { MayBeWithin (length conditions.old.predicates) metric.now.condition }
+        requires within { AsksWithin (length conditions.old.predicates) taker.now.metric.now }
         requires matched { CanBeBrought brought.now }
-        ensures logs { OnOk result (TakesBroughtWhile (LaneAlong metric.now) is_active metric.now
+        ensures logs { OnOk result (LaneTakes LaneAlong taker.now
             conditions.old brought.now self.old self.new) }
         ensures known { conditions.new ≡ conditions.old }
-        ensures asks { LaneAsksFew LaneAlong metric.now conditions.old brought.now self.old asks.old asks.new }
+        ensures asks { LaneAsksFew LaneAlong taker.now.metric.now
+            conditions.old brought.now self.old asks.old asks.new }
     {
         match self {
-            MetricLane::Counts(lane) => counts::log(
-                lane, metric, is_active, brought, conditions, asks,
-            ),
-            MetricLane::Values(lane) => values::log(
-                lane, metric, is_active, brought, conditions, asks,
-            ),
+            MetricLane::Counts(lane) => counts::log(lane, taker, brought, conditions, asks),
+            MetricLane::Values(lane) => values::log(lane, taker, brought, conditions, asks),
             MetricLane::PulledValues(lane) => {
-                pulled_values::log(lane, metric, brought, conditions, asks)
+                pulled_values::log(lane, taker.metric, brought, conditions, asks)
             }
-            MetricLane::Gauges(lane) => gauges::log(
-                lane, metric, is_active, brought, conditions, asks,
-            ),
+            MetricLane::Gauges(lane) => gauges::log(lane, taker, brought, conditions, asks),
             MetricLane::PulledGauges(lane) => {
-                pulled_gauges::log(lane, metric, brought, conditions, asks)
+                pulled_gauges::log(lane, taker.metric, brought, conditions, asks)
             }
-            MetricLane::Events(lane) => events::log(
-                lane, metric, is_active, brought, conditions, asks,
+            MetricLane::Events(lane) => events::log(lane, taker, brought, conditions, asks),
+            MetricLane::Sums(lane) => sums::log(lane, taker.metric, brought, conditions, asks),
+            MetricLane::Longest(lane) => longest::log(
+                lane,
+                taker.metric,
+                brought,
+                conditions,
+                asks,
             ),
-            MetricLane::Sums(lane) => sums::log(lane, metric, brought, conditions, asks),
-            MetricLane::Longest(lane) => longest::log(lane, metric, brought, conditions, asks),
         }
     }
 

@@ -2,15 +2,14 @@
 //! the states by which it would.
 ghost use Rattle.std.specs.Prelude.{◌≡◌, ◌++◌, map, OnOk, IfOk};
 ghost use Rattle.client_engine.specs.Tracks.{metric_in};
-ghost use Rattle.client_engine.specs.Lists.{places_under};
+ghost use Rattle.known_conditions.specs.Lists.{places_under};
 ghost use Rattle.client_engine.specs.Waking.{told_touchers, wakers, told_states, Listens, places_woken, is_told_at};
 
 use crate::brought::Brought;
-use crate::conditions::Conditions;
-use crate::lists::{add_if, find_matched, list_under};
 use crate::track::Track;
 use atom_record::LogFrame;
 use config_links::{LKind, LMetric, LSlice, LState};
+use known_conditions::{Conditions, add_if, find_matched, list_under};
 use sd_base::Seq;
 use std::alloc::{AllocError, Global};
 

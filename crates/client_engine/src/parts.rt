@@ -12,12 +12,12 @@ ghost use Rattle.client_engine.specs.InstanceParts.{tree_with};
 
 use crate::alarms::AlarmsShown;
 use crate::brought::Brought;
-use crate::conditions::Conditions;
 use crate::opening::Opening;
 use crate::request::ReportRequest;
 use crate::track::Track;
 use condition_links::Steps;
 use config_links::LMetric;
+use known_conditions::Conditions;
 use report_writer::{Drop64, MetricTree, ReportTree};
 use sd_base::Seq;
 use std::alloc::{AllocError, Global};

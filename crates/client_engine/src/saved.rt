@@ -2,6 +2,5 @@
 
 pub mod kinds;
 pub mod lanes;
-pub mod lists;
 pub mod tables;
 pub mod tracks;

@@ -2,13 +2,13 @@
 ghost use Rattle.std.specs.Prelude.{◌≡◌, ◌++◌, slice_get, OnOk, IfOk};
 ghost use Rattle.metric_meaning.specs.StateSlices.{state_key};
 ghost use Rattle.client_engine.specs.Keying.{OnSlice, OnSlices};
-ghost use Rattle.client_engine.specs.Touchers.{is_told_by, tells_one};
+ghost use Rattle.known_conditions.specs.Touchers.{is_told_by, tells_one};
 
-use crate::asked::Asked;
 use crate::brought::Brought;
 use atom_record::{DimKey, Slice};
 use config_links::{LSlice, LState};
 use field_select::FieldSet;
+use known_conditions::Asked;
 use sd_base::Seq;
 use state_slicer::slice;
 use std::alloc::{AllocError, Global};

@@ -9,7 +9,7 @@ ghost use Rattle.pull_book.specs.PullItems.{HoldsSoundAtoms};
 ghost use Rattle.metric_meaning.specs.Histories.{Installation};
 ghost use Rattle.metric_meaning.specs.SnapshotSteps.{pulled_matcher, snapshot_found};
 ghost use Rattle.metric_calls.specs.SnapshotCalls.{is_told_of};
-ghost use Rattle.client_engine.specs.Known.{Known};
+ghost use Rattle.known_conditions.specs.Known.{Known};
 ghost use Rattle.client_engine.specs.Opens.{IsOpeningOf};
 ghost use Rattle.client_engine.specs.Finding.{MayAsk, CanBeMeant, meant_in, found_among};
 

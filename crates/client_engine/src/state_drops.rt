@@ -6,8 +6,8 @@ ghost use Rattle.book_meaning.specs.Snapshots.{same_atom_id};
 ghost use Rattle.metric_meaning.specs.StateDrops.{told_ids, drop_of_id, drops_of_states, dropped_for};
 ghost use Rattle.client_engine.specs.Handed.{OnLog};
 
-use crate::tables::add_if_any;
 use config_links::LState;
+use known_conditions::add_if_any;
 use report_writer::Drop64;
 use sd_base::Seq;
 use state_slicer::StateBook;

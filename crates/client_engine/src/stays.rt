@@ -2,16 +2,15 @@
 ghost use Rattle.std.specs.Prelude.{◌≡◌};
 ghost use Rattle.metric_meaning.specs.Touched.{acts_below};
 ghost use Rattle.client_engine.specs.Staying.{stays_by, stays_apart, stays_untold, first_asked, is_nothing, is_kept};
-ghost use Rattle.client_engine.specs.Touchers.{tells_one};
+ghost use Rattle.known_conditions.specs.Touchers.{tells_one};
 
-use crate::asked::InnerKey;
 use crate::brought::Brought;
-use crate::conditions::Conditions;
 use crate::slices::tells_one;
 use crate::told::Told;
 use crate::turn::Turn;
 use atom_record::Atom;
 use config_links::LMetric;
+use known_conditions::{Conditions, InnerKey};
 
 /// What is known of an atom before it acts on inner keys: how many are listed, the key of the condition that it turns,
 /// if it is one alone, and the key whose state it tells, if it tells one.

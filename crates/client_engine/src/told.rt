@@ -6,14 +6,13 @@ ghost use Rattle.metric_meaning.specs.Readings.{key_reading};
 ghost use Rattle.metric_meaning.specs.StateSlices.{state_key};
 ghost use Rattle.client_engine.specs.Telling.{IsKeyTold, decides_slice, decides_inner};
 
-use crate::asked::InnerKey;
 use crate::brought::Brought;
-use crate::conditions::Conditions;
 use crate::slices::tells_one;
 use atom_record::{Atom, DimKey};
 use condition_links::reads_as;
 use config_links::{LMetric, LSlice, LState};
 use field_select::FieldSet;
+use known_conditions::{Conditions, InnerKey};
 use state_slicer::{resets_states, told_key};
 use std::alloc::AllocError;
 

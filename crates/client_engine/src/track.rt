@@ -16,14 +16,14 @@ ghost use Rattle.client_engine.specs.Tracks.{CanBeTracked};
 ghost use Rattle.client_engine.specs.Woken.{IsDue};
 
 use crate::activity::{book_of, hear};
-use crate::brought::Brought;
-use crate::conditions::Conditions;
+use crate::brought::{Brought, Taker};
 use crate::lanes::{MetricLane, lane_of};
 use crate::opening::Opening;
 use crate::request::ReportRequest;
 use alert_watch::AlertWatch;
 use condition_links::Steps;
 use config_links::LMetric;
+use known_conditions::Conditions;
 use metric_activation::ActBook;
 use report_writer::MetricTree;
 use std::alloc::{AllocError, Global};
@@ -76,7 +76,8 @@ impl Track {
     {
         let Track { metric, lane, acts } = self;
         let is_active = hear(acts, metric, brought);
-        lane.log(metric, is_active, brought, conditions, asks)
+        let taker = Taker { metric, is_active };
+        lane.log(&taker, brought, conditions, asks)
     }
 
     /// The one frame comes that stands for a run which leaves the metric alone: the lane crosses what that crosses.

@@ -7,12 +7,11 @@ ghost use Rattle.config_links.specs.declared.linked.LLink.{LLink};
 ghost use Rattle.predicate_state.specs.PredicateStates.{is_of_one};
 ghost use Rattle.client_engine.specs.Turning.{IsTurn, asks_for_turn};
 
-use crate::asked::InnerKey;
-use crate::conditions::Conditions;
 use atom_record::{Atom, DimKey};
 use condition_links::asks_for;
 use config_links::{LLink, LMetric};
 use duration_metric::InnerEvent;
+use known_conditions::{Conditions, InnerKey};
 use predicate_state::PredEvent;
 use std::alloc::{AllocError, Global};
 

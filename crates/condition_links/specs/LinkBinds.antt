@@ -4,6 +4,7 @@ use Rattle.std.specs.List.{zip}
 use Rattle.std.specs.Option.{option_and_then}
 use Rattle.atom_record.specs.declared.value.Leaf.{Leaf}
 use Rattle.atom_record.specs.declared.value.Leaf.TheVariants.{Missing}
+use Rattle.config_links.specs.declared.linked.LLink.{LLink}
 use Rattle.field_select.specs.declared.leaf.LeafPath.{LeafPath}
 use Rattle.field_select.specs.declared.leaf.FieldSet.{FieldSet}
 use Rattle.field_select.specs.FieldSets.{same_leaf}
@@ -30,6 +31,10 @@ value_at_leaf leaves values leaf =
 -- the values that a key of one set has at the leaves of another
 abbrev pub key_values_at : FieldSet → List Leaf → FieldSet → List Leaf
 key_values_at inner key set = map (value_at_leaf inner.leaves key) set.leaves
+
+-- what a link asks for a key of another predicate, whose values are those of the leaves of a set
+abbrev pub binds_for_key : LLink → FieldSet → List Leaf → List Bind
+binds_for_key link inner key = binds_of link.places (key_values_at inner key link.in_what)
 
 -- one bind more, where a place is left
 abbrev pub with_next : Option ℕ → Leaf → List Bind → List Bind

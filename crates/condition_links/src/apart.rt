@@ -5,7 +5,7 @@ ghost use Rattle.atom_record.specs.Sparse.{not_missing};
 ghost use Rattle.atom_record.specs.declared.value.Leaf.{Leaf};
 ghost use Rattle.predicate_state.specs.PredicateTable.{same_leaves};
 ghost use Rattle.predicate_state.specs.PredicateTruths.{agrees, is_leaf};
-ghost use Rattle.condition_links.specs.LinkBinds.{binds_of, value_at_leaf, key_values_at};
+ghost use Rattle.condition_links.specs.LinkBinds.{binds_of, binds_for_key, value_at_leaf, key_values_at};
 
 use crate::links::first_place;
 use atom_record::{DimKey, Leaf};
@@ -15,8 +15,7 @@ use field_select::{FieldSet, LeafPath};
 /// Whether a key of a link's predicate has all that the link asks for a key of another predicate, whose values are
 /// those of the leaves of `inner`.
 pub fn asks_for(link: &LLink, inner: &FieldSet, key: &DimKey, other: &DimKey) -> bool
-    ensures { result ≡ agrees (binds_of link.now.places
-        (key_values_at inner.now key.now link.now.in_what)) other.now }
+    ensures { result ≡ agrees (binds_for_key link.now inner.now key.now) other.now }
 {
     let places = link.places.as_slice();
     let leaves = link.in_what.leaves.as_slice();
@@ -33,7 +32,7 @@ pub fn reads_as(inner: &FieldSet, key: &DimKey, set: &FieldSet, read: &DimKey) -
 // Whether these are the values that a key of some leaves has at others.
 fn are_values(inner: &[LeafPath], key: &DimKey, leaves: &[LeafPath], read: &DimKey) -> bool
     ensures { result
-        ≡ same_leaves read.now (map (λ leaf. value_at_leaf inner.now key.now leaf) leaves.now) }
+        ≡ same_leaves read.now (map (value_at_leaf inner.now key.now) leaves.now) }
 {
     if read.len() != leaves.len() {
         return false;
@@ -58,7 +57,7 @@ fn have_values(
     places: &[u32],
 ) -> bool
     ensures { result ≡ agrees (binds_of places.now
-        (map (λ leaf. value_at_leaf inner.now key.now leaf) leaves.now)) other.now }
+        (map (value_at_leaf inner.now key.now) leaves.now)) other.now }
 {
     for turn in 0..leaves.len() {
         let Some(leaf) = leaves.get(turn) else {

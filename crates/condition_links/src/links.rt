@@ -4,7 +4,7 @@ ghost use Rattle.std.specs.Option.{option_copied};
 ghost use Rattle.atom_record.specs.declared.value.Leaf.TheVariants.{One};
 ghost use Rattle.field_select.specs.FieldSets.{same_leaf};
 ghost use Rattle.field_select.specs.LeafValues.{key_of};
-ghost use Rattle.condition_links.specs.LinkBinds.{binds_of, with_next, leaf_or_missing, value_at_leaf, key_values_at};
+ghost use Rattle.condition_links.specs.LinkBinds.{key_values_at, binds_of, binds_for_key, with_next, leaf_or_missing, value_at_leaf};
 
 use atom_record::{Atom, DimKey, Leaf, Value};
 use config_links::LLink;
@@ -49,7 +49,7 @@ pub fn bind_key(
     key: &DimKey,
 ) -> Result<BindList, AllocError>
     ensures { IfOk result (λ binds.
-        binds ≡ binds_of link.now.places (key_values_at inner.now key.now link.now.in_what)) }
+        binds ≡ binds_for_key link.now inner.now key.now) }
 {
     let mut binds = Seq::new(alloc);
     bind_key_into(alloc, link, inner, key, &mut binds)?;
@@ -65,7 +65,7 @@ pub fn bind_key_into(
     binds: &mut BindList,
 ) -> Result<(), AllocError>
     ensures { OnOk result
-        (binds.new ≡ binds_of link.now.places (key_values_at inner.now key.now link.now.in_what)) }
+        (binds.new ≡ binds_for_key link.now inner.now key.now) }
 {
     let leaves = inner.leaves.as_slice();
     let table = table_of(alloc, leaves)?;
@@ -93,7 +93,7 @@ fn bind_values_at(
 ) -> Result<(), AllocError>
     requires { IfSome table.now (λ those. those ≡ leaves.now) }
     ensures { OnOk result (binds.new
-        ≡ binds_of places.now (map (λ leaf. value_at_leaf leaves.now values.now leaf) others.now)) }
+        ≡ binds_of places.now (map (value_at_leaf leaves.now values.now) others.now)) }
 {
     binds.clear();
     for leaf in others {

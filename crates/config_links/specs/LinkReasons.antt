@@ -1,5 +1,5 @@
 -- What a matcher, a predicate or a state can't be: each reason with its test.
-use Rattle.std.specs.Prelude.{ℕ, ℤ, pos, ◌==◌, Bool, true, false, not, List, [], ◌∷◌, length, Option, Some, None, is_none}
+use Rattle.std.specs.Prelude.{ℕ, ℤ, pos, ◌==◌, Bool, true, false, not, List, [], ◌∷◌, length, Option, Some, None, Result, is_none}
 use Rattle.std.specs.Option.{option_map, unwrap_or}
 use Rattle.std.specs.List.{list_all}
 use Rattle.config_types.specs.declared.fields.FieldMatcher.{FieldMatcher}
@@ -17,7 +17,8 @@ use Rattle.field_select.specs.declared.leaf.FieldSet.{FieldSet}
 use Rattle.field_select.specs.declared.leaf.LeafPath.{LeafPath}
 use Rattle.field_select.specs.WellFormed.{is_well_formed, set_of}
 use Rattle.link_rules.specs.declared.fault.LinkFault.{LinkFault}
-use Rattle.link_rules.specs.LinkFaults.{fault, first_reason}
+use Rattle.link_rules.specs.declared.fault.LinkError.{LinkError}
+use Rattle.link_rules.specs.LinkFaults.{fault, first_reason, PassesTest}
 use Rattle.config_links.specs.declared.reasons.Reason.{Reason}
 use Rattle.config_links.specs.declared.reasons.Reason.TheVariants.{NoBody, BadCombination, NoAtom, BadTest, BadFields, UnevenLink, LinkNotAsked, LinkOutside, NoWhat, NotTimed, TimedOutside, BadStateLink, BadSlices, NoValue, BadDiff, PulledLinks, NoFilter, BadSampling, UnknownHidden, BadActivation, PulledActivation, BadAlert, NotCounted}
 
@@ -54,6 +55,14 @@ reason_number NotCounted = 23
 -- the fault of an entity of this id for a reason
 abbrev pub type_fault : Option ℤ → Reason → LinkFault
 type_fault id reason = fault bad_type (reason_number reason) (unwrap_or id (pos 0))
+
+-- the call answers these sets where the trees of the entity of this id may stand, and else names its bad fields
+abbrev pub HasSets : {T : Type 0} → Result T LinkError → Option ℤ → Bool → T → Type 0
+HasSets result id stand sets = PassesTest result stand (type_fault id BadFields) sets
+
+-- the call answers what is wanted where the leaves of the entity of this id are among those, and else names its link
+abbrev pub StaysInside : {T : Type 0} → Result T LinkError → Option ℤ → Bool → T → Type 0
+StaysInside result id inside wanted = PassesTest result inside (type_fault id LinkOutside) wanted
 
 -- the fault of an entity of this id, for the first reason whose test holds; they stand by their numbers
 abbrev pub least_reason : Option ℤ → List (Reason × Bool) → Option LinkFault

@@ -75,6 +75,10 @@ is_one_of atom leaves own leaf = (own == atom) && list_any (same_leaf leaf) leav
 abbrev pub are_one_of : ℕ → List LeafPath → FieldSet → Bool
 are_one_of atom leaves set = list_all (is_one_of atom leaves set.atom_id) set.leaves
 
+-- of each of these the set is of these leaves, and of the same atom
+abbrev pub are_all_of : {S : Type 0} → (S → FieldSet) → ℕ → List LeafPath → List S → Bool
+are_all_of set_of atom leaves holders = list_all (λ holder. are_one_of atom leaves (set_of holder)) holders
+
 -- the dimensions of a predicate, in a table
 abbrev pub table_of : FieldSet → DimsTable
 table_of set = record { atom_id = set.atom_id; leaves = set.leaves }
@@ -107,6 +111,11 @@ rising_places count named = filter (λ place. list_any (nat_eq place) named) (ra
 abbrev pub leaf_bound : List ℕ → List LeafPath → ℕ → LeafPath
 leaf_bound named leaves place = slice_index_or leaves (unwrap_or (first_place (nat_eq place) named) 0) no_leaf
 
+-- the leaves that have their turns where places are named, of so many, and those places in rising order
+abbrev pub leaves_and_places : ℕ → List ℕ → List LeafPath → List LeafPath × List ℕ
+leaves_and_places count named leaves =
+    (map (leaf_bound named leaves) (rising_places count named), rising_places count named)
+
 -- the places that a link's leaves are bound to, in rising order
 abbrev pub bound_places : Scope → LinkSets → List ℕ
 bound_places scope sets = rising_places (length (link_dims scope sets).leaves) (link_places scope sets)
@@ -114,6 +123,10 @@ bound_places scope sets = rising_places (length (link_dims scope sets).leaves) (
 -- the leaves of what is counted, in the order of their places
 abbrev pub bound_leaves : Scope → LinkSets → List LeafPath
 bound_leaves scope sets = map (leaf_bound (link_places scope sets) sets.in_what.leaves) (bound_places scope sets)
+
+-- the leaves and the places of a link
+abbrev pub bound_parts : Scope → LinkSets → List LeafPath × List ℕ
+bound_parts scope sets = (bound_leaves scope sets, bound_places scope sets)
 
 -- a link, with the place of its predicate; its leaves stand in the order of the predicate's dimensions that they are
 -- bound to

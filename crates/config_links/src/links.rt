@@ -1,10 +1,9 @@
 //! Links of a metric to predicates.
 ghost use Rattle.std.specs.Prelude.{◌≡◌, map, slice_index_or, None};
 ghost use Rattle.std.specs.List.{list_all};
-ghost use Rattle.link_rules.specs.LinkFaults.{Links, PassesTest};
-ghost use Rattle.config_links.specs.declared.reasons.Reason.TheVariants.{LinkOutside};
-ghost use Rattle.config_links.specs.LinkReasons.{type_fault, no_leaf};
-ghost use Rattle.config_links.specs.MetricLinks.{is_even, is_bound, leaf_bound, rising_places, bound_leaves, bound_places, linked_link};
+ghost use Rattle.link_rules.specs.LinkFaults.{Links};
+ghost use Rattle.config_links.specs.LinkReasons.{StaysInside, no_leaf};
+ghost use Rattle.config_links.specs.MetricLinks.{is_even, is_bound, leaves_and_places, bound_parts, linked_link};
 
 use crate::LLink;
 use crate::scope::Scope;
@@ -42,10 +41,7 @@ fn put_in_order(
     named: &[u32],
     leaves: &[LeafPath],
 ) -> Result<(Seq<LeafPath>, Seq<u32>), LinkError>
-    ensures { Links result None (
-      map (leaf_bound named.now leaves.now) (rising_places count named.now),
-      rising_places count named.now,
-    ) }
+    ensures { Links result None (leaves_and_places count named.now leaves.now) }
 {
     let turns = table_of(alloc, named)?;
     let mut ordered = Seq::new(alloc);
@@ -77,8 +73,7 @@ fn bind_leaves(
     id: Option<i64>,
     sets: &LinkSets,
 ) -> Result<(Seq<LeafPath>, Seq<u32>), LinkError>
-    ensures { PassesTest result (is_bound scope.now sets.now) (type_fault id LinkOutside)
-        (bound_leaves scope.now sets.now, bound_places scope.now sets.now) }
+    ensures { StaysInside result id (is_bound scope.now sets.now) (bound_parts scope.now sets.now) }
 {
     let table = scope.dims_of(alloc, sets.condition.unwrap_or(0))?;
     let named = table.places_in(alloc, id, &sets.in_condition)?;
@@ -98,8 +93,7 @@ fn link_in(
     id: Option<i64>,
     sets: LinkSets,
 ) -> Result<LLink, LinkError>
-    ensures { PassesTest result (is_bound scope.now sets) (type_fault id LinkOutside)
-        (linked_link scope.now sets) }
+    ensures { StaysInside result id (is_bound scope.now sets) (linked_link scope.now sets) }
 {
     let (leaves, places) = bind_leaves(alloc, scope, id, &sets)?;
     Ok(LLink {
@@ -119,7 +113,7 @@ pub fn links_in(
     id: Option<i64>,
     links: Seq<LinkSets>,
 ) -> Result<Seq<LLink>, LinkError>
-    ensures { PassesTest result (list_all (is_bound scope.now) links) (type_fault id LinkOutside)
+    ensures { StaysInside result id (list_all (is_bound scope.now) links)
         (map (linked_link scope.now) links) }
 {
     let mut linked = Seq::new(alloc);

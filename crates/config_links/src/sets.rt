@@ -1,9 +1,7 @@
 //! The leaves that the trees of a metric mean.
-ghost use Rattle.std.specs.Prelude.{◌≡◌, map};
+ghost use Rattle.std.specs.Prelude.{map};
 ghost use Rattle.std.specs.List.{list_all};
-ghost use Rattle.link_rules.specs.LinkFaults.{PassesTest};
-ghost use Rattle.config_links.specs.declared.reasons.Reason.TheVariants.{BadFields};
-ghost use Rattle.config_links.specs.LinkReasons.{type_fault, may_stand, set_or_none};
+ghost use Rattle.config_links.specs.LinkReasons.{HasSets, may_stand, set_or_none};
 ghost use Rattle.config_links.specs.MetricTrees.{link_stands, state_link_stands, own_tree, metric_stands, sets_of_link, sets_of_state_link, metric_sets};
 
 use crate::reasons::set_in;
@@ -41,8 +39,7 @@ pub struct MetricSets {
 
 // The sets of a link, in a metric of this id.
 fn link_in(alloc: Global, id: Option<i64>, link: &LinkDef) -> Result<LinkSets, LinkError>
-    ensures { PassesTest result (link_stands link.now)
-        (type_fault id BadFields) (sets_of_link link.now) }
+    ensures { HasSets result id (link_stands link.now) (sets_of_link link.now) }
 {
     let in_what = set_in(alloc, id, &link.in_what)?;
     let in_condition = set_in(alloc, id, &link.in_condition)?;
@@ -55,7 +52,7 @@ fn link_in(alloc: Global, id: Option<i64>, link: &LinkDef) -> Result<LinkSets, L
 
 // The sets of all links.
 fn links_in(alloc: Global, id: Option<i64>, links: &[LinkDef]) -> Result<Seq<LinkSets>, LinkError>
-    ensures { PassesTest result (list_all link_stands links.now) (type_fault id BadFields)
+    ensures { HasSets result id (list_all link_stands links.now)
         (map sets_of_link links.now) }
 {
     let mut sets = Seq::new(alloc);
@@ -71,7 +68,7 @@ fn state_link_in(
     id: Option<i64>,
     link: &StateLinkDef,
 ) -> Result<StateLinkSets, LinkError>
-    ensures { PassesTest result (state_link_stands link.now) (type_fault id BadFields)
+    ensures { HasSets result id (state_link_stands link.now)
         (sets_of_state_link link.now) }
 {
     let in_what = set_in(alloc, id, &link.in_what)?;
@@ -89,7 +86,7 @@ fn state_links_in(
     id: Option<i64>,
     links: &[StateLinkDef],
 ) -> Result<Seq<StateLinkSets>, LinkError>
-    ensures { PassesTest result (list_all state_link_stands links.now) (type_fault id BadFields)
+    ensures { HasSets result id (list_all state_link_stands links.now)
         (map sets_of_state_link links.now) }
 {
     let mut sets = Seq::new(alloc);
@@ -101,7 +98,7 @@ fn state_links_in(
 
 // The set of the tree that a kind of metric has of its own.
 fn own_set(alloc: Global, id: Option<i64>, kind: &Kind) -> Result<FieldSet, LinkError>
-    ensures { PassesTest result (may_stand (own_tree kind.now)) (type_fault id BadFields)
+    ensures { HasSets result id (may_stand (own_tree kind.now))
         (set_or_none (own_tree kind.now)) }
 {
     match kind {
@@ -113,8 +110,7 @@ fn own_set(alloc: Global, id: Option<i64>, kind: &Kind) -> Result<FieldSet, Link
 
 /// The sets of a metric.
 pub fn sets_in(alloc: Global, metric: &Metric) -> Result<MetricSets, LinkError>
-    ensures { PassesTest result (metric_stands metric.now)
-        (type_fault metric.now.common.id BadFields)
+    ensures { HasSets result metric.now.common.id (metric_stands metric.now)
         (metric_sets metric.now) }
 {
     let id = metric.common.id;

@@ -3,7 +3,7 @@ ghost use Rattle.std.specs.Prelude.{◌≡◌, map, None, IfOk};
 ghost use Rattle.std.specs.List.{list_all, list_any};
 ghost use Rattle.link_rules.specs.LinkFaults.{Links};
 ghost use Rattle.link_rules.specs.EntityIds.{set_ids};
-ghost use Rattle.config_links.specs.MetricLinks.{are_as_many, are_one_of};
+ghost use Rattle.config_links.specs.MetricLinks.{are_as_many, are_all_of};
 ghost use Rattle.config_links.specs.MetricSlices as words;
 
 use crate::metrics::MetricParts;
@@ -30,8 +30,8 @@ fn can_time(scope: &Scope, kind: &Kind, what: i64) -> bool
 
 // Whether the fields of each link are among these dimensions.
 fn cover_links(table: &DimsTable, links: &[LLink]) -> bool
-    ensures { result ≡ list_all (λ (link : LLink).
-        are_one_of table.now.atom_id table.now.leaves link.in_what) links.now }
+    ensures { result ≡ are_all_of (λ (link : LLink). link.in_what)
+        table.now.atom_id table.now.leaves links.now }
 {
     for link in links {
         if !table.covers(&link.in_what) {
@@ -43,8 +43,8 @@ fn cover_links(table: &DimsTable, links: &[LLink]) -> bool
 
 // Whether the fields of each state link are among these dimensions.
 fn cover_state_links(table: &DimsTable, links: &[StateLinkSets]) -> bool
-    ensures { result ≡ list_all (λ (sets : StateLinkSets).
-        are_one_of table.now.atom_id table.now.leaves sets.in_what) links.now }
+    ensures { result ≡ are_all_of (λ (sets : StateLinkSets). sets.in_what)
+        table.now.atom_id table.now.leaves links.now }
 {
     for sets in links {
         if !table.covers(&sets.in_what) {

@@ -1,17 +1,20 @@
 -- What a pushed gauge stands for.
-use Rattle.std.specs.Prelude.{◌≡◌, ℕ, ◌+◌, ◌≤◌, nat_lt, if◌then◌else◌, List, [], ◌∷◌, ◌++◌, map, take, length}
+use Rattle.std.specs.Prelude.{◌≡◌, ℕ, ◌+◌, ◌≤◌, nat_lt, if◌then◌else◌, List, [], ◌∷◌, ◌++◌, map, take, length, slice_get, Some}
 use Rattle.std.specs.List.{AllByRecursion}
+use Rattle.std.specs.Map.{values_of}
 use Rattle.atom_record.specs.declared.atom.Atom.{Atom}
 use Rattle.atom_record.specs.declared.value.MetricKey.{MetricKey}
-use Rattle.dim_table.specs.Table.{Table}
-use Rattle.kept_rows.specs.KeptRows.{IsKept}
+use Rattle.dim_table.specs.Table.{Table, with_value_at}
+use Rattle.kept_rows.specs.KeptRows.{Keeping, IsKept, AddsRows}
 use Rattle.bucket_meaning.specs.Marks.{Ends, Books}
 use Rattle.bucket_meaning.specs.Guard.{admitted, of_key, arrival_key}
 use Rattle.bucket_meaning.specs.Kept.{count_in_u64}
 use Rattle.bucket_meaning.specs.Rows.{drops, closed_rows}
 use Rattle.bucket_meaning.specs.Meaning.{mark_on, books_by}
 use Rattle.metric_producer.specs.declared.row.Row.{Row}
+use Rattle.metric_producer.specs.Calls.{Got}
 use Rattle.metric_producer.specs.Collecting.{calls_mean, Law}
+use Rattle.metric_producer.specs.Moves.{Moves}
 use Rattle.metric_kinds.specs.Keys.{is_same_key}
 use Rattle.metric_kinds.specs.Gauges.{samples_weight, gauge_kind}
 use Rattle.gauge_metric.specs.declared.gauge.KeyedAtom.{KeyedAtom}
@@ -52,6 +55,23 @@ HaveSamples rows = AllByRecursion (λ (row : MetricKey × List Atom). 1 ≤ leng
 abbrev pub sample_row : ℕ → ℕ → MetricKey × List Atom → Row (List Atom)
 sample_row start end entry = record { key = entry.0; start = start; end = end; value = entry.1 }
 
+-- the row at a place has one more sample
+abbrev pub SamplesAt : ℕ → ℕ → Atom → Table MetricKey (List Atom) → Table MetricKey (List Atom) → Type 0
+SamplesAt samples place atom old new =
+    (was : List Atom) → slice_get (values_of old.rows) place ≡ Some was
+    → new ≡ with_value_at old place (with_sample samples was atom)
+
+-- the row at a place takes no more samples
+abbrev pub IsFullAt : ℕ → Table MetricKey (List Atom) → ℕ → Type 0
+IsFullAt samples table place =
+    (was : List Atom) → slice_get (values_of table.rows) place ≡ Some was → samples ≤ length was
+
+-- rows of a part with these samples were added, where each of them has a sample
+abbrev pub AddsSampled : ℕ → ℕ → List (MetricKey × List Atom) → Keeping (Row (List Atom)) → Keeping (Row (List Atom))
+    → Type 0
+AddsSampled start end sampled old new =
+    HaveSamples sampled → AddsRows samples_weight old new (map (sample_row start end) sampled)
+
 -- the gauge holds these books
 pub record HasGauge (it : PushedGauge) (params : GaugeParams) (books : Books (MetricKey × Atom)) : Type 0 where
   pub bound : it.table.bound ≡ params.bound
@@ -70,6 +90,10 @@ GaugeStandsFor it params calls = HasGauge it params (books_by (calls_mean gauge_
 abbrev pub gauge_law
     : Law PushedGauge GaugeParams KeyedAtom (Unit {0}) (MetricKey × Atom) MetricKey Atom (Row (List Atom))
 gauge_law = record { stands = GaugeStandsFor; collecting = gauge_collecting }
+
+-- whatever the gauge stood for, it stands for that and an atom that comes with this key, as it is
+abbrev pub LetsKeyGo : PushedGauge → MetricKey → Type 0
+LetsKeyGo gauge key = (at : ℕ) (atom : Atom) → Moves gauge_law gauge gauge (Got at (record { key = key; atom = atom }))
 
 -- whatever books the old one holds, the new one holds them after one more part is closed
 abbrev pub ClosesGauge : PushedGauge → PushedGauge → ℕ → Type 0

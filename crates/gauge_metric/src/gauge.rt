@@ -1,16 +1,9 @@
 //! The first samples of logged atoms, by key.
-ghost use Rattle.std.specs.Prelude.{◌≡◌, ℕ, ◌*◌, ◌<◌, ◌≤◌, List, [], map, Some, slice_get, length, OnOk, OnErr, IsTrue};
-ghost use Rattle.std.specs.Map.{values_of};
-ghost use Rattle.atom_record.specs.declared.atom.Atom.{Atom};
+ghost use Rattle.std.specs.Prelude.{◌≡◌, ◌*◌, ◌<◌, ◌≤◌, [], OnOk, OnErr, IsTrue};
 ghost use Rattle.bucket_meaning.specs.Limits.{longest_bucket, time_limit, most_keys};
 ghost use Rattle.bucket_meaning.specs.Kept.{most_weight};
-ghost use Rattle.dim_table.specs.Table.{with_value_at};
-ghost use Rattle.kept_rows.specs.KeptRows.{AddsRows};
-ghost use Rattle.metric_producer.specs.Calls.{Got};
-ghost use Rattle.metric_producer.specs.Moves.{Moves};
-ghost use Rattle.metric_kinds.specs.Gauges.{samples_weight};
 ghost use Rattle.gauge_metric.specs.Sampling.{most_key_samples};
-ghost use Rattle.gauge_metric.specs.GaugeStands.{with_sample, sample_row, HaveSamples, TakesSample, GaugeStandsFor, gauge_law, ClosesGauge};
+ghost use Rattle.gauge_metric.specs.GaugeStands.{with_sample, SamplesAt, IsFullAt, AddsSampled, TakesSample, GaugeStandsFor, gauge_law, LetsKeyGo, ClosesGauge};
 
 use crate::memory::Memory;
 use crate::{Closed, Producer, Row};
@@ -69,8 +62,7 @@ impl PushedGauge {
     /// Whether a sample with this key is let go: it would be one past the first of its key in the open part, so that
     /// whatever the gauge stood for, it stands for that and the sample, as it is.
     pub fn lets_go(&self, key: &MetricKey) -> bool
-        ensures { IsTrue result → (at : ℕ) (atom : Atom)
-            → Moves gauge_law self.now self.now (Got at (record { key = key.now; atom = atom })) }
+        ensures { IsTrue result → LetsKeyGo self.now key.now }
     {
         match self.table.place_of(key) {
             Some(place) => self.has_all(place),
@@ -80,9 +72,7 @@ impl PushedGauge {
 
     // Whether there is a row at a place, and it takes no more samples.
     fn has_all(&self, place: usize) -> bool
-        ensures { IsTrue result → (was : List Atom)
-            → slice_get (values_of self.now.table.rows) place ≡ Some was
-            → self.now.samples ≤ length was }
+        ensures { IsTrue result → IsFullAt self.now.samples self.now.table place }
     {
         match self.table.pair(place) {
             Some((_, atoms)) => atoms.len() as u64 >= self.samples,
@@ -107,8 +97,7 @@ pub(crate) fn keep_all(
     end: u64,
     sampled: IntoIter<MetricKey, Seq<Atom>>,
 ) -> Result<(), AllocError>
-    ensures { OnOk result (HaveSamples sampled
-        → AddsRows samples_weight kept.old kept.new (map (sample_row start end) sampled)) }
+    ensures { OnOk result (AddsSampled start end sampled kept.old kept.new) }
 {
     for (key, value) in sampled {
         let row = Row {
@@ -147,9 +136,7 @@ fn sample(
     atom: Atom,
 ) -> Result<(), AllocError>
     ensures bound { OnOk result (table.new.bound ≡ table.old.bound) }
-    ensures added { OnOk result ((was : List Atom)
-        → slice_get (values_of table.old.rows) place ≡ Some was
-        → table.new ≡ with_value_at table.old place (with_sample samples was atom)) }
+    ensures added { OnOk result (SamplesAt samples place atom table.old table.new) }
 {
     if let Some(atoms) = table.value_at(place) {
         push_within(atoms, samples, atom)?;

@@ -1,8 +1,6 @@
 //! The rows of full buckets that each have the samples of the open part.
-ghost use Rattle.std.specs.Prelude.{◌≡◌, map, OnOk, IfOk};
-ghost use Rattle.kept_rows.specs.KeptRows.{AddsRows};
-ghost use Rattle.metric_kinds.specs.Gauges.{samples_weight};
-ghost use Rattle.gauge_metric.specs.GaugeStands.{sample_row, HaveSamples};
+ghost use Rattle.std.specs.Prelude.{◌≡◌, OnOk, IfOk};
+ghost use Rattle.gauge_metric.specs.GaugeStands.{sample_row, AddsSampled};
 ghost use Rattle.gauge_metric.specs.PulledStands.{KeepsAgain};
 
 use crate::Row;
@@ -47,8 +45,7 @@ fn keep_copies(
     start: u64,
     end: u64,
 ) -> Result<(), AllocError>
-    ensures { OnOk result (HaveSamples table.now.rows
-        → AddsRows samples_weight kept.old kept.new (map (sample_row start end) table.now.rows)) }
+    ensures { OnOk result (AddsSampled start end table.now.rows kept.old kept.new) }
 {
     let count = table.len();
     for place in 0..count {

@@ -1,9 +1,6 @@
 //! Samples of a snapshot's atoms, which stays for later moments, so that its atoms are copied.
-ghost use Rattle.std.specs.Prelude.{◌≡◌, Some, List, slice_get, OnOk};
-ghost use Rattle.std.specs.Map.{values_of};
-ghost use Rattle.atom_record.specs.declared.atom.Atom.{Atom};
-ghost use Rattle.dim_table.specs.Table.{with_value_at};
-ghost use Rattle.gauge_metric.specs.GaugeStands.{with_sample, TakesSample};
+ghost use Rattle.std.specs.Prelude.{◌≡◌, OnOk};
+ghost use Rattle.gauge_metric.specs.GaugeStands.{with_sample, SamplesAt, TakesSample};
 ghost use Rattle.gauge_metric.specs.PulledStands.{TakesSamples};
 
 use crate::KeyedAtom;
@@ -61,9 +58,7 @@ fn sample_copy(
     atom: &Atom,
 ) -> Result<(), AllocError>
     ensures bound { OnOk result (table.new.bound ≡ table.old.bound) }
-    ensures added { OnOk result ((was : List Atom)
-        → slice_get (values_of table.old.rows) place ≡ Some was
-        → table.new ≡ with_value_at table.old place (with_sample samples was atom.now)) }
+    ensures added { OnOk result (SamplesAt samples place atom.now table.old table.new) }
 {
     if let Some(atoms) = table.value_at(place) {
         copy_within(atoms, alloc, samples, atom)?;

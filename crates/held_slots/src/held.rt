@@ -6,8 +6,7 @@ ghost use Rattle.config_links.specs.SoundConfig.{named_matchers, IsSoundConfig};
 ghost use Rattle.matcher_truths.specs.MatcherTruths.{named_places, MayBeAsked};
 ghost use Rattle.matcher_table.specs.Slots.{times_among};
 ghost use Rattle.matcher_table.specs.Tables.{outside_uses, result_at};
-ghost use Rattle.matcher_table.specs.Steps.{Interns};
-ghost use Rattle.matcher_table.specs.Contents.{contents_of};
+ghost use Rattle.matcher_table.specs.Contents.{contents_of, GivesSlot};
 ghost use Rattle.held_slots.specs.Holdings.{in_slots, HoldMatchers, IsHeldAt, AreLive};
 ghost use Rattle.held_slots.specs.HoldingSteps.{KeepsLive, AddsUses, ReleasesAll};
 
@@ -114,8 +113,7 @@ fn intern(
 ) -> Result<Slot, AllocError>
     requires askable { MayBeAsked matcher.now }
     requires children { All (IsHeldAt (contents_of table.old) numbers.now) (named_matchers matcher.now) }
-    ensures { IfOk result (λ slot. Interns (contents_of table.old) (in_slots numbers.now matcher.now) slot.number
-        (contents_of table.new)) }
+    ensures { IfOk result (GivesSlot table.old (in_slots numbers.now matcher.now) table.new) }
 {
     match matcher {
         LMatcher::Simple(simple) => table.intern_simple(simple),

@@ -17,7 +17,7 @@ use Rattle.metric_meaning.specs.Histories.{with_step, log_of_history}
 use Rattle.metric_meaning.specs.ShownFrames.{shown_as}
 use Rattle.client_engine.specs.Handed.{BookOfStates}
 use Rattle.hub_meaning.specs.LiveConfigs.{truths_at}
-use Rattle.client_engine.specs.NextSteps.{logged_step}
+use Rattle.known_conditions.specs.Known.{logged_step}
 use Rattle.bucket_meaning.specs.Ends.{Moment}
 use Rattle.heard_ids.specs.Hearing.{heard_ids, hears_all}
 use Rattle.client_engine.specs.InstanceStands.{Running, linked_of, InstanceStandsFor, IsView}

@@ -36,7 +36,8 @@ use Rattle.hub_meaning.specs.LiveConfigs.{with_config, without_id, config_at, li
 use Rattle.hub_meaning.specs.ClientAnswers.{final_report, install_answer, remove_answer, report_answer, reply_of, reply_to}
 use Rattle.hub_meaning.proofs.SessionLogLaws.{own-push_own, own-push_other, log_frames-push, log_frames-own, clock_of-push, clock_of-own}
 use Rattle.hub_meaning.proofs.LiveConfigLaws.{live-push, live_placed, live_distinct, install_bytes-push, install_bytes-new, history_of-push, history_of-new, history_of-log, one_if, config_at-with_config, config_at-without_id, length-with_config, length-without_id, placed_at}
-use Rattle.client_engine.specs.NextSteps.{logged_step, reported_step}
+use Rattle.client_engine.specs.NextSteps.{reported_step}
+use Rattle.known_conditions.specs.Known.{logged_step}
 use Rattle.client_engine.specs.Handed.{BookOfStates}
 use Rattle.client_engine.specs.InstanceStands.{InstanceStandsFor, last_step_time, linked_of, new_history}
 use Rattle.hub_core.specs.declared.books.Books.{Books}

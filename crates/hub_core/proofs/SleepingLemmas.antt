@@ -22,7 +22,8 @@ use Rattle.metric_producer.specs.LaneCalls.{last_at}
 use Rattle.hub_meaning.specs.LiveConfigs.{truths_at}
 use Rattle.client_engine.specs.Asleep.{IsUntouching, AreUntouching, IsCaughtUp}
 use Rattle.client_engine.specs.InstanceStands.{Running, InstanceStandsFor, last_step_time, new_history}
-use Rattle.client_engine.specs.NextSteps.{bare_step, ComeInTime, last_from, logged_step, reported_step}
+use Rattle.client_engine.specs.NextSteps.{bare_step, ComeInTime, last_from, reported_step}
+use Rattle.known_conditions.specs.Known.{logged_step}
 use Rattle.client_engine.specs.declared.request.ReportRequest.{ReportRequest}
 use Rattle.client_engine.proofs.LastStepLemmas.{in_time-push, last_time_grows}
 use Rattle.hub_core.specs.Sleeping.{hears, StandsAsleep, WakesUp}

@@ -12,7 +12,7 @@ use Rattle.metric_meaning.specs.ShownFrames.{shown_as}
 use Rattle.hub_meaning.specs.LiveConfigs.{truths_at}
 use Rattle.bucket_meaning.specs.Ends.{Moment}
 use Rattle.client_engine.specs.InstanceStands.{Running, InstanceStandsFor, last_step_time}
-use Rattle.client_engine.specs.NextSteps.{logged_step}
+use Rattle.known_conditions.specs.Known.{logged_step}
 use Rattle.client_engine.specs.Handed.{BookOfStates}
 use Rattle.state_slicer.specs.StateBooks.{StateBookStandsFor}
 use Rattle.hub_core.specs.Sleeping.{StandsAsleep}

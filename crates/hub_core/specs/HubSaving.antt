@@ -1,5 +1,5 @@
 -- A hub that is awake, what is saved of a hub, and what building one from items answers.
-use Rattle.std.specs.Prelude.{◌≡◌, ◌<◌, ◌^◌, ℤ, Bool, List, length, Option, Some, Result, Ok, Err}
+use Rattle.std.specs.Prelude.{◌≡◌, ◌<◌, ◌^◌, ℤ, Bool, List, length, Option, Some, Result, Ok, Err, OnOk}
 use Rattle.atom_record.specs.declared.atom.Atom.{Atom}
 use Rattle.config_types.specs.declared.matcher.SimpleMatcher.{SimpleMatcher}
 use Rattle.flat_form.specs.Flat.{IsBuilt}
@@ -64,3 +64,8 @@ module _ (says : SimpleMatcher → Atom → Bool) where
     pub stands : HubStandsFor says hub frames
     pub awake : (uid id : ℤ) → IsAwake uid (own uid frames) (slot_at (live_id uid id) hub.lives.slots.entries)
         (config_at id (live (own uid frames)))
+
+  -- whatever frames the old hub stands for, the new one does, and nothing sleeps, if it is so
+  abbrev pub WakesAll : {J E : Type 0} → Hub J → Hub J → Result Unit E → Type 0
+  WakesAll old new result =
+      (frames : List Frame) → HubStandsFor says old frames → OnOk result (HubStandsAwake new frames)

@@ -1,5 +1,5 @@
 -- What the hub of all clients stands for.
-use Rattle.std.specs.Prelude.{◌≡◌, ℕ, ℤ, Bool, false, List, [], ◌∷◌, ◌++◌, length, Option, Some, None, Result, IfOk}
+use Rattle.std.specs.Prelude.{◌≡◌, ℕ, ℤ, Bool, false, List, [], ◌∷◌, ◌++◌, length, Option, Some, None, Result, IfOk, OnOk}
 use Rattle.atom_record.specs.declared.atom.Atom.{Atom}
 use Rattle.config_types.specs.declared.matcher.SimpleMatcher.{SimpleMatcher}
 use Rattle.session_frames.specs.declared.frame.Frame.{Frame}
@@ -89,6 +89,11 @@ module _ (says : SimpleMatcher → Atom → Bool) where
   abbrev pub InTime : {J : Type 0} → Hub J → Frame → (List Frame → Type 0) → Type 0
   InTime hub frame Claim =
       (frames : List Frame) → HubStandsFor hub frames → IsInTime (clock_of frames) frame → Claim frames
+
+  -- whatever frames the old hub stands for, the new one stands for them and this one, if it may come next and is taken
+  abbrev pub TakesInTime : {J E : Type 0} → Hub J → Frame → Hub J → Result Unit E → Type 0
+  TakesInTime old frame new result =
+      InTime old frame (λ frames. OnOk result (HubStandsFor new (frames ++ frame ∷ [])))
 
   -- whatever frames the old hub stands for, the new one serves this command about a name after them, if its body comes
   abbrev pub ServesCommand : {J E : Type 0} → Hub J → LiveId → Frame → Hub J → Result ReplyBody E → Type 0

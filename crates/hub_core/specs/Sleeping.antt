@@ -12,13 +12,14 @@ use Rattle.heard_ids.specs.Hearing.{heard_ids, is_heard, hears_all}
 use Rattle.state_slicer.specs.StateBooks.{StateBookStandsFor}
 use Rattle.report_writer.specs.declared.tree.ReportTree.{ReportTree}
 use Rattle.metric_lane.specs.LaneJoining.{StandsForRun}
-use Rattle.metric_meaning.specs.Histories.{Step, History, with_step, log_of_history}
+use Rattle.metric_meaning.specs.Histories.{Step, History, with_step, log_of_history, moment_of}
 use Rattle.metric_meaning.specs.ShownFrames.{shown_as}
 use Rattle.metric_meaning.specs.StepMarks.{moments}
 use Rattle.client_engine.specs.Asleep.{AreUntouching}
 use Rattle.client_engine.specs.Handed.{BookOfStates}
 use Rattle.client_engine.specs.InstanceStands.{Running, InstanceStandsFor, IsView, last_step_time, requested_report}
-use Rattle.client_engine.specs.NextSteps.{ComeInTime, logged_step, reported_step}
+use Rattle.client_engine.specs.NextSteps.{ComeInTime, reported_step}
+use Rattle.known_conditions.specs.Known.{logged_step}
 use Rattle.client_engine.specs.Questions.{questions_at}
 use Rattle.client_engine.specs.declared.request.ReportRequest.{ReportRequest}
 use Rattle.hub_core.specs.declared.log_clock.LogClock.{LogClock}
@@ -26,6 +27,10 @@ use Rattle.hub_core.specs.declared.log_clock.LogClock.{LogClock}
 -- the last frame of the log, as ends of buckets see it
 abbrev pub moment_of_clock : LogClock → Moment
 moment_of_clock clock = frame_at clock.time clock.is_pull
+
+-- a frame of the log, as ends of buckets see it
+abbrev pub moment_of_frame : LogFrame → Moment
+moment_of_frame frame = moment_of frame (log_time frame)
 
 -- the id whose hearers a frame comes to: that of an atom or of a pull, and none of a tick
 abbrev pub heard_id_of : LogFrame → Option ℕ

@@ -1,5 +1,5 @@
 -- Slots under names, and counts of them. Nothing here names what holds them.
-use Rattle.std.specs.Prelude.{◌≡◌, ℕ, ◌+◌, ◌-◌, ◌==◌, ℤ, Bool, true, not, ◌&&◌, List, Option, Some, None, is_some, unwrap_or, count_by, slice_get, if◌then◌else◌}
+use Rattle.std.specs.Prelude.{◌≡◌, ℕ, ◌+◌, ◌-◌, ◌<◌, ◌==◌, ℤ, Bool, true, false, not, ◌&&◌, List, Option, Some, None, is_some, unwrap_or, count_by, slice_get, if◌then◌else◌}
 use Rattle.std.specs.Option.{MatchOption}
 use Rattle.std.specs.Map.{lookup, set_value, values_of}
 use Rattle.indexmap.specs.IndexMap.{set_value_at}
@@ -64,6 +64,10 @@ count_at uid counts = unwrap_or (listed_at uid counts) 0
 -- how many of other ids a client has, where one of an id is there or not
 abbrev pub others_at : ℤ → Bool → List (ℤ × ℕ) → ℕ
 others_at uid there counts = count_at uid counts - (if there then 1 else 0)
+
+-- a name has no slot, and its client has less than ten
+abbrev pub HasRoomFor : LiveId → List (LiveId × LiveInstance) → List (ℤ × ℕ) → Type 0
+HasRoomFor name slots counts = (slot_at name slots ≡ None) × (others_at name.uid false counts < 10)
 
 -- how many slots a client has
 abbrev pub held_by : ℤ → List (LiveId × LiveInstance) → ℕ

@@ -1,5 +1,5 @@
 //! The hub of all clients, one frame at a time.
-ghost use Rattle.std.specs.Prelude.{◌≡◌, ℤ, List, [], ◌++◌, ◌∷◌, IfOk, OnOk};
+ghost use Rattle.std.specs.Prelude.{◌≡◌, ℤ, List, [], IfOk, OnOk};
 ghost use Rattle.session_frames.specs.declared.frame.Frame.TheVariants.{Log, Install, Remove, Report};
 ghost use Rattle.session_frames.specs.Faultless.{IsFaultlessLog};
 ghost use Rattle.session_frames.specs.declared.frame.Frame.{Frame};
@@ -38,7 +38,7 @@ pub struct Hub<J: Judge> {
 }
 
 impl<J: Judge> Hub<J> {
-    ghost use Rattle.hub_core.specs.HubStands.{judge_of, AsksJudge, HubStandsFor, InTime, IsAnswered, ServesCommand, UnheardStay};
+    ghost use Rattle.hub_core.specs.HubStands.{judge_of, AsksJudge, HubStandsFor, InTime, TakesInTime, IsAnswered, ServesCommand, UnheardStay};
     ghost use Rattle.hub_core.specs.Alone.{RunsAsAlone};
     ghost use Rattle.hub_core.specs.BookStands.{frame_left};
     ghost use Rattle.hub_core.specs.LiveQuestions.{AsksInTime};
@@ -120,8 +120,7 @@ impl<J: Judge> Hub<J> {
         asks: &mut Steps<L>,
     ) -> Result<(), AllocError>
         requires faultless { IsFaultlessLog frame.old }
-        ensures stands { InTime J.says self.old (Log frame.old) (λ frames.
-            OnOk result (HubStandsFor J.says self.new (frames ++ Log frame.old ∷ []))) }
+        ensures stands { TakesInTime J.says self.old (Log frame.old) self.new result }
         ensures asked { OnOk result (AsksJudge J.ticks (Log frame.old) self.old self.new) }
         ensures questions { AsksInTime J.says self.old (Log frame.old) asks.old asks.new }
         ensures asleep { OnOk result (UnheardStay (Log frame.old) self.old self.new) }

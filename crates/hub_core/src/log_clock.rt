@@ -1,9 +1,8 @@
 //! The clock.
 ghost use Rattle.std.specs.Prelude.{◌≡◌, ◌<◌, ◌^◌};
-ghost use Rattle.metric_meaning.specs.Histories.{is_pull, moment_of};
+ghost use Rattle.metric_meaning.specs.Histories.{is_pull};
 ghost use Rattle.metric_lane.specs.LaneJoining.{with_frame};
 ghost use Rattle.session_frames.specs.Faultless.{IsFaultlessLog};
-ghost use Rattle.session_frames.specs.FrameReading.{log_time};
 
 use atom_record::LogFrame;
 use session_frames::time_of;
@@ -24,14 +23,13 @@ pub struct LogClock {
 
 impl LogClock {
     ghost use Rattle.std.specs.Prelude.{MatchOption};
-    ghost use Rattle.hub_core.specs.SavedMoments.{pull_number, IsNoMoment};
-    ghost use Rattle.hub_core.specs.Sleeping.{moment_of_clock};
+    ghost use Rattle.hub_core.specs.SavedMoments.{pull_number, IsNoMoment, AreOfClock};
+    ghost use Rattle.hub_core.specs.Sleeping.{moment_of_clock, moment_of_frame};
 
     /// The clock after a frame more. A pull at the time of a frame that was no pull leaves it.
     pub fn after(self, frame: &LogFrame) -> LogClock
         requires faultless { IsFaultlessLog frame.now }
-        ensures { moment_of_clock result
-            ≡ with_frame (moment_of_clock self) (moment_of frame.now (log_time frame.now)) }
+        ensures { moment_of_clock result ≡ with_frame (moment_of_clock self) (moment_of_frame frame.now) }
     {
         let time = time_of(frame);
         let is_pull = comes_by_pull(frame);
@@ -51,8 +49,7 @@ impl LogClock {
 
     /// The clock of which this time and this number are saved, if they are of one.
     pub fn of_saved(time: u64, number: u64) -> Option<LogClock>
-        ensures { MatchOption result (IsNoMoment time number)
-            (λ clock. (clock.time ≡ time) × (pull_number clock.is_pull ≡ number)) }
+        ensures { MatchOption result (IsNoMoment time number) (AreOfClock time number) }
     {
         if time >= TIME_LIMIT || number > 1 {
             return None;

@@ -1,5 +1,5 @@
 -- Which names are noted for which ids.
-use Rattle.std.specs.Prelude.{ℕ, ◌==◌, ◌<◌, Bool, ◌&&◌, not, List, [], length, if◌then◌else◌, IfSome}
+use Rattle.std.specs.Prelude.{◌≡◌, ℕ, ◌==◌, ◌<◌, Bool, ◌&&◌, ◌||◌, not, List, [], length, if◌then◌else◌, IfSome}
 use Rattle.std.specs.List.{list_any}
 use Rattle.std.specs.Option.{option_map_or}
 use Rattle.std.specs.Map.{lookup}
@@ -25,6 +25,25 @@ module _ {N : Type 0} where
   -- the names that are noted for every atom
   abbrev pub names_for_all : Notes N → List N
   names_for_all notes = notes.for_all.keys
+
+  -- names, with this one added where that is so
+  abbrev pub AddsIf : (N → N → Bool) → N → Bool → List N → List N → Type 0
+  AddsIf same name is old new =
+      (other : N) → is_named same other new ≡ (is_named same other old || (same other name && is))
+
+  -- names, without this one where that is so
+  abbrev pub DropsIf : (N → N → Bool) → N → Bool → List N → List N → Type 0
+  DropsIf same name is old new =
+      (other : N) → is_named same other new ≡ (is_named same other old && not (same other name && is))
+
+  -- a name is noted for these ids too
+  abbrev pub AddsUnder : (N → N → Bool) → N → (ℕ → Bool) → Notes N → Notes N → Type 0
+  AddsUnder same name wants old new = (id : ℕ) → AddsIf same name (wants id) (names_under old id) (names_under new id)
+
+  -- a name isn't noted for these ids any more
+  abbrev pub DropsUnder : (N → N → Bool) → N → (ℕ → Bool) → Notes N → Notes N → Type 0
+  DropsUnder same name wants old new =
+      (id : ℕ) → DropsIf same name (wants id) (names_under old id) (names_under new id)
 
   -- an id that has a list has a name on it: one that nobody hears has none
   abbrev pub HasNoEmptyList : Notes N → Type 0

@@ -1,5 +1,5 @@
 //! Which names hear the frames of which ids.
-ghost use Rattle.std.specs.Prelude.{◌≡◌, ◌==◌, ◌&&◌, ◌||◌, not, ℕ, [], false, Some, IfSome, OnOk};
+ghost use Rattle.std.specs.Prelude.{◌≡◌, ◌==◌, ℕ, [], false, Some, IfSome, OnOk};
 ghost use Rattle.std.specs.List.{IsDistinct};
 ghost use Rattle.std.specs.Map.{lookup};
 ghost use Rattle.std.specs.Option.{option_copied};
@@ -24,7 +24,7 @@ pub struct Notes<N: Eq + Hash> {
 }
 
 impl<N: Eq + Hash + Copy + Drop> Notes<N> {
-    ghost use Rattle.id_notes.specs.Noted.{is_named, names_under, names_for_all, wants_id, HasNoEmptyList};
+    ghost use Rattle.id_notes.specs.Noted.{names_under, names_for_all, wants_id, AddsIf, DropsIf, AddsUnder, DropsUnder, HasNoEmptyList};
 
     /// Nothing is noted. It takes no memory yet.
     pub fn new(alloc: Global) -> Notes<N>
@@ -92,10 +92,9 @@ impl<N: Eq + Hash + Copy + Drop> Notes<N> {
 
     /// A name is noted for what it hears. After want of memory some of it may be.
     pub fn add(&mut self, alloc: Global, name: N, hearing: &Hearing) -> Result<(), AllocError>
-        ensures under { OnOk result ((id : ℕ) (other : N) → is_named N.eq other (names_under self.new id)
-            ≡ (is_named N.eq other (names_under self.old id) || (N.eq other name && wants_id hearing.now id))) }
-        ensures for_all { OnOk result ((other : N) → is_named N.eq other (names_for_all self.new)
-            ≡ (is_named N.eq other (names_for_all self.old) || (N.eq other name && hearing.now.all))) }
+        ensures under { OnOk result (AddsUnder N.eq name (wants_id hearing.now) self.old self.new) }
+        ensures for_all { OnOk result
+            (AddsIf N.eq name hearing.now.all (names_for_all self.old) (names_for_all self.new)) }
         ensures none_empty { HasNoEmptyList self.old → HasNoEmptyList self.new }
     {
         if hearing.all {
@@ -110,10 +109,8 @@ impl<N: Eq + Hash + Copy + Drop> Notes<N> {
 
     /// A name isn't noted any more for what it hears.
     pub fn remove(&mut self, name: N, hearing: &Hearing)
-        ensures under { (id : ℕ) (other : N) → is_named N.eq other (names_under self.new id)
-            ≡ (is_named N.eq other (names_under self.old id) && not (N.eq other name && wants_id hearing.now id)) }
-        ensures for_all { (other : N) → is_named N.eq other (names_for_all self.new)
-            ≡ (is_named N.eq other (names_for_all self.old) && not (N.eq other name && hearing.now.all)) }
+        ensures under { DropsUnder N.eq name (wants_id hearing.now) self.old self.new }
+        ensures for_all { DropsIf N.eq name hearing.now.all (names_for_all self.old) (names_for_all self.new) }
         ensures none_empty { HasNoEmptyList self.old → HasNoEmptyList self.new }
     {
         if hearing.all {
@@ -127,8 +124,7 @@ impl<N: Eq + Hash + Copy + Drop> Notes<N> {
 
     // A name is noted for an id.
     fn note(&mut self, alloc: Global, id: u32, name: N) -> Result<(), AllocError>
-        ensures under { OnOk result ((heard : ℕ) (other : N) → is_named N.eq other (names_under self.new heard)
-            ≡ (is_named N.eq other (names_under self.old heard) || (N.eq other name && (id == heard)))) }
+        ensures under { OnOk result (AddsUnder N.eq name (λ heard. id == heard) self.old self.new) }
         ensures for_all { OnOk result (self.new.for_all ≡ self.old.for_all) }
         ensures none_empty { HasNoEmptyList self.old → HasNoEmptyList self.new }
     {
@@ -145,8 +141,7 @@ impl<N: Eq + Hash + Copy + Drop> Notes<N> {
     // A name is the first that is noted for an id.
     fn begin(&mut self, alloc: Global, id: u32, name: N) -> Result<(), AllocError>
         requires { names_under self.old id ≡ [] }
-        ensures under { OnOk result ((heard : ℕ) (other : N) → is_named N.eq other (names_under self.new heard)
-            ≡ (is_named N.eq other (names_under self.old heard) || (N.eq other name && (id == heard)))) }
+        ensures under { OnOk result (AddsUnder N.eq name (λ heard. id == heard) self.old self.new) }
         ensures for_all { OnOk result (self.new.for_all ≡ self.old.for_all) }
         ensures none_empty { HasNoEmptyList self.old → HasNoEmptyList self.new }
     {
@@ -160,8 +155,7 @@ impl<N: Eq + Hash + Copy + Drop> Notes<N> {
 
     // A name isn't noted for an id any more. A list that gets empty goes.
     fn forget(&mut self, id: u32, name: N)
-        ensures under { (heard : ℕ) (other : N) → is_named N.eq other (names_under self.new heard)
-            ≡ (is_named N.eq other (names_under self.old heard) && not (N.eq other name && (id == heard))) }
+        ensures under { DropsUnder N.eq name (λ heard. id == heard) self.old self.new }
         ensures for_all { self.new.for_all ≡ self.old.for_all }
         ensures none_empty { HasNoEmptyList self.old → HasNoEmptyList self.new }
     {

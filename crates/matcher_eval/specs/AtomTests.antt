@@ -53,6 +53,10 @@ condition_holds entries condition = passes_at_sub entries 0 condition
 abbrev pub holds_at_index : List AtomField → Test-F Test FieldTest → ℕ → Bool
 holds_at_index entries condition index = condition_holds (filter (is_at_index index) entries) condition
 
+-- the same of a condition as it is held
+abbrev pub condition_holds_at : List AtomField → Test → ℕ → Bool
+condition_holds_at entries condition = holds_at_index entries (out-Test condition)
+
 -- the indexes of a field: those of at least 1 at which it has an entry, whatever the sub. One with several entries
 -- stands there several times.
 abbrev pub tested_indexes : List AtomField → List ℕ

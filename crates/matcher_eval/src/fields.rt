@@ -7,7 +7,7 @@ ghost use Rattle.atom_record.specs.declared.atom.AtomField.{AtomField};
 ghost use Rattle.atom_record.specs.AtomSound.{HasNoFault, IsBelow};
 ghost use Rattle.config_types.specs.declared.matcher.Test.TheViews.{out-Test};
 ghost use Rattle.matcher_eval.specs.ValueTests.{is_same_truth};
-ghost use Rattle.matcher_eval.specs.AtomTests.{number_set, passes_at_sub, inner_test_holds, condition_holds, holds_at_index, tested_indexes, least_of, greatest_of, holds_on_field, field_test_holds, matcher_holds};
+ghost use Rattle.matcher_eval.specs.AtomTests.{number_set, passes_at_sub, inner_test_holds, condition_holds, condition_holds_at, tested_indexes, least_of, greatest_of, holds_on_field, field_test_holds, matcher_holds};
 
 use crate::conditions::passes;
 use crate::entries::{at_index, of_field, repeated, split_after};
@@ -81,7 +81,7 @@ fn holds_where_picked(condition: &Test, position: Option<Position>, entries: &[A
 fn holds_at_first(condition: &Test, entries: &[AtomField]) -> bool
     requires { IsNonDecreasingBy (λ (entry : AtomField). entry.index) entries.now }
     ensures { result ≡ list_any
-        (holds_at_index entries.now (out-Test condition.now))
+        (condition_holds_at entries.now condition.now)
         (least_of (tested_indexes entries.now)) }
 {
     holds_at(condition, entries, repeated(entries).first())
@@ -91,7 +91,7 @@ fn holds_at_first(condition: &Test, entries: &[AtomField]) -> bool
 fn holds_at_last(condition: &Test, entries: &[AtomField]) -> bool
     requires { IsNonDecreasingBy (λ (entry : AtomField). entry.index) entries.now }
     ensures { result ≡ list_any
-        (holds_at_index entries.now (out-Test condition.now))
+        (condition_holds_at entries.now condition.now)
         (greatest_of (tested_indexes entries.now)) }
 {
     holds_at(condition, entries, repeated(entries).last())
@@ -101,7 +101,7 @@ fn holds_at_last(condition: &Test, entries: &[AtomField]) -> bool
 fn holds_at(condition: &Test, entries: &[AtomField], found: Option<&AtomField>) -> bool
     requires { IsNonDecreasingBy (λ (entry : AtomField). entry.index) entries.now }
     ensures { result ≡ list_any
-        (λ entry. holds_at_index entries.now (out-Test condition.now) entry.index)
+        (λ entry. condition_holds_at entries.now condition.now entry.index)
         (option_to_list (option_copied found.entry)) }
 {
     match found {
@@ -114,7 +114,7 @@ fn holds_at(condition: &Test, entries: &[AtomField], found: Option<&AtomField>) 
 fn holds_at_some_index(condition: &Test, entries: &[AtomField]) -> bool
     requires { IsNonDecreasingBy (λ (entry : AtomField). entry.index) entries.now }
     ensures { result ≡ list_any
-        (holds_at_index entries.now (out-Test condition.now))
+        (condition_holds_at entries.now condition.now)
         (tested_indexes entries.now) }
 {
     !is_so_at_each_index(condition, entries, false)
@@ -124,7 +124,7 @@ fn holds_at_some_index(condition: &Test, entries: &[AtomField]) -> bool
 fn is_so_at_each_index(condition: &Test, entries: &[AtomField], truth: bool) -> bool
     requires { IsNonDecreasingBy (λ (entry : AtomField). entry.index) entries.now }
     ensures { result ≡ list_all
-        (λ index. is_same_truth (holds_at_index entries.now (out-Test condition.now) index) truth)
+        (λ index. is_same_truth (condition_holds_at entries.now condition.now index) truth)
         (tested_indexes entries.now) }
 {
     let mut rest = repeated(entries);

@@ -31,6 +31,14 @@ slots_under lists id = if nat_lt id low_ids then slots_at lists.low.items id els
 abbrev pub atom_ids : AtomSlots → ℕ → List ℕ
 atom_ids lists slot = option_map_or (λ ids. ids) (get nat_eq lists.ids slot) []
 
+-- a slot joined the list of an id
+abbrev pub JoinsList : ℕ → AtomSlots → AtomSlots → ℕ → Type 0
+JoinsList slot old new id = slots_under new id ≡ slots_under old id ++ slot ∷ []
+
+-- the list of an id stays
+abbrev pub KeepsList : AtomSlots → AtomSlots → ℕ → Type 0
+KeepsList old new id = slots_under new id ≡ slots_under old id
+
 -- a slot was not in the list, or was taken out of one place
 abbrev pub LeavesList : ℕ → List ℕ → List ℕ → Type 0
 LeavesList slot old new =

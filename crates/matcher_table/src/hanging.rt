@@ -28,7 +28,7 @@ pub struct AtomSlots {
 }
 
 impl AtomSlots {
-    ghost use Rattle.matcher_table.specs.Hanging.{slots_under, high_slots, atom_ids, LeavesList, HangsUnder, UnhangsFrom, IsUnderAll};
+    ghost use Rattle.matcher_table.specs.Hanging.{slots_under, high_slots, atom_ids, JoinsList, KeepsList, LeavesList, HangsUnder, UnhangsFrom, IsUnderAll};
 
     /// No slot hangs under any id.
     pub(crate) fn new(alloc: Global) -> AtomSlots
@@ -162,10 +162,10 @@ impl AtomSlots {
     fn join_all(&mut self, alloc: Global, ids: &[u32], slot: usize) -> Result<(), AllocError>
         requires vacant { (id : ℕ) → times_among slot (slots_under self.old id) ≡ 0 }
         requires once { (id : ℕ) → times_among id ids.now ≤ 1 }
-        ensures joined { OnOk result ((id : ℕ) → 0 < times_among id ids.now
-            → slots_under self.new id ≡ slots_under self.old id ++ slot ∷ []) }
-        ensures apart { (id : ℕ) → times_among id ids.now ≡ 0 → slots_under self.new id ≡ slots_under self.old id }
-        ensures err { OnErr result ((id : ℕ) → slots_under self.new id ≡ slots_under self.old id) }
+        ensures joined { OnOk result
+            ((id : ℕ) → 0 < times_among id ids.now → JoinsList slot self.old self.new id) }
+        ensures apart { (id : ℕ) → times_among id ids.now ≡ 0 → KeepsList self.old self.new id }
+        ensures err { OnErr result ((id : ℕ) → KeepsList self.old self.new id) }
         ensures ids { self.new.ids ≡ self.old.ids }
     {
         match self.join_some(alloc, ids, slot) {
@@ -180,11 +180,11 @@ impl AtomSlots {
     // Adds a slot to the lists of these ids. Where memory is wanted, it has joined some.
     fn join_some(&mut self, alloc: Global, ids: &[u32], slot: usize) -> Result<(), AllocError>
         requires { (id : ℕ) → times_among id ids.now ≤ 1 }
-        ensures joined { OnOk result ((id : ℕ) → 0 < times_among id ids.now
-            → slots_under self.new id ≡ slots_under self.old id ++ slot ∷ []) }
-        ensures apart { (id : ℕ) → times_among id ids.now ≡ 0 → slots_under self.new id ≡ slots_under self.old id }
-        ensures some { (id : ℕ) → (slots_under self.new id ≡ slots_under self.old id)
-            ⊎ (slots_under self.new id ≡ slots_under self.old id ++ slot ∷ []) }
+        ensures joined { OnOk result
+            ((id : ℕ) → 0 < times_among id ids.now → JoinsList slot self.old self.new id) }
+        ensures apart { (id : ℕ) → times_among id ids.now ≡ 0 → KeepsList self.old self.new id }
+        ensures some { (id : ℕ)
+            → KeepsList self.old self.new id ⊎ JoinsList slot self.old self.new id }
         ensures ids { self.new.ids ≡ self.old.ids }
     {
         for id in ids {
@@ -198,7 +198,7 @@ impl AtomSlots {
         requires { (id : ℕ) → times_among slot (slots_under self.old id) ≤ 1 }
         ensures left { (id : ℕ) → 0 < times_among id ids.now
             → LeavesList slot (slots_under self.old id) (slots_under self.new id) }
-        ensures apart { (id : ℕ) → times_among id ids.now ≡ 0 → slots_under self.new id ≡ slots_under self.old id }
+        ensures apart { (id : ℕ) → times_among id ids.now ≡ 0 → KeepsList self.old self.new id }
         ensures ids { self.new.ids ≡ self.old.ids }
     {
         for id in ids {
@@ -208,9 +208,9 @@ impl AtomSlots {
 
     // Adds a slot at the end of the list of an id.
     fn join(&mut self, alloc: Global, id: u32, slot: usize) -> Result<(), AllocError>
-        ensures own { OnOk result (slots_under self.new id ≡ slots_under self.old id ++ slot ∷ []) }
-        ensures err { OnErr result (slots_under self.new id ≡ slots_under self.old id) }
-        ensures others { (other : ℕ) → other ≢ id → slots_under self.new other ≡ slots_under self.old other }
+        ensures own { OnOk result (JoinsList slot self.old self.new id) }
+        ensures err { OnErr result (KeepsList self.old self.new id) }
+        ensures others { (other : ℕ) → other ≢ id → KeepsList self.old self.new other }
         ensures ids { self.new.ids ≡ self.old.ids }
     {
         if id < LOW_IDS {

@@ -30,10 +30,10 @@ impl MatcherTable {
     ghost use Rattle.atom_record.specs.AtomSound.{HasNoFault};
     ghost use Rattle.config_types.specs.Askable.{IsAskable};
     ghost use Rattle.matcher_table.specs.Tables.{outside_uses, result_at, IsUnchanged};
-    ghost use Rattle.matcher_table.specs.Steps.{Interns, Releases};
+    ghost use Rattle.matcher_table.specs.Steps.{Releases};
     ghost use Rattle.matcher_table.specs.Truths.{Evaluates, HaveRisen, questions};
     ghost use Rattle.matcher_table.specs.TableFacts.{IsSoundTable, KeepsTrees};
-    ghost use Rattle.matcher_table.specs.Contents.{contents_of, IsLive, combination_of};
+    ghost use Rattle.matcher_table.specs.Contents.{contents_of, GivesSlot, IsLive, combination_of};
 
     /// No slot is live.
     pub fn new(alloc: Global) -> MatcherTable
@@ -49,8 +49,8 @@ impl MatcherTable {
     /// One more outside use of a simple matcher.
     pub fn intern_simple(&mut self, matcher: &SimpleMatcher) -> Result<Slot, AllocError>
         requires { IsAskable matcher.now }
-        ensures interns { IfOk result (λ slot.
-            Interns (contents_of self.old) (SharedMatcher.Simple matcher.now) slot.number (contents_of self.new)) }
+        ensures interns { IfOk result
+            (GivesSlot self.old (SharedMatcher.Simple matcher.now) self.new) }
         ensures err { OnErr result (IsUnchanged (contents_of self.old) (contents_of self.new)) }
         ensures trees { KeepsTrees (contents_of self.old) (contents_of self.new) }
     {
@@ -66,8 +66,8 @@ impl MatcherTable {
         children: &[Slot],
     ) -> Result<Slot, AllocError>
         requires { All (IsLive self.old) children.now }
-        ensures interns { IfOk result (λ slot.
-            Interns (contents_of self.old) (combination_of op children.now) slot.number (contents_of self.new)) }
+        ensures interns { IfOk result
+            (GivesSlot self.old (combination_of op children.now) self.new) }
         ensures err { OnErr result (IsUnchanged (contents_of self.old) (contents_of self.new)) }
         ensures trees { KeepsTrees (contents_of self.old) (contents_of self.new) }
     {

@@ -7,7 +7,8 @@ use Rattle.atom_record.specs.declared.value.Leaf.{Leaf}
 use Rattle.atom_record.specs.contracts.value.LeafPartialEq.TheImpl as leaf_test
 use Rattle.predicate_state.specs.declared.event.PredEvent.{PredEvent}
 use Rattle.predicate_state.specs.declared.event.PredEvent.TheVariants.{Start, Stop, StopAll}
-use Rattle.predicate_state.specs.PredicateStates.{PredicateState, KeyEvent, predicate_after}
+use Rattle.dim_table.specs.Table.{set_value_at}
+use Rattle.predicate_state.specs.PredicateStates.{PredicateState, KeyEvent, with_new_key, state_after, predicate_after}
 
 -- A key is a list of leaves.
 abbrev pub LeafKey : Type 0
@@ -25,6 +26,19 @@ pub record PredicateTable : Type 0 where
 -- the table with another state
 abbrev pub with_state : PredicateTable → PredicateState LeafKey → PredicateTable
 with_state table state = record table { state = state }
+
+-- the table after an event of a key
+abbrev pub with_event : PredicateTable → PredEvent → LeafKey → PredicateTable
+with_event table event key = with_state table (state_after same_leaves table.spec table.state event key)
+
+-- the table with another count at a place
+abbrev pub with_count_at : PredicateTable → ℕ → ℕ → PredicateTable
+with_count_at table place count =
+    with_state table (record table.state { counts = set_value_at table.state.counts place count })
+
+-- the table after a key came that isn't listed
+abbrev pub with_key_listed : PredicateTable → LeafKey → ℕ → PredicateTable
+with_key_listed table key count = with_state table (with_new_key table.spec.bound table.state key count)
 
 -- every listed key has so many leaves
 abbrev pub HaveLeaves : ℕ → List (LeafKey × ℕ) → Type 0

@@ -3,11 +3,10 @@ ghost use Rattle.std.specs.Prelude.{◌≡◌, ◌≢◌, ◌<◌, ◌≤◌, �
 ghost use Rattle.std.specs.Map.{lookup, keys_of};
 ghost use Rattle.std.specs.Option.{option_map};
 ghost use Rattle.bucket_meaning.specs.Limits.{most_keys};
-ghost use Rattle.dim_table.specs.Table.{set_value_at};
 ghost use Rattle.predicate_state.specs.declared.event.PredEvent.TheVariants.{Start, Stop};
-ghost use Rattle.predicate_state.specs.PredicateStates.{initial_state, with_new_key, without_key, state_after, count_after_start, count_after_stop};
+ghost use Rattle.predicate_state.specs.PredicateStates.{initial_state, without_key, count_after_start, count_after_stop};
 ghost use Rattle.predicate_state.specs.PredicateTruths.{default_truth, count_truth, truth_of_count, key_truth, binds_truth, NamesKey, agrees, is_leaf, are_leaves_bound, is_place_bound};
-ghost use Rattle.predicate_state.specs.PredicateTable.{LeafKey, same_leaves, with_state, PredTableStandsFor, AppliesEvent, ListsNewKey};
+ghost use Rattle.predicate_state.specs.PredicateTable.{LeafKey, same_leaves, with_state, with_event, with_count_at, with_key_listed, PredTableStandsFor, AppliesEvent, ListsNewKey};
 
 use crate::bound::{BoundKey, are_in_order, has_leaf};
 use crate::{Bind, PredEvent, Truth};
@@ -67,8 +66,7 @@ impl PredTable {
     /// Lets an event act on a key. A stop of all keys takes any key.
     pub fn apply(&mut self, event: PredEvent, key: &DimKey) -> Result<(), AllocError>
         requires leaves { length key.now ≡ self.old.spec.leaves }
-        ensures state { OnOk result
-            (self.new ≡ with_state self.old (state_after same_leaves self.old.spec self.old.state event key.now)) }
+        ensures state { OnOk result (self.new ≡ with_event self.old event key.now) }
         ensures stands { OnOk result (AppliesEvent self.old self.new event key.now) }
 
         // Only a new key that finds room asks for memory.
@@ -89,8 +87,7 @@ impl PredTable {
     // Counts a start of a key.
     fn start(&mut self, key: &DimKey) -> Result<(), AllocError>
         requires leaves { length key.now ≡ self.old.spec.leaves }
-        ensures state { OnOk result
-            (self.new ≡ with_state self.old (state_after same_leaves self.old.spec self.old.state Start key.now)) }
+        ensures state { OnOk result (self.new ≡ with_event self.old Start key.now) }
         ensures only_new { OnErr result (ListsNewKey self.old Start key.now) }
         ensures err { OnErr result (self.new ≡ self.old) }
     {
@@ -107,8 +104,7 @@ impl PredTable {
     // Counts a stop of a key.
     fn stop(&mut self, key: &DimKey) -> Result<(), AllocError>
         requires leaves { length key.now ≡ self.old.spec.leaves }
-        ensures state { OnOk result
-            (self.new ≡ with_state self.old (state_after same_leaves self.old.spec self.old.state Stop key.now)) }
+        ensures state { OnOk result (self.new ≡ with_event self.old Stop key.now) }
         ensures only_new { OnErr result (ListsNewKey self.old Stop key.now) }
         ensures err { OnErr result (self.new ≡ self.old) }
     {
@@ -154,8 +150,7 @@ impl PredTable {
     // Gives a listed key another count.
     fn set_count(&mut self, place: usize, count: u64)
         requires { place < length self.old.state.counts }
-        ensures { self.new ≡ with_state self.old
-            (record self.old.state { counts = set_value_at self.old.state.counts place count }) }
+        ensures { self.new ≡ with_count_at self.old place count }
     {
         let Some(there) = self.counts.value_at(place) else {
             return;
@@ -167,8 +162,7 @@ impl PredTable {
     fn append(&mut self, key: &DimKey, count: u64) -> Result<(), AllocError>
         requires leaves { length key.now ≡ self.old.spec.leaves }
         requires absent { ¬ Contains (keys_of self.old.state.counts) key.now }
-        ensures state { OnOk result
-            (self.new ≡ with_state self.old (with_new_key self.old.spec.bound self.old.state key.now count)) }
+        ensures state { OnOk result (self.new ≡ with_key_listed self.old key.now count) }
         ensures room { OnErr result (length self.old.state.counts ≢ self.old.spec.bound) }
         ensures err { OnErr result (self.new ≡ self.old) }
     {

@@ -140,3 +140,10 @@ GaveBack (Ok (Some given)) left field bytes =
     (given.number ≡ written_number field) × ((field_view given).body ≡ written_body field) × (left.bytes ≡ bytes)
 GaveBack (Ok None) left field bytes = ⊥
 GaveBack (Err fault) left field bytes = ⊥
+
+-- what a writer wrote is given back, where it stands in front of what was left
+abbrev pub ReadsBack : Rest → Result (Option Field) WireFault → Rest → Type 0
+ReadsBack old result new = (field : Written) (after : List ℕ)
+    → IsWritable field
+    → old.bytes ≡ spelling field ++ after
+    → GaveBack result new field after

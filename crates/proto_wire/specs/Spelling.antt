@@ -1,5 +1,5 @@
 -- The shortest spelling of fields, as bytes.
-use Rattle.std.specs.Prelude.{ℕ, zero, suc, ◌+◌, ◌*◌, ◌/◌, ◌%◌, List, [], ◌∷◌, ◌++◌, length, nat_lt, if◌then◌else◌}
+use Rattle.std.specs.Prelude.{ℕ, zero, suc, ◌+◌, ◌*◌, ◌/◌, ◌%◌, List, [], ◌∷◌, ◌++◌, length, take, drop, nat_lt, if◌then◌else◌}
 use Rattle.std.specs.Int.{w32, to_le_bytes}
 use Rattle.proto_wire.specs.declared.tag.WireType.{WireType}
 use Rattle.proto_wire.specs.declared.tag.WireType.TheVariants as wire
@@ -13,6 +13,10 @@ varint_in (suc turns) n = if nat_lt n 128 then n ∷ [] else (n % 128 + 128) ∷
 -- the shortest spelling of a number below 2^64
 unfoldable pub varint : ℕ → List ℕ
 varint n = varint_in 10 n
+
+-- these bytes with the spelling of a number in the place of the one that stands there
+abbrev pub with_varint_at : ℕ → ℕ → List ℕ → List ℕ
+with_varint_at place value bytes = take place bytes ++ (varint value ++ drop (place + 1) bytes)
 
 -- the tag of a field: its number, and how its payload is laid out
 abbrev pub tag_bytes : ℕ → WireType → List ℕ

@@ -1,10 +1,10 @@
 //! A reader of the records of a message, in one pass and without a copy.
-ghost use Rattle.std.specs.Prelude.{◌≡◌, ◌+◌, ◌<◌, ◌≤◌, ◌^◌, ◌↔◌, ◌++◌, ℕ, List, [], length, Ok, None, Some, IfOk, IfSome, IsTrue};
+ghost use Rattle.std.specs.Prelude.{◌≡◌, ◌+◌, ◌<◌, ◌≤◌, ◌^◌, ◌↔◌, [], length, Ok, None, Some, IfOk, IfSome, IsTrue};
 ghost use Rattle.sd_base.specs.Reads.{GivesBy};
 ghost use Rattle.proto_wire.specs.WireCauses.{most_depth};
 ghost use Rattle.proto_wire.specs.Fields.{FieldOf, Rest, field_view, has_inside, FitsOffsets, StepsOver};
 ghost use Rattle.proto_wire.specs.WireReading.{field_at, rest_with, AnswersNext, inside_at, walk_from, walk_by};
-ghost use Rattle.proto_wire.specs.Grammar.{StartsWith, GaveField, Written, spelling, IsWritable, GaveBack};
+ghost use Rattle.proto_wire.specs.Grammar.{StartsWith, GaveField, ReadsBack};
 
 use crate::fault::{TOO_DEEP, WireFault, fault};
 use crate::field::{Body, Field};
@@ -59,10 +59,7 @@ impl<'a> Records<'a> {
         // A field is read exactly where one is laid out, and what a writer wrote is read back.
         ensures grammar { (field : FieldOf) (new : Rest)
             → StartsWith self.old field new ↔ GaveField result self.new field new }
-        ensures written { (field : Written) (after : List ℕ)
-            → IsWritable field
-            → self.old.bytes ≡ spelling field ++ after
-            → GaveBack result self.new field after }
+        ensures written { ReadsBack self.old result self.new }
 
         // One step of a walk.
         ensures walk { walk_from self.old ≡ walk_by result self.new }

@@ -1,6 +1,6 @@
 //! A writer of fields in their shortest spelling.
-ghost use Rattle.std.specs.Prelude.{◌≡◌, ◌+◌, ◌-◌, ◌<◌, ◌≤◌, ◌^◌, [], ◌++◌, length, take, drop, IfOk, OnOk, OnErr, vec_len, vec_capacity};
-ghost use Rattle.proto_wire.specs.Spelling.{varint, tag_bytes, varint_field, bytes_field, begun_field, fixed32_field};
+ghost use Rattle.std.specs.Prelude.{◌≡◌, ◌+◌, ◌-◌, ◌<◌, ◌≤◌, ◌^◌, [], ◌++◌, length, drop, IfOk, OnOk, OnErr, vec_len, vec_capacity};
+ghost use Rattle.proto_wire.specs.Spelling.{varint, with_varint_at, tag_bytes, varint_field, bytes_field, begun_field, fixed32_field};
 
 use crate::tag::WireType;
 use std::alloc::{AllocError, Global};
@@ -99,8 +99,8 @@ impl Writer {
     /// count may stand there.
     pub fn end_field(&mut self, place: usize) -> Result<(), AllocError>
         requires begun { place < length self.old }
-        ensures counted { OnOk result (self.new ≡ take place self.old
-            ++ (varint (length (drop (place + 1) self.old)) ++ drop (place + 1) self.old)) }
+        ensures counted { OnOk result (self.new
+            ≡ with_varint_at place (length (drop (place + 1) self.old)) self.old) }
     {
         let count = self.bytes.len() - place - 1;
         put_varint_at(&mut self.bytes, place, count as u64)
@@ -132,8 +132,7 @@ fn put_varint(out: &mut Vec<u8>, value: u64)
 // Puts a varint in place of the byte that stands there.
 fn put_varint_at(bytes: &mut Vec<u8>, place: usize, value: u64) -> Result<(), AllocError>
     requires { place < vec_len bytes.old }
-    ensures { OnOk result (bytes.new.items
-        ≡ take place bytes.old.items ++ (varint value ++ drop (place + 1) bytes.old.items)) }
+    ensures { OnOk result (bytes.new.items ≡ with_varint_at place value bytes.old.items) }
 {
     let mut at = place;
     let mut rest = value;

@@ -1,5 +1,5 @@
 -- What reads and writes do to bytes that are told, and when they may fail.
-use Rattle.std.specs.Prelude.{◌≡◌, ℕ, ◌+◌, ◌-◌, ◌^◌, ◌≤◌, min, Bool, List, ◌++◌, length, Option, Result, OnErr, IfSome, MatchBool, MatchResult}
+use Rattle.std.specs.Prelude.{◌≡◌, ℕ, ◌+◌, ◌-◌, ◌^◌, ◌≤◌, min, Bool, List, ◌++◌, length, Option, Result, OnErr, IfSome, MatchBool, MatchResult, is_err, if◌then◌else◌}
 use Rattle.sd_io.specs.States.{Input, Output}
 pub use Rattle.std.specs.Io.{ReadsAtMost}
 pub use Rattle.std.specs.Io.KnownBytes.{Appends, Consumes, IsAtEnd, Keeps, ReadConsumes}
@@ -7,6 +7,10 @@ pub use Rattle.std.specs.Io.KnownBytes.{Appends, Consumes, IsAtEnd, Keeps, ReadC
 -- one more, for a count that stands still at its type's end
 abbrev pub count_up : ℕ → ℕ
 count_up n = min (n + 1) (2 ^ 64 - 1)
+
+-- a count of faults after a call with this result: one more where the call failed
+abbrev pub faults_after : {T E : Type 0} → Result T E → ℕ → ℕ
+faults_after result faults = if is_err result then count_up faults else faults
 
 -- a count went up by one at least, or stands at its type's end
 abbrev pub Rose : ℕ → ℕ → Type 0

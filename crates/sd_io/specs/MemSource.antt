@@ -1,6 +1,7 @@
 -- What a contract sees of a `MemSource`, and of a call that isn't to fail.
-use Rattle.std.specs.Prelude.{◌≡◌, ℕ, min, List, ◌++◌, length, take, drop, Contains, Some}
+use Rattle.std.specs.Prelude.{◌≡◌, ℕ, min, List, ◌++◌, length, take, drop, Contains, Some, Result}
 use Rattle.sd_io.specs.States.{Input}
+use Rattle.sd_io.specs.Causes.{count_up, faults_after}
 
 -- What a contract sees of a source in memory.
 pub record SourceContents : Type 0 where
@@ -14,6 +15,14 @@ pub record SourceContents : Type 0 where
   pub calls : ℕ
   -- how many of them failed
   pub faults : ℕ
+
+-- a source after a read with this result, where this is left now: the call is counted, and a failed one as a fault
+abbrev pub source_after : {T E : Type 0} → Result T E → List ℕ → SourceContents → SourceContents
+source_after result left source = record source {
+  left = left;
+  calls = count_up source.calls;
+  faults = faults_after result source.faults;
+}
 
 -- the next call is one of those that fail
 abbrev pub IsReadToFail : SourceContents → Type 0

@@ -1,8 +1,8 @@
 //! std's readers as sources that read ahead.
-ghost use Rattle.std.specs.Prelude.{◌≡◌, ◌≤◌, ◌↔◌, length, drop, is_err, IsTrue, MatchBool, if◌then◌else◌};
+ghost use Rattle.std.specs.Prelude.{◌≡◌, ◌≤◌, ◌↔◌, length, drop, IsTrue, MatchBool};
 ghost use Rattle.std.specs.Io.Buffered.{reader_remaining};
 ghost use Rattle.sd_io.specs.States.{input_with};
-ghost use Rattle.sd_io.specs.Causes.{IsRead, IsHeld, IsSkip, count_up};
+ghost use Rattle.sd_io.specs.Causes.{IsRead, IsHeld, IsSkip, faults_after};
 ghost use Rattle.sd_io.specs.Buffered.{at_hand, buffered_state};
 
 use crate::{ReadFailed, Source};
@@ -28,8 +28,7 @@ impl<R: Read> Source for BufferedSource<R> {
     ghost state = { buffered_state R.remaining };
 
     fn read(&mut self, buf: &mut [u8]) -> Result<usize, ReadFailed>
-        ensures counts { self.new.faults
-            ≡ (if is_err result then count_up self.old.faults else self.old.faults) }
+        ensures counts { self.new.faults ≡ faults_after result self.old.faults }
 
         // What every source ensures.
         ensures read { IsRead (buffered_state R.remaining self.old) (buffered_state R.remaining self.new) result

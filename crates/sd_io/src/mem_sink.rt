@@ -1,7 +1,7 @@
 //! A sink in memory, with room for so many bytes and calls that fail by a list.
-ghost use Rattle.std.specs.Prelude.{◌≡◌, ◌≤◌, ◌-◌, ◌+◌, ◌⊎◌, ◌↔◌, ◌++◌, [], length, take, vec_len, vec_capacity, IsErr, is_err, IsTrue, IfOk, if◌then◌else◌};
-ghost use Rattle.sd_io.specs.Causes.{IsPut, count_up};
-ghost use Rattle.sd_io.specs.MemSink.{IsPutToFail, IsTooLong, front_that_fits, output_of};
+ghost use Rattle.std.specs.Prelude.{◌≡◌, ◌≤◌, ◌-◌, ◌+◌, ◌⊎◌, ◌↔◌, ◌++◌, length, take, vec_len, vec_capacity, IsErr, IsTrue, IfOk};
+ghost use Rattle.sd_io.specs.Causes.{IsPut};
+ghost use Rattle.sd_io.specs.MemSink.{IsPutToFail, IsTooLong, empty_sink, sink_after, front_that_fits, output_of};
 
 use crate::{Sink, WriteFailed};
 use std::alloc::{AllocError, Global};
@@ -37,13 +37,7 @@ impl Model for MemSink {
 impl MemSink {
     /// An empty sink, with its room reserved. The calls whose numbers, from 0, stand in `fails` write nothing and fail.
     pub fn new(alloc: Global, room: usize, fails: Vec<u64>) -> Result<MemSink, AllocError>
-        ensures { IfOk result (λ sink. sink ≡ record {
-          written = [];
-          room = room;
-          fails = fails.items;
-          calls = 0;
-          faults = 0;
-        }) }
+        ensures { IfOk result (λ sink. sink ≡ empty_sink room fails.items) }
     {
         let bytes = Vec::with_capacity(alloc, room)?;
         Ok(MemSink {
@@ -69,13 +63,9 @@ impl Sink for MemSink {
     fn put(&mut self, piece: &[u8]) -> Result<(), WriteFailed>
         ensures fails { IsErr result ↔ (IsPutToFail self.old ⊎ IsTooLong self.old piece.now) }
         ensures nothing { IsPutToFail self.old → self.new.written ≡ self.old.written }
-        ensures front { (IsPutToFail self.old → ⊥)
+        ensures front { ¬ IsPutToFail self.old
             → self.new.written ≡ self.old.written ++ front_that_fits self.old piece.now }
-        ensures counts { self.new ≡ record self.old {
-          written = self.new.written;
-          calls = count_up self.old.calls;
-          faults = (if is_err result then count_up self.old.faults else self.old.faults);
-        } }
+        ensures counts { self.new ≡ sink_after result self.new.written self.old }
 
         // What every sink ensures.
         ensures put { IsPut (output_of self.old) (output_of self.new) result piece.now }

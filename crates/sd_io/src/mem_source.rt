@@ -1,7 +1,7 @@
 //! A source over bytes in memory, with calls that fail by a list.
-ghost use Rattle.std.specs.Prelude.{◌≡◌, ◌≤◌, ◌↔◌, ◌++◌, [], min, length, take, drop, IsErr, is_err, MatchResult, if◌then◌else◌};
+ghost use Rattle.std.specs.Prelude.{◌≡◌, ◌≤◌, ◌↔◌, ◌++◌, min, length, take, drop, IsErr, IfOk, OnErr};
 ghost use Rattle.sd_io.specs.Causes.{IsRead, count_up};
-ghost use Rattle.sd_io.specs.MemSource.{IsReadToFail, GivesPiece, input_of};
+ghost use Rattle.sd_io.specs.MemSource.{IsReadToFail, GivesPiece, source_after, input_of};
 
 use crate::{ReadFailed, Source};
 use std::marker::Model;
@@ -70,14 +70,10 @@ impl Source for MemSource {
 
     fn read(&mut self, buf: &mut [u8]) -> Result<usize, ReadFailed>
         ensures fails { IsErr result ↔ IsReadToFail self.old }
-        ensures gives { MatchResult result
-            (λ count. GivesPiece self.old buf.old count self.new.left buf.new)
-            (λ _. (self.new.left ≡ self.old.left) × (buf.new ≡ buf.old)) }
-        ensures counts { self.new ≡ record self.old {
-          left = self.new.left;
-          calls = count_up self.old.calls;
-          faults = (if is_err result then count_up self.old.faults else self.old.faults);
-        } }
+        ensures gives { IfOk result (λ count.
+            GivesPiece self.old buf.old count self.new.left buf.new) }
+        ensures err { OnErr result ((self.new.left ≡ self.old.left) × (buf.new ≡ buf.old)) }
+        ensures counts { self.new ≡ source_after result self.new.left self.old }
 
         // What every source ensures.
         ensures read { IsRead (input_of self.old) (input_of self.new) result buf.new }

@@ -1,7 +1,7 @@
 //! std's writers as sinks.
-ghost use Rattle.std.specs.Prelude.{◌≡◌, is_err, if◌then◌else◌};
-ghost use Rattle.sd_io.specs.States.{output_with};
-ghost use Rattle.sd_io.specs.Causes.{IsPut, count_up};
+ghost use Rattle.std.specs.Prelude.{◌≡◌};
+ghost use Rattle.sd_io.specs.Causes.{IsPut, faults_after};
+ghost use Rattle.sd_io.specs.Streams.{stream_output};
 
 use crate::{Sink, WriteFailed};
 use std::io::Write;
@@ -33,15 +33,14 @@ impl<W: Write> StdSink<W> {
 }
 
 impl<W: Write> Sink for StdSink<W> {
-    ghost state = { λ s. output_with (W.contents s.stream) s.faults };
+    ghost state = { λ s. stream_output W.contents s };
 
     fn put(&mut self, piece: &[u8]) -> Result<(), WriteFailed>
-        ensures counts { self.new.faults
-            ≡ (if is_err result then count_up self.old.faults else self.old.faults) }
+        ensures counts { self.new.faults ≡ faults_after result self.old.faults }
 
         // What every sink ensures.
-        ensures put { IsPut (output_with (W.contents self.old.stream) self.old.faults)
-            (output_with (W.contents self.new.stream) self.new.faults) result piece.now }
+        ensures put { IsPut (stream_output W.contents self.old)
+            (stream_output W.contents self.new) result piece.now }
     {
         let mut rest = piece;
         while !rest.is_empty() {

@@ -1,7 +1,7 @@
 //! std's readers as sources.
-ghost use Rattle.std.specs.Prelude.{◌≡◌, is_err, if◌then◌else◌};
-ghost use Rattle.sd_io.specs.States.{input_with};
-ghost use Rattle.sd_io.specs.Causes.{IsRead, count_up};
+ghost use Rattle.std.specs.Prelude.{◌≡◌};
+ghost use Rattle.sd_io.specs.Causes.{IsRead, faults_after};
+ghost use Rattle.sd_io.specs.Streams.{stream_input};
 
 use crate::{ReadFailed, Source};
 use std::io::Read;
@@ -33,15 +33,14 @@ impl<R: Read> StdSource<R> {
 }
 
 impl<R: Read> Source for StdSource<R> {
-    ghost state = { λ s. input_with (R.remaining s.stream) s.faults };
+    ghost state = { λ s. stream_input R.remaining s };
 
     fn read(&mut self, buf: &mut [u8]) -> Result<usize, ReadFailed>
-        ensures counts { self.new.faults
-            ≡ (if is_err result then count_up self.old.faults else self.old.faults) }
+        ensures counts { self.new.faults ≡ faults_after result self.old.faults }
 
         // What every source ensures.
-        ensures read { IsRead (input_with (R.remaining self.old.stream) self.old.faults)
-            (input_with (R.remaining self.new.stream) self.new.faults) result buf.new }
+        ensures read { IsRead (stream_input R.remaining self.old)
+            (stream_input R.remaining self.new) result buf.new }
     {
         match self.inner.read(buf) {
             Ok(count) => Ok(count),

@@ -41,3 +41,7 @@ IsFaultless _ = Unit {0}
 abbrev pub IsInTime : ℕ → Frame → Type 0
 IsInTime clock (Log frame) = clock ≤ log_time frame
 IsInTime clock _ = Unit {0}
+
+-- a frame has no fault where the clock stands so, its time included
+abbrev pub StandsAfter : ℕ → Frame → Type 0
+StandsAfter clock frame = IsFaultless frame × IsInTime clock frame

@@ -57,13 +57,13 @@ needed place left =
 abbrev pub start : Place
 start = record { bytes = 0; clock = 0; frames = 0 }
 
+-- the place after one frame more, which has so many bytes and leaves the clock at this time
+abbrev pub moved_by : Place → ℕ → ℕ → Place
+moved_by place count clock = record { bytes = place.bytes + count; clock = clock; frames = place.frames + 1 }
+
 -- the place after a frame, where these bytes were left before it and those after it
 abbrev pub past : Place → List ℕ → Frame → List ℕ → Place
-past place left frame rest = record {
-  bytes = place.bytes + (length left - length rest);
-  clock = clock_after place.clock frame;
-  frames = place.frames + 1;
-}
+past place left frame rest = moved_by place (length left - length rest) (clock_after place.clock frame)
 
 -- How a session ends: at a frame's end, or with a fault at the first byte of a frame.
 pub data End : Type 0 where

@@ -3,12 +3,16 @@ use Rattle.std.specs.Prelude.{◌≡◌, ℕ, ◌*◌, ◌≤◌, Bool, true, fa
 use Rattle.sd_io.specs.States.{Input}
 use Rattle.sd_io.specs.Causes.{IsAtEnd, Rose, Takes}
 use Rattle.session_frames.specs.declared.frame.Frame.{Frame}
+use Rattle.session_frames.specs.declared.frame.Frame.TheVariants.{Log}
 use Rattle.session_frames.specs.declared.frame.FrameError.{FrameError}
 use Rattle.session_frames.specs.declared.frame.FrameError.TheVariants.{Session, Read, Memory}
 use Rattle.session_frames.specs.declared.frame.SessionFault.{SessionFault}
 use Rattle.session_frames.specs.declared.frame.SessionFault.TheVariants.{Cut}
+use Rattle.session_frames.specs.declared.log_room.LogKind.{LogKind}
+use Rattle.session_frames.specs.declared.log_room.LogRoom.{LogRoom}
 use Rattle.session_frames.specs.declared.place.Place.{Place}
 use Rattle.session_frames.specs.FrameLimits.{most_pending, most_session_frames}
+use Rattle.session_frames.specs.LogRooms.{frame_in}
 use Rattle.session_frames.specs.Frames.{Next, Ended, Broken, Whole, next_frame, needed, start, past}
 
 -- A reader: what it holds, where it stands, and whether its source ended.
@@ -19,6 +23,10 @@ pub record Reading : Type 0 where
   pub place : Place
   -- the source was read to its end
   pub ended : Bool
+
+-- a reader that hasn't given the end
+abbrev pub IsBeforeEnd : Reading → Type 0
+IsBeforeEnd reading = reading.ended ≡ false
 
 -- a reader that has taken nothing
 abbrev pub unread : Reading
@@ -48,6 +56,10 @@ pub record GivesFrame (old new : Input) (before after : Reading) (frame : Option
   pub no_more : length (before.pending ++ taken) ≤ needed before.place (before.pending ++ taken)
   pub next : GivesNext before (before.pending ++ taken) after frame
   pub at_end : IsEndSeen frame new
+
+-- A call gave the frame of the log that stands in a room, of this kind.
+abbrev pub GivesLog : Input → Input → Reading → Reading → LogRoom → LogKind → Type 0
+GivesLog old new before after room kind = GivesFrame old new before after (Some (Log (frame_in kind room)))
 
 -- This fault stands next in what is left; where that is cut, nothing comes after it.
 pub record IsFaultNext (at : ℕ) (fault : SessionFault) (before : Reading) (left : List ℕ) (new : Input) : Type 0 where

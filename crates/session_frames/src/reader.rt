@@ -1,12 +1,12 @@
 //! The reader of frames.
-ghost use Rattle.std.specs.Prelude.{◌≡◌, ◌+◌, ◌-◌, ◌^◌, ◌<◌, ◌≤◌, [], false, length, take, vec_len, IsTrue, IfOk, IfErr, OnOk, OnErr, IfSome, IfNone, Some, None, Ok};
+ghost use Rattle.std.specs.Prelude.{◌≡◌, ◌+◌, ◌-◌, ◌^◌, ◌<◌, ◌≤◌, [], length, take, vec_len, IsTrue, IfOk, IfErr, OnOk, OnErr, IfSome, IfNone, Some, None, Ok};
 ghost use Rattle.sd_io.specs.Causes.{IsFrontOf, Takes};
 ghost use Rattle.session_frames.specs.declared.frame.Frame.TheVariants.{Log};
 ghost use Rattle.session_frames.specs.LogRooms.{frame_in};
-ghost use Rattle.session_frames.specs.Faultless.{IsFaultless, IsInTime};
+ghost use Rattle.session_frames.specs.Faultless.{StandsAfter};
 ghost use Rattle.session_frames.specs.FrameLimits.{most_pending};
 ghost use Rattle.session_frames.specs.Frames as frames;
-ghost use Rattle.session_frames.specs.Reader.{unread, resumed_at, GivesFrame, Refuses, HasReadCause};
+ghost use Rattle.session_frames.specs.Reader.{unread, resumed_at, IsBeforeEnd, GivesFrame, GivesLog, Refuses, HasReadCause};
 ghost use Rattle.session_frames.specs.Bodies.{FindsNext, IsOutside, StopsShort, TakesNext, TakesSome};
 
 use crate::body::{BodyError, next_clock, read_frame};
@@ -88,13 +88,13 @@ impl FrameReader {
         src: &mut S,
     ) -> Result<(FrameReader, Option<Frame>), FrameError>
         // What stands next is given, and no byte after it is taken.
-        ensures gives { self.ended ≡ false
+        ensures gives { IsBeforeEnd self
             → IfOk result (λ r. GivesFrame (S.state src.old) (S.state src.new) self r.0 r.1) }
         ensures faultless { IfOk result (λ r.
-            IfSome r.1 (λ f. IsFaultless f × IsInTime self.place.clock f)) }
+            IfSome r.1 (StandsAfter self.place.clock)) }
 
         // Each error has its cause.
-        ensures refuses { self.ended ≡ false
+        ensures refuses { IsBeforeEnd self
             → IfErr result (λ e. Refuses (S.state src.old) (S.state src.new) self e) }
         ensures cause { HasReadCause (S.state src.old) (S.state src.new) result }
 
@@ -108,11 +108,11 @@ impl FrameReader {
     /// The same, where the reader stands: nothing of it is moved. After an error it is of no use. A frame that
     /// stands whole in what the source holds is read where it stands.
     pub fn read<S: Source>(&mut self, src: &mut S) -> Result<Option<Frame>, FrameError>
-        ensures gives { self.old.ended ≡ false
-            → IfOk result (λ found. GivesFrame (S.state src.old) (S.state src.new) self.old self.new found) }
+        ensures gives { IsBeforeEnd self.old
+            → IfOk result (GivesFrame (S.state src.old) (S.state src.new) self.old self.new) }
         ensures faultless { IfOk result (λ found.
-            IfSome found (λ f. IsFaultless f × IsInTime self.old.place.clock f)) }
-        ensures refuses { self.old.ended ≡ false
+            IfSome found (StandsAfter self.old.place.clock)) }
+        ensures refuses { IsBeforeEnd self.old
             → IfErr result (λ e. Refuses (S.state src.old) (S.state src.new) self.old e) }
         ensures cause { HasReadCause (S.state src.old) (S.state src.new) result }
         ensures again { IsTrue self.old.ended
@@ -143,10 +143,10 @@ impl FrameReader {
     /// as they are.
     #[inline(always)]
     pub fn take_log<S: Source>(&mut self, src: &mut S, room: &mut LogRoom) -> Option<LogKind>
-        ensures gives { IfSome result (λ kind. GivesFrame (S.state src.old) (S.state src.new) self.old self.new
-            (Some (Log (frame_in kind room.new)))) }
-        ensures faultless { IfSome result (λ kind. IsFaultless (Log (frame_in kind room.new))
-            × IsInTime self.old.place.clock (Log (frame_in kind room.new))) }
+        ensures gives { IfSome result
+            (GivesLog (S.state src.old) (S.state src.new) self.old self.new room.new) }
+        ensures faultless { IfSome result
+            (λ kind. StandsAfter self.old.place.clock (Log (frame_in kind room.new))) }
         ensures nothing { IfNone result ((self.new ≡ self.old) × (S.state src.new ≡ S.state src.old)) }
         ensures no_fault { (S.state src.new).faults ≡ (S.state src.old).faults }
     {
@@ -170,11 +170,11 @@ impl FrameReader {
     #[cold]
     #[inline(never)]
     fn read_on<S: Source>(&mut self, src: &mut S) -> Result<Option<Frame>, FrameError>
-        ensures gives { self.old.ended ≡ false
-            → IfOk result (λ found. GivesFrame (S.state src.old) (S.state src.new) self.old self.new found) }
+        ensures gives { IsBeforeEnd self.old
+            → IfOk result (GivesFrame (S.state src.old) (S.state src.new) self.old self.new) }
         ensures faultless { IfOk result (λ found.
-            IfSome found (λ f. IsFaultless f × IsInTime self.old.place.clock f)) }
-        ensures refuses { self.old.ended ≡ false
+            IfSome found (StandsAfter self.old.place.clock)) }
+        ensures refuses { IsBeforeEnd self.old
             → IfErr result (λ e. Refuses (S.state src.old) (S.state src.new) self.old e) }
         ensures cause { HasReadCause (S.state src.old) (S.state src.new) result }
     {
@@ -193,11 +193,8 @@ impl FrameReader {
 fn place_after(place: &Place, count: usize, frame: &Frame) -> Place
     requires in_bytes { place.now.bytes + count < 2 ^ 64 }
     requires in_frames { place.now.frames + 1 < 2 ^ 64 }
-    ensures { result ≡ record {
-      bytes = place.now.bytes + count;
-      clock = frames.clock_after place.now.clock frame.now;
-      frames = place.now.frames + 1;
-    } }
+    ensures { result
+        ≡ frames.moved_by place.now count (frames.clock_after place.now.clock frame.now) }
 {
     Place {
         bytes: place.bytes + count as u64,
@@ -210,11 +207,7 @@ fn place_after(place: &Place, count: usize, frame: &Frame) -> Place
 fn place_at(place: &Place, count: usize, time: u64) -> Place
     requires in_bytes { place.now.bytes + count < 2 ^ 64 }
     requires in_frames { place.now.frames + 1 < 2 ^ 64 }
-    ensures { result ≡ record {
-      bytes = place.now.bytes + count;
-      clock = time;
-      frames = place.now.frames + 1;
-    } }
+    ensures { result ≡ frames.moved_by place.now count time }
 {
     Place {
         bytes: place.bytes + count as u64,
@@ -309,7 +302,7 @@ fn make_room(room: &mut Vec<u8>, size: usize) -> Result<(), AllocError>
 fn next_in(alloc: Global, place: &Place, left: &[u8]) -> Result<Option<Frame>, FrameError>
     ensures finds { FindsNext place.now result (frames.next_frame place.now left.now) }
     ensures sound { IfOk result (λ found.
-        IfSome found (λ f. IsFaultless f × IsInTime place.now.clock f)) }
+        IfSome found (StandsAfter place.now.clock)) }
 {
     if left.is_empty() {
         return Ok(None);
@@ -345,8 +338,8 @@ fn next_in(alloc: Global, place: &Place, left: &[u8]) -> Result<Option<Frame>, F
 fn log_in(alloc: Global, room: &mut LogRoom, place: &Place, left: &[u8]) -> Option<LogKind>
     ensures finds { IfSome result (λ kind.
         FindsNext place.now (Ok (Some (Log (frame_in kind room.new)))) (frames.next_frame place.now left.now)) }
-    ensures sound { IfSome result (λ kind. IsFaultless (Log (frame_in kind room.new))
-        × IsInTime place.now.clock (Log (frame_in kind room.new))) }
+    ensures sound { IfSome result
+        (λ kind. StandsAfter place.now.clock (Log (frame_in kind room.new))) }
 {
     if place.frames >= MAX_FRAMES || left.len() < 4 {
         return None;

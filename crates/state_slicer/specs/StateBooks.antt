@@ -24,6 +24,10 @@ pub record StateBookStandsFor (book : Table ℕ (Table (List Leaf) ℤ)) (frames
   pub bound : book.bound ≡ most_state_ids
   pub dropped : book.dropped ≡ count_in_u64 (dropped_state_atoms frames)
 
+-- whatever frames the book stands for, this is the answer
+abbrev pub BookAnswers : {A : Type 0} → Table ℕ (Table (List Leaf) ℤ) → A → (List LogFrame → A) → Type 0
+BookAnswers book result answer = (frames : List LogFrame) → StateBookStandsFor book frames → result ≡ answer frames
+
 -- whatever frames the old book stood for, the new one stands for those and this atom, at any time
 abbrev pub AppliesAtom : Table ℕ (Table (List Leaf) ℤ) → Table ℕ (Table (List Leaf) ℤ) → Atom → Type 0
 AppliesAtom old new atom =

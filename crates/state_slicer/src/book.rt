@@ -1,6 +1,5 @@
 //! The states that the log last gave, for the first ids of state atoms that come.
 ghost use Rattle.std.specs.Prelude.{◌≡◌, ◌≢◌, ◌<◌, ◌≤◌, ℕ, true, false, List, [], length, All, AllPairs, slice_get, Some, IfSome, IfNone, Contains, IsOk, OnOk, OnErr};
-ghost use Rattle.atom_record.specs.declared.log.LogFrame.{LogFrame};
 ghost use Rattle.dim_table.specs.Table.{keys};
 ghost use Rattle.bucket_meaning.specs.Kept.{count_in_u64};
 ghost use Rattle.book_meaning.specs.BookLimits.{most_state_ids};
@@ -37,7 +36,7 @@ impl Model for StateBook {
 }
 
 impl StateBook {
-    ghost use Rattle.state_slicer.specs.StateBooks.{StateBookStandsFor, AppliesAtom, BookTakes, IsTakenAt, IsTakenFirst, IsAtId, IsStateIn, AreDropsIn};
+    ghost use Rattle.state_slicer.specs.StateBooks.{StateBookStandsFor, BookAnswers, AppliesAtom, BookTakes, IsTakenAt, IsTakenFirst, IsAtId, IsStateIn, AreDropsIn};
 
     /// A book with no state. It takes no memory yet.
     pub fn new(alloc: Global) -> StateBook
@@ -105,8 +104,7 @@ impl StateBook {
 
     /// The state that the log last gave a key of an id, or -1 where it gave none since the last reset.
     pub fn value(&self, atom_id: u32, key: &DimKey) -> i32
-        ensures answers { (frames : List LogFrame) → StateBookStandsFor self.now frames
-            → result ≡ state_value atom_id key.now frames }
+        ensures answers { BookAnswers self.now result (state_value atom_id key.now) }
         ensures state { IsStateIn self.now atom_id key.now result }
     {
         let Some(states) = self.states_of(atom_id) else {
@@ -118,8 +116,8 @@ impl StateBook {
     /// How many state atoms of an id of the book have had a key that finds no room. The count stands still at the end
     /// of its type.
     pub fn dropped(&self, atom_id: u32) -> u64
-        ensures answers { (frames : List LogFrame) → StateBookStandsFor self.now frames
-            → result ≡ count_in_u64 (state_drops atom_id frames) }
+        ensures answers { BookAnswers self.now result
+            (λ frames. count_in_u64 (state_drops atom_id frames)) }
         ensures drops { AreDropsIn self.now atom_id result }
     {
         let Some(states) = self.states_of(atom_id) else {
@@ -130,8 +128,8 @@ impl StateBook {
 
     /// How many state atoms have had an id that finds no room. The count stands still at the end of its type.
     pub fn dropped_atoms(&self) -> u64
-        ensures answers { (frames : List LogFrame) → StateBookStandsFor self.now frames
-            → result ≡ count_in_u64 (dropped_state_atoms frames) }
+        ensures answers { BookAnswers self.now result
+            (λ frames. count_in_u64 (dropped_state_atoms frames)) }
         ensures drops { result ≡ self.now.dropped }
     {
         self.ids.dropped()
@@ -139,8 +137,8 @@ impl StateBook {
 
     /// The number of ids.
     pub fn atoms(&self) -> usize
-        ensures answers { (frames : List LogFrame) → StateBookStandsFor self.now frames
-            → result ≡ length (state_atom_ids frames) }
+        ensures answers { BookAnswers self.now result
+            (λ frames. length (state_atom_ids frames)) }
         ensures most { result ≤ most_state_ids }
         ensures value { result ≡ length self.now.rows }
         ensures distinct { AllPairs (λ one other. one ≢ other) (keys self.now) }

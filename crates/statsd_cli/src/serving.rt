@@ -1,14 +1,11 @@
 //! A session under way: its frames are read and served one after the other. What reads and serves is the same for each
 //! word, and has no output: who answers does so outside of it.
-ghost use Rattle.std.specs.Prelude.{◌≡◌, ◌≤◌, List, [], ◌∷◌, ◌++◌, OnOk};
-ghost use Rattle.session_frames.specs.declared.frame.Frame.{Frame};
+ghost use Rattle.std.specs.Prelude.{◌≡◌, []};
 ghost use Rattle.session_frames.specs.declared.frame.Frame.TheVariants.{Log};
 ghost use Rattle.session_frames.specs.Faultless.{IsFaultlessLog};
-ghost use Rattle.session_frames.specs.Frames.{log_time};
 ghost use Rattle.session_frames.specs.LogRooms.{frame_in};
 ghost use Rattle.matcher_eval.specs.AtomTests.{matcher_holds};
-ghost use Rattle.hub_meaning.specs.SessionLog.{clock_of};
-ghost use Rattle.hub_core.specs.HubStands.{HubStandsFor};
+ghost use Rattle.hub_core.specs.HubStands.{HubStandsFor, TakesInTime};
 ghost use Rattle.hub_core.specs.HubSaving.{saved_of};
 ghost use Rattle.statsd_cli.specs.Run.{ending_by};
 ghost use Rattle.statsd_cli.specs.Serving.{step_ending, HasReadNothing, LogsOn, StepsOn};
@@ -141,9 +138,8 @@ fn log<L: Ledger>(
     asks: &mut Steps<L>,
 ) -> Result<(), AllocError>
     requires faultless { IsFaultlessLog (frame_in kind room.old) }
-    ensures stands { (frames : List Frame) → HubStandsFor matcher_holds hub.old frames
-        → clock_of frames ≤ log_time (frame_in kind room.old)
-        → OnOk result (HubStandsFor matcher_holds hub.new (frames ++ Log (frame_in kind room.old) ∷ [])) }
+    ensures stands { TakesInTime matcher_holds hub.old
+        (Log (frame_in kind room.old)) hub.new result }
 {
     match kind {
         LogKind::Tick => hub.log(&mut room.tick, asks),

@@ -4,7 +4,7 @@ use super::loops::unrolled;
 use super::names::Names;
 use super::numbers::{bits, push_low, push_number, push_varint};
 use super::refusal::Refusal;
-use super::values::{push_field, tag_of};
+use super::values::{FieldText, push_field, tag_of};
 use std::alloc::{AllocError, Global};
 use std::mem;
 
@@ -122,7 +122,12 @@ impl Encoder {
             return Err(Refusal::Word);
         };
         if let Some((number, _)) = self.field_of(names, name) {
-            return push_field(&mut self.bytes, self.alloc, names, number, name, value);
+            let field = FieldText {
+                number,
+                name,
+                value,
+            };
+            return push_field(&mut self.bytes, self.alloc, names, field);
         }
         match name {
             "path" => push_path(&mut self.bytes, value),

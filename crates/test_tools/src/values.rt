@@ -10,16 +10,27 @@ pub fn tag_of(number: u64, wire: u64) -> u64 {
     number.saturating_mul(8).saturating_add(wire)
 }
 
+/// A field as a word tells it: its number, and its name and value as text.
+#[derive(Clone, Copy)]
+pub struct FieldText<'a> {
+    pub number: u64,
+    pub name: &'a str,
+    pub value: &'a str,
+}
+
 /// Puts a field with a value: `"text"` and `<hex>` have a length, `fixed<hex>` four or eight bytes, and all others are
 /// numbers or names of numbers.
 pub fn push_field(
     bytes: &mut Vec<u8>,
     alloc: Global,
     names: &Names,
-    number: u64,
-    name: &str,
-    value: &str,
+    field: FieldText<'_>,
 ) -> Result<(), Refusal> {
+    let FieldText {
+        number,
+        name,
+        value,
+    } = field;
     if let Some(text) = inside(value, "\"", "\"") {
         return push_text(bytes, number, text.as_bytes());
     }

@@ -1,14 +1,15 @@
 -- What a table has of the integers that came in a part: for each admitted key what its integers give.
-use Rattle.std.specs.Prelude.{◌≡◌, ℕ, ℤ, zero, suc, pos, ◌+◌, Bool, List, [], ◌∷◌, ◌++◌, map, length, Option, Some, None}
+use Rattle.std.specs.Prelude.{◌≡◌, ℕ, ℤ, zero, suc, pos, ◌+◌, Bool, List, [], ◌∷◌, ◌++◌, map, length, slice_get, Option, Some, None}
 use Rattle.std.specs.Int.{w64, saturate_signed}
 use Rattle.std.specs.List.{reduce, flat_map}
+use Rattle.std.specs.Map.{values_of}
 use Rattle.std.specs.Option.{unwrap_or}
 use Rattle.atom_record.specs.declared.value.MetricKey.{MetricKey}
 use Rattle.bucket_meaning.specs.Guard.{admitted, of_key, arrival_key}
 use Rattle.bucket_meaning.specs.Kept.{count_in_u64}
 use Rattle.bucket_meaning.specs.Rows.{drops}
 use Rattle.config_types.specs.declared.metric.Aggregation.{Aggregation}
-use Rattle.dim_table.specs.Table.{Table}
+use Rattle.dim_table.specs.Table.{Table, with_value_at}
 use Rattle.kept_rows.specs.KeptRows.{Keeping, AddsRows}
 use Rattle.metric_kinds.specs.Keys.{is_same_key}
 use Rattle.metric_kinds.specs.Values.{joined, unless_hidden, value_kind}
@@ -42,6 +43,12 @@ pub record TakesInteger (aggregation : Aggregation) (old new : Table MetricKey (
       → HasTotals aggregation new (came ++ (key, integer) ∷ [])
       (dropped + drops (value_kind aggregation hides_zeros) old.bound came (key, integer))
 
+-- an integer joined those of the row at a place
+abbrev pub JoinsAt : Aggregation → ℕ → ℤ → Table MetricKey (Option ℤ) → Table MetricKey (Option ℤ) → Type 0
+JoinsAt aggregation place integer old new =
+    (total : Option ℤ) → slice_get (values_of old.rows) place ≡ Some total
+    → new ≡ with_value_at old place (Some (joined_to aggregation total integer))
+
 -- what a row shows of a total: an integer at the ends of a number of 64 bits at most
 abbrev pub shown_total : Option ℤ → ℤ
 shown_total total = saturate_signed w64 (unwrap_or total (pos 0))
@@ -50,6 +57,10 @@ shown_total total = saturate_signed w64 (unwrap_or total (pos 0))
 abbrev pub total_rows : Bool → ℕ → ℕ → MetricKey × Option ℤ → List (Row ℤ)
 total_rows hides_zeros start end entry =
     unless_hidden hides_zeros (record { key = entry.0; start = start; end = end; value = shown_total entry.1 })
+
+-- the rows of a part, by its totals
+abbrev pub part_rows : Bool → ℕ → ℕ → List (MetricKey × Option ℤ) → List (Row ℤ)
+part_rows hides_zeros start end totals = flat_map (total_rows hides_zeros start end) totals
 
 -- the rows of the same totals in so many full buckets, one after the other
 abbrev pub bucket_rows : Bool → List (MetricKey × Option ℤ) → ℕ → ℕ → ℕ → List (Row ℤ)

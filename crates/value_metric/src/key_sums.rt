@@ -1,5 +1,5 @@
 //! The sums of a snapshot's integers, by key.
-ghost use Rattle.std.specs.Prelude.{◌≡◌, IfOk, OnOk, length, slice_get};
+ghost use Rattle.std.specs.Prelude.{◌≡◌, IfOk, OnOk, IfSome, Some, length, slice_get};
 ghost use Rattle.std.specs.Option.{option_map};
 ghost use Rattle.std.specs.Map.{lookup};
 ghost use Rattle.metric_kinds.specs.Diffs.{key_sums};
@@ -37,7 +37,7 @@ impl KeySums {
         ensures { IfOk result (λ sums. sums ≡ key_sums (keyed_ints integers)) }
     {
         let mut sums = KeySums {
-            rows: IndexMap::with_hasher(alloc, KeyHashing::new()),
+            rows: IndexMap::with_capacity_and_hasher(alloc, integers.len(), KeyHashing::new())?,
         };
         for integer in integers.into_vec() {
             sums.add(integer.key, integer.value as i128)?;
@@ -53,7 +53,7 @@ impl KeySums {
         ensures { IfOk result (IsSumsOf rows) }
     {
         let mut sums = KeySums {
-            rows: IndexMap::with_hasher(alloc, KeyHashing::new()),
+            rows: IndexMap::with_capacity_and_hasher(alloc, rows.len(), KeyHashing::new())?,
         };
         for (key, sum) in rows.into_vec() {
             if !sums.add_own(key, sum)? {
@@ -87,11 +87,27 @@ impl KeySums {
         Ok(())
     }
 
-    /// The sum of a key's integers, or none where the key isn't there.
-    pub(crate) fn sum_of(&self, key: &MetricKey) -> Option<i128>
+    /// The sum of a key's integers, or none where the key isn't there. It is looked for at a place first: the keys of
+    /// two snapshots come in one order most often.
+    pub(crate) fn sum_near(&self, place: usize, key: &MetricKey) -> Option<i128>
         ensures { result ≡ lookup (is_same_key key.now) self.now }
     {
-        self.rows.get(key).copied()
+        match self.sum_there(place, key) {
+            Some(sum) => Some(sum),
+            None => self.rows.get(key).copied(),
+        }
+    }
+
+    // The sum at a place, if it is the key's.
+    #[inline(always)]
+    fn sum_there(&self, place: usize, key: &MetricKey) -> Option<i128>
+        ensures { IfSome result (λ sum. lookup (is_same_key key.now) self.now ≡ Some sum) }
+    {
+        let _len = self.rows.len();
+        match self.rows.get_index(place) {
+            Some((found, sum)) if found == key => Some(*sum),
+            _ => None,
+        }
     }
 
     /// The key at a place with its sum, or none past the end.

@@ -1,10 +1,9 @@
 //! Differences of pulled values between the ends of intervals, by key.
 ghost use Rattle.std.specs.Prelude.{◌≡◌, ◌<◌, ◌≤◌, [], OnOk, IfOk, map, int_le, Some, if◌then◌else◌};
-ghost use Rattle.std.specs.List.{flat_map};
 ghost use Rattle.std.specs.Option.{option_and_then, option_map};
 ghost use Rattle.bucket_meaning.specs.Limits.{longest_bucket, time_limit, most_keys};
 ghost use Rattle.bucket_meaning.specs.Marks.{Came};
-ghost use Rattle.metric_kinds.specs.Diffs.{key_sums, start_sum, diff_by, growth, reset_diff, key_diff, keyed_diff};
+ghost use Rattle.metric_kinds.specs.Diffs.{key_sums, start_sum, diff_by, growth, reset_diff, keyed_diff};
 ghost use Rattle.value_metric.specs.PulledValues.{is_truth, keyed_ints};
 ghost use Rattle.value_metric.specs.PulledStands.{PulledValueStandsFor};
 ghost use Rattle.value_metric.specs.PulledSteps.{opened_before, opened_by, opened_again, ending_marks, ClosesPulled, Jumps};
@@ -231,13 +230,13 @@ fn arrive_all(
     ends: &KeySums,
 ) -> Result<(), AllocError>
     ensures { OnOk result (TakesValueMarks books.old books.new
-        (map Came (flat_map (key_diff spec starts.now) ends.now))) }
+        (sums_marks spec (Some starts.now) (Some ends.now))) }
 {
     for place in 0..ends.len() {
         let Some((key, end)) = ends.at(place) else {
             return Ok(());
         };
-        let diff = diff_of(spec, starts.sum_of(key), end);
+        let diff = diff_of(spec, starts.sum_near(place, key), end);
         arrive(books, key, diff)?;
     }
     Ok(())

@@ -1,14 +1,11 @@
 //! The books of a metric of values: what the integers of the open part give, by key, and the rows of closed parts.
-ghost use Rattle.std.specs.Prelude.{◌≡◌, ◌+◌, ◌*◌, ◌<◌, ◌≤◌, ℕ, ℤ, Option, Some, slice_get, OnOk, OnErr, IfOk};
-ghost use Rattle.std.specs.List.{flat_map};
-ghost use Rattle.std.specs.Map.{values_of};
+ghost use Rattle.std.specs.Prelude.{◌≡◌, ◌+◌, ◌*◌, ◌<◌, ◌≤◌, ℕ, OnOk, OnErr, IfOk};
 ghost use Rattle.bucket_meaning.specs.Kept.{count_in_u64};
 ghost use Rattle.bucket_meaning.specs.Limits.{most_keys, time_limit};
 ghost use Rattle.bucket_meaning.specs.Marks.{Ends, Came, Missed, Asked};
-ghost use Rattle.dim_table.specs.Table.{with_value_at};
 ghost use Rattle.kept_rows.specs.KeptRows.{AddsRows};
 ghost use Rattle.metric_kinds.specs.Values.{unless_hidden};
-ghost use Rattle.value_metric.specs.Totals.{joined_to, shown_total, total_rows, bucket_rows, row_weighs, AddsCounted, TakesInteger};
+ghost use Rattle.value_metric.specs.Totals.{joined_to, JoinsAt, shown_total, part_rows, bucket_rows, row_weighs, AddsCounted, TakesInteger};
 ghost use Rattle.value_metric.specs.ValueBooksStand.{AreNewBooks, TakesMark, ShowsTotals, ClosesAgain};
 
 use atom_record::MetricKey;
@@ -211,7 +208,7 @@ fn keep_copies(
     table: &Guarded<MetricKey, Option<i128>>,
 ) -> Result<u64, AllocError>
     ensures { IfOk result (λ n. AddsCounted kept.old kept.new n
-        (flat_map (total_rows part.hides_zeros part.start part.end) table.now.rows)) }
+        (part_rows part.hides_zeros part.start part.end table.now.rows)) }
 {
     let mut rows = 0;
     for place in 0..table.len() {
@@ -265,8 +262,7 @@ fn add(
     integer: i128,
 )
     ensures bound { table.new.bound ≡ table.old.bound }
-    ensures joined { (total : Option ℤ) → slice_get (values_of table.old.rows) place ≡ Some total
-        → table.new ≡ with_value_at table.old place (Some (joined_to aggregation total integer)) }
+    ensures joined { JoinsAt aggregation place integer table.old table.new }
 {
     if let Some(total) = table.value_at(place) {
         *total = Some(join(aggregation, *total, integer));
@@ -304,7 +300,7 @@ fn keep_all(
     totals: IntoIter<MetricKey, Option<i128>>,
 ) -> Result<(), AllocError>
     ensures { OnOk result
-        (AddsRows row_weighs kept.old kept.new (flat_map (total_rows hides_zeros start end) totals)) }
+        (AddsRows row_weighs kept.old kept.new (part_rows hides_zeros start end totals)) }
 {
     for (key, total) in totals {
         let row = Row {

@@ -5,10 +5,10 @@ ghost use Rattle.client_engine.specs.Tracks.{AllAskWithin};
 ghost use Rattle.client_engine.specs.Woken.{AllDue};
 
 use super::Instance;
-use crate::conditions::Conditions;
 use crate::listeners::Listeners;
 use crate::tracks::Tracks;
 use config_links::{LAlert, LMatcher, LState};
+use known_conditions::Conditions;
 use sd_base::Seq;
 use std::alloc::{AllocError, Global};
 

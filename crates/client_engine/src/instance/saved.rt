@@ -7,13 +7,13 @@ ghost use Rattle.client_engine.specs.SavedInstances.{instance_items, IsSavedInst
 
 use super::Instance;
 use super::parts::Parts;
-use crate::conditions::Conditions;
 use crate::lanes::MetricLane;
 use crate::saved::tables::have_their_specs;
 use crate::saved::tracks::{flatten_tracks, show_tracks, tracks_with};
 use crate::tracks::Tracks;
 use config_links::Linked;
 use flat_form::{Flat, FlatError, Items};
+use known_conditions::Conditions;
 use metric_activation::ActBook;
 use predicate_state::PredTable;
 use sd_base::Seq;

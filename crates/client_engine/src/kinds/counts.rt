@@ -4,7 +4,7 @@ ghost use Rattle.std.specs.Option.{option_copied};
 ghost use Rattle.bucket_clock.specs.Clock.{frame_at};
 ghost use Rattle.bucket_meaning.specs.Limits.{time_limit};
 ghost use Rattle.config_links.specs.declared.linked.LKind.TheVariants.{Count};
-ghost use Rattle.config_links.specs.SoundConfig.{IsSize, IsBound, MayBeWithin};
+ghost use Rattle.config_links.specs.SoundConfig.{IsSize, IsBound};
 ghost use Rattle.metric_meaning.specs.Histories.{Installation};
 ghost use Rattle.metric_meaning.specs.CountSteps.{arrival_by};
 ghost use Rattle.metric_meaning.specs.CountTrees.{count_tree};
@@ -13,18 +13,17 @@ ghost use Rattle.metric_lane.specs.LaneClock.{NoEndBefore};
 ghost use Rattle.report_writer.specs.Writable.{IsWritableMetric};
 ghost use Rattle.client_engine.specs.NextSteps.{TakesReport};
 ghost use Rattle.client_engine.specs.AskedFew.{LaneAsksFew, arrival_questions};
-ghost use Rattle.client_engine.specs.Bringing.{brought_step, WhereActive, TakesBroughtWhile};
+ghost use Rattle.client_engine.specs.Bringing.{brought_step, WhereActive, LaneTakes};
 ghost use Rattle.client_engine.specs.CountsAlong.{CountsAlong, CrossesWatched, counts_shown_by, shown_count, shown_group};
 ghost use Rattle.client_engine.specs.Finding.{CanBeBrought};
 ghost use Rattle.client_engine.specs.Watches.{WatchesAlong};
+ghost use Rattle.client_engine.specs.Tracks.{AsksWithin};
 
 mod saved;
 
 use crate::arriving::{arriving, metric_key_into};
-use crate::brought::Brought;
-use crate::conditions::Conditions;
+use crate::brought::{Brought, Taker};
 use crate::groups::{RowShape, groups_of};
-use crate::key_room::KeyRoom;
 use crate::leaves::leaves_of;
 use crate::moments::comes_by_pull;
 use crate::request::ReportRequest;
@@ -34,6 +33,7 @@ use atom_record::MetricKey;
 use condition_links::Steps;
 use config_links::LMetric;
 use count_metric::{CountCell, CountProducer};
+use known_conditions::{Conditions, KeyRoom};
 use metric_lane::Lane;
 use metric_producer::Closed;
 use report_writer::{MetricBody, MetricTree, NumBucket, NumTree};
@@ -172,25 +172,25 @@ pub fn begin(
 /// A frame of the log comes.
 pub fn log<L: Ledger>(
     lane: &mut CountLane,
-    metric: &LMetric,
-    is_active: bool,
+    taker: &Taker<'_>,
     brought: &Brought<'_>,
     conditions: &mut Conditions,
     asks: &mut Steps<L>,
 ) -> Result<(), AllocError>
-    requires within { MayBeWithin (length conditions.old.predicates) metric.now.condition }
+    requires within { AsksWithin (length conditions.old.predicates) taker.now.metric.now }
     requires matched { CanBeBrought brought.now }
-    ensures logs { OnOk result (TakesBroughtWhile (CountsAlong metric.now) is_active metric.now
+    ensures logs { OnOk result (LaneTakes CountsAlong taker.now
         conditions.old brought.now lane.old lane.new) }
     ensures known { conditions.new ≡ conditions.old }
-    ensures asks { LaneAsksFew CountsAlong metric.now conditions.old brought.now lane.old asks.old asks.new }
+    ensures asks { LaneAsksFew CountsAlong taker.now.metric.now
+        conditions.old brought.now lane.old asks.old asks.new }
 {
     let CountLane {
         lane,
         watches,
         room,
     } = lane;
-    let key = arrival(metric, is_active, brought, conditions, asks, room)?;
+    let key = arrival(taker, brought, conditions, asks, room)?;
     let at = time_of(brought.frame);
     let is_pull = comes_by_pull(brought.frame);
     tell_ends(watches, lane, at, is_pull);
@@ -238,24 +238,23 @@ fn counts_tree(
 
 // The key that arrives with a frame, if an atom does. It is made in the room of another.
 fn arrival<'k, L: Ledger>(
-    metric: &LMetric,
-    is_active: bool,
+    taker: &Taker<'_>,
     brought: &Brought<'_>,
     conditions: &mut Conditions,
     asks: &mut Steps<L>,
     room: &'k mut KeyRoom,
 ) -> Result<Option<&'k MetricKey>, AllocError>
-    requires within { MayBeWithin (length conditions.old.predicates) metric.now.condition }
-    ensures key { WhereActive is_active metric.now conditions.old brought.now (λ scene.
-        IfOk result (λ key. option_copied key
-        ≡ arrival_by scene metric.now (brought_step brought.now))) }
+    requires within { AsksWithin (length conditions.old.predicates) taker.now.metric.now }
+    ensures key { WhereActive taker.now.is_active taker.now.metric.now
+        conditions.old brought.now (λ scene. IfOk result (λ key. option_copied key
+        ≡ arrival_by scene taker.now.metric.now (brought_step brought.now))) }
     ensures known { conditions.new ≡ conditions.old }
     ensures asks { asks.new ≤ asks.old
-        + arrival_questions brought.now.frame.now brought.now.matched.now metric.now }
+        + arrival_questions brought.now.frame.now brought.now.matched.now taker.now.metric.now }
 {
-    let Some(atom) = arriving(metric, is_active, brought, conditions, asks)? else {
+    let Some(atom) = arriving(taker.metric, taker.is_active, brought, conditions, asks)? else {
         return Ok(None);
     };
-    metric_key_into(metric, brought, atom, room)?;
+    metric_key_into(taker.metric, brought, atom, room)?;
     Ok(Some(&room.key))
 }

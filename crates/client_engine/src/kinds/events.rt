@@ -10,18 +10,19 @@ ghost use Rattle.metric_meaning.specs.EventTrees.{event_trees, events_body};
 ghost use Rattle.report_writer.specs.Writable.{IsWritableEvent, AreWritableRows, IsWritableMetric};
 ghost use Rattle.client_engine.specs.NextSteps.{TakesReport};
 ghost use Rattle.client_engine.specs.AskedFew.{LaneAsksFew, arrival_questions};
-ghost use Rattle.client_engine.specs.Bringing.{brought_step, WhereActive, TakesBroughtWhile};
+ghost use Rattle.client_engine.specs.Bringing.{brought_step, WhereActive, LaneTakes};
 ghost use Rattle.client_engine.specs.EventsAlong.{EventsAlong, event_at, events_shown_by};
+ghost use Rattle.client_engine.specs.Tracks.{AsksWithin};
 
 use crate::arriving::arriving;
-use crate::brought::Brought;
-use crate::conditions::Conditions;
+use crate::brought::{Brought, Taker};
 use crate::moments::comes_by_pull;
 use crate::request::ReportRequest;
 use atom_record::Atom;
 use condition_links::Steps;
 use config_links::LMetric;
 use gauge_metric::EventProducer;
+use known_conditions::Conditions;
 use metric_lane::Lane;
 use metric_producer::{Closed, Row};
 use report_writer::{EventTree, MetricBody, MetricTree, atom_msg};
@@ -46,19 +47,19 @@ pub fn begin(alloc: Global, base: u64, metric: &LMetric) -> Lane<EventProducer>
 /// A frame of the log comes.
 pub fn log<L: Ledger>(
     lane: &mut Lane<EventProducer>,
-    metric: &LMetric,
-    is_active: bool,
+    taker: &Taker<'_>,
     brought: &Brought<'_>,
     conditions: &mut Conditions,
     asks: &mut Steps<L>,
 ) -> Result<(), AllocError>
-    requires within { MayBeWithin (length conditions.old.predicates) metric.now.condition }
-    ensures logs { OnOk result (TakesBroughtWhile (EventsAlong metric.now) is_active metric.now
+    requires within { AsksWithin (length conditions.old.predicates) taker.now.metric.now }
+    ensures logs { OnOk result (LaneTakes EventsAlong taker.now
         conditions.old brought.now lane.old lane.new) }
     ensures known { conditions.new ≡ conditions.old }
-    ensures asks { LaneAsksFew EventsAlong metric.now conditions.old brought.now lane.old asks.old asks.new }
+    ensures asks { LaneAsksFew EventsAlong taker.now.metric.now
+        conditions.old brought.now lane.old asks.old asks.new }
 {
-    let atom = arrival(metric, is_active, brought, conditions, asks)?;
+    let atom = arrival(taker.metric, taker.is_active, brought, conditions, asks)?;
     lane.log(time_of(brought.frame), comes_by_pull(brought.frame), atom)
 }
 

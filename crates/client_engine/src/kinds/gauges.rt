@@ -2,7 +2,7 @@
 ghost use Rattle.std.specs.Prelude.{◌≡◌, ◌∷◌, ◌<◌, [], length, Option, OnOk, IfOk};
 ghost use Rattle.bucket_meaning.specs.Limits.{time_limit};
 ghost use Rattle.field_select.specs.declared.leaf.FieldSet.{FieldSet};
-ghost use Rattle.config_links.specs.SoundConfig.{IsSize, IsBound, AreSamples, MayBeWithin};
+ghost use Rattle.config_links.specs.SoundConfig.{IsSize, IsBound, AreSamples};
 ghost use Rattle.config_links.specs.declared.linked.LKind.TheVariants as kinds;
 ghost use Rattle.metric_meaning.specs.Histories.{Installation};
 ghost use Rattle.metric_meaning.specs.GaugeTrees.{gauge_body};
@@ -10,15 +10,15 @@ ghost use Rattle.metric_meaning.specs.KeyTrees.{key_tree};
 ghost use Rattle.report_writer.specs.Writable.{AreWritableRows, IsWritableMetric};
 ghost use Rattle.client_engine.specs.NextSteps.{TakesReport};
 ghost use Rattle.client_engine.specs.AskedFew.{LaneAsksFew};
-ghost use Rattle.client_engine.specs.Bringing.{TakesBroughtWhile};
+ghost use Rattle.client_engine.specs.Bringing.{LaneTakes};
 ghost use Rattle.client_engine.specs.GaugesAlong.{GaugesAlong, GetsSampleOf, sample_bucket, gauge_entry, gauges_shown_by};
+ghost use Rattle.client_engine.specs.Tracks.{AsksWithin};
 
 use crate::arriving::{arriving, key_in};
-use crate::brought::Brought;
-use crate::conditions::Conditions;
+use crate::brought::{Brought, Taker};
 use crate::groups::{RowShape, groups_of};
 use crate::leaves::leaves_of;
-use crate::messages::message_rows;
+use crate::messages::messages_of;
 use crate::moments::comes_by_pull;
 use crate::request::ReportRequest;
 use crate::samples::sample_of;
@@ -26,9 +26,10 @@ use atom_record::{Atom, MetricKey};
 use condition_links::Steps;
 use config_links::{LKind, LMetric};
 use gauge_metric::{KeyedAtom, PushedGauge};
+use known_conditions::Conditions;
 use metric_lane::Lane;
 use metric_producer::{Closed, Row};
-use report_writer::{AtomBucket, AtomMsg, GaugeTree, MetricBody, MetricTree};
+use report_writer::{AtomBucket, GaugeTree, MetricBody, MetricTree};
 use sd_base::Seq;
 use session_frames::time_of;
 use std::alloc::{AllocError, Global};
@@ -40,7 +41,7 @@ struct SampleRows;
 impl RowShape for SampleRows {
     ghost use Rattle.atom_record.specs.Equal.{metric_key_exact};
 
-    type Value = Seq<AtomMsg>;
+    type Value = Seq<Atom>;
 
     type Group = MetricKey;
 
@@ -56,21 +57,20 @@ impl RowShape for SampleRows {
 
     ghost tree = { key_tree gauge_entry };
 
-    fn group_of(key: MetricKey, _value: &Seq<AtomMsg>) -> MetricKey {
+    fn group_of(key: MetricKey, _value: &Seq<Atom>) -> MetricKey {
         key
     }
 
     fn bucket(
-        _alloc: Global,
+        alloc: Global,
         start: u64,
         end: u64,
-        value: Seq<AtomMsg>,
-    ) -> Result<AtomBucket, AllocError> {
-        Ok(AtomBucket {
-            start,
-            end,
-            atoms: value,
-        })
+        value: Seq<Atom>,
+    ) -> Result<AtomBucket, AllocError>
+        ensures { IfOk result (λ shown. shown ≡ sample_bucket start end value) }
+    {
+        let atoms = messages_of(alloc, value.as_slice())?;
+        Ok(AtomBucket { start, end, atoms })
     }
 
     fn tree(
@@ -108,22 +108,22 @@ pub fn begin(alloc: Global, base: u64, metric: &LMetric, samples: u32) -> Lane<P
 /// A frame of the log comes.
 pub fn log<L: Ledger>(
     lane: &mut Lane<PushedGauge>,
-    metric: &LMetric,
-    is_active: bool,
+    taker: &Taker<'_>,
     brought: &Brought<'_>,
     conditions: &mut Conditions,
     asks: &mut Steps<L>,
 ) -> Result<(), AllocError>
-    requires within { MayBeWithin (length conditions.old.predicates) metric.now.condition }
-    ensures logs { OnOk result (TakesBroughtWhile (GaugesAlong metric.now) is_active metric.now
+    requires within { AsksWithin (length conditions.old.predicates) taker.now.metric.now }
+    ensures logs { OnOk result (LaneTakes GaugesAlong taker.now
         conditions.old brought.now lane.old lane.new) }
     ensures known { conditions.new ≡ conditions.old }
-    ensures asks { LaneAsksFew GaugesAlong metric.now conditions.old brought.now lane.old asks.old asks.new }
+    ensures asks { LaneAsksFew GaugesAlong taker.now.metric.now
+        conditions.old brought.now lane.old asks.old asks.new }
 {
     // The ends come first, since a key that has all its samples in the part before has none in the next.
     lane.cross(time_of(brought.frame), comes_by_pull(brought.frame))?;
-    match arriving(metric, is_active, brought, conditions, asks)? {
-        Some(atom) => sample(lane, metric, brought, atom),
+    match arriving(taker.metric, taker.is_active, brought, conditions, asks)? {
+        Some(atom) => sample(lane, taker.metric, brought, atom),
         None => Ok(()),
     }
 }
@@ -192,7 +192,6 @@ fn gauges_body(alloc: Global, rows: Seq<Row<Seq<Atom>>>) -> Result<MetricBody, A
     ensures shown { IfOk result (λ body. body ≡ gauge_body rows) }
     ensures writable { IfOk result AreWritableRows }
 {
-    let rows = message_rows(alloc, rows)?;
     let groups = groups_of::<SampleRows>(alloc, rows)?;
     Ok(MetricBody::Gauges(groups))
 }

@@ -7,13 +7,12 @@ ghost use Rattle.config_links.specs.SoundConfig.{IsSize, IsBound, MayBeWithin};
 ghost use Rattle.metric_meaning.specs.Histories.{Installation};
 ghost use Rattle.report_writer.specs.Writable.{IsWritableMetric};
 ghost use Rattle.client_engine.specs.AskedFew.{AsksFew};
-ghost use Rattle.client_engine.specs.Bringing.{TakesBrought};
+ghost use Rattle.client_engine.specs.Bringing.{LaneLogs};
 ghost use Rattle.client_engine.specs.LongestAlong.{LongestAlong};
 ghost use Rattle.client_engine.specs.NextSteps.{TakesReport};
 ghost use Rattle.client_engine.specs.SoundMetrics.{IsSoundIn};
 
 use crate::brought::Brought;
-use crate::conditions::Conditions;
 use crate::inner::{changes_of, changes_with, delta_of};
 use crate::kinds::durations::durations_tree;
 use crate::moments::comes_by_pull;
@@ -27,6 +26,7 @@ use condition_links::Steps;
 use config_links::LMetric;
 use config_types::PredSpec;
 use duration_metric::MaxProducer;
+use known_conditions::Conditions;
 use metric_lane::Lane;
 use report_writer::MetricTree;
 use session_frames::time_of;
@@ -57,7 +57,7 @@ pub fn log<'a, L: Ledger>(
     asks: &mut Steps<L>,
 ) -> Result<(), AllocError>
     requires within { MayBeWithin (length conditions.old.predicates) metric.now.condition }
-    ensures logs { OnOk result (TakesBrought (LongestAlong metric.now)
+    ensures logs { OnOk result (LaneLogs LongestAlong metric.now
         conditions.old brought.now lane.old lane.new) }
     ensures known { conditions.new ≡ conditions.old }
     ensures asks { AsksFew (LongestAlong metric.now) (metric.now ∷ [])

@@ -16,17 +16,14 @@ ghost use Rattle.metric_calls.specs.PulledGaugeCalls.{gauge_telling};
 ghost use Rattle.report_writer.specs.Writable.{IsWritableMetric};
 ghost use Rattle.client_engine.specs.NextSteps.{TakesReport};
 ghost use Rattle.client_engine.specs.AskedFew.{LaneAsksFew};
-ghost use Rattle.client_engine.specs.Bringing.{TakesBrought};
+ghost use Rattle.client_engine.specs.Bringing.{LaneLogs};
 ghost use Rattle.client_engine.specs.Opens.{IsOpeningOf, CanOpen};
 ghost use Rattle.client_engine.specs.Finding.{MayAsk, CanBeBrought, CanBeMeant, meant_in};
 ghost use Rattle.client_engine.specs.PulledGaugesAlong.{PulledGaugesAlong, GetsSnapshot, GetsTrigger};
 
-use crate::asked::Nothing;
 use crate::brought::Brought;
-use crate::conditions::Conditions;
 use crate::first_truth::first_truth;
 use crate::kinds::gauges::gauges_tree;
-use crate::matched::is_true_if_named;
 use crate::moments::comes_by_pull;
 use crate::opening::Opening;
 use crate::request::ReportRequest;
@@ -38,6 +35,7 @@ use config_links::{LKind, LMetric};
 use config_types::Sampling;
 use field_select::{FieldSet, key_of};
 use gauge_metric::{KeyedAtom, PulledGauge, SampleSpec, SnapAtoms};
+use known_conditions::{Conditions, Nothing, is_true_if_named};
 use matcher_eval::{FieldJudge, Judge};
 use metric_lane::Lane;
 use metric_producer::Producer;
@@ -90,7 +88,7 @@ pub fn log<L: Ledger>(
 ) -> Result<(), AllocError>
     requires within { MayBeWithin (length conditions.old.predicates) metric.now.condition }
     requires matched { CanBeBrought brought.now }
-    ensures logs { OnOk result (TakesBrought (PulledGaugesAlong metric.now)
+    ensures logs { OnOk result (LaneLogs PulledGaugesAlong metric.now
         conditions.old brought.now lane.old lane.new) }
     ensures known { conditions.new ≡ conditions.old }
     ensures asks { LaneAsksFew PulledGaugesAlong metric.now conditions.old brought.now lane.old asks.old asks.new }

@@ -13,14 +13,12 @@ ghost use Rattle.metric_calls.specs.PulledValueCalls.{snap_ints};
 ghost use Rattle.report_writer.specs.Writable.{IsWritableMetric};
 ghost use Rattle.client_engine.specs.NextSteps.{TakesReport};
 ghost use Rattle.client_engine.specs.AskedFew.{LaneAsksFew};
-ghost use Rattle.client_engine.specs.Bringing.{TakesBrought};
+ghost use Rattle.client_engine.specs.Bringing.{LaneLogs};
 ghost use Rattle.client_engine.specs.Opens.{IsOpeningOf, CanOpen};
 ghost use Rattle.client_engine.specs.Finding.{MayAsk, CanBeBrought, CanBeMeant, meant_in, found_among};
 ghost use Rattle.client_engine.specs.PulledValuesAlong.{pulled_kind_at, PulledValuesAlong, GetsPull};
 
-use crate::asked::Nothing;
 use crate::brought::Brought;
-use crate::conditions::Conditions;
 use crate::first_truth::first_truth;
 use crate::integers::read_integer;
 use crate::kinds::values::values_tree;
@@ -33,6 +31,7 @@ use condition_links::Steps;
 use config_links::{LKind, LMetric};
 use config_types::DiffSpec;
 use field_select::{LeafPath, key_of};
+use known_conditions::{Conditions, Nothing};
 use matcher_eval::{FieldJudge, Judge};
 use metric_lane::Lane;
 use metric_producer::Producer;
@@ -80,7 +79,7 @@ pub fn log<L: Ledger>(
 ) -> Result<(), AllocError>
     requires within { MayBeWithin (length conditions.old.predicates) metric.now.condition }
     requires matched { CanBeBrought brought.now }
-    ensures logs { OnOk result (TakesBrought (PulledValuesAlong metric.now)
+    ensures logs { OnOk result (LaneLogs PulledValuesAlong metric.now
         conditions.old brought.now lane.old lane.new) }
     ensures known { conditions.new ≡ conditions.old }
     ensures asks { LaneAsksFew PulledValuesAlong metric.now conditions.old brought.now lane.old asks.old asks.new }
@@ -173,7 +172,7 @@ fn integers_of(
         (record { atom_id = atom_id; leaf = leaf }) (meant_in found.now))) }
 {
     let mut judge = FieldJudge::new();
-    let mut integers = Seq::new(alloc);
+    let mut integers = Seq::with_capacity(alloc, found.atoms.len())?;
     for atom in found.atoms {
         if judge.eval_simple(found.matcher, atom) {
             add_integer(

@@ -11,12 +11,12 @@ ghost use Rattle.metric_calls.specs.ValueCalls.{keyed_int};
 ghost use Rattle.report_writer.specs.Writable.{IsWritableMetric};
 ghost use Rattle.client_engine.specs.NextSteps.{TakesReport};
 ghost use Rattle.client_engine.specs.AskedFew.{LaneAsksFew, arrival_questions};
-ghost use Rattle.client_engine.specs.Bringing.{brought_step, WhereActive, TakesBroughtWhile};
+ghost use Rattle.client_engine.specs.Bringing.{brought_step, WhereActive, LaneTakes};
 ghost use Rattle.client_engine.specs.ValuesAlong.{value_kind_at, ValuesAlong, values_shown_by, shown_value, value_entry};
+ghost use Rattle.client_engine.specs.Tracks.{AsksWithin};
 
 use crate::arriving::{arriving, key_in};
-use crate::brought::Brought;
-use crate::conditions::Conditions;
+use crate::brought::{Brought, Taker};
 use crate::groups::{RowShape, groups_of};
 use crate::integers::read_integer;
 use crate::leaves::leaves_of;
@@ -26,6 +26,7 @@ use atom_record::MetricKey;
 use condition_links::Steps;
 use config_links::{LKind, LMetric};
 use config_types::Aggregation;
+use known_conditions::Conditions;
 use metric_lane::Lane;
 use metric_producer::Closed;
 use report_writer::{MetricBody, MetricTree, NumBucket, NumTree};
@@ -101,19 +102,19 @@ pub fn begin(
 /// A frame of the log comes.
 pub fn log<L: Ledger>(
     lane: &mut Lane<PushedValue>,
-    metric: &LMetric,
-    is_active: bool,
+    taker: &Taker<'_>,
     brought: &Brought<'_>,
     conditions: &mut Conditions,
     asks: &mut Steps<L>,
 ) -> Result<(), AllocError>
-    requires within { MayBeWithin (length conditions.old.predicates) metric.now.condition }
-    ensures logs { OnOk result (TakesBroughtWhile (ValuesAlong metric.now) is_active metric.now
+    requires within { AsksWithin (length conditions.old.predicates) taker.now.metric.now }
+    ensures logs { OnOk result (LaneTakes ValuesAlong taker.now
         conditions.old brought.now lane.old lane.new) }
     ensures known { conditions.new ≡ conditions.old }
-    ensures asks { LaneAsksFew ValuesAlong metric.now conditions.old brought.now lane.old asks.old asks.new }
+    ensures asks { LaneAsksFew ValuesAlong taker.now.metric.now
+        conditions.old brought.now lane.old asks.old asks.new }
 {
-    let keyed = arrival(metric, is_active, brought, conditions, asks)?;
+    let keyed = arrival(taker.metric, taker.is_active, brought, conditions, asks)?;
     lane.log(time_of(brought.frame), comes_by_pull(brought.frame), keyed)
 }
 

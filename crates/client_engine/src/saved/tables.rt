@@ -1,10 +1,10 @@
 //! Whether tables that were built are those of predicates.
 ghost use Rattle.std.specs.Prelude.{◌≡◌, IsTrue, ◌↔◌};
-ghost use Rattle.client_engine.specs.KeptPredicates.{HaveTheirSpecs};
+ghost use Rattle.known_conditions.specs.KeptPredicates.{HaveTheirSpecs};
 
-use crate::tables::spec_of;
 use config_links::LPredicate;
 use config_types::PredSpec;
+use known_conditions::spec_of;
 use predicate_state::PredTable;
 
 /// Whether there is a table for each of these predicates, which is kept as the predicate says.

@@ -27,7 +27,7 @@ type Form = (u64, (u64, (StateBook, (PullBook, Seq<Carried>))));
 
 impl<J: Judge> Hub<J> {
     ghost use Rattle.hub_core.specs.HubStands.{HubStandsFor};
-    ghost use Rattle.hub_core.specs.HubSaving.{BuildsHub, HubStandsAwake, StandsForSaved};
+    ghost use Rattle.hub_core.specs.HubSaving.{BuildsHub, WakesAll, StandsForSaved};
 
     /// The time of the last frame of the log, or 0 where there was none. It takes no memory.
     pub fn clock(&self) -> u64
@@ -41,8 +41,7 @@ impl<J: Judge> Hub<J> {
 
     /// All live configurations are caught up by the last frame: none sleeps. After want of memory the hub is of no use.
     pub fn settle(&mut self) -> Result<(), AllocError>
-        ensures awake { (frames : List Frame) → HubStandsFor J.says self.old frames
-            → OnOk result (HubStandsAwake J.says self.new frames) }
+        ensures awake { WakesAll J.says self.old self.new result }
         ensures judge { judge_of self.new ≡ judge_of self.old }
     {
         self.lives.settle(self.clock)

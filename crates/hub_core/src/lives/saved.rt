@@ -1,5 +1,5 @@
 //! What is live is caught up, saved, and put in again.
-ghost use Rattle.std.specs.Prelude.{◌≡◌, ◌++◌, ◌≤◌, ◌<◌, ◌&&◌, ◌↔◌, false, IsTrue, None, All, length, IfOk, OnOk, MatchResult};
+ghost use Rattle.std.specs.Prelude.{◌≡◌, ◌++◌, ◌≤◌, ◌&&◌, ◌↔◌, IsTrue, All, length, IfOk, OnOk, MatchResult};
 ghost use Rattle.std.specs.List.{flat_map};
 ghost use Rattle.flat_form.specs.Flat.{list_items};
 ghost use Rattle.flat_form.specs.declared.flat_error.FlatError.TheVariants.{Bad};
@@ -23,7 +23,7 @@ impl Lives {
     ghost use Rattle.hub_core.specs.Settling.{AllWoken};
     ghost use Rattle.hub_core.specs.Sleeping.{moment_of_clock};
     ghost use Rattle.hub_core.specs.NamedLives.{KeepConfigs};
-    ghost use Rattle.hub_core.specs.Slots.{slot_at, others_at};
+    ghost use Rattle.hub_core.specs.Slots.{HasRoomFor};
 
     /// All are caught up by the last frame that came.
     pub fn settle(&mut self, clock: LogClock) -> Result<(), AllocError>
@@ -118,8 +118,7 @@ impl Lives {
 
     // Whether a name isn't taken, and its client has room.
     fn has_room(&self, name: LiveId) -> bool
-        ensures { IsTrue result ↔ ((slot_at name self.now.slots.entries ≡ None)
-            × (others_at name.uid false self.now.counts.entries < 10)) }
+        ensures { IsTrue result ↔ HasRoomFor name self.now.slots.entries self.now.counts.entries }
     {
         !self.slots.contains_key(&name) && others_of(&self.counts, name.uid, false) < MOST_CONFIGS
     }

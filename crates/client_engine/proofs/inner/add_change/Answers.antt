@@ -7,7 +7,7 @@ use Rattle.metric_calls.specs.DurationCalls.{known_in}
 use Rattle.std.specs.Prelude.{slice_get}
 use Rattle.metric_meaning.specs.DurationSteps.{inner_fields}
 use Rattle.client_engine.specs.Bringing.{handed_with}
-use Rattle.client_engine.specs.Known.{Known}
+use Rattle.known_conditions.specs.Known.{Known}
 use Rattle.client_engine.specs.InnerTold.{fields_in}
 use Rattle.client_engine.specs.Staying.{is_kept}
 use Rattle.client_engine.proofs.ChangesLemmas.{known_there, none_there, kept_told, told_there, new_there}

@@ -5,7 +5,7 @@ use Rattle.duration_metric.specs.InnerKeys.{inner_keys, last_known}
 use Rattle.metric_calls.specs.DurationCalls.{known_in, changes_from}
 use Rattle.client_engine.specs.Bringing.{handed_with}
 use Rattle.client_engine.specs.Handed.{IsOfScene}
-use Rattle.client_engine.specs.Known.{Known}
+use Rattle.known_conditions.specs.Known.{Known}
 use Rattle.client_engine.specs.InnerTold.{fields_in, HasShared}
 use Rattle.client_engine.proofs.ChangesLemmas.{first_skipped, all_skipped, places_on, places_all}
 use Rattle.client_engine.proofs.InnerAskedLemmas.{asks_first, asks_on, asks_all}

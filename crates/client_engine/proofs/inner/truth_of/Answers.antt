@@ -1,7 +1,7 @@
 -- All inner keys have the truth that they share.
 use Rattle.std.proofs.Common.{ap, ◌∙◌}
 use Rattle.metric_calls.specs.DurationCalls.{told_as}
-use Rattle.client_engine.specs.InnerTold.{reading_in}
+use Rattle.known_conditions.specs.Known.{reading_in}
 use Rattle.client_engine.proofs.inner.truth_of.Goals as goal
 
 pub returns-in-Some-clause-truth : goal.returns-in-Some-clause-truth

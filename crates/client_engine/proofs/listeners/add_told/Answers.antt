@@ -1,7 +1,7 @@
 use Rattle.std.proofs.Common.{◌∙◌, [], arith}
 use Rattle.client_engine.specs.Waking.{is_told_at}
-use Rattle.client_engine.proofs.ListsLemmas.{places_more}
-use Rattle.client_engine.proofs.MarksLemmas.{get_or_any}
+use Rattle.known_conditions.proofs.ListsLemmas.{places_more}
+use Rattle.known_conditions.proofs.MarksLemmas.{get_or_any}
 use Rattle.client_engine.proofs.listeners.add_told.Goals as goal
 
 -- those under one state more, if it is told

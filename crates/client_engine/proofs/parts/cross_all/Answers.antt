@@ -2,7 +2,8 @@ use Rattle.std.proofs.Common.{◌≡◌, length, sym, subst, arith}
 use Rattle.bucket_clock.specs.Clock.{frame_at}
 use Rattle.client_engine.specs.CaughtUp.{AllTakeRun}
 use Rattle.client_engine.proofs.CaughtUpLemmas.{one_crossed, all_crossed}
-use Rattle.client_engine.proofs.TracksLemmas.{metrics_stay, whole}
+use Rattle.client_engine.proofs.TracksLemmas.{metrics_stay}
+use Rattle.known_conditions.proofs.ListsLemmas.{whole}
 use Rattle.client_engine.proofs.parts.cross_all.Goals as goal
 
 -- one more track took the run

@@ -3,7 +3,8 @@ use Rattle.client_engine.specs.AskedFew.{AsksFew}
 use Rattle.client_engine.specs.Bringing.{handed_with}
 use Rattle.client_engine.specs.NextSteps.{TakesFrame}
 use Rattle.client_engine.specs.Tracks.{metric_in, AsksWithin, AllStandFor}
-use Rattle.client_engine.proofs.TracksLemmas.{one_stepped, all_stepped, one_asked, all_asked, asks_here, metrics_stay, whole}
+use Rattle.client_engine.proofs.TracksLemmas.{one_stepped, all_stepped, one_asked, all_asked, asks_here, metrics_stay}
+use Rattle.known_conditions.proofs.ListsLemmas.{whole}
 use Rattle.client_engine.proofs.parts.log_all.Goals as goal
 
 -- each metric asks for one of the predicates

@@ -1,6 +1,7 @@
 use Rattle.std.proofs.Common.{◌≡◌, length, refl, sym, subst, arith}
 use Rattle.client_engine.specs.Tracks.{AllReport}
-use Rattle.client_engine.proofs.TracksLemmas.{one_reported, all_reported, metrics_stay, whole}
+use Rattle.client_engine.proofs.TracksLemmas.{one_reported, all_reported, metrics_stay}
+use Rattle.known_conditions.proofs.ListsLemmas.{whole}
 use Rattle.client_engine.proofs.parts.report_all.Goals as goal
 
 -- one more track was reported

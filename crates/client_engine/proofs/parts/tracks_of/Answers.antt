@@ -1,6 +1,6 @@
 use Rattle.std.proofs.Common.{◌∙◌, ℕ, [], subst}
 use Rattle.metric_meaning.specs.Histories.{Installation}
-use Rattle.client_engine.specs.Known.{Known}
+use Rattle.known_conditions.specs.Known.{Known}
 use Rattle.client_engine.specs.Opens.{IsOpeningOf}
 use Rattle.client_engine.specs.SoundMetrics.{IsInstalledAt}
 use Rattle.client_engine.specs.TrackStands.{TrackStandsFor}

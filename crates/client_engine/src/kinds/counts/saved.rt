@@ -1,11 +1,10 @@
 //! The flat form of a lane of counts: the lane, and the watches beside it. Its room isn't saved.
 
 use super::CountLane;
-use crate::key_room::KeyRoom;
-use crate::saved::lists::{flatten_list, show_list};
 use alert_watch::AlertWatch;
 use count_metric::CountProducer;
 use flat_form::{Flat, FlatError, Items};
+use known_conditions::{KeyRoom, flatten_list, show_list};
 use metric_lane::Lane;
 use sd_base::Seq;
 use std::alloc::{AllocError, Global};

@@ -23,10 +23,10 @@ loop-place-preserved c =
     c.loop-place.invariant
     (subst (λ start. TakesValueMarks c.loop-place.books c.arrive.new.books (map Came (keyed_diff c.in-Some.key.now
     (option_and_then (λ from. diff_by spec.direction spec.abs_reset from c.in-Some.end)
-    (start_sum spec.zero_base start))))) c.sum_of.ensures
+    (start_sum spec.zero_base start))))) c.sum_near.ensures
     (subst (λ end. TakesValueMarks c.loop-place.books c.arrive.new.books (map Came (keyed_diff c.in-Some.key.now
     (option_and_then (λ from. diff_by spec.direction spec.abs_reset from end)
-    (start_sum spec.zero_base c.sum_of.result))))) (to_z-of_z w128 c.in-Some.end fits)
+    (start_sum spec.zero_base c.sum_near.result))))) (to_z-of_z w128 c.in-Some.end fits)
     (subst (λ diff. TakesValueMarks c.loop-place.books c.arrive.new.books
     (map Came (keyed_diff c.in-Some.key.now diff)))
     c.diff_of-diff.ensures c.in_ok-arrive.ensures)))

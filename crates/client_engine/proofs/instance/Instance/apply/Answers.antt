@@ -1,8 +1,9 @@
 use Rattle.std.proofs.Common.{map, refl, sym, ap, subst, ◌∙◌, arith}
 use Rattle.std.proofs.lemmas.Result.{on_ok_weaker}
 use Rattle.client_engine.specs.Handed.{handed}
-use Rattle.client_engine.specs.Known.{Known, KnowsStep}
-use Rattle.client_engine.specs.NextSteps.{logged_step, TakesFrame}
+use Rattle.known_conditions.specs.Known.{Known, KnowsStep}
+use Rattle.client_engine.specs.NextSteps.{TakesFrame}
+use Rattle.known_conditions.specs.Known.{logged_step}
 use Rattle.client_engine.specs.Running.{linked_of}
 use Rattle.client_engine.specs.Tracks.{metric_in, AllStandFor}
 use Rattle.client_engine.specs.Waking.{OthersSleep, places_woken}

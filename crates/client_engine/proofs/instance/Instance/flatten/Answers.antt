@@ -2,7 +2,7 @@
 use Rattle.std.proofs.lemmas.Result.{on_ok_weaker, on_err_weaker}
 use Rattle.client_engine.specs.Running.{Running}
 use Rattle.client_engine.proofs.SavedInstancesLemmas.{adds_all}
-use Rattle.client_engine.proofs.SavedListsLemmas.{front_before}
+use Rattle.known_conditions.proofs.SavedListsLemmas.{front_before}
 use Rattle.client_engine.proofs.instance.Instance.flatten.Goals as goal
 
 pub returns-clause-added : goal.returns-clause-added

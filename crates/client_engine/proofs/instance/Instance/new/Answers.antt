@@ -3,7 +3,7 @@ use Rattle.std.proofs.Common.{◌≡◌, [], refl, sym, subst, length, map, ap, 
 use Rattle.std.proofs.lemmas.Result.{IfOk-weaker}
 use Rattle.std.specs.List.{All}
 use Rattle.client_engine.specs.Finding.{MayAsk}
-use Rattle.client_engine.specs.Known.{Known, KnowsAfter}
+use Rattle.known_conditions.specs.Known.{Known, KnowsAfter}
 use Rattle.client_engine.specs.InstanceStands.{IsFresh}
 use Rattle.client_engine.specs.Running.{Running, linked_of}
 use Rattle.client_engine.specs.declared.opening.Opening.{Opening}

@@ -1,6 +1,6 @@
 -- The tables are kept as the predicates say.
 use Rattle.std.proofs.Common.{refl, sym, subst, ◌∙◌}
-use Rattle.client_engine.specs.KeptPredicates.{HaveTheirSpecs}
+use Rattle.known_conditions.specs.KeptPredicates.{HaveTheirSpecs}
 use Rattle.client_engine.proofs.InstanceLemmas.{sound_kept}
 use Rattle.client_engine.proofs.instance.saved.restore.Goals as goal
 

@@ -13,16 +13,17 @@ use Rattle.client_engine.proofs.kinds.counts.log.Goals as goal
 
 pub returns-clause-logs : goal.returns-clause-logs
 returns-clause-logs g c =
+    let taker = c.args.taker.now in
     let brought = c.args.brought.now in
     let logs = rw (c.comes_by_pull-is_pull.ensures, c.time_of-at.ensures) at c.log_of.ensures in
     let ends = rw (c.comes_by_pull-is_pull.ensures, c.time_of-at.ensures) at c.tell_ends.ensures in
     let arrives = rw (c.time_of-at.ensures) at c.in_ok-tell_key.ensures in
     let new : WatchedLane = record { lane = c.log_of.new.self; watches = c.tell_key.new.watches.items } in
     on_ok_weaker c.log_of.result
-    (rw (← c.lane.view_is) (λ gets. counts_log (handed_with c.args.conditions.now brought) c.args.metric.now
+    (rw (← c.lane.view_is) (λ gets. counts_log (handed_with c.args.conditions.now brought) taker.metric.now
     brought.frame.now brought.matched.now
     (record { lane = c.lane.inside.lane; watches = c.lane.inside.watches.items }) new c.tell_ends.new.watches.items
-    (option_copied c.in_ok-key.key) c.args.is_active c.in_ok-key.ensures.key gets ends arrives))
+    (option_copied c.in_ok-key.key) taker.is_active c.in_ok-key.ensures.key gets ends arrives))
     logs
 
 -- the frame comes while there is time
@@ -34,7 +35,7 @@ tell_key-requires g c = record {
 -- an atom that arrives costs one question
 pub returns-clause-asks : goal.returns-clause-asks
 returns-clause-asks g c = λ installed steps frame has may.
-    let metric = c.args.metric.now in
+    let metric = c.args.taker.now.metric.now in
     let truths = c.args.brought.now.matched.now in
     arrival_few installed steps c.args.brought.now.frame.now truths metric
     (ap (λ kind. names_atom_itself (record metric { kind = kind }) truths) has.counts)

@@ -10,16 +10,17 @@ use Rattle.client_engine.proofs.kinds.events.log.Goals as goal
 
 pub returns-clause-logs : goal.returns-clause-logs
 returns-clause-logs g c =
+    let taker = c.args.taker.now in
     let brought = c.args.brought.now in
     let logs = rw (c.comes_by_pull.ensures, c.time_of.ensures) at c.log.ensures in
     on_ok_weaker c.log.result
-    (events_log (handed_with c.args.conditions.now brought) c.args.metric.now brought.frame.now brought.matched.now
-    c.args.lane.now c.log.new.self c.in_ok-atom.atom c.args.is_active c.in_ok-atom.ensures.atom) logs
+    (events_log (handed_with c.args.conditions.now brought) taker.metric.now brought.frame.now brought.matched.now
+    c.args.lane.now c.log.new.self c.in_ok-atom.atom taker.is_active c.in_ok-atom.ensures.atom) logs
 
 -- an atom that arrives costs one question
 pub returns-clause-asks : goal.returns-clause-asks
 returns-clause-asks g c = λ installed steps frame has may.
-    let metric = c.args.metric.now in
+    let metric = c.args.taker.now.metric.now in
     let truths = c.args.brought.now.matched.now in
     arrival_few installed steps c.args.brought.now.frame.now truths metric
     (ap (λ kind. names_atom_itself (record metric { kind = kind }) truths) has.events)

@@ -12,12 +12,13 @@ use Rattle.client_engine.proofs.kinds.gauges.log.Goals as goal
 -- the atom that arrives is sampled
 pub returns-in-Some-clause-logs : goal.returns-in-Some-clause-logs
 returns-in-Some-clause-logs g c =
+    let taker = c.args.taker.now in
     let brought = c.args.brought.now in
-    let metric = c.args.metric.now in
+    let metric = taker.metric.now in
     let crosses = rw (c.comes_by_pull.ensures, c.time_of.ensures) at c.in_ok-cross.ensures in
     on_ok_weaker c.sample.result
     (λ gets. gauges_log (handed_with c.args.conditions.now brought) metric brought.frame.now brought.matched.now
-    c.args.lane.now c.cross.new.self c.sample.new.lane c.args.is_active crosses
+    c.args.lane.now c.cross.new.self c.sample.new.lane taker.is_active crosses
     (λ scene found active fields samples gauge. one_sampled c.cross.new.self c.sample.new.lane
     (log_time brought.frame.now)
     scene metric fields (brought_step brought) c.in-Some.atom.now
@@ -28,18 +29,19 @@ returns-in-Some-clause-logs g c =
 -- no atom arrives
 pub returns-in-None-clause-logs : goal.returns-in-None-clause-logs
 returns-in-None-clause-logs g c =
+    let taker = c.args.taker.now in
     let brought = c.args.brought.now in
-    let metric = c.args.metric.now in
+    let metric = taker.metric.now in
     let crosses = rw (c.comes_by_pull.ensures, c.time_of.ensures) at c.in_ok-cross.ensures in
     gauges_log (handed_with c.args.conditions.now brought) metric brought.frame.now brought.matched.now
-    c.args.lane.now c.cross.new.self c.cross.new.self c.args.is_active crosses
+    c.args.lane.now c.cross.new.self c.cross.new.self taker.is_active crosses
     (λ scene found active fields samples gauge. none_sampled c.cross.new.self (log_time brought.frame.now)
     scene metric fields (brought_step brought) (rw (c.in-None.is) at (c.in_ok-atom.ensures.atom scene found active)))
 
 -- an atom that arrives costs one question
 pub returns-in-Some-clause-asks : goal.returns-in-Some-clause-asks
 returns-in-Some-clause-asks g c = λ installed steps frame has may.
-    let metric = c.args.metric.now in
+    let metric = c.args.taker.now.metric.now in
     let truths = c.args.brought.now.matched.now in
     arrival_few installed steps c.args.brought.now.frame.now truths metric
     (ap (λ kind. names_atom_itself (record metric { kind = kind }) truths) has.gauge)
@@ -49,7 +51,7 @@ returns-in-Some-clause-asks g c = λ installed steps frame has may.
 -- also one that does not, since it may have been asked
 pub returns-in-None-clause-asks : goal.returns-in-None-clause-asks
 returns-in-None-clause-asks g c = λ installed steps frame has may.
-    let metric = c.args.metric.now in
+    let metric = c.args.taker.now.metric.now in
     let truths = c.args.brought.now.matched.now in
     arrival_few installed steps c.args.brought.now.frame.now truths metric
     (ap (λ kind. names_atom_itself (record metric { kind = kind }) truths) has.gauge)

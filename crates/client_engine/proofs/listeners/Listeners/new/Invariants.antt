@@ -2,7 +2,7 @@
 use Rattle.std.proofs.Common.{map}
 use Rattle.client_engine.specs.Tracks.{metric_in}
 use Rattle.client_engine.specs.Waking.{wakers, told_states}
-use Rattle.client_engine.proofs.ListsLemmas.{AreListedBefore}
+use Rattle.known_conditions.proofs.ListsLemmas.{AreListedBefore}
 use Rattle.client_engine.proofs.listeners.Listeners.new.Given as goal
 
 abbrev pub invariant-loop-place : goal.invariant-loop-place

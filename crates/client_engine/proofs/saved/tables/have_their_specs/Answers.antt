@@ -1,7 +1,7 @@
 -- A table that isn't kept as its predicate says is none of those that are.
 use Rattle.std.proofs.Common.{◌<◌, length, sym, ap, ◌∙◌, arith}
 use Rattle.predicate_state.specs.PredicateTable.{PredicateTable}
-use Rattle.client_engine.proofs.KeptPredicatesLemmas.{spec_there}
+use Rattle.known_conditions.proofs.KeptPredicatesLemmas.{spec_there}
 use Rattle.client_engine.proofs.saved.tables.have_their_specs.Goals as goal
 
 pub returns-then-not-is_same_spec : goal.returns-then-not-is_same_spec

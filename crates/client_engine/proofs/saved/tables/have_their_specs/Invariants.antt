@@ -1,6 +1,6 @@
 -- The tables so far are kept as their predicates say.
 use Rattle.std.proofs.Common.{take}
-use Rattle.client_engine.specs.KeptPredicates.{HaveTheirSpecs}
+use Rattle.known_conditions.specs.KeptPredicates.{HaveTheirSpecs}
 use Rattle.client_engine.proofs.saved.tables.have_their_specs.Given as goal
 
 abbrev pub invariant-loop-place : goal.invariant-loop-place

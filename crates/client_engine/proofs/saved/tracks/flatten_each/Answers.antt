@@ -1,5 +1,5 @@
 -- The items of one more come after those of the others.
-use Rattle.client_engine.proofs.SavedListsLemmas.{front_before, on_failure}
+use Rattle.known_conditions.proofs.SavedListsLemmas.{front_before, on_failure}
 use Rattle.atom_record.proofs.LoopLemmas.{adds_one, adds_all}
 use Rattle.client_engine.specs.SavedInstances.{track_items}
 use Rattle.client_engine.proofs.saved.tracks.flatten_each.Goals as goal

@@ -1,6 +1,6 @@
 -- The items of the book stand after those of the lane.
 use Rattle.std.proofs.lemmas.Result.{on_ok_weaker, on_err_weaker}
-use Rattle.client_engine.proofs.SavedListsLemmas.{adds_two, front_before}
+use Rattle.known_conditions.proofs.SavedListsLemmas.{adds_two, front_before}
 use Rattle.client_engine.proofs.saved.tracks.flatten_track.Goals as goal
 
 pub returns-clause-added : goal.returns-clause-added

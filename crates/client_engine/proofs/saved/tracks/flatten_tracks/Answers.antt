@@ -2,7 +2,7 @@
 use Rattle.std.proofs.Common.{[], ◌∷◌, length}
 use Rattle.std.proofs.lemmas.Result.{on_ok_weaker, on_err_weaker}
 use Rattle.flat_form.specs.declared.item.Item.TheVariants.{Num}
-use Rattle.client_engine.proofs.SavedListsLemmas.{adds_two, front_before}
+use Rattle.known_conditions.proofs.SavedListsLemmas.{adds_two, front_before}
 use Rattle.client_engine.proofs.saved.tracks.flatten_tracks.Goals as goal
 
 pub returns-clause-added : goal.returns-clause-added

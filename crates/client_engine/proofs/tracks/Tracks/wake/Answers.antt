@@ -4,8 +4,9 @@ use Rattle.config_links.specs.SoundConfig.{MayBeWithin}
 use Rattle.client_engine.specs.Bringing.{handed_with}
 use Rattle.client_engine.specs.Tracks.{metric_in}
 use Rattle.client_engine.specs.declared.track.Track.{Track}
-use Rattle.client_engine.proofs.MarksLemmas.{marked_within}
-use Rattle.client_engine.proofs.TracksLemmas.{asks_here, map-set_same}
+use Rattle.known_conditions.proofs.MarksLemmas.{marked_within}
+use Rattle.client_engine.proofs.TracksLemmas.{asks_here}
+use Rattle.known_conditions.proofs.ListsLemmas.{map-set_same}
 use Rattle.client_engine.proofs.WokenLemmas.{all_few, due_sooner, item_few, item_woken}
 use Rattle.client_engine.proofs.tracks.Tracks.wake.Goals as goal
 

@@ -2,7 +2,7 @@
 use Rattle.std.proofs.Common.{◌∙◌, get_or, refl, subst, arith}
 use Rattle.client_engine.specs.Bringing.{handed_with}
 use Rattle.client_engine.specs.Woken.{OnMoreWoken, FewAsked}
-use Rattle.client_engine.proofs.MarksLemmas.{one_more_marked}
+use Rattle.known_conditions.proofs.MarksLemmas.{one_more_marked}
 use Rattle.client_engine.proofs.WokenLemmas.{all_few}
 use Rattle.client_engine.proofs.tracks.Tracks.wake_all.Goals as goal
 

@@ -1,7 +1,7 @@
 -- The frame came to the metrics at the places so far, and predicates know what they knew.
 use Rattle.std.proofs.Common.{◌≡◌, take}
 use Rattle.client_engine.specs.Bringing.{handed_with}
-use Rattle.client_engine.specs.Marks.{AreAllMarked}
+use Rattle.known_conditions.specs.Marks.{AreAllMarked}
 use Rattle.client_engine.specs.Woken.{AreWoken}
 use Rattle.client_engine.proofs.tracks.Tracks.wake_all.Given as goal
 

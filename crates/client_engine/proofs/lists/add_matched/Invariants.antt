@@ -1,9 +1,0 @@
--- The places under the matchers so far are added.
-use Rattle.std.proofs.Common.{◌≡◌, ◌++◌}
-use Rattle.metric_meaning.specs.Histories.{truth_at}
-use Rattle.client_engine.proofs.ListsLemmas.{places_before}
-use Rattle.client_engine.proofs.lists.add_matched.Given as goal
-
-abbrev pub invariant-loop-matcher : goal.invariant-loop-matcher
-invariant-loop-matcher l =
-    l.woken.items ≡ l.fn.woken.items ++ places_before l.lists (λ matcher. truth_at matcher l.matched) l.matcher

@@ -1,8 +1,0 @@
--- The drops so far, before those of the predicates that are left.
-use Rattle.std.proofs.Common.{◌≡◌, ◌++◌, drop}
-use Rattle.client_engine.specs.Known.{drops_in}
-use Rattle.client_engine.proofs.tables.drops_of.Given as goal
-
-abbrev pub invariant-loop-place : goal.invariant-loop-place
-invariant-loop-place l =
-    l.drops ++ drops_in (drop l.place l.predicates) (drop l.place l.tables) ≡ drops_in l.predicates l.tables
